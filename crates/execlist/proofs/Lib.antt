@@ -1,0 +1,4 @@
+mod OrderLaws
+mod PlainLemmas
+mod Walks
+mod Computed

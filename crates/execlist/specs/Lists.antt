@@ -1,0 +1,74 @@
+-- What calls on a list space speak of: headers that hold sequences of nodes, the header of each node,
+-- and its key. Nodes and headers are numbers. RKM Libraries, Exec Lists and Queues.
+use Rattle.std.specs.Prelude.{ℕ, ℤ, pos, suc, List, [], ◌∷◌, ◌++◌, Option, Some, None, Bool, false, ◌==◌, if◌then◌else◌, slice_index_or}
+use Rattle.std.specs.Cmp.Lexicographic.{pointwise}
+
+-- what is known of a node beside its place: its priority, and its name or none
+pub record Key : Type 0 where
+  pub pri : ℤ
+  pub name : Option (List ℕ)
+
+-- the key of a new node
+abbrev pub blank : Key
+blank = record { pri = pos 0; name = None }
+
+-- the sequence of header h
+abbrev pub sequence : List (List ℕ) → ℕ → List ℕ
+sequence all h = slice_index_or all h []
+
+-- the header that holds node n, or none
+abbrev pub home : List (Option ℕ) → ℕ → Option ℕ
+home homes n = slice_index_or homes n None
+
+-- the priority of node n
+abbrev pub pri_of : List Key → ℕ → ℤ
+pri_of keys n = (slice_index_or keys n blank).pri
+
+-- the name of node n, or none
+abbrev pub name_of : List Key → ℕ → Option (List ℕ)
+name_of keys n = (slice_index_or keys n blank).name
+
+-- what stands before node n
+abbrev pub part_before : ℕ → List ℕ → List ℕ
+part_before n [] = []
+part_before n (x ∷ xs) = if x == n then [] else x ∷ part_before n xs
+
+-- what stands after node n
+abbrev pub part_after : ℕ → List ℕ → List ℕ
+part_after n [] = []
+part_after n (x ∷ xs) = if x == n then xs else part_after n xs
+
+-- the last node
+abbrev pub last : List ℕ → Option ℕ
+last [] = None
+last (x ∷ []) = Some x
+last (x ∷ y ∷ xs) = last (y ∷ xs)
+
+-- node n put after node p, or first where p is none
+abbrev pub put_after : Option ℕ → ℕ → List ℕ → List ℕ
+put_after None n xs = n ∷ xs
+put_after (Some p) n xs = part_before p xs ++ p ∷ n ∷ part_after p xs
+
+-- the whole sequence, or the part after a node
+abbrev pub part_from : Option ℕ → List ℕ → List ℕ
+part_from None xs = xs
+part_from (Some n) xs = part_after n xs
+
+-- a name or none is that name, byte for byte
+abbrev pub name_is : Option (List ℕ) → List ℕ → Bool
+name_is None b = false
+name_is (Some a) b = pointwise ◌==◌ a b
+
+-- node n has that name
+abbrev pub is_named : List Key → List ℕ → ℕ → Bool
+is_named keys name n = name_is (name_of keys n) name
+
+-- a header or none is that header
+abbrev pub is_at : Option ℕ → ℕ → Bool
+is_at None h = false
+is_at (Some k) h = k == h
+
+-- how often node n stands in a sequence
+abbrev pub times : ℕ → List ℕ → ℕ
+times n [] = 0
+times n (x ∷ xs) = if x == n then suc (times n xs) else times n xs

@@ -1,0 +1,38 @@
+//! Laws of the definitions of `specs/Order.antt`. Each function does nothing: its contract is the law,
+//! and a caller who calls it may use the law from there on. No law speaks of a list space.
+ghost use Rattle.execlist.specs.Order.{OrderTakesArrival, OrderLeavesOut, FirstOfOrderIsChosen, ChosenIsEarliestGreatest, OrderReadsMembersKeys, FoundInOrderIsChosen, OrderRekeyed};
+
+/// An arrival is one more `enqueue`: the order of some items and one more is that one put into their order.
+pub fn order_takes_arrival<T>()
+    ensures { OrderTakesArrival T }
+{}
+
+/// Leaving items out and putting in order may be done one before the other.
+pub fn order_leaves_out<T>()
+    ensures { OrderLeavesOut T }
+{}
+
+/// The first of the order is the chosen one.
+pub fn first_of_order_is_chosen<T>()
+    ensures { FirstOfOrderIsChosen T }
+{}
+
+/// The chosen one is the earliest among those of greatest key.
+pub fn chosen_is_earliest_greatest<T>()
+    ensures { ChosenIsEarliestGreatest T }
+{}
+
+/// The order rests on the keys of the items alone.
+pub fn order_reads_members_keys<T>()
+    ensures { OrderReadsMembersKeys T }
+{}
+
+/// The first of the order that passes a test is the chosen one of those that pass it.
+pub fn found_in_order_is_chosen<T>()
+    ensures { FoundInOrderIsChosen T }
+{}
+
+/// An item that leaves, gets another key and arrives anew is put among the others by its new key.
+pub fn order_rekeyed()
+    ensures { OrderRekeyed }
+{}

@@ -1,0 +1,8 @@
+//! Lists of Exec: headers that hold sequences of nodes, and the laws of a sequence kept by a key.
+//! `space` is the interface, `plain` a list space in vectors, `laws` what is proved of the definitions alone.
+#![tactic(auto)]
+
+pub mod key;
+pub mod laws;
+pub mod plain;
+pub mod space;
