@@ -1,0 +1,175 @@
+-- How writes follow one another: to a writer's bytes, at a break, and for calls that do not fail.
+use Rattle.std.proofs.Common.{◌≡◌, ◌≢◌, ℕ, zero, suc, ◌+◌, ◌-◌, ◌<◌, ◌≤◌, List, [], ◌∷◌, ◌++◌, length, take, drop, refl, sym, subst, ap, ◌∙◌, append_assoc, length-drop, length-append, arith, ◌⊎◌, inl, inr, get_or, map}
+use Rattle.std.proofs.lemmas.List.{take-append-drop, append-nil, take_rest, take_more, map-append}
+use Rattle.std.proofs.lemmas.Grind.{flat_map-append}
+use Rattle.std.specs.List.{flat_map}
+use Rattle.std.proofs.Math.Seq.{take-add}
+use Rattle.std.specs.Prelude.{Option, Some, None}
+use Rattle.std.specs.Io.KnownBytes.{Appends, Keeps}
+use Rattle.exectrace.specs.declared.sinks.SinkState.{SinkState}
+use Rattle.exectrace.specs.declared.sinks.SinkState.TheVariants.{Good, Empty, Failed}
+use Rattle.exectrace.specs.Sink.{empties, after_taking, Tape, TakesAll, Breaks, Puts}
+
+-- The bytes that a writer holds.
+
+pub Appends-none : (a : Option (List ℕ)) → Appends a a []
+Appends-none None = tt
+Appends-none (Some held) = sym (append-nil held)
+
+pub Appends-then : (a b c : Option (List ℕ)) (xs ys : List ℕ) → Appends a b xs → Appends b c ys → Appends a c (xs ++ ys)
+Appends-then None b c xs ys first more = tt
+Appends-then (Some held) None c xs ys first more = absurd first
+Appends-then (Some held) (Some between) None xs ys first more = absurd more
+Appends-then (Some held) (Some between) (Some end) xs ys first more = more ∙ ap (λ zs. zs ++ ys) first ∙ append_assoc held xs ys
+
+Appends-keeps : (a b c : Option (List ℕ)) (xs : List ℕ) → Appends a b xs → Keeps b c → Appends a c xs
+Appends-keeps None b c xs first kept = tt
+Appends-keeps (Some held) None c xs first kept = absurd first
+Appends-keeps (Some held) (Some between) None xs first kept = absurd kept
+Appends-keeps (Some held) (Some between) (Some end) xs first kept = kept ∙ first
+
+-- after the first k bytes, a write of the rest that took n
+pub Appends-rest : (a b c : Option (List ℕ)) (k n : ℕ) (xs : List ℕ) → Appends a b (take k xs) → Appends b c (take n (take (length xs - k) (drop k xs))) → Appends a c (take (k + n) xs)
+Appends-rest a b c k n xs first more =
+    let more' : Appends b c (take n (drop k xs)) = rw take_rest at more in
+    rw take-add (Appends-then a b c _ _ first more')
+
+pub rest_fits : (k n : ℕ) (xs : List ℕ) → k < length xs → n ≤ length (take (length xs - k) (drop k xs)) → k + n ≤ length xs
+rest_fits k n xs below fits =
+    let fits' : n ≤ length (drop k xs) = rw take_rest at fits in
+    omega (arith, fits', length-drop k xs)
+
+-- The state of a sink.
+
+-- fewer than 16 empty writes are not 16
+pub below_not_exhausted : (state : SinkState) → empties state < 16 → state ≢ Empty 16
+below_not_exhausted state below e = let bad : 16 < 16 = rw e at below in absurd (omega (arith, bad))
+
+-- a write that brings the empty ones to 16 took nothing
+exhausted : (before after : SinkState) (n : ℕ) → empties before < 16 → after ≡ after_taking before n → 16 ≤ empties after → (n ≡ 0) × (after ≡ Empty 16)
+exhausted before after zero below e full =
+    let full' : 16 ≤ empties before + 1 = rw e at full in
+    let same : empties before + 1 ≡ 16 = omega arith in
+    (refl, e ∙ ap Empty same)
+exhausted before after (suc n) below e full = let full' : 16 ≤ 0 = rw e at full in absurd (omega arith)
+
+-- a write that took the rest leaves the sink good
+pub good_at_end : (before after : SinkState) (k n m : ℕ) → k < m → after ≡ after_taking before n → m ≤ k + n → after ≡ Good
+good_at_end before after k zero m below e all = absurd (omega arith)
+good_at_end before after k (suc n) m below e all = e
+
+stopped_not_good : (state : SinkState) → (state ≡ Failed) ⊎ (state ≡ Empty 16) → state ≢ Good
+stopped_not_good state stopped good = elim stopped [ inl failed ↦ cc | inr empty ↦ cc ]
+
+-- Where a text breaks off.
+
+-- all of a first text was taken, and a second one broke off
+Breaks-then : (a b c : Tape) (xs ys : List ℕ) → TakesAll a b xs → Breaks b c ys → Breaks a c (xs ++ ys)
+Breaks-then a b c xs ys all broke = record {
+  written = xs ++ broke.written;
+  missing = broke.missing;
+  parts = ap (λ zs. xs ++ zs) broke.parts ∙ sym (append_assoc xs broke.written broke.missing);
+  short = broke.short;
+  took = Appends-then a.taken b.taken c.taken xs broke.written all.took broke.took;
+  stopped = broke.stopped;
+}
+
+-- a first text broke off, and a second one was never begun
+Breaks-early : (a b : Tape) (xs ys : List ℕ) → Breaks a b xs → Breaks a b (xs ++ ys)
+Breaks-early a b xs ys broke = record {
+  written = broke.written;
+  missing = broke.missing ++ ys;
+  parts = ap (λ zs. zs ++ ys) broke.parts ∙ append_assoc broke.written broke.missing ys;
+  short = simp length-append (omega (arith, broke.short));
+  took = broke.took;
+  stopped = broke.stopped;
+}
+
+-- the first k bytes of a text were taken, and the sink takes no more
+Breaks-at : (a b : Tape) (k : ℕ) (xs : List ℕ) → k < length xs → Appends a.taken b.taken (take k xs) → (b.state ≡ Failed) ⊎ (b.state ≡ Empty 16) → Breaks a b xs
+Breaks-at a b k xs below took stopped = record {
+  written = take k xs;
+  missing = drop k xs;
+  parts = sym (take-append-drop k xs);
+  short = simp length-drop (omega (arith, below));
+  took = took;
+  stopped = stopped;
+}
+
+-- after the first k bytes, the 16th empty write in a row
+pub Breaks-exhausted : (a b c : Tape) (k n : ℕ) (xs : List ℕ) → k < length xs → empties b.state < 16 → Appends a.taken b.taken (take k xs)
+    → Appends b.taken c.taken (take n (take (length xs - k) (drop k xs))) → c.state ≡ after_taking b.state n → 16 ≤ empties c.state → Breaks a c xs
+Breaks-exhausted a b c k n xs below few first more state full =
+    let both = exhausted b.state c.state n few state full in
+    let n-zero : n ≡ 0 = both.0 in
+    let sum : k + n ≡ k = omega arith in
+    let took : Appends a.taken c.taken (take k xs) = subst (λ m. Appends a.taken c.taken (take m xs)) sum (Appends-rest a.taken b.taken c.taken k n xs first more) in
+    Breaks-at a c k xs below took (inr both.1)
+
+-- after the first k bytes, a write that failed
+pub Breaks-failed : (a b c : Tape) (k : ℕ) (xs : List ℕ) → k < length xs → Appends a.taken b.taken (take k xs) → Keeps b.taken c.taken → c.state ≡ Failed → Breaks a c xs
+Breaks-failed a b c k xs below first kept failed = Breaks-at a c k xs below (Appends-keeps a.taken b.taken c.taken _ first kept) (inl failed)
+
+-- Calls that do not fail.
+
+-- a sink that is not good is left alone, whatever was to be written
+pub puts_nothing : {a : Tape} (bytes : List ℕ) → a.state ≢ Good → Puts a a bytes
+puts_nothing bytes bad = record { while_good = λ good. absurd (bad good); afterwards = λ _. refl }
+
+-- nothing to write
+pub puts_none : (a : Tape) → Puts a a []
+puts_none a = record { while_good = λ good. inl (record { took = Appends-none a.taken; good = good }); afterwards = λ bad. refl }
+
+-- one after another
+pub Puts-trans : (a b c : Tape) (xs ys : List ℕ) → Puts a b xs → Puts b c ys → Puts a c (xs ++ ys)
+Puts-trans a b c xs ys p q = record {
+  while_good = λ good. elim (p.while_good good) [
+    | inl all ↦ elim (q.while_good all.good) [
+      | inl more ↦ inl (record { took = Appends-then a.taken b.taken c.taken xs ys all.took more.took; good = more.good })
+      | inr broke ↦ inr (Breaks-then a b c xs ys all broke)
+    ]
+    | inr broke ↦
+        let same : c ≡ b = q.afterwards (stopped_not_good b.state broke.stopped) in
+        inr (Breaks-early a c xs ys (subst (λ (t : Tape). Breaks a t xs) (sym same) broke))
+  ];
+  afterwards = λ bad. let first : b ≡ a = p.afterwards bad in
+      let still : b.state ≢ Good = (λ e. bad (ap (λ (t : Tape). t.state) (sym first) ∙ e)) in
+      q.afterwards still ∙ first;
+}
+
+-- one after another, where the bytes are another spelling of the two texts
+pub puts_then : {a b c : Tape} {xs ys : List ℕ} (bytes : List ℕ) → Puts a b xs → Puts b c ys → bytes ≡ xs ++ ys → Puts a c bytes
+puts_then {a} {b} {c} {xs} {ys} bytes p q e = rw e (Puts-trans a b c xs ys p q)
+
+-- another spelling of the same bytes
+pub put_same : {a b : Tape} {xs : List ℕ} (ys : List ℕ) → Puts a b xs → ys ≡ xs → Puts a b ys
+put_same ys p e = rw e p
+
+-- what a sink that was good took all of
+pub put_good : {a b : Tape} {xs : List ℕ} → a.state ≡ Good → TakesAll a b xs → Puts a b xs
+put_good good all = record { while_good = λ _. inl all; afterwards = λ bad. absurd (bad good) }
+
+-- where a sink that was good broke off
+pub put_broken : {a b : Tape} {xs : List ℕ} → a.state ≡ Good → Breaks a b xs → Puts a b xs
+put_broken good broke = record { while_good = λ _. inr broke; afterwards = λ bad. absurd (bad good) }
+
+-- a sink that was good and is good took all
+pub put_all : {a b : Tape} {xs : List ℕ} → Puts a b xs → a.state ≡ Good → b.state ≡ Good → TakesAll a b xs
+put_all {a} {b} {xs} p good still = elim (p.while_good good) [ inl all ↦ all | inr broke ↦ absurd (stopped_not_good b.state broke.stopped still) ]
+
+-- a sink that was good and is not good broke off
+pub put_part : {a b : Tape} {xs : List ℕ} → Puts a b xs → a.state ≡ Good → b.state ≢ Good → Breaks a b xs
+put_part {a} {b} {xs} p good bad = elim (p.while_good good) [ inl all ↦ absurd (bad all.good) | inr broke ↦ broke ]
+
+-- Texts of a list.
+
+pub flat_map_next : {X A : Type 0} (f : X → List A) (xs : List X) (i : ℕ) (d : X) → i < length xs → flat_map f (take (i + 1) xs) ≡ flat_map f (take i xs) ++ f (get_or xs i d)
+flat_map_next f xs i d h = ap (flat_map f) (take_more xs i d h) ∙ flat_map-append f (take i xs) (get_or xs i d ∷ []) ∙ ap (λ z. flat_map f (take i xs) ++ z) (append-nil (f (get_or xs i d)))
+
+pub flat_map_mapped_next : {X Y A : Type 0} (f : Y → List A) (g : X → Y) (xs : List X) (i : ℕ) (d : X) → i < length xs → get_or xs i d ≡ d → flat_map f (map g (take (i + 1) xs)) ≡ flat_map f (map g (take i xs)) ++ f (g d)
+flat_map_mapped_next f g xs i d h e =
+    ap (λ z. flat_map f (map g z)) (take_more xs i d h)
+    ∙ ap (flat_map f) (map-append g (take i xs) (get_or xs i d ∷ []))
+    ∙ flat_map-append f (map g (take i xs)) (g (get_or xs i d) ∷ [])
+    ∙ ap (λ z. flat_map f (map g (take i xs)) ++ z) (append-nil (f (g (get_or xs i d))))
+    ∙ ap (λ z. flat_map f (map g (take i xs)) ++ f (g z)) e

@@ -1,0 +1,39 @@
+-- The line of the definitions that a `Line` stands for.
+use Rattle.std.specs.Prelude.{ℕ, Bool, true, false, map, count_by}
+use Rattle.exectrace.specs.declared.lines.Line.{Line}
+use Rattle.exectrace.specs.declared.lines.Line.TheVariants as line
+use Rattle.exectrace.specs.declared.lines.Arg.{Arg}
+use Rattle.exectrace.specs.declared.lines.Arg.TheVariants as arg
+use Rattle.exectrace.specs.declared.lines.CallOutcome.{CallOutcome}
+use Rattle.exectrace.specs.declared.lines.CallOutcome.TheVariants as outcome
+use Rattle.exectrace.specs.Trace.{Argument, Value, Quoted, Outcome, Done, Answers, Waits, TraceLine, Switch, Idle, Call, Serve, Timer, Server, Softint, Alert}
+
+abbrev pub shown_argument : Arg → Argument
+shown_argument (arg.Value n) = Value n
+shown_argument (arg.Quoted name) = Quoted name.bytes
+
+abbrev pub shown_outcome : CallOutcome → Outcome
+shown_outcome outcome.Done = Done
+shown_outcome (outcome.Answers n) = Answers n
+shown_outcome outcome.Waits = Waits
+
+abbrev pub shown : Line → TraceLine
+shown (line.Switch name) = Switch name.bytes
+shown line.Idle = Idle
+shown (line.Call name word arguments) = Call name.bytes word.bytes (map shown_argument arguments.items) Done
+shown (line.Answer name word arguments value) = Call name.bytes word.bytes (map shown_argument arguments.items) (Answers value)
+shown (line.Wait name word arguments) = Call name.bytes word.bytes (map shown_argument arguments.items) Waits
+shown (line.Serve source) = Serve source.bytes
+shown (line.Timer value) = Timer value
+shown (line.Server name) = Server name.bytes
+shown (line.Softint name) = Softint name.bytes
+shown (line.Alert code name word) = Alert code.bytes name.bytes word.bytes
+
+abbrev pub is_quoted : Argument → Bool
+is_quoted (Value n) = false
+is_quoted (Quoted name) = true
+
+-- how many arguments of a line are quoted
+abbrev pub quoted_count : TraceLine → ℕ
+quoted_count (Call name word arguments outcome) = count_by is_quoted arguments
+quoted_count line = 0

@@ -1,0 +1,64 @@
+-- The lines of a trace, and their bytes. A name, a word, a code and a source are lists of bytes; a value is a 32-bit word.
+use Rattle.std.specs.Prelude.{ℕ, ◌/◌, ◌%◌, ◌^◌, List, [], ◌∷◌, ◌++◌, map, codes, slice_index_or}
+use Rattle.std.specs.List.{flat_map}
+
+-- an argument of a call
+pub data Argument : Type 0 where
+  Value : (value : ℕ) → Argument
+  Quoted : (name : List ℕ) → Argument
+
+-- how a call ends: it does not answer, it answers a value, or it waits
+pub data Outcome : Type 0 where
+  Done : Outcome
+  Answers : (value : ℕ) → Outcome
+  Waits : Outcome
+
+-- what happened: a task begins to run; no task runs; a task, a software interrupt or a server made a call; a latch is
+-- served; a request finished at a tick; a server's body begins; a software interrupt's body begins; a call was refused
+pub data TraceLine : Type 0 where
+  Switch : (name : List ℕ) → TraceLine
+  Idle : TraceLine
+  Call : (name word : List ℕ) (arguments : List Argument) (outcome : Outcome) → TraceLine
+  Serve : (source : List ℕ) → TraceLine
+  Timer : (value : ℕ) → TraceLine
+  Server : (name : List ℕ) → TraceLine
+  Softint : (name : List ℕ) → TraceLine
+  Alert : (code name word : List ℕ) → TraceLine
+
+-- the digit for a number below 16
+abbrev pub hex_digit : ℕ → ℕ
+hex_digit n = slice_index_or (codes "0123456789ABCDEF") n 0
+
+-- the digit of 16 to this power
+abbrev pub digit_at : ℕ → ℕ → ℕ
+digit_at n power = hex_digit (n / 16 ^ power % 16)
+
+-- `$` and eight digits
+abbrev pub value_text : ℕ → List ℕ
+value_text n = codes "$" ++ map (digit_at n) (7 ∷ 6 ∷ 5 ∷ 4 ∷ 3 ∷ 2 ∷ 1 ∷ 0 ∷ [])
+
+-- an argument, after the space before it
+abbrev pub argument_text : Argument → List ℕ
+argument_text (Value n) = codes " " ++ value_text n
+argument_text (Quoted name) = codes " \"" ++ name ++ codes "\""
+
+abbrev pub outcome_text : Outcome → List ℕ
+outcome_text Done = []
+outcome_text (Answers n) = codes " -> " ++ value_text n
+outcome_text Waits = codes " waits"
+
+-- a line, with its line feed
+abbrev pub printed_line : TraceLine → List ℕ
+printed_line (Switch name) = codes "switch " ++ name ++ codes "\n"
+printed_line Idle = codes "idle\n"
+printed_line (Call name word arguments outcome) =
+    name ++ codes " " ++ word ++ flat_map argument_text arguments ++ outcome_text outcome ++ codes "\n"
+printed_line (Serve source) = codes "serve " ++ source ++ codes "\n"
+printed_line (Timer value) = codes "timer " ++ value_text value ++ codes "\n"
+printed_line (Server name) = codes "server " ++ name ++ codes "\n"
+printed_line (Softint name) = codes "softint " ++ name ++ codes "\n"
+printed_line (Alert code name word) = codes "alert " ++ code ++ codes " " ++ name ++ codes " " ++ word ++ codes "\n"
+
+-- the bytes of a trace
+abbrev pub printed : List TraceLine → List ℕ
+printed lines = flat_map printed_line lines

@@ -1,0 +1,14 @@
+//! Sinks, and the printed lines of a trace.
+//!
+//! A [`Sink`] takes bytes, and tells which it took and how its last writes went; [`WriteSink`] makes one of a std writer.
+//! A [`Line`] is one line of a trace, and [`emit`] writes it. Who prints many lines in a row uses [`printing`], whose
+//! calls do not fail, and asks [`sinks::written`] at the end.
+#![tactic(auto)]
+
+pub mod lines;
+pub mod printing;
+pub mod sinks;
+
+pub use lines::{Arg, Line, Name};
+pub use printing::emit;
+pub use sinks::{Sink, SinkFault, SinkState, WriteFault, WriteSink};
