@@ -1,0 +1,98 @@
+-- The events of a text, or its first fault.
+use Rattle.std.specs.Prelude.{◌≡◌, ℕ, ◌+◌, ◌≤◌, Bool, true, ◌&&◌, nat_le, ◌==◌, bytes_eq, codes, List, [], ◌∷◌, ◌++◌, length, drop, take, sum_by, Option, Some, None, Result, Ok, Err, option_map, option_and_then, option_to_list, if◌then◌else◌}
+use Rattle.std.specs.List.{slice_split}
+use Rattle.taskscript.specs.Numbers.{decimal_of}
+use Rattle.taskscript.specs.declared.event.Event.{Event}
+use Rattle.taskscript.specs.declared.event.Event.TheVariants.{Run}
+use Rattle.taskscript.specs.declared.fault.EventFault.{EventFault}
+use Rattle.taskscript.specs.declared.fault.EventFault.TheVariants.{BadLine, TooMany, OutOfMemory}
+
+-- ---- one line
+
+-- a number of turns: 1 to 1,000,000, decimal and without leading zeros
+abbrev pub in_turns : ℕ → Option ℕ
+in_turns n = if nat_le 1 n && nat_le n 1000000 then Some n else None
+
+abbrev pub turns_of : List ℕ → Option ℕ
+turns_of digits = option_and_then in_turns (decimal_of digits)
+
+abbrev pub begins_with : List ℕ → List ℕ → Bool
+begins_with front line = bytes_eq (take (length front) line) front
+
+-- the event that a line states, if it states one
+unfoldable pub event_of : List ℕ → Option Event
+event_of line =
+    if begins_with (codes "run ") line then option_map Run (turns_of (drop 4 line))
+    else None
+
+-- an empty line, and one that begins with #, is skipped
+abbrev pub is_skipped : List ℕ → Bool
+is_skipped [] = true
+is_skipped (b ∷ bs) = b == 35
+
+-- ---- limits
+
+-- the steps that an event asks for
+abbrev pub steps : Event → ℕ
+steps (Run n) = n
+
+abbrev pub are_within : ℕ → ℕ → Bool
+are_within run count = nat_le run 1000000 && nat_le count 100000
+
+-- the sum of the steps is at most 1,000,000, and there are at most 100,000 events
+abbrev pub is_within : List Event → Bool
+is_within events = are_within (sum_by steps events) (length events)
+
+-- ---- a text
+
+-- the event of a line, or none where the line is skipped or states none
+abbrev pub events_on : List ℕ → List Event
+events_on line = if is_skipped line then [] else option_to_list (event_of line)
+
+-- the events of some lines, in their order
+abbrev pub events_of : List (List ℕ) → List Event
+events_of [] = []
+events_of (line ∷ lines) = events_on line ++ events_of lines
+
+-- the fault of a line: of what it states, of its number, and of the events of all lines up to it
+abbrev pub fault_by : Option Event → ℕ → List Event → List EventFault
+fault_by None number events = BadLine number ∷ []
+fault_by (Some event) number events = if is_within events then [] else TooMany ∷ []
+
+-- the fault of a line after the lines before it
+abbrev pub line_faults : List (List ℕ) → List ℕ → List EventFault
+line_faults before line =
+    if is_skipped line then [] else fault_by (event_of line) (length before + 1) (events_of (before ++ line ∷ []))
+
+-- the faults of all lines in their order, each judged by itself after the lines before it
+abbrev pub faults : List (List ℕ) → List (List ℕ) → List EventFault
+faults before [] = []
+faults before (line ∷ lines) = line_faults before line ++ faults (before ++ line ∷ []) lines
+
+abbrev pub first : List EventFault → Option EventFault
+first [] = None
+first (f ∷ fs) = Some f
+
+abbrev pub judged : List Event → Option EventFault → Result (List Event) EventFault
+judged events None = Ok events
+judged events (Some f) = Err f
+
+-- a text is cut at its line feeds
+abbrev pub lines_of : List ℕ → List (List ℕ)
+lines_of text = slice_split (λ b. b == 10) text
+
+-- the events of a text, or the fault of its first faulty line
+unfoldable pub script_of : List ℕ → Result (List Event) EventFault
+script_of text = judged (events_of (lines_of text)) (first (faults [] (lines_of text)))
+
+-- ---- what a reader of lines answers
+
+-- Ok: there is no fault, and the value is right. Err: the first fault, unless memory was refused.
+abbrev pub JudgesLines : {X : Type 0} → Result X EventFault → List EventFault → (X → Type 0) → Type 0
+JudgesLines (Ok x) fs right = (first fs ≡ None) × right x
+JudgesLines (Err f) fs right = ¬ (f ≡ OutOfMemory) → first fs ≡ Some f
+
+-- what holds of the events of every text that is accepted
+pub record AreWithin (events : List Event) : Type 0 where
+  pub steps : sum_by steps events ≤ 1000000
+  pub count : length events ≤ 100000

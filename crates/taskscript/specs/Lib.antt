@@ -1,0 +1,5 @@
+pub mod Commands
+pub mod Events
+pub mod File
+pub mod Numbers
+pub mod Words

@@ -1,0 +1,35 @@
+-- The words of a body. Source: the scripts of this simulator are our own; the words that are named
+-- for a call of exec.library stand for that call.
+use Rattle.std.specs.Prelude.{ℕ, Bool, true, false, bytes_eq, codes, find, List, [], ◌∷◌, Option}
+use Rattle.taskscript.specs.declared.word.Word.{Word}
+use Rattle.taskscript.specs.declared.word.Word.TheVariants.{Set, Print, Signal, Wait}
+use Rattle.taskscript.specs.declared.word.Kind.{Kind}
+use Rattle.taskscript.specs.declared.word.Kind.TheVariants.{Value}
+
+-- the text of a word, in a line and in the trace
+abbrev pub word_text : Word → List ℕ
+word_text Set = codes "Set"
+word_text Print = codes "Print"
+word_text Signal = codes "Signal"
+word_text Wait = codes "Wait"
+
+-- whether a word answers: only before such a word a target may stand
+abbrev pub answers : Word → Bool
+answers Set = true
+answers Print = false
+answers Signal = false
+answers Wait = true
+
+-- the kinds of a word's arguments, from left to right
+abbrev pub kinds : Word → List Kind
+kinds Set = Value ∷ []
+kinds Print = Value ∷ []
+kinds Signal = Value ∷ Value ∷ []
+kinds Wait = Value ∷ []
+
+abbrev pub all_words : List Word
+all_words = Set ∷ Print ∷ Signal ∷ Wait ∷ []
+
+-- the word of a text, if there is one
+abbrev pub word_of : List ℕ → Option Word
+word_of text = find (λ word. bytes_eq (word_text word) text) all_words

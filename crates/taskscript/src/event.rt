@@ -1,0 +1,61 @@
+//! Events: what an event text asks the machine to do.
+ghost use Rattle.std.specs.Prelude.{◌≡◌};
+ghost use Rattle.taskscript.specs.Events.{steps, AreWithin};
+
+use std::marker::Model;
+
+/// One event.
+#[derive(Clone, Copy, Debug, PartialEq, Eq)]
+pub enum Event {
+    /// So many steps, each followed by a settle: 1 to 1,000,000.
+    Run(u32),
+}
+
+impl Event {
+    /// The steps that the event asks for.
+    pub(crate) fn steps(self) -> u32
+        ensures { result ≡ steps self }
+    {
+        match self {
+            Event::Run(n) => n,
+        }
+    }
+}
+
+/// The events of a text, in their order.
+///
+/// `read_events` alone makes them: there are at most 100,000, and their steps sum to at most 1,000,000.
+#[derive(Debug, Drop)]
+pub struct Events {
+    list: Vec<Event>,
+}
+
+impl Model for Events {
+    ghost use Rattle.std.specs.Prelude.{List};
+    ghost use Rattle.taskscript.specs.Events.{AreWithin};
+    ghost use Rattle.taskscript.specs.declared.event.Event.{Event};
+
+    ghost Value = { List Event };
+
+    ghost view = { λ e. e.list.items };
+
+    ghost invariant = { λ e. AreWithin e.list.items };
+}
+
+impl Events {
+    /// Events that are within the limits.
+    pub(crate) fn new(list: Vec<Event>) -> Events
+        requires { AreWithin list.items }
+        ensures { result ≡ list.items }
+    {
+        Events { list }
+    }
+
+    /// The events, in their order.
+    pub fn list(&self) -> &[Event]
+        ensures events { result.now ≡ self.now }
+        ensures within { AreWithin self.now }
+    {
+        &self.list
+    }
+}

@@ -1,0 +1,99 @@
+//! Reading an event text: bytes, cut at line feeds and never decoded.
+ghost use Rattle.std.specs.Prelude.{◌≡◌, map, [], IfOk, Ok, Err, MatchResult};
+ghost use Rattle.taskscript.specs.Events.{turns_of, event_of, is_skipped, are_within, lines_of, faults, events_of, script_of, JudgesLines};
+ghost use Rattle.taskscript.specs.declared.fault.EventFault.TheVariants.{OutOfMemory};
+
+use crate::event::{Event, Events};
+use crate::fault::EventFault;
+use crate::number::decimal_of;
+use std::alloc::{AllocError, Global};
+
+fn turns_of(digits: &[u8]) -> Option<u32>
+    ensures { result ≡ turns_of digits.now }
+{
+    match decimal_of(digits) {
+        None => None,
+        Some(n) => {
+            if 1 <= n && n <= 1_000_000 {
+                Some(n)
+            } else {
+                None
+            }
+        }
+    }
+}
+
+#[tactic(auto, unfolding(crate::specs::Events::event_of))]
+fn event_of(line: &[u8]) -> Option<Event>
+    ensures { result ≡ event_of line.now }
+{
+    if let Some(digits) = line.strip_prefix(b"run ") {
+        match turns_of(digits) {
+            None => None,
+            Some(n) => Some(Event::Run(n)),
+        }
+    } else {
+        None
+    }
+}
+
+fn is_skipped(line: &[u8]) -> bool
+    ensures { result ≡ is_skipped line.now }
+{
+    match line {
+        [] => true,
+        [first, ..] => *first == b'#',
+    }
+}
+
+fn lines_of(alloc: Global, text: &[u8]) -> Result<Vec<&[u8]>, AllocError>
+    ensures { IfOk result (λ v. map (λ l. l.now) v.items ≡ lines_of text.now) }
+{
+    text.split(|b| *b == 10).collect(alloc)
+}
+
+fn are_within(steps: u64, count: usize) -> bool
+    ensures { result ≡ are_within steps count }
+{
+    steps <= 1_000_000 && count <= 100_000
+}
+
+fn events_of(alloc: Global, lines: &[&[u8]]) -> Result<Events, EventFault>
+    ensures { JudgesLines result (faults [] (map (λ l. l.now) lines.now)) (λ v. v ≡ events_of (map (λ l. l.now) lines.now)) }
+{
+    let mut events = Vec::new(alloc);
+    let mut steps = 0u64;
+    for (i, line) in lines.iter().enumerate() {
+        if is_skipped(line) {
+            continue;
+        }
+        let event = match event_of(line) {
+            None => return Err(EventFault::BadLine(i + 1)),
+            Some(event) => event,
+        };
+        steps += u64::from(event.steps());
+        if !are_within(steps, events.len() + 1) {
+            return Err(EventFault::TooMany);
+        }
+        events.push(event)?;
+    }
+    Ok(Events::new(events))
+}
+
+/// Reads an event text.
+///
+/// Lines end with a line feed; the last one may lack it. An empty line and a line that begins with `#` are skipped, whatever bytes follow.
+/// Every other line is `run N`, with one space and N in decimal without leading zeros from 1 to 1000000.
+///
+/// # Errors
+///
+/// The first faulty line decides: `BadLine` where it is no event, `TooMany` where it takes the sum of the steps past 1,000,000 or the events
+/// past 100,000. `OutOfMemory` may come wherever memory is refused.
+///
+/// The format is this project's own choice.
+pub fn read_events(alloc: Global, text: &[u8]) -> Result<Events, EventFault>
+    ensures { MatchResult result (λ events. script_of text.now ≡ Ok events) (λ f. ¬ (f ≡ OutOfMemory) → script_of text.now ≡ Err f) }
+{
+    let lines = lines_of(alloc, text)?;
+    events_of(alloc, &lines)
+}
