@@ -1,0 +1,243 @@
+//! Task states and the ready sequence.
+//! A `TaskQ` knows the state, the priority and the name of each task, and which ready task is to run next.
+#![tactic(auto)]
+
+ghost use Rattle.std.specs.Prelude.{◌≡◌, ◌≢◌, ℕ, ◌<◌, ◌≤◌, List, [], Option, Some, None, length, replicate, slice_set, map, find, true, IfOk, IfSome, IsTrue, if◌then◌else◌};
+ghost use Rattle.std.specs.List.{range_with_len};
+ghost use Rattle.execlist.specs.Order.{enqueue, first, without};
+ghost use Rattle.execlist.specs.Lists.{times};
+ghost use Rattle.taskq.specs.Tasks.{state_at, pri_at, is_ready, is_live, is_live_named};
+
+use execlist::key::Name;
+use execlist::space::ListSpace;
+use std::alloc::{AllocError, Global};
+use std::marker::Model;
+
+/// The number of a task, from 0, in the order of the list that `TaskQ::new` is given.
+pub type TaskId = usize;
+
+/// The name (at most 31 bytes) and the first priority (-128 to 127) of a task.
+#[derive(Clone, Copy, Debug)]
+pub struct TaskInit {
+    pub name: Name,
+    pub pri: i8,
+}
+
+/// What a task waits for: one of the signals of a mask.
+#[derive(Clone, Copy, Debug, PartialEq, Eq)]
+pub enum Why {
+    Signals(u32),
+}
+
+/// Where a task stands in its life. RKM Libraries, Exec Tasks: task states.
+#[derive(Clone, Copy, Debug, PartialEq, Eq)]
+pub enum TaskState {
+    /// It never was added.
+    Absent,
+    /// It may run, and another one runs or none has been chosen.
+    Ready,
+    /// It runs.
+    Running,
+    /// It sleeps until what it waits for has come.
+    Waiting(Why),
+    /// It has ended, or was ended, and does not come back.
+    Removed,
+}
+
+/// The tasks of a machine, and the ready ones in the order in which they are to run.
+///
+/// All room is made by `new`; no other call takes memory.
+#[derive(Drop)]
+pub struct TaskQ<S: ListSpace> {
+    space: S,
+    states: Vec<TaskState>,
+    names: Vec<Name>,
+}
+
+/// The names of the tasks, in their order.
+fn names_of(alloc: Global, tasks: &[TaskInit]) -> Result<Vec<Name>, AllocError>
+    ensures { IfOk result (λ v. v.items ≡ map (λ t. t.name) tasks.now) }
+{
+    let mut names = Vec::with_capacity(alloc, tasks.len())?;
+    for task in tasks {
+        names.push(task.name)?;
+    }
+    Ok(names)
+}
+
+impl<S: ListSpace> Model for TaskQ<S> {
+    ghost use Rattle.std.specs.Prelude.{◌≡◌, length, map};
+    ghost use Rattle.execlist.specs.Lists.{sequence};
+    ghost use Rattle.taskq.specs.Tasks.{Tasks, home_for, pris_of};
+
+    ghost Value = { Tasks };
+
+    ghost view = { λ q. record { ready = sequence (S.sequences q.space) 0; states = q.states.items; pris = pris_of (S.keys q.space); names = map (λ n. n.bytes) q.names.items } };
+
+    ghost invariant = { λ q. (length (S.sequences q.space) ≡ 1) × ((S.homes q.space ≡ map home_for q.states.items) × (length q.names.items ≡ length q.states.items)) };
+}
+
+#[tactic(auto, using(crate::proofs::TaskLemmas::homes_written, crate::proofs::TaskLemmas::written_same, crate::proofs::TaskLemmas::written_twice, crate::proofs::TaskLemmas::home_from_state, crate::proofs::TaskLemmas::homes_absent, crate::proofs::TaskLemmas::headers_kept, crate::proofs::TaskLemmas::states_kept, crate::proofs::TaskLemmas::pris_written, crate::proofs::TaskLemmas::enqueue_by_pris))]
+impl<S: ListSpace> TaskQ<S> {
+    /// Answers the task that is to run next, which stays ready, or none where no task is ready.
+    /// RKM Libraries, Exec Tasks: scheduling.
+    pub fn pick(&self) -> Option<TaskId>
+        ensures value { result ≡ first self.now.ready }
+        ensures ready { IfSome result (λ t. state_at self.now.states t ≡ TaskState.Ready) }
+    {
+        self.space.first(0)
+    }
+
+    /// Makes an absent, running or waiting task ready, behind the ready ones of its priority.
+    /// RKM Libraries, Exec Tasks: scheduling.
+    pub fn make_ready(&mut self, t: TaskId)
+        requires known { t < length self.old.states }
+        requires not_ready { state_at self.old.states t ≢ TaskState.Ready }
+        requires not_removed { state_at self.old.states t ≢ TaskState.Removed }
+        ensures ready { self.new.ready ≡ enqueue (pri_at self.old.pris) self.old.ready t }
+        ensures states { self.new.states ≡ slice_set self.old.states t TaskState.Ready }
+        ensures pris { self.new.pris ≡ self.old.pris }
+        ensures names { self.new.names ≡ self.old.names }
+    {
+        self.space.enqueue(0, t);
+        self.states[t] = TaskState::Ready;
+    }
+
+    /// Lets a ready task run: it leaves the ready ones.
+    /// RKM Libraries, Exec Tasks: scheduling.
+    pub fn run(&mut self, t: TaskId)
+        requires ready { state_at self.old.states t ≡ TaskState.Ready }
+        ensures ready { self.new.ready ≡ without t self.old.ready }
+        ensures states { self.new.states ≡ slice_set self.old.states t TaskState.Running }
+        ensures pris { self.new.pris ≡ self.old.pris }
+        ensures names { self.new.names ≡ self.old.names }
+    {
+        self.space.remove(t);
+        self.states[t] = TaskState::Running;
+    }
+
+    /// Lets a running task wait. Autodoc exec.library/Wait.
+    pub fn block(&mut self, t: TaskId, why: Why)
+        requires running { state_at self.old.states t ≡ TaskState.Running }
+        ensures ready { self.new.ready ≡ self.old.ready }
+        ensures states { self.new.states ≡ slice_set self.old.states t (TaskState.Waiting why) }
+        ensures pris { self.new.pris ≡ self.old.pris }
+        ensures names { self.new.names ≡ self.old.names }
+    {
+        self.states[t] = TaskState::Waiting(why);
+    }
+
+    /// Gives a task another priority (-128 to 127) and answers the old one. A ready task arrives anew,
+    /// also where the priority stays; for any other the number alone changes.
+    /// Autodoc exec.library/SetTaskPri.
+    pub fn set_pri(&mut self, t: TaskId, pri: i8) -> i8
+        requires { t < length self.old.states }
+        ensures value { result ≡ pri_at self.old.pris t }
+        ensures ready { self.new.ready ≡ (if is_ready (state_at self.old.states t)
+            then enqueue (pri_at self.new.pris) (without t self.old.ready) t
+            else self.old.ready) }
+        ensures states { self.new.states ≡ self.old.states }
+        ensures pris { self.new.pris ≡ slice_set self.old.pris t pri }
+        ensures names { self.new.names ≡ self.old.names }
+    {
+        let old = self.space.pri(t);
+        if let TaskState::Ready = self.states[t] {
+            self.space.remove(t);
+            self.space.set_key(t, pri, None);
+            self.space.enqueue(0, t);
+        } else {
+            self.space.set_key(t, pri, None);
+        }
+        old
+    }
+
+    /// Ends a live task for good: a ready one leaves the ready ones.
+    /// Autodoc exec.library/RemTask.
+    pub fn remove(&mut self, t: TaskId)
+        requires live { IsTrue (is_live (state_at self.old.states t)) }
+        ensures ready { self.new.ready ≡ without t self.old.ready }
+        ensures states { self.new.states ≡ slice_set self.old.states t TaskState.Removed }
+        ensures pris { self.new.pris ≡ self.old.pris }
+        ensures names { self.new.names ≡ self.old.names }
+    {
+        if let TaskState::Ready = self.states[t] {
+            self.space.remove(t);
+        }
+        self.states[t] = TaskState::Removed;
+    }
+
+    /// Answers the live task of that name, or none. Names compare byte for byte; where several live tasks
+    /// have the name, the first in the order of their numbers is answered.
+    /// Autodoc exec.library/FindTask.
+    pub fn find(&self, name: &str) -> Option<TaskId>
+        ensures value { result ≡ find (is_live_named self.now name.now) (range_with_len 0 (length self.now.states)) }
+        ensures known { IfSome result (λ t. t < length self.now.states) }
+        ensures live { IfSome result (λ t. IsTrue (is_live (state_at self.now.states t))) }
+    {
+        for t in 0..self.states.len() {
+            if self.is_live(t) && self.names[t].as_str() == name {
+                return Some(t);
+            }
+        }
+        None
+    }
+
+    /// Answers whether a task was added and not removed.
+    pub fn is_live(&self, t: TaskId) -> bool
+        requires { t < length self.now.states }
+        ensures { result ≡ is_live (state_at self.now.states t) }
+    {
+        match self.states[t] {
+            TaskState::Absent | TaskState::Removed => false,
+            _ => true,
+        }
+    }
+
+    /// Does nothing: its clauses are what always holds of the tasks. A ready task stands once among the
+    /// ready ones and any other not at all; each task has one state, one priority and one name.
+    pub fn facts(&self)
+        ensures ready { (t : ℕ) → times t self.now.ready ≡ (if is_ready (state_at self.now.states t) then 1 else 0) }
+        ensures pris { length self.now.pris ≡ length self.now.states }
+        ensures names { length self.now.names ≡ length self.now.states }
+    {
+        let _ = &self.space;
+    }
+
+    /// Answers the priority of a task, -128 to 127. RKM Libraries, Exec Tasks: `ln_Pri`.
+    pub fn pri(&self, t: TaskId) -> i8
+        requires { t < length self.now.states }
+        ensures { result ≡ pri_at self.now.pris t }
+    {
+        self.space.pri(t)
+    }
+
+    /// Answers the state of a task. RKM Libraries, Exec Tasks: `tc_State`.
+    pub fn state(&self, t: TaskId) -> TaskState
+        requires { t < length self.now.states }
+        ensures { result ≡ state_at self.now.states t }
+    {
+        self.states[t]
+    }
+
+    /// Makes absent tasks of these names and priorities, at most 4,096, numbered in the order given.
+    /// An error means that memory is lacking.
+    pub fn new(alloc: Global, tasks: &[TaskInit]) -> Result<Self, AllocError>
+        requires { length tasks.now ≤ 4096 }
+        ensures ready { IfOk result (λ q. q.ready ≡ []) }
+        ensures states { IfOk result (λ q. q.states ≡ replicate (length tasks.now) TaskState.Absent) }
+        ensures pris { IfOk result (λ q. q.pris ≡ map (λ t. t.pri) tasks.now) }
+        ensures names { IfOk result (λ q. q.names ≡ map (λ t. t.name.bytes) tasks.now) }
+    {
+        let mut space = S::new(alloc, 1, tasks.len())?;
+        let states = Vec::from_elem(alloc, TaskState::Absent, tasks.len())?;
+        let names = names_of(alloc, tasks)?;
+        for t in 0..tasks.len() {
+            space.set_key(t, tasks[t].pri, None);
+        }
+        Ok(TaskQ {
+            space,
+            states,
+            names,
+        })
+    }
+}
