@@ -13,7 +13,7 @@ pub mod laws;
 const SYSTEM_SIGNALS: u32 = 0x0000_ffff;
 
 /// The answer of `alloc_signal` where it gives no signal.
-pub const NO_SIGNAL: i32 = -1;
+const NO_SIGNAL: i32 = -1;
 
 /// The signals of one task: those received and those allocated, 0 to 31.
 ///
@@ -50,7 +50,7 @@ impl SigState {
 
     /// Allocates signal `n`, or for -1 the highest free one of 16 to 31, and answers its number.
     ///
-    /// Answers `NO_SIGNAL` and changes nothing where `n` is allocated, where `n` is neither -1 nor from 16 to 31, and
+    /// Answers -1 and changes nothing where `n` is allocated, where `n` is neither -1 nor from 16 to 31, and
     /// for -1 where all of 16 to 31 are allocated. A signal that was allocated just now is not received.
     ///
     /// Source: autodoc exec.library/AllocSignal. Own choices: the highest one, and the answer to other numbers.
