@@ -1,3 +1,4 @@
+-- A set less a mask has the signals of the set that the mask lacks.
 use Rattle.signals.proofs.Sets.{has_signal-without}
 use Rattle.signals.proofs.laws.a_take_removes_the_mask.Goals as goal
 
