@@ -1,5 +1,5 @@
 -- The line of the definitions that a `Line` stands for.
-use Rattle.std.specs.Prelude.{ℕ, Bool, true, false, map, count_by}
+use Rattle.std.specs.Prelude.{map}
 use Rattle.exectrace.specs.declared.lines.Line.{Line}
 use Rattle.exectrace.specs.declared.lines.Line.TheVariants as line
 use Rattle.exectrace.specs.declared.lines.Arg.{Arg}
@@ -28,12 +28,3 @@ shown (line.Timer value) = Timer value
 shown (line.Server name) = Server name.bytes
 shown (line.Softint name) = Softint name.bytes
 shown (line.Alert code name word) = Alert code.bytes name.bytes word.bytes
-
-abbrev pub is_quoted : Argument → Bool
-is_quoted (Value n) = false
-is_quoted (Quoted name) = true
-
--- how many arguments of a line are quoted
-abbrev pub quoted_count : TraceLine → ℕ
-quoted_count (Call name word arguments outcome) = count_by is_quoted arguments
-quoted_count line = 0

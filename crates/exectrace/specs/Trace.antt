@@ -1,5 +1,5 @@
 -- The lines of a trace, and their bytes. A name, a word, a code and a source are lists of bytes; a value is a 32-bit word.
-use Rattle.std.specs.Prelude.{ℕ, ◌/◌, ◌%◌, ◌^◌, List, [], ◌∷◌, ◌++◌, map, codes, slice_index_or}
+use Rattle.std.specs.Prelude.{ℕ, ◌/◌, ◌%◌, ◌^◌, List, [], ◌∷◌, ◌++◌, map, codes, slice_index_or, Bool, true, false, count_by}
 use Rattle.std.specs.List.{flat_map}
 
 -- an argument of a call
@@ -62,3 +62,13 @@ printed_line (Alert code name word) = codes "alert " ++ code ++ codes " " ++ nam
 -- the bytes of a trace
 abbrev pub printed : List TraceLine → List ℕ
 printed lines = flat_map printed_line lines
+
+-- Of a line that a script can bring about, at most one argument is quoted.
+
+abbrev pub is_quoted : Argument → Bool
+is_quoted (Value value) = false
+is_quoted (Quoted name) = true
+
+abbrev pub quoted_count : TraceLine → ℕ
+quoted_count (Call name word arguments outcome) = count_by is_quoted arguments
+quoted_count line = 0

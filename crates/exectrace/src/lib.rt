@@ -12,3 +12,6 @@ pub mod sinks;
 pub use lines::{Arg, Line, Name};
 pub use printing::emit;
 pub use sinks::{Sink, SinkFault, SinkState, WriteFault, WriteSink};
+
+#[cfg(test)]
+mod tests;

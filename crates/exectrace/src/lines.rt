@@ -1,4 +1,9 @@
 //! A line of a trace, and its parts.
+ghost use Rattle.std.specs.Prelude.{◌≡◌, ◌≤◌, ◌+◌, ◌*◌, if◌then◌else◌, length, count_by, map, codes, ◌++◌};
+ghost use Rattle.std.specs.List.{flat_map};
+ghost use Rattle.exectrace.specs.Trace.{Argument, argument_text, printed_line, quoted_count, is_quoted};
+ghost use Rattle.exectrace.specs.Shown.{shown, shown_argument};
+
 use arrayvec::{ArrayString, ArrayVec};
 
 /// A name, a word, a code or a source: at most 31 bytes.
@@ -73,4 +78,96 @@ pub enum Line {
         name: Name,
         word: Name,
     },
+}
+
+impl Arg {
+    /// Whether it is a name between double quotes.
+    pub fn is_quoted(&self) -> bool
+        ensures { result ≡ is_quoted (shown_argument self.now) }
+    {
+        matches!(self, Arg::Quoted(_))
+    }
+
+    /// How many bytes it takes in a line, with the space before it.
+    fn printed_len(&self) -> usize
+        ensures value { result ≡ length (argument_text (shown_argument self.now)) }
+        ensures fits { result ≤ 10 + 24 * (if is_quoted (shown_argument self.now) then 1 else 0) }
+    {
+        match self {
+            Arg::Value(_) => 10,
+            Arg::Quoted(name) => name.len() + 3,
+        }
+    }
+}
+
+/// How many bytes these arguments take in a line: 10 each, and up to 24 more where one is quoted.
+fn arguments_len(arguments: &[Arg]) -> usize
+    requires { length arguments.now ≤ 4 }
+    ensures value { result ≡ length (flat_map argument_text (map shown_argument arguments.now)) }
+    ensures small { result ≤ 136 }
+    ensures fits { result ≤ 10 * length arguments.now + 24 * count_by is_quoted (map shown_argument arguments.now) }
+{
+    let mut total = 0;
+    for argument in arguments {
+        total += argument.printed_len();
+    }
+    total
+}
+
+/// How many bytes a call's line has, up to its outcome.
+fn call_len(name: &Name, word: &Name, arguments: &Arguments) -> usize
+    ensures value { result ≡ length (name.now.bytes ++ codes " " ++ word.now.bytes ++ flat_map argument_text (map shown_argument arguments.now.items)) }
+    ensures small { result ≤ 199 }
+    ensures fits { result ≤ 103 + 24 * count_by is_quoted (map shown_argument arguments.now.items) }
+{
+    name.len() + 1 + word.len() + arguments_len(arguments.as_slice())
+}
+
+impl Line {
+    /// How many arguments are quoted.
+    pub fn quoted_count(&self) -> usize
+        ensures { result ≡ quoted_count (shown self.now) }
+    {
+        match self {
+            Line::Call { arguments, .. }
+            | Line::Answer { arguments, .. }
+            | Line::Wait { arguments, .. } => arguments
+                .iter()
+                .filter(|argument| argument.is_quoted())
+                .count(),
+            _ => 0,
+        }
+    }
+
+    /// How many bytes the printed line has, its line feed included.
+    pub fn printed_len(&self) -> usize
+        ensures value { result ≡ length (printed_line (shown self.now)) }
+        ensures fits { quoted_count (shown self.now) ≤ 1 → result ≤ 160 }
+    {
+        match self {
+            Line::Switch(name) => name.len() + 8,
+            Line::Idle => 5,
+            Line::Call {
+                name,
+                word,
+                arguments,
+            } => call_len(name, word, arguments) + 1,
+            Line::Answer {
+                name,
+                word,
+                arguments,
+                value: _,
+            } => call_len(name, word, arguments) + 14,
+            Line::Wait {
+                name,
+                word,
+                arguments,
+            } => call_len(name, word, arguments) + 7,
+            Line::Serve(source) => source.len() + 7,
+            Line::Timer(_) => 16,
+            Line::Server(name) => name.len() + 8,
+            Line::Softint(name) => name.len() + 9,
+            Line::Alert { code, name, word } => code.len() + name.len() + word.len() + 9,
+        }
+    }
 }

@@ -5,8 +5,8 @@
 ghost use Rattle.std.specs.Prelude.{◌≡◌, ◌<◌, ◌≤◌, length, map, codes, ◌++◌};
 ghost use Rattle.std.specs.List.{flat_map};
 ghost use Rattle.exectrace.specs.Sink.{Puts, Writes};
-ghost use Rattle.exectrace.specs.Trace.{printed_line, value_text, hex_digit, Switch, Idle, Call, Serve, Timer, Server, Softint, Alert, argument_text, outcome_text};
-ghost use Rattle.exectrace.specs.Shown.{shown, shown_argument, shown_outcome, quoted_count};
+ghost use Rattle.exectrace.specs.Trace.{printed_line, value_text, hex_digit, quoted_count, Switch, Idle, Call, Serve, Timer, Server, Softint, Alert, argument_text, outcome_text};
+ghost use Rattle.exectrace.specs.Shown.{shown, shown_argument, shown_outcome};
 ghost use Rattle.exectrace.specs.declared.sinks.SinkState.{SinkState};
 
 use crate::lines::{Arg, CallOutcome, Line, Name};
@@ -238,8 +238,10 @@ pub fn put_line<W: Sink>(line: &Line, out: &mut W)
 pub fn emit<W: Sink>(line: &Line, out: &mut W) -> Result<(), WriteFault>
     requires good { (W.tape out.old).state ≡ SinkState.Good }
     requires one_quoted { quoted_count (shown line.now) ≤ 1 }
-    ensures { Writes (W.tape out.old) (W.tape out.new) (printed_line (shown line.now)) result }
+    ensures writes { Writes (W.tape out.old) (W.tape out.new) (printed_line (shown line.now)) result }
+    ensures fits { length (printed_line (shown line.now)) ≤ 160 }
 {
+    prove!(line.printed_len() <= 160);
     put_line(line, out);
     written(out)
 }

@@ -1,0 +1,12 @@
+use Rattle.std.proofs.Common.{◌≡◌, ◌≤◌, ◌+◌, ◌*◌, length, take, count_by, map}
+use Rattle.std.specs.List.{flat_map}
+use Rattle.exectrace.specs.Trace.{argument_text, is_quoted}
+use Rattle.exectrace.specs.Shown.{shown_argument}
+use Rattle.exectrace.proofs.lines.arguments_len.Given as goal
+
+-- the arguments so far were counted
+abbrev pub invariant-loop-argument : goal.invariant-loop-argument
+invariant-loop-argument l = record {
+  value : l.total ≡ length (flat_map argument_text (map shown_argument (take l.argument-index l.arguments)));
+  fits : l.total ≤ 10 * l.argument-index + 24 * count_by is_quoted (map shown_argument (take l.argument-index l.arguments));
+}
