@@ -1,13 +1,13 @@
 -- The list of all linked nodes, when a node is put in or taken out.
 use Rattle.std.proofs.Common.{◌≡◌, ◌≢◌, ℕ, zero, suc, ◌+◌, ◌-◌, ◌<◌, ◌≤◌, Bool, true, false, cond, not, eqb, List, [], ◌∷◌, ◌++◌, length, get_or, take, drop, map, refl, sym, ◌∙◌, ap, arith, inl, inr, Option, Some, None, is_some, append_assoc, replicate, length-append, length-take, length-drop, add-one}
-use Rattle.std.specs.Prelude.{slice_set, insert, remove, All, ◌⊎◌, slice_index, IfSome}
+use Rattle.std.specs.Prelude.{ℤ, slice_set, insert, remove, All, ◌⊎◌, slice_index, IfSome}
 use Rattle.std.specs.List.{range_with_len}
 use Rattle.std.proofs.lemmas.Bool.{cond-true, cond-false, eqb-true, eqb-false, eq-eqb, ne_eqb, cases_eq, cases_lt}
 use Rattle.std.proofs.lemmas.List.{get_or-set_same, get_or-set_other, length-set}
-use Rattle.std.proofs.lemmas.List.{same_lists, take-append-drop, get_or_past, append-nil, set-get_or, get_or_read}
+use Rattle.std.proofs.lemmas.List.{same_lists, take-append-drop, take_all, drop_all, get_or_past, append-nil, set-get_or, get_or_read}
 use Rattle.std.proofs.lemmas.List.Elements.{filter-append, filter_more}
 use Rattle.std.proofs.lemmas.List.FromFn.{length-map-range_with_len, get_or-map-range_with_len}
-use Rattle.execlist.specs.Order.{first, without}
+use Rattle.execlist.specs.Order.{enqueue, first, without}
 use Rattle.execlist.specs.Lists.{home, is_at, times, sequence, part_before, part_after, put_after, last}
 use Rattle.execlist.specs.Plain.{nodes_of, sequences_of, linked_count, IsSpace}
 
@@ -320,6 +320,16 @@ module _ (headers : ℕ) (all : List ℕ) (homes : List (Option ℕ)) (i h n : �
   pub put_first : i ≡ 0 → sequences_of headers (insert all i n) (slice_set homes n (Some h)) ≡ slice_set (sequences_of headers all homes) h (n ∷ sequence (sequences_of headers all homes) h)
   put_first e =
       put_sequences (n ∷ sequence (sequences_of headers all homes) h) (ap (λ j. nodes_of homes h (take j all) ++ n ∷ nodes_of homes h (drop j all)) e ∙ ap (λ l. n ∷ l) (sym (sequence_is headers all homes h header)))
+
+  pub put_last : i ≡ length all → sequences_of headers (insert all i n) (slice_set homes n (Some h)) ≡ slice_set (sequences_of headers all homes) h (sequence (sequences_of headers all homes) h ++ n ∷ [])
+  put_last e =
+      let all_of = take_all i all (omega arith) in
+      let none_of = drop_all i all (omega arith) in
+      put_sequences (sequence (sequences_of headers all homes) h ++ n ∷ []) (ap (λ l. nodes_of homes h l ++ n ∷ nodes_of homes h (drop i all)) all_of ∙ ap (λ l. nodes_of homes h all ++ n ∷ nodes_of homes h l) none_of ∙ ap (λ l. l ++ n ∷ []) (sym (sequence_is headers all homes h header)))
+
+  pub put_in_order : (key : ℕ → ℤ) → enqueue key (nodes_of homes h all) n ≡ nodes_of homes h (take i all) ++ n ∷ nodes_of homes h (drop i all) → sequences_of headers (insert all i n) (slice_set homes n (Some h)) ≡ slice_set (sequences_of headers all homes) h (enqueue key (sequence (sequences_of headers all homes) h) n)
+  put_in_order key e =
+      put_sequences (enqueue key (sequence (sequences_of headers all homes) h) n) (sym e ∙ ap (λ q. enqueue key q n) (sym (sequence_is headers all homes h header)))
 
 -- A node after another.
 put_after_held : (homes : List (Option ℕ)) (all : List ℕ) (i h n p : ℕ) → i < length all → get_or all i 0 ≡ p → home homes p ≡ Some h → times p all ≡ 1 → nodes_of homes h (take (suc i) all) ++ n ∷ nodes_of homes h (drop (suc i) all) ≡ put_after (Some p) n (nodes_of homes h all)

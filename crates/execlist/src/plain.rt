@@ -1,6 +1,7 @@
-//! A list space in vectors.
-ghost use Rattle.std.specs.Prelude.{◌≡◌, ℕ, ◌<◌, ◌≤◌, ◌+◌, ◌-◌, List, [], ◌∷◌, ◌++◌, Option, Some, None, true, false, length, insert, remove, replicate, slice_set, slice_index, slice_index_or, drop, take, find, map, option_map, All, IfOk, IfSome, IsSome, MatchOption, int_lt, vec_len, if◌then◌else◌};
-ghost use Rattle.execlist.specs.Order.{first, is_lower};
+//! A list space in vectors: one list of all linked nodes, in which the nodes of a header stand in their
+//! order, and for each node its header and its key. A call reads that list once or twice from end to end.
+ghost use Rattle.std.specs.Prelude.{◌≡◌, ℕ, ◌<◌, ◌≤◌, ◌+◌, List, [], ◌∷◌, ◌++◌, Option, Some, None, true, false, length, insert, remove, slice_set, slice_index, slice_index_or, drop, take, find, map, option_map, All, IfOk, IfSome, IsSome, vec_len, if◌then◌else◌};
+ghost use Rattle.execlist.specs.Order.{first, is_lower, enqueue};
 ghost use Rattle.execlist.specs.Lists.{sequence, blank, part_from, home, pri_of, is_at, is_named, times, last, name_is};
 ghost use Rattle.execlist.specs.Plain.{nodes_of, sequences_of, IsSpace};
 ghost use Rattle.execlist.specs.Keys.{key_of, keys_of};
@@ -10,7 +11,7 @@ use crate::key::{Name, NodeKey};
 use crate::space::{HeaderId, ListSpace, NodeId};
 use std::alloc::{AllocError, Global};
 
-/// All linked nodes stand in one list, in which the nodes of a header are in their order.
+/// A list space in vectors.
 #[derive(Drop)]
 pub struct PlainSpace {
     headers: usize,
@@ -46,13 +47,31 @@ fn place_of(all: &[NodeId], n: NodeId) -> usize
     unreachable!()
 }
 
-/// The first node of the header, from a place on.
-fn first_held(
+/// The place of the header's first node of lower priority, or the end of the list.
+fn place_for(
     all: &[NodeId],
     homes: &[Option<HeaderId>],
+    keys: &[NodeKey],
     h: HeaderId,
-    from: usize,
-) -> Option<NodeId>
+    n: NodeId,
+) -> usize
+    requires known { All (λ m. m < length homes.now) all.now }
+    requires keyed { length keys.now ≡ length homes.now }
+    requires node { n < length keys.now }
+    ensures within { result ≤ length all.now }
+    ensures value { enqueue (pri_of (keys_of keys.now)) (nodes_of homes.now h all.now) n
+        ≡ nodes_of homes.now h (take result all.now) ++ n ∷ nodes_of homes.now h (drop result all.now) }
+{
+    for (i, m) in all.iter().enumerate() {
+        if is_at(homes[*m], h) && keys[*m].pri < keys[n].pri {
+            return i;
+        }
+    }
+    all.len()
+}
+
+/// The first node of the header, from a place on.
+fn first_of(all: &[NodeId], homes: &[Option<HeaderId>], h: HeaderId, from: usize) -> Option<NodeId>
     requires known { All (λ m. m < length homes.now) all.now }
     ensures value { result ≡ first (nodes_of homes.now h (drop from all.now)) }
     ensures home { IfSome result (λ n. home homes.now n ≡ Some h) }
@@ -67,7 +86,7 @@ fn first_held(
 
 /// The last node of the header, before a place.
 #[tactic(auto, using(crate::proofs::PlainLemmas::last_is, crate::proofs::PlainLemmas::last_before))]
-fn last_held(all: &[NodeId], homes: &[Option<HeaderId>], h: HeaderId, to: usize) -> Option<NodeId>
+fn last_of(all: &[NodeId], homes: &[Option<HeaderId>], h: HeaderId, to: usize) -> Option<NodeId>
     requires known { All (λ m. m < length homes.now) all.now }
     requires within { to ≤ length all.now }
     ensures value { result ≡ last (nodes_of homes.now h (take to all.now)) }
@@ -77,6 +96,28 @@ fn last_held(all: &[NodeId], homes: &[Option<HeaderId>], h: HeaderId, to: usize)
     while i > 0 {
         i -= 1;
         if is_at(homes[all[i]], h) {
+            return Some(all[i]);
+        }
+    }
+    None
+}
+
+/// The first node of the header that has the name, from a place on.
+fn first_named(
+    all: &[NodeId],
+    homes: &[Option<HeaderId>],
+    keys: &[NodeKey],
+    h: HeaderId,
+    from: usize,
+    name: &str,
+) -> Option<NodeId>
+    requires known { All (λ m. m < length homes.now) all.now }
+    requires keyed { length keys.now ≡ length homes.now }
+    ensures value { result ≡ find (is_named (keys_of keys.now) name.now) (nodes_of homes.now h (drop from all.now)) }
+    ensures home { IfSome result (λ n. home homes.now n ≡ Some h) }
+{
+    for i in from..all.len() {
+        if is_at(homes[all[i]], h) && keys[all[i]].is_named(name) {
             return Some(all[i]);
         }
     }
@@ -137,6 +178,38 @@ impl ListSpace for PlainSpace {
         })
     }
 
+    fn home(&self, n: NodeId) -> Option<HeaderId> {
+        self.homes[n]
+    }
+
+    fn first(&self, h: HeaderId) -> Option<NodeId> {
+        first_of(&self.order, &self.homes, h, 0)
+    }
+
+    fn last(&self, h: HeaderId) -> Option<NodeId> {
+        last_of(&self.order, &self.homes, h, self.order.len())
+    }
+
+    fn succ(&self, n: NodeId) -> Option<NodeId> {
+        match self.homes[n] {
+            None => None,
+            Some(h) => {
+                let at = place_of(&self.order, n);
+                first_of(&self.order, &self.homes, h, at + 1)
+            }
+        }
+    }
+
+    fn pred(&self, n: NodeId) -> Option<NodeId> {
+        match self.homes[n] {
+            None => None,
+            Some(h) => {
+                let at = place_of(&self.order, n);
+                last_of(&self.order, &self.homes, h, at)
+            }
+        }
+    }
+
     fn insert(&mut self, h: HeaderId, n: NodeId, pred: Option<NodeId>) {
         match pred {
             None => self.place(0, h, n),
@@ -152,48 +225,37 @@ impl ListSpace for PlainSpace {
         self.take_out(at, n);
     }
 
-    fn first(&self, h: HeaderId) -> Option<NodeId> {
-        first_held(&self.order, &self.homes, h, 0)
-    }
-
-    fn last(&self, h: HeaderId) -> Option<NodeId> {
-        last_held(&self.order, &self.homes, h, self.order.len())
-    }
-
-    fn succ(&self, n: NodeId) -> Option<NodeId> {
-        match self.homes[n] {
-            None => None,
-            Some(h) => {
-                let at = place_of(&self.order, n);
-                first_held(&self.order, &self.homes, h, at + 1)
-            }
-        }
-    }
-
-    fn pred(&self, n: NodeId) -> Option<NodeId> {
-        match self.homes[n] {
-            None => None,
-            Some(h) => {
-                let at = place_of(&self.order, n);
-                last_held(&self.order, &self.homes, h, at)
-            }
-        }
-    }
-
-    fn home(&self, n: NodeId) -> Option<HeaderId> {
-        self.homes[n]
-    }
-
-    fn set_key(&mut self, n: NodeId, pri: i8, name: Option<Name>) {
-        self.keys[n] = NodeKey { pri, name };
-    }
-
     fn pri(&self, n: NodeId) -> i8 {
         self.keys[n].pri
     }
 
     fn has_name(&self, n: NodeId, name: &str) -> bool {
         self.keys[n].is_named(name)
+    }
+
+    fn set_key(&mut self, n: NodeId, pri: i8, name: Option<Name>) {
+        self.keys[n] = NodeKey { pri, name };
+    }
+
+    // The three calls below have bodies of their own: a walk by `succ` would read the list for each node.
+    fn add_tail(&mut self, h: HeaderId, n: NodeId) {
+        let at = self.order.len();
+        self.place(at, h, n);
+    }
+
+    fn enqueue(&mut self, h: HeaderId, n: NodeId) {
+        let at = place_for(&self.order, &self.homes, &self.keys, h, n);
+        self.place(at, h, n);
+    }
+
+    fn find_name(&self, h: HeaderId, after: Option<NodeId>, name: &str) -> Option<NodeId> {
+        match after {
+            None => first_named(&self.order, &self.homes, &self.keys, h, 0, name),
+            Some(n) => {
+                let at = place_of(&self.order, n);
+                first_named(&self.order, &self.homes, &self.keys, h, at + 1, name)
+            }
+        }
     }
 
     ghost stands = { λ s. s.stands };

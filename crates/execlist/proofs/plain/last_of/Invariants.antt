@@ -1,7 +1,7 @@
 use Rattle.std.proofs.Common.{◌≡◌, ◌≤◌, take, length}
 use Rattle.execlist.specs.Lists.{last}
 use Rattle.execlist.specs.Plain.{nodes_of}
-use Rattle.execlist.proofs.plain.last_held.Given as goal
+use Rattle.execlist.proofs.plain.last_of.Given as goal
 
 abbrev pub invariant-loop-i : goal.invariant-loop-i
 invariant-loop-i l = (l.i ≤ length l.all) × (last (nodes_of l.homes l.h (take l.i l.all)) ≡ last (nodes_of l.homes l.h (take l.to l.all)))
