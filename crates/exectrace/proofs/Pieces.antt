@@ -4,11 +4,12 @@ use Rattle.std.proofs.lemmas.List.{take-append-drop, append-nil, take_rest, take
 use Rattle.std.proofs.lemmas.Grind.{flat_map-append}
 use Rattle.std.specs.List.{flat_map}
 use Rattle.std.proofs.Math.Seq.{take-add}
-use Rattle.std.specs.Prelude.{Option, Some, None}
-use Rattle.std.specs.Io.KnownBytes.{Appends, Keeps}
+use Rattle.std.specs.Prelude.{◌↔◌, true, false, Option, Some, None, Result, Ok, Err, IsOk}
+use Rattle.std.specs.Io.KnownBytes.{Appends}
 use Rattle.exectrace.specs.declared.sinks.SinkState.{SinkState}
 use Rattle.exectrace.specs.declared.sinks.SinkState.TheVariants.{Good, Empty, Failed}
-use Rattle.exectrace.specs.Sink.{empties, after_taking, Tape, TakesAll, Breaks, Puts}
+use Rattle.exectrace.specs.Trace.{TraceLine, printed_line, printed}
+use Rattle.exectrace.specs.Sink.{empties, after_taking, Tape, TakesAll, Breaks, Puts, Writes}
 
 -- The bytes that a writer holds.
 
@@ -21,12 +22,6 @@ Appends-then None b c xs ys first more = tt
 Appends-then (Some held) None c xs ys first more = absurd first
 Appends-then (Some held) (Some between) None xs ys first more = absurd more
 Appends-then (Some held) (Some between) (Some end) xs ys first more = more ∙ ap (λ zs. zs ++ ys) first ∙ append_assoc held xs ys
-
-Appends-keeps : (a b c : Option (List ℕ)) (xs : List ℕ) → Appends a b xs → Keeps b c → Appends a c xs
-Appends-keeps None b c xs first kept = tt
-Appends-keeps (Some held) None c xs first kept = absurd first
-Appends-keeps (Some held) (Some between) None xs first kept = absurd kept
-Appends-keeps (Some held) (Some between) (Some end) xs first kept = kept ∙ first
 
 -- after the first k bytes, a write of the rest that took n
 pub Appends-rest : (a b c : Option (List ℕ)) (k n : ℕ) (xs : List ℕ) → Appends a b (take k xs) → Appends b c (take n (take (length xs - k) (drop k xs))) → Appends a c (take (k + n) xs)
@@ -106,10 +101,6 @@ Breaks-exhausted a b c k n xs below few first more state full =
     let took : Appends a.taken c.taken (take k xs) = subst (λ m. Appends a.taken c.taken (take m xs)) sum (Appends-rest a.taken b.taken c.taken k n xs first more) in
     Breaks-at a c k xs below took (inr both.1)
 
--- after the first k bytes, a write that failed
-pub Breaks-failed : (a b c : Tape) (k : ℕ) (xs : List ℕ) → k < length xs → Appends a.taken b.taken (take k xs) → Keeps b.taken c.taken → c.state ≡ Failed → Breaks a c xs
-Breaks-failed a b c k xs below first kept failed = Breaks-at a c k xs below (Appends-keeps a.taken b.taken c.taken _ first kept) (inl failed)
-
 -- Calls that do not fail.
 
 -- a sink that is not good is left alone, whatever was to be written
@@ -145,14 +136,6 @@ puts_then {a} {b} {c} {xs} {ys} bytes p q e = rw e (Puts-trans a b c xs ys p q)
 pub put_same : {a b : Tape} {xs : List ℕ} (ys : List ℕ) → Puts a b xs → ys ≡ xs → Puts a b ys
 put_same ys p e = rw e p
 
--- what a sink that was good took all of
-pub put_good : {a b : Tape} {xs : List ℕ} → a.state ≡ Good → TakesAll a b xs → Puts a b xs
-put_good good all = record { while_good = λ _. inl all; afterwards = λ bad. absurd (bad good) }
-
--- where a sink that was good broke off
-pub put_broken : {a b : Tape} {xs : List ℕ} → a.state ≡ Good → Breaks a b xs → Puts a b xs
-put_broken good broke = record { while_good = λ _. inr broke; afterwards = λ bad. absurd (bad good) }
-
 -- a sink that was good and is good took all
 pub put_all : {a b : Tape} {xs : List ℕ} → Puts a b xs → a.state ≡ Good → b.state ≡ Good → TakesAll a b xs
 put_all {a} {b} {xs} p good still = elim (p.while_good good) [ inl all ↦ all | inr broke ↦ absurd (stopped_not_good b.state broke.stopped still) ]
@@ -161,11 +144,22 @@ put_all {a} {b} {xs} p good still = elim (p.while_good good) [ inl all ↦ all |
 pub put_part : {a b : Tape} {xs : List ℕ} → Puts a b xs → a.state ≡ Good → b.state ≢ Good → Breaks a b xs
 put_part {a} {b} {xs} p good bad = elim (p.while_good good) [ inl all ↦ absurd (bad all.good) | inr broke ↦ broke ]
 
--- Texts of a list.
+-- what a call answers that puts its bytes to a good sink, and then asks whether all was written
+pub puts_written : {T E : Type 0} {a b : Tape} {xs : List ℕ} (result : Result T E) → Puts a b xs → a.state ≡ Good → (IsOk result ↔ (b.state ≡ Good)) → Writes a b xs result
+puts_written (Ok value) p good whole = put_all p good (whole.0 refl)
+puts_written (Err fault) p good whole = put_part p good (λ still. let bad : false ≡ true = whole.1 still in cc)
 
-pub flat_map_next : {X A : Type 0} (f : X → List A) (xs : List X) (i : ℕ) (d : X) → i < length xs → flat_map f (take (i + 1) xs) ≡ flat_map f (take i xs) ++ f (get_or xs i d)
-flat_map_next f xs i d h = ap (flat_map f) (take_more xs i d h) ∙ flat_map-append f (take i xs) (get_or xs i d ∷ []) ∙ ap (λ z. flat_map f (take i xs) ++ z) (append-nil (f (get_or xs i d)))
+-- Lines.
 
+-- one line
+pub puts_line : {a b : Tape} (line : TraceLine) → Puts a b (printed_line line) → Puts a b (printed (line ∷ []))
+puts_line line p = put_same _ p (append-nil (printed_line line))
+
+-- more lines after some
+pub puts_lines : {a b c : Tape} (lines more : List TraceLine) → Puts a b (printed lines) → Puts b c (printed more) → Puts a c (printed (lines ++ more))
+puts_lines lines more p q = puts_then _ p q (flat_map-append printed_line lines more)
+
+-- the texts of one element more
 pub flat_map_mapped_next : {X Y A : Type 0} (f : Y → List A) (g : X → Y) (xs : List X) (i : ℕ) (d : X) → i < length xs → get_or xs i d ≡ d → flat_map f (map g (take (i + 1) xs)) ≡ flat_map f (map g (take i xs)) ++ f (g d)
 flat_map_mapped_next f g xs i d h e =
     ap (λ z. flat_map f (map g z)) (take_more xs i d h)

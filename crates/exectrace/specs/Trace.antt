@@ -13,16 +13,23 @@ pub data Outcome : Type 0 where
   Answers : (value : ℕ) → Outcome
   Waits : Outcome
 
--- what happened: a task begins to run; no task runs; a task, a software interrupt or a server made a call; a latch is
--- served; a request finished at a tick; a server's body begins; a software interrupt's body begins; a call was refused
+-- what happened; a name is that of a task, a server or a software interrupt
 pub data TraceLine : Type 0 where
+  -- a task begins to run
   Switch : (name : List ℕ) → TraceLine
+  -- no task runs
   Idle : TraceLine
+  -- a call was made
   Call : (name word : List ℕ) (arguments : List Argument) (outcome : Outcome) → TraceLine
+  -- the latch of an interrupt source is served
   Serve : (source : List ℕ) → TraceLine
+  -- the request at this address finishes at a tick
   Timer : (value : ℕ) → TraceLine
+  -- the body of a server begins
   Server : (name : List ℕ) → TraceLine
+  -- the body of a software interrupt begins
   Softint : (name : List ℕ) → TraceLine
+  -- a call was refused
   Alert : (code name word : List ℕ) → TraceLine
 
 -- the digit for a number below 16

@@ -2,14 +2,16 @@
 //!
 //! A [`Sink`] takes bytes, and tells which it took and how its last writes went; [`WriteSink`] makes one of a std writer.
 //! A [`Line`] is one line of a trace, and [`emit`] writes it. Who prints many lines in a row uses [`printing`], whose
-//! calls do not fail, and asks [`sinks::written`] at the end.
+//! calls do not fail, and asks [`sinks::written`] at the end. The text of each line, and that a sink is given up after 16
+//! writes in a row that took no byte, are this project's own choice.
 #![tactic(auto)]
 
+pub mod laws;
 pub mod lines;
 pub mod printing;
 pub mod sinks;
 
-pub use lines::{Arg, Line, Name};
+pub use lines::{Arg, Arguments, CallOutcome, Line, Name};
 pub use printing::emit;
 pub use sinks::{Sink, SinkFault, SinkState, WriteFault, WriteSink};
 

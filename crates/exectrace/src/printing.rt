@@ -99,21 +99,22 @@ fn put_outcome<W: Sink>(outcome: CallOutcome, out: &mut W)
     }
 }
 
-/// Puts `switch NAME`.
+/// Puts `switch NAME`: the task of this name begins to run.
 pub fn put_switch<W: Sink>(name: &Name, out: &mut W)
     ensures { Puts (W.tape out.old) (W.tape out.new) (printed_line (Switch name.now.bytes)) }
 {
     put_between(b"switch ", name.as_str().as_bytes(), b"\n", out);
 }
 
-/// Puts `idle`.
+/// Puts `idle`: no task runs.
 pub fn put_idle<W: Sink>(out: &mut W)
     ensures { Puts (W.tape out.old) (W.tape out.new) (printed_line Idle) }
 {
     put(b"idle\n", out);
 }
 
-/// Puts `NAME WORD{ ARG}`, and ` -> VALUE` or ` waits` by the outcome.
+/// Puts `NAME WORD{ ARG}`, and ` -> VALUE` or ` waits` by the outcome: the task, server or software interrupt of this
+/// name made the call of this word.
 pub fn put_call<W: Sink>(
     name: &Name,
     word: &str,
@@ -132,14 +133,14 @@ pub fn put_call<W: Sink>(
     put(b"\n", out);
 }
 
-/// Puts `serve SOURCE`.
+/// Puts `serve SOURCE`: the latch of this interrupt source is served.
 pub fn put_serve<W: Sink>(source: &str, out: &mut W)
     ensures { Puts (W.tape out.old) (W.tape out.new) (printed_line (Serve source.now)) }
 {
     put_between(b"serve ", source.as_bytes(), b"\n", out);
 }
 
-/// Puts `timer VALUE`.
+/// Puts `timer VALUE`: the queued request at this address finishes at a tick.
 pub fn put_timer<W: Sink>(value: u32, out: &mut W)
     ensures { Puts (W.tape out.old) (W.tape out.new) (printed_line (Timer value)) }
 {
@@ -148,21 +149,22 @@ pub fn put_timer<W: Sink>(value: u32, out: &mut W)
     put(b"\n", out);
 }
 
-/// Puts `server NAME`.
+/// Puts `server NAME`: the body of the interrupt server of this name begins.
 pub fn put_server<W: Sink>(name: &Name, out: &mut W)
     ensures { Puts (W.tape out.old) (W.tape out.new) (printed_line (Server name.now.bytes)) }
 {
     put_between(b"server ", name.as_str().as_bytes(), b"\n", out);
 }
 
-/// Puts `softint NAME`.
+/// Puts `softint NAME`: the body of the software interrupt of this name begins.
 pub fn put_softint<W: Sink>(name: &Name, out: &mut W)
     ensures { Puts (W.tape out.old) (W.tape out.new) (printed_line (Softint name.now.bytes)) }
 {
     put_between(b"softint ", name.as_str().as_bytes(), b"\n", out);
 }
 
-/// Puts `alert CODE NAME WORD`.
+/// Puts `alert CODE NAME WORD`: the call of this word, by the task, server or software interrupt of this name, was
+/// refused for the reason that the code names.
 pub fn put_alert<W: Sink>(code: &str, name: &Name, word: &str, out: &mut W)
     ensures { Puts (W.tape out.old) (W.tape out.new) (printed_line (Alert code.now name.now.bytes word.now)) }
 {
@@ -175,7 +177,7 @@ pub fn put_alert<W: Sink>(code: &str, name: &Name, word: &str, out: &mut W)
     put(b"\n", out);
 }
 
-/// Puts any line.
+/// Puts any line: the one call for all of the above.
 pub fn put_line<W: Sink>(line: &Line, out: &mut W)
     ensures { Puts (W.tape out.old) (W.tape out.new) (printed_line (shown line.now)) }
 {

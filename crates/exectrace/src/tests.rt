@@ -1,10 +1,9 @@
 //! Each kind of line in its text, and writers that take little, take nothing or fail.
 ghost use Rattle.std.specs.Prelude.{◌≡◌, ◌≤◌, length};
 
-use crate::lines::Arguments;
 use crate::printing::{put_idle, put_line};
 use crate::sinks::written;
-use crate::{Arg, Line, Name, Sink, SinkState, WriteFault, WriteSink, emit};
+use crate::{Arg, Arguments, Line, Name, Sink, SinkState, WriteFault, WriteSink, emit};
 use std::alloc::Global;
 use std::io;
 use std::io::Write;

@@ -1,0 +1,5 @@
+use Rattle.exectrace.proofs.Digits.{digits_value-value_text}
+use Rattle.exectrace.proofs.laws.value_reads_back.Goals as goal
+
+pub returns : goal.returns
+returns c = digits_value-value_text c.args.value c.ranges.value.fits
