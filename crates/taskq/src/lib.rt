@@ -6,7 +6,7 @@ ghost use Rattle.std.specs.Prelude.{◌≡◌, ◌≢◌, ℕ, ◌<◌, ◌≤�
 ghost use Rattle.std.specs.List.{range_with_len};
 ghost use Rattle.execlist.specs.Order.{enqueue, first, without};
 ghost use Rattle.execlist.specs.Lists.{times};
-ghost use Rattle.taskq.specs.Tasks.{state_at, pri_at, is_ready, is_live, is_live_named};
+ghost use Rattle.taskq.specs.Tasks.{state_at, pri_at, name_at, is_ready, is_live, is_live_named};
 
 use execlist::key::Name;
 use execlist::space::ListSpace;
@@ -209,6 +209,14 @@ impl<S: ListSpace> TaskQ<S> {
         ensures { result ≡ pri_at self.now.pris t }
     {
         self.space.pri(t)
+    }
+
+    /// Answers the name of a task. RKM Libraries, Exec Tasks: `ln_Name`.
+    pub fn name(&self, t: TaskId) -> Name
+        requires { t < length self.now.states }
+        ensures { result.bytes ≡ name_at self.now.names t }
+    {
+        self.names[t]
     }
 
     /// Answers the state of a task. RKM Libraries, Exec Tasks: `tc_State`.
