@@ -1,0 +1,17 @@
+use Rattle.std.proofs.Common.{ap, sym, ◌∙◌, Some}
+use Rattle.scheduler.specs.Schedule.{begins}
+use Rattle.scheduler.specs.Dispatch.{displaced, after_switch}
+use Rattle.scheduler.proofs.ScheduleLemmas.{to_ready, displaced_ready, begins-vacant}
+use Rattle.scheduler.proofs.Sched.make_switch.Goals as goal
+
+pub begin-requires-clause-ready : goal.begin-requires-clause-ready
+begin-requires-clause-ready g c =
+    let s = c.args.self.now in
+    let ready = to_ready (Some c.args.switch) c.in-To.t s.queue.states (ap Some c.in-To.is) c.requires in
+    rw c.displace.ensures (displaced_ready s s.running c.in-To.t ready)
+
+pub returns-in-To : goal.returns-in-To
+returns-in-To g c =
+    let s = c.args.self.now in
+    let t = c.in-To.t in
+    c.begin.ensures ∙ ap (begins t) c.displace.ensures ∙ begins-vacant t (displaced s.running s) ∙ ap (λ w. after_switch (Some w) s) (sym c.in-To.is)

@@ -1,0 +1,7 @@
+use Rattle.std.proofs.Common.{ap, sym, ◌∙◌}
+use Rattle.scheduler.specs.Schedule.{is_switching_allowed}
+use Rattle.scheduler.proofs.ScheduleLemmas.{runner_known}
+use Rattle.scheduler.proofs.Sched.may_switch.Goals as goal
+
+pub allows_switch-requires : goal.allows_switch-requires
+allows_switch-requires g c = rw (← c.self.view_is) (runner_known _ _ _ _ _ c.self.invariant c.in-Some.is)

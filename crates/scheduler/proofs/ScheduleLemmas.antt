@@ -1,0 +1,146 @@
+-- What follows from a schedule's being sound, and the schedules that calls on the tasks lead to.
+use Rattle.std.proofs.Common.{◌≡◌, ℕ, ◌<◌, ◌+◌, zero, suc, Bool, true, false, cond, not, eqb, List, [], ◌∷◌, Option, Some, None, IfSome, length, slice_set, slice_index_or, refl, sym, ap, ◌∙◌, arith}
+use Rattle.std.specs.Prelude.{ℤ, ◌&&◌}
+use Rattle.std.proofs.lemmas.Bool.{eq-eqb, false≢true}
+use Rattle.execlist.specs.Order.{enqueue, first, without}
+use Rattle.execlist.specs.Lists.{times}
+use Rattle.taskq.specs.Tasks.{Tasks, state_at, pri_at, is_ready}
+use Rattle.taskq.specs.declared.TaskState.{TaskState}
+use Rattle.taskq.specs.declared.TaskState.TheVariants.{Absent, Ready, Running, Waiting, Removed}
+use Rattle.taskq.specs.declared.Why.TheVariants.{Signals}
+use Rattle.signals.specs.Signals.{SignalSets}
+use Rattle.forbid.specs.Nesting.{Nesting, may_switch}
+use Rattle.scheduler.specs.declared.Switch.{Switch}
+use Rattle.scheduler.specs.declared.Switch.TheVariants.{To}
+use Rattle.scheduler.specs.Schedule.{Schedule, status_of, nesting_of, takes_over, switch_for, begins, waits_for, leaves}
+use Rattle.scheduler.specs.Dispatch.{arrives, switch_of, displaced, after_switch, rescheduled}
+use Rattle.scheduler.specs.Sound.{IsSound, IsToReady, is_running, is_task}
+
+-- ---- the running task
+
+-- a task in the state of running is one of the file
+known : (states : List TaskState) (t : ℕ) → is_running (state_at states t) ≡ true → t < length states
+known [] t e = cc
+known (x ∷ xs) zero e = omega arith
+known (x ∷ xs) (suc t) e = omega (arith, known xs t e)
+
+runs : (v : TaskState) → is_running v ≡ true → v ≡ Running
+runs Absent e = cc
+runs Ready e = cc
+runs Running e = refl
+runs (Waiting why) e = cc
+runs Removed e = cc
+
+is_running-runner : (states : List TaskState) (running : Option ℕ) (signals : List SignalSets) (nestings : List Nesting) (r : ℕ)
+    → IsSound states running signals nestings → running ≡ Some r → is_running (state_at states r) ≡ true
+is_running-runner states running signals nestings r sound e =
+    sound.one_runs r ∙ ap (λ o. is_task o r) e ∙ eq-eqb r r refl
+
+pub runner_known : (states : List TaskState) (running : Option ℕ) (signals : List SignalSets) (nestings : List Nesting) (r : ℕ)
+    → IsSound states running signals nestings → running ≡ Some r → r < length states
+runner_known states running signals nestings r sound e =
+    known states r (is_running-runner states running signals nestings r sound e)
+
+pub runner_runs : (states : List TaskState) (running : Option ℕ) (signals : List SignalSets) (nestings : List Nesting) (r : ℕ)
+    → IsSound states running signals nestings → running ≡ Some r → state_at states r ≡ Running
+runner_runs states running signals nestings r sound e =
+    runs (state_at states r) (is_running-runner states running signals nestings r sound e)
+
+pub running_known : (states : List TaskState) (running : Option ℕ) (signals : List SignalSets) (nestings : List Nesting)
+    → IsSound states running signals nestings → IfSome running (λ t. t < length states)
+running_known states None signals nestings sound = tt
+running_known states (Some r) signals nestings sound = runner_known states (Some r) signals nestings r sound refl
+
+-- a task that is put back leaves a ready one ready
+ready_still : (states : List TaskState) (r t : ℕ) → state_at states t ≡ Ready → state_at (slice_set states r Ready) t ≡ Ready
+ready_still [] r t e = e
+ready_still (x ∷ xs) zero zero e = refl
+ready_still (x ∷ xs) zero (suc t) e = e
+ready_still (x ∷ xs) (suc r) zero e = e
+ready_still (x ∷ xs) (suc r) (suc t) e = ready_still xs r t e
+
+pub displaced_ready : (s : Schedule) (running : Option ℕ) (t : ℕ) → status_of s t ≡ Ready → status_of (displaced running s) t ≡ Ready
+unfolding arrives
+displaced_ready s None t e = e
+displaced_ready s (Some r) t e = ready_still s.queue.states r t e
+
+-- ---- switches
+
+pub switch_of-is : (s : Schedule) (choice : Option ℕ) → first s.queue.ready ≡ choice → switch_of s ≡ switch_for s.running choice s
+unfolding switch_of
+switch_of-is s choice e = ap (λ o. switch_for s.running o s) e
+
+pub to_ready : (w : Option Switch) (t : ℕ) (states : List TaskState) → w ≡ Some (To t) → IsToReady w states → state_at states t ≡ Ready
+to_ready w t states e ready = rw e at ready
+
+-- a task that begins to run takes the place of the running one
+pub begins-vacant : (t : ℕ) (s : Schedule) → begins t (record s { running = None }) ≡ begins t s
+unfolding begins
+begins-vacant t s = refl
+
+pub rescheduled-is : (s : Schedule) (w : Option Switch) → w ≡ switch_of s → after_switch w s ≡ rescheduled s
+unfolding rescheduled
+rescheduled-is s w e = ap (λ o. after_switch o s) e
+
+-- the switch that is due where this task runs
+pub switch_for-is : (s : Schedule) (r t : ℕ) (over : Bool) → s.running ≡ Some r
+    → over ≡ (may_switch (nesting_of s r) && takes_over t r s) → switch_for s.running (Some t) s ≡ cond over (Some (To t)) None
+switch_for-is s r t over e o =
+    ap (λ x. switch_for x (Some t) s) e ∙ ap (λ b. cond b (Some (To t)) None) (sym o)
+
+-- ---- what the calls on the tasks make of a schedule
+
+-- tasks with these parts
+tasks_are : (q : Tasks) (ready : List ℕ) (states : List TaskState) (pris : List ℤ) (names : List (List ℕ))
+    → q.ready ≡ ready → q.states ≡ states → q.pris ≡ pris → q.names ≡ names
+    → q ≡ record { ready = ready; states = states; pris = pris; names = names }
+tasks_are q ready states pris names a b c d =
+    ap (λ (x : List ℕ). record q { ready = x }) a
+    ∙ ap (λ (x : List TaskState). record q { ready = ready; states = x }) b
+    ∙ ap (λ (x : List ℤ). record q { ready = ready; states = states; pris = x }) c
+    ∙ ap (λ (x : List (List ℕ)). record { ready = ready; states = states; pris = pris; names = x }) d
+
+pub arrived : (s : Schedule) (q : Tasks) (t : ℕ)
+    → q.ready ≡ enqueue (pri_at s.queue.pris) s.queue.ready t → q.states ≡ slice_set s.queue.states t Ready
+    → q.pris ≡ s.queue.pris → q.names ≡ s.queue.names → record s { queue = q } ≡ arrives t s
+unfolding arrives
+arrived s q t a b c d = ap (λ queue. record s { queue = queue }) (tasks_are q _ _ _ _ a b c d)
+
+pub begun : (s : Schedule) (q : Tasks) (t : ℕ)
+    → q.ready ≡ without t s.queue.ready → q.states ≡ slice_set s.queue.states t Running
+    → q.pris ≡ s.queue.pris → q.names ≡ s.queue.names
+    → record s { queue = q; running = Some t; left = s.quantum; idle = false } ≡ begins t s
+unfolding begins
+begun s q t a b c d = ap (λ queue. record s { queue = queue; running = Some t; left = s.quantum; idle = false }) (tasks_are q _ _ _ _ a b c d)
+
+pub slept : (s : Schedule) (q : Tasks) (t mask : ℕ)
+    → q.ready ≡ s.queue.ready → q.states ≡ slice_set s.queue.states t (Waiting (Signals mask))
+    → q.pris ≡ s.queue.pris → q.names ≡ s.queue.names
+    → record s { queue = q; running = None } ≡ waits_for t mask s
+unfolding waits_for
+slept s q t mask a b c d = ap (λ queue. record s { queue = queue; running = None }) (tasks_are q _ _ _ _ a b c d)
+
+pub displaced_is : (s : Schedule) (q : Tasks) (r : ℕ) → s.running ≡ Some r
+    → q.ready ≡ enqueue (pri_at s.queue.pris) s.queue.ready r → q.states ≡ slice_set s.queue.states r Ready
+    → q.pris ≡ s.queue.pris → q.names ≡ s.queue.names
+    → record s { queue = q; running = None } ≡ record (displaced s.running s) { running = None }
+displaced_is s q r e a b c d =
+    ap (λ (x : Schedule). record x { running = None }) (arrived s q r a b c d ∙ ap (λ o. displaced o s) (sym e))
+
+-- a task that does not stand among the ready ones leaves them as they are
+without_absent : (t : ℕ) (xs : List ℕ) → times t xs ≡ 0 → without t xs ≡ xs
+without_absent t [] e = refl
+without_absent t (x ∷ xs) e = by_case (eqb x t) e (without_absent t xs) where
+  by_case : (b : Bool) → cond b (suc (times t xs)) (times t xs) ≡ 0 → (times t xs ≡ 0 → without t xs ≡ xs) → cond (not b) (x ∷ without t xs) (without t xs) ≡ x ∷ xs
+  by_case true z ih = absurd (omega arith)
+  by_case false z ih = ap (λ l. x ∷ l) (ih z)
+
+pub retired : (s : Schedule) (q : Tasks) (t : ℕ) → state_at s.queue.states t ≡ Running
+    → times t s.queue.ready ≡ cond (is_ready (state_at s.queue.states t)) 1 0
+    → q.ready ≡ without t s.queue.ready → q.states ≡ slice_set s.queue.states t Removed
+    → q.pris ≡ s.queue.pris → q.names ≡ s.queue.names
+    → record s { queue = q; running = None } ≡ leaves t s
+unfolding leaves
+retired s q t running once a b c d =
+    let ready = without_absent t s.queue.ready (once ∙ ap (λ v. cond (is_ready v) 1 0) running) in
+    ap (λ queue. record s { queue = queue; running = None }) (tasks_are q _ _ _ _ (a ∙ ready) b c d)

@@ -1,0 +1,3 @@
+pub mod Schedule
+pub mod Dispatch
+pub mod Sound

@@ -1,0 +1,193 @@
+-- What is known of the tasks as they are scheduled: lists by task number, the ready sequence, and the running task. The functions
+-- here leave open how the ready sequence is kept: none of them puts a task into it.
+use Rattle.std.specs.Prelude.{◌≡◌, ℕ, ◌-◌, ℤ, Bool, true, false, not, ◌&&◌, ◌||◌, if◌then◌else◌, nat_eq, int_lt, int_le, bit_and, List, [], length, find, replicate, Option, None, Some, slice_index_or, slice_set}
+use Rattle.std.specs.List.{range_with_len}
+use Rattle.execlist.specs.Order.{without}
+use Rattle.taskq.specs.Tasks.{Tasks, state_at, pri_at, name_at, is_live, is_live_named}
+use Rattle.taskq.specs.declared.TaskState.{TaskState}
+use Rattle.taskq.specs.declared.TaskState.TheVariants.{Absent, Ready, Running, Waiting, Removed}
+use Rattle.taskq.specs.declared.Why.{Why}
+use Rattle.taskq.specs.declared.Why.TheVariants.{Signals}
+use Rattle.signals.specs.Signals.{SignalSets, initial_sets, taken_signals, after_take}
+use Rattle.forbid.specs.Nesting.{Nesting, initial_nesting, may_switch, may_interrupt}
+use Rattle.scheduler.specs.declared.Switch.{Switch}
+use Rattle.scheduler.specs.declared.Switch.TheVariants.{To, Idle}
+
+-- the tasks, which of them runs and for how long
+pub record Schedule : Type 0 where
+  -- names, priorities and states by task number, and the ready sequence
+  pub queue : Tasks
+  pub running : Option ℕ
+  -- each task's signals
+  pub signals : List SignalSets
+  -- each task's counts of Forbid and Disable
+  pub nestings : List Nesting
+  -- the servings of VERTB in a full quantum, and those left to the running task
+  pub quantum : ℕ
+  pub left : ℕ
+  -- that the machine was told to be idle, and no task has run since
+  pub idle : Bool
+
+-- ---- parts of a schedule
+
+-- the name of task t
+abbrev pub name_of : Schedule → ℕ → List ℕ
+name_of s t = name_at s.queue.names t
+
+-- the priority of task t
+abbrev pub priority_of : Schedule → ℕ → ℤ
+priority_of s t = pri_at s.queue.pris t
+
+-- whether task t is absent, ready, running, waiting or removed
+abbrev pub status_of : Schedule → ℕ → TaskState
+status_of s t = state_at s.queue.states t
+
+-- the signals of task t
+abbrev pub signals_of : Schedule → ℕ → SignalSets
+signals_of s t = slice_index_or s.signals t initial_sets
+
+-- the nesting of task t
+abbrev pub nesting_of : Schedule → ℕ → Nesting
+nesting_of s t = slice_index_or s.nestings t initial_nesting
+
+-- task t in another state
+abbrev pub with_status : ℕ → TaskState → Schedule → Schedule
+with_status t status s = record s { queue = record s.queue { states = slice_set s.queue.states t status } }
+
+-- task t of another priority
+abbrev pub with_priority : ℕ → ℤ → Schedule → Schedule
+with_priority t pri s = record s { queue = record s.queue { pris = slice_set s.queue.pris t pri } }
+
+-- task t with other signals
+abbrev pub with_signals : ℕ → SignalSets → Schedule → Schedule
+with_signals t sets s = record s { signals = slice_set s.signals t sets }
+
+-- task t with another nesting
+abbrev pub with_nesting : ℕ → Nesting → Schedule → Schedule
+with_nesting t nesting s = record s { nestings = slice_set s.nestings t nesting }
+
+-- so many tasks of these priorities and names before any is added: nothing runs, and the machine was not yet told to be idle
+abbrev pub unstarted : (tasks : ℕ) (pris : List ℤ) (names : List (List ℕ)) (quantum : ℕ) → Schedule
+unstarted tasks pris names quantum = record {
+  queue = record { ready = []; states = replicate tasks Absent; pris = pris; names = names };
+  running = None;
+  signals = replicate tasks initial_sets;
+  nestings = replicate tasks initial_nesting;
+  quantum = quantum;
+  left = 0;
+  idle = false;
+}
+
+-- ---- which task is to run
+
+-- Forbid and Disable of the running task keep it running; where none runs, nothing stands in the way
+-- (RKM Libraries, Exec Tasks: forbidding task switching).
+abbrev pub is_switching_allowed : Option ℕ → Schedule → Bool
+is_switching_allowed None s = true
+is_switching_allowed (Some r) s = may_switch (nesting_of s r)
+
+-- the quantum of the running task has ended
+abbrev pub is_quantum_over : Schedule → Bool
+is_quantum_over s = nat_eq s.left 0
+
+-- Ready task t takes the place of running task r: it has a higher priority, or an equal one and the quantum of r has ended.
+abbrev pub takes_over : ℕ → ℕ → Schedule → Bool
+takes_over t r s = int_lt (priority_of s r) (priority_of s t) || (int_le (priority_of s r) (priority_of s t) && is_quantum_over s)
+
+-- the switch to be made where this task runs, if any, and that ready one is chosen, if any
+abbrev pub switch_for : Option ℕ → Option ℕ → Schedule → Option Switch
+switch_for None None s = if s.idle then None else Some Idle
+switch_for None (Some t) s = Some (To t)
+switch_for (Some r) None s = None
+switch_for (Some r) (Some t) s = if is_switching_allowed (Some r) s && takes_over t r s then Some (To t) else None
+
+-- a quantum that has ended with no other task to run begins anew, once switching is allowed
+abbrev pub renewed : Option ℕ → Schedule → Schedule
+renewed None s = s
+renewed (Some r) s = if is_switching_allowed (Some r) s && is_quantum_over s then record s { left = s.quantum } else s
+
+-- task t leaves the ready sequence and runs, with a full quantum; the machine is not idle any more
+unfoldable pub begins : ℕ → Schedule → Schedule
+begins t s = record s {
+  queue = record s.queue { states = (with_status t Running s).queue.states; ready = without t s.queue.ready };
+  running = Some t;
+  left = s.quantum;
+  idle = false;
+}
+
+-- ---- the quantum
+
+abbrev pub ticked_for : Option ℕ → Schedule → Schedule
+ticked_for None s = s
+ticked_for (Some r) s = record s { left = s.left - 1 }
+
+-- the quantum of the running task loses one serving of VERTB, but not below zero
+unfoldable pub ticked : Schedule → Schedule
+ticked s = ticked_for s.running s
+
+-- ---- beginning and ending
+
+abbrev pub is_absent : TaskState → Bool
+is_absent Absent = true
+is_absent Ready = false
+is_absent Running = false
+is_absent (Waiting why) = false
+is_absent Removed = false
+
+-- the running task ends (autodoc exec.library/RemTask)
+unfoldable pub leaves : ℕ → Schedule → Schedule
+leaves t s = record (with_status t Removed s) { running = None }
+
+-- task t is not among the ready ones any more
+abbrev pub departs : ℕ → Schedule → Schedule
+departs t s = record s { queue = record s.queue { ready = without t s.queue.ready } }
+
+-- a live task that does not run is ended (autodoc exec.library/RemTask)
+unfoldable pub removed : ℕ → Schedule → Schedule
+removed t s = departs t (with_status t Removed s)
+
+-- the live task of that name, if any (autodoc exec.library/FindTask)
+unfoldable pub found : List ℕ → Schedule → Option ℕ
+found name s = find (is_live_named s.queue name) (range_with_len 0 (length s.queue.states))
+
+-- ---- signals
+
+-- something that is waited for has come
+abbrev pub has_come : Why → ℕ → Bool
+has_come (Signals mask) received = not (nat_eq (bit_and received mask) 0)
+
+-- the task waits for one of these signals
+abbrev pub awaits : TaskState → ℕ → Bool
+awaits Absent received = false
+awaits Ready received = false
+awaits Running received = false
+awaits (Waiting why) received = has_come why received
+awaits Removed received = false
+
+-- the running task waits for signals of the mask; no task runs then (autodoc exec.library/Wait)
+unfoldable pub waits_for : ℕ → ℕ → Schedule → Schedule
+waits_for t mask s = record (with_status t (Waiting (Signals mask)) s) { running = None }
+
+-- task t takes the signals of the mask that it has received
+unfoldable pub takes : ℕ → ℕ → Schedule → Schedule
+takes t mask s = with_signals t (after_take mask (signals_of s t)) s
+
+-- the signals of the mask that were received, if any
+abbrev pub come_for : ℕ → SignalSets → Option ℕ
+come_for mask sets = if nat_eq (taken_signals mask sets) 0 then None else Some (taken_signals mask sets)
+
+-- the running task takes the signals of the mask that it has received, or waits for them where there are none
+abbrev pub after_wait : ℕ → ℕ → Schedule → Schedule
+after_wait t mask s = if nat_eq (taken_signals mask (signals_of s t)) 0 then waits_for t mask s else takes t mask s
+
+-- ---- nesting
+
+-- interrupts are allowed where no task runs, and else where the running task has not disabled them
+abbrev pub is_interrupting_allowed : Option ℕ → Schedule → Bool
+is_interrupting_allowed None s = true
+is_interrupting_allowed (Some r) s = may_interrupt (nesting_of s r)
+
+-- task t with the nesting that a call gives it, or as before where the call is a fault
+abbrev pub nested : ℕ → Option Nesting → Schedule → Schedule
+nested t None s = s
+nested t (Some nesting) s = with_nesting t nesting s
