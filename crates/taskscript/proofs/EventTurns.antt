@@ -28,7 +28,7 @@ next_drop ls i lt = drop_more (texts ls) i [] (rw length-map lt) ∙ ap (λ (t :
 next_take : (ls : List (Bor (List ℕ))) (i : ℕ) → i < length ls → take (i + 1) (texts ls) ≡ take i (texts ls) ++ text_at ls i ∷ []
 next_take ls i lt = take_more (texts ls) i [] (rw length-map lt) ∙ ap (λ (t : List ℕ). take i (texts ls) ++ t ∷ []) (text_is ls i)
 
-events_push : (ts : List (List ℕ)) (t : List ℕ) → events_of (ts ++ t ∷ []) ≡ events_of ts ++ events_on t
+pub events_push : (ts : List (List ℕ)) (t : List ℕ) → events_of (ts ++ t ∷ []) ≡ events_of ts ++ events_on t
 events_push [] t = append-nil (events_on t)
 events_push (x ∷ ts) t = ap (λ (es : List Event). events_on x ++ es) (events_push ts t) ∙ sym (append_assoc (events_on x) (events_of ts) (events_on t))
 

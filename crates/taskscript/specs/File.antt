@@ -1,6 +1,12 @@
--- The machine that a text states, or its first fault.
-use Rattle.std.specs.Prelude.{ℕ, ℤ, List}
+-- The machine that a file states, or its first fault.
+use Rattle.std.specs.Prelude.{ℕ, ℤ, pos, negsuc, codes, List, [], ◌∷◌, ◌++◌, Option, Some, None, Result, Ok, Err}
+use Rattle.toml.specs.Data.{Data, table, Items, no_items, item, Members, get_member}
+use Rattle.taskscript.specs.declared.fault.FileFault.{FileFault}
+use Rattle.taskscript.specs.declared.fault.FileFault.TheVariants.{NotToml, UnknownKey, BadValue}
 use Rattle.taskscript.specs.Commands.{CommandData}
+use Rattle.taskscript.specs.Faults.{first, check}
+use Rattle.taskscript.specs.Tree.{document_of, required, optional, keys_are_among, integer_faults, name_faults, array_faults, code_faults, integer_or, string_or_nothing, items_or_none, members_or_none}
+use Rattle.taskscript.specs.Code.{lines_in, body_faults, code_of, shared_after}
 
 -- ---- machines
 
@@ -10,6 +16,86 @@ pub record TaskData : Type 0 where
   pub pri : ℤ
   pub code : List CommandData
 
--- a machine: its tasks in the order of the file, the first one is task 1
+-- a machine: its tasks in the order of the file; the first one is task 1
 pub record MachineData : Type 0 where
   pub tasks : List TaskData
+
+-- ---- the first pass: the tree
+
+abbrev pub top_keys : List (List ℕ)
+top_keys = codes "task" ∷ []
+
+abbrev pub task_keys : List (List ℕ)
+task_keys = codes "name" ∷ codes "pri" ∷ codes "code" ∷ []
+
+-- a task after the names before it: its kind, its keys, then its values in the order name, pri, code
+abbrev pub task_faults : List (List ℕ) → Data → List FileFault
+task_faults before (table tree) =
+    check (keys_are_among task_keys tree) UnknownKey
+    ++ (required (name_faults before) (get_member (codes "name") tree)
+    ++ (optional (integer_faults (negsuc 127) (pos 127)) (get_member (codes "pri") tree)
+    ++ required code_faults (get_member (codes "code") tree)))
+task_faults before _ = BadValue ∷ []
+
+abbrev pub name_of : Data → List ℕ
+name_of task = string_or_nothing (get_member (codes "name") (members_or_none task))
+
+abbrev pub pri_of : Data → ℤ
+pri_of task = integer_or (pos 0) (get_member (codes "pri") (members_or_none task))
+
+-- the tasks in their order, each after the names before it
+abbrev pub tasks_faults : List (List ℕ) → Items → List FileFault
+tasks_faults before no_items = []
+tasks_faults before (item task rest) = task_faults before task ++ tasks_faults (before ++ name_of task ∷ []) rest
+
+-- the items of the array `task`
+abbrev pub tasks_in : Members → Items
+tasks_in tree = items_or_none (get_member (codes "task") tree)
+
+-- ---- the second pass: the lines
+
+-- the lines of what has a `code`
+abbrev pub lines_of : Data → List (List ℕ)
+lines_of owner = lines_in (items_or_none (get_member (codes "code") (members_or_none owner)))
+
+-- the bodies in their order, each after the shared variables of those before it
+abbrev pub bodies_faults : List (List ℕ) → Items → List FileFault
+bodies_faults shared no_items = []
+bodies_faults shared (item owner rest) = body_faults shared (lines_of owner) ++ bodies_faults (shared_after shared (lines_of owner)) rest
+
+-- the shared variables after some bodies
+abbrev pub shared_after_bodies : List (List ℕ) → Items → List (List ℕ)
+shared_after_bodies shared no_items = shared
+shared_after_bodies shared (item owner rest) = shared_after_bodies (shared_after shared (lines_of owner)) rest
+
+-- ---- the whole
+
+-- the faults of all places of a tree, in their order
+abbrev pub faults : Members → List FileFault
+faults tree =
+    check (keys_are_among top_keys tree) UnknownKey
+    ++ (optional (array_faults 64 (tasks_faults [])) (get_member (codes "task") tree)
+    ++ bodies_faults [] (tasks_in tree))
+
+-- a task, whose body stands after those shared variables
+abbrev pub task_of : List (List ℕ) → Data → TaskData
+task_of shared task = record { name = name_of task; pri = pri_of task; code = code_of shared (lines_of task) }
+
+abbrev pub tasks_of : List (List ℕ) → Items → List TaskData
+tasks_of shared no_items = []
+tasks_of shared (item task rest) = task_of shared task ∷ tasks_of (shared_after shared (lines_of task)) rest
+
+abbrev pub machine_of : Members → MachineData
+machine_of tree = record { tasks = tasks_of [] (tasks_in tree) }
+
+abbrev pub judged : Members → Option FileFault → Result MachineData FileFault
+judged tree None = Ok (machine_of tree)
+judged tree (Some fault) = Err fault
+
+abbrev pub file_of_document : Option Members → Result MachineData FileFault
+file_of_document None = Err NotToml
+file_of_document (Some tree) = judged tree (first (faults tree))
+
+-- the machine that the bytes of a file state, or the fault at the first of its faulty places
+unfoldable pub file_of : List ℕ → Result MachineData FileFault
+file_of bytes = file_of_document (document_of bytes)

@@ -1,5 +1,14 @@
+pub mod Code
 pub mod Commands
 pub mod Events
+pub mod Faults
 pub mod File
+pub mod Law
+pub mod Lines
+pub mod Machines
+pub mod Names
+pub mod Numbering
 pub mod Numbers
+pub mod Records
+pub mod Tree
 pub mod Words

@@ -13,7 +13,7 @@ pub enum Argument {
     /// A name, which stood between double quotes.
     Quoted(Name),
     /// The place (from 0) of a command of the body, or the number of its commands.
-    Place(usize),
+    Place(u32),
 }
 
 /// One command of a body.
@@ -23,6 +23,6 @@ pub struct Command {
     pub word: Word,
     /// Where the answer goes.
     pub target: Option<Variable>,
-    /// The arguments, from left to right; `Number(0)` past those that the word has.
+    /// The arguments, from left to right; past those that the word has they mean nothing.
     pub arguments: [Argument; 4],
 }

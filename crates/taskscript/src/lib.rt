@@ -1,19 +1,34 @@
 //! Reads the two texts of a run: the machine file and the event text.
 #![tactic(auto)]
 
+mod accepted;
+mod code;
 mod command;
 mod event;
 mod events;
 mod fault;
+mod file;
+mod laws;
+mod line;
 mod name;
 mod number;
+mod numbering;
+mod reading;
+mod tasks;
+#[cfg(test)]
+mod tests;
+mod tree;
 mod variable;
 mod word;
 
+pub use accepted::{accepted_events_are_within, accepted_file_is_machine};
 pub use command::{Argument, Command};
 pub use event::{Event, Events};
 pub use events::read_events;
 pub use fault::{EventFault, FileFault};
+pub use file::{MachineFile, TaskRecord};
+pub use laws::{command_is_line, line_has_command, one_command, refused_line_has_none};
 pub use name::Name;
+pub use reading::read_machine;
 pub use variable::{Variable, VariableName};
 pub use word::{ALL, Kind, Word, word_of};

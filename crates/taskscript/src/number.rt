@@ -1,25 +1,25 @@
-//! Numbers.
-ghost use Rattle.std.specs.Prelude.{◌≡◌, ◌≤◌, ◌<◌, Some, None};
+//! Numbers as the texts write them: decimal, negative, and with `$` in base 16.
+ghost use Rattle.std.specs.Prelude.{◌≡◌, ◌≤◌, Some, None};
 ghost use Rattle.std.specs.List.{list_all};
 ghost use Rattle.std.specs.Char.{digit_value};
 ghost use Rattle.std.specs.Str.Parse.{digits_value};
-ghost use Rattle.taskscript.specs.Numbers.{is_digit, below_word, decimal_of};
+ghost use Rattle.taskscript.specs.Numbers.{is_digit, is_hex_digit, below_word, decimal_of, hex_of, negated, number_of};
 
 fn digit(b: u8) -> u8
     ensures { result ≡ digit_value b }
 {
-    if b < 48 {
+    if b < b'0' {
         36
-    } else if b < 58 {
-        b - 48
-    } else if b < 65 {
+    } else if b <= b'9' {
+        b - b'0'
+    } else if b < b'A' {
         36
-    } else if b < 91 {
-        b - 55
-    } else if b < 97 {
+    } else if b <= b'Z' {
+        b - b'A' + 10
+    } else if b < b'a' {
         36
-    } else if b < 123 {
-        b - 87
+    } else if b <= b'z' {
+        b - b'a' + 10
     } else {
         36
     }
@@ -28,10 +28,16 @@ fn digit(b: u8) -> u8
 fn are_digits(bytes: &[u8]) -> bool
     ensures { result ≡ list_all is_digit bytes.now }
 {
-    bytes.iter().all(|b| 48 <= *b && *b <= 57)
+    bytes.iter().all(|b| b'0' <= *b && *b <= b'9')
 }
 
-/// The number that the digits write, if it is below 2 ^ 32.
+fn are_hex_digits(bytes: &[u8]) -> bool
+    ensures { result ≡ list_all is_hex_digit bytes.now }
+{
+    bytes.iter().all(|b| (b'0' <= *b && *b <= b'9') || (b'A' <= *b && *b <= b'F'))
+}
+
+// The number that the digits write, if it is below 2 ^ 32.
 fn below_word(bytes: &[u8], radix: u64) -> Option<u32>
     requires low { 1 ≤ radix }
     requires high { radix ≤ 16 }
@@ -47,14 +53,50 @@ fn below_word(bytes: &[u8], radix: u64) -> Option<u32>
     Some(total as u32)
 }
 
+/// The number below 2 ^ 32 that these decimal digits write, if they are such; none has a leading zero.
 pub fn decimal_of(bytes: &[u8]) -> Option<u32>
     ensures { result ≡ decimal_of bytes.now }
 {
     if bytes.len() < 1 || !are_digits(bytes) {
         return None;
     }
-    if bytes.len() > 1 && bytes[0] == 48 {
+    if bytes.len() > 1 && bytes[0] == b'0' {
         return None;
     }
     below_word(bytes, 10)
+}
+
+// The number that 1 to 8 digits in base 16 write, `0` to `9` and `A` to `F`.
+fn hex_of(bytes: &[u8]) -> Option<u32>
+    ensures { result ≡ hex_of bytes.now }
+{
+    if bytes.len() < 1 || bytes.len() > 8 || !are_hex_digits(bytes) {
+        return None;
+    }
+    below_word(bytes, 16)
+}
+
+// The word of the negative of a number from 1 to 2 ^ 31.
+fn negated(n: u32) -> Option<u32>
+    ensures { result ≡ negated n }
+{
+    if 1 <= n && n <= 2147483648 {
+        Some(0u32.wrapping_sub(n))
+    } else {
+        None
+    }
+}
+
+/// The word of a number from -2147483648 to 4294967295, or of `$` and 1 to 8 digits, if the field is one (own choice).
+pub fn number_of(bytes: &[u8]) -> Option<u32>
+    ensures { result ≡ number_of bytes.now }
+{
+    match bytes {
+        [b'$', rest @ ..] => hex_of(rest),
+        [b'-', rest @ ..] => match decimal_of(rest) {
+            None => None,
+            Some(n) => negated(n),
+        },
+        _ => decimal_of(bytes),
+    }
 }

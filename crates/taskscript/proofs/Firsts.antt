@@ -1,0 +1,20 @@
+-- The first of the faults of two places, one after the other.
+use Rattle.std.proofs.Common.{◌≡◌, List, [], ◌∷◌, ◌++◌, Some, None, refl}
+use Rattle.taskscript.specs.declared.fault.FileFault.{FileFault}
+use Rattle.taskscript.specs.Faults.{first}
+
+pub first_none : (a b : List FileFault) → first a ≡ None → first (a ++ b) ≡ first b
+first_none [] b h = refl
+first_none (f ∷ a) b h = absurd cc
+
+pub first_some : (a b : List FileFault) (f : FileFault) → first a ≡ Some f → first (a ++ b) ≡ Some f
+first_some [] b f h = absurd cc
+first_some (g ∷ a) b f h = h
+
+pub first_left : (a b : List FileFault) → first (a ++ b) ≡ None → first a ≡ None
+first_left [] b h = refl
+first_left (f ∷ a) b h = absurd cc
+
+pub first_right : (a b : List FileFault) → first (a ++ b) ≡ None → first b ≡ None
+first_right [] b h = h
+first_right (f ∷ a) b h = absurd cc

@@ -1,0 +1,183 @@
+-- What holds of the machine of a tree without faults: few tasks, names that differ, short bodies, variables within the limits.
+use Rattle.std.proofs.Common.{◌≡◌, ◌≢◌, ℕ, ◌≤◌, Bool, true, false, not, if◌then◌else◌, nat_le, List, [], ◌∷◌, ◌++◌, length, All, bytes_eq, codes, pos, negsuc, Option, Some, None, refl, sym, ap, ◌∙◌, arith}
+use Rattle.std.specs.List.{AllPairs, list_any}
+use Rattle.std.proofs.lemmas.Bool.{or_parts}
+use Rattle.std.proofs.lemmas.Bool.Decides.{nat_tests, not_from_Decides}
+use Rattle.std.proofs.lemmas.List.Elements.{All-nil, All-cons}
+use Rattle.std.proofs.lemmas.List.Folds.{list_any-append}
+use Rattle.std.proofs.lemmas.List.Kept.{AllPairs-cons}
+use Rattle.std.proofs.lemmas.Slice.Eq.{bytes_eq-Decides}
+use Rattle.toml.specs.Data.{Data, string, integer, float, boolean, datetime, array, table, Items, no_items, item, Members, get_member}
+use Rattle.taskscript.specs.declared.fault.FileFault.{FileFault}
+use Rattle.taskscript.specs.declared.fault.FileFault.TheVariants.{UnknownKey, BadValue, NameTwice, TooMany}
+use Rattle.taskscript.specs.Code.{lines_in, body_faults, shared_after}
+use Rattle.taskscript.specs.Faults.{first, check}
+use Rattle.taskscript.specs.File.{TaskData, top_keys, task_keys, name_of, task_faults, tasks_faults, tasks_in, lines_of, bodies_faults, faults, task_of, tasks_of, machine_of}
+use Rattle.taskscript.specs.Machines.{IsTask, IsMachine, task_names}
+use Rattle.taskscript.specs.Names.{is_name}
+use Rattle.taskscript.specs.Tree.{required, optional, keys_are_among, integer_faults, name_faults, count_items, array_faults, are_strings, code_faults, string_or_nothing, items_or_none}
+use Rattle.taskscript.proofs.CodeLaws.{commands_fit, length-code_of}
+use Rattle.taskscript.proofs.Firsts.{first_none, first_left, first_right}
+
+-- ---- one place
+
+within : (n m : ℕ) (f : FileFault) → first (check (nat_le n m) f) ≡ None → n ≤ m
+within n m f h = by (nat_le n m) refl h
+  where
+    by : (good : Bool) → nat_le n m ≡ good → first (check good f) ≡ None → n ≤ m
+    by true e h = grind (arith, nat_tests, e)
+    by false e h = absurd cc
+
+fresh_name : (good used : Bool) → first (if good then check (not used) NameTwice else BadValue ∷ []) ≡ None → (good ≡ true) × (used ≡ false)
+fresh_name true true h = absurd cc
+fresh_name true false h = (refl, refl)
+fresh_name false used h = absurd cc
+
+name_passes : (before : List (List ℕ)) (value : Option Data) → first (required (name_faults before) value) ≡ None
+    → (is_name (string_or_nothing value) ≡ true) × (list_any (bytes_eq (string_or_nothing value)) before ≡ false)
+name_passes before None h = absurd cc
+name_passes before (Some (string s)) h = fresh_name (is_name s) (list_any (bytes_eq s) before) h
+name_passes before (Some (integer z)) h = absurd cc
+name_passes before (Some (float x)) h = absurd cc
+name_passes before (Some (boolean b)) h = absurd cc
+name_passes before (Some (datetime d)) h = absurd cc
+name_passes before (Some (array ds)) h = absurd cc
+name_passes before (Some (table ms)) h = absurd cc
+
+code_passes : (value : Option Data) → first (required code_faults value) ≡ None → count_items (items_or_none value) ≤ 1024
+code_passes None h = absurd cc
+code_passes (Some (array ds)) h = within (count_items ds) 1024 TooMany (first_right (check (are_strings ds) BadValue) (check (nat_le (count_items ds) 1024) TooMany) h)
+code_passes (Some (string s)) h = absurd cc
+code_passes (Some (integer z)) h = absurd cc
+code_passes (Some (float x)) h = absurd cc
+code_passes (Some (boolean b)) h = absurd cc
+code_passes (Some (datetime d)) h = absurd cc
+code_passes (Some (table ms)) h = absurd cc
+
+array_passes : (limit : ℕ) (judge : Items → List FileFault) (value : Option Data) → first (judge no_items) ≡ None → first (optional (array_faults limit judge) value) ≡ None
+    → (count_items (items_or_none value) ≤ limit) × (first (judge (items_or_none value)) ≡ None)
+array_passes limit judge None empty h = (omega arith, empty)
+array_passes limit judge (Some (array ds)) empty h =
+    (within (count_items ds) limit TooMany (first_left (check (nat_le (count_items ds) limit) TooMany) (judge ds) h), first_right (check (nat_le (count_items ds) limit) TooMany) (judge ds) h)
+array_passes limit judge (Some (string s)) empty h = absurd cc
+array_passes limit judge (Some (integer z)) empty h = absurd cc
+array_passes limit judge (Some (float x)) empty h = absurd cc
+array_passes limit judge (Some (boolean b)) empty h = absurd cc
+array_passes limit judge (Some (datetime d)) empty h = absurd cc
+array_passes limit judge (Some (table ms)) empty h = absurd cc
+
+-- ---- one task
+
+length-lines_in : (ds : Items) → length (lines_in ds) ≡ count_items ds
+length-lines_in no_items = refl
+length-lines_in (item d ds) = rw (length-lines_in ds) (omega arith)
+
+-- the faults of a task's values, after those of its keys
+name_part : (before : List (List ℕ)) (ms : Members) → first (task_faults before (table ms)) ≡ None → first (required (name_faults before) (get_member (codes "name") ms)) ≡ None
+name_part before ms h = first_left _ _ (first_right (check (keys_are_among task_keys ms) UnknownKey) _ h)
+
+code_part : (before : List (List ℕ)) (ms : Members) → first (task_faults before (table ms)) ≡ None → first (required code_faults (get_member (codes "code") ms)) ≡ None
+code_part before ms h =
+    first_right (optional (integer_faults (negsuc 127) (pos 127)) (get_member (codes "pri") ms)) _
+    (first_right (required (name_faults before) (get_member (codes "name") ms)) _ (first_right (check (keys_are_among task_keys ms) UnknownKey) _ h))
+
+is_fresh : (before : List (List ℕ)) (d : Data) → first (task_faults before d) ≡ None → list_any (bytes_eq (name_of d)) before ≡ false
+is_fresh before (table ms) h = (name_passes before (get_member (codes "name") ms) (name_part before ms h)).1
+is_fresh before (string s) h = absurd cc
+is_fresh before (integer z) h = absurd cc
+is_fresh before (float x) h = absurd cc
+is_fresh before (boolean b) h = absurd cc
+is_fresh before (datetime d) h = absurd cc
+is_fresh before (array ds) h = absurd cc
+
+is_named : (before : List (List ℕ)) (d : Data) → first (task_faults before d) ≡ None → is_name (name_of d) ≡ true
+is_named before (table ms) h = (name_passes before (get_member (codes "name") ms) (name_part before ms h)).0
+is_named before (string s) h = absurd cc
+is_named before (integer z) h = absurd cc
+is_named before (float x) h = absurd cc
+is_named before (boolean b) h = absurd cc
+is_named before (datetime d) h = absurd cc
+is_named before (array ds) h = absurd cc
+
+is_short : (before : List (List ℕ)) (d : Data) → first (task_faults before d) ≡ None → length (lines_of d) ≤ 1024
+is_short before (table ms) h = rw (length-lines_in (items_or_none (get_member (codes "code") ms))) (code_passes (get_member (codes "code") ms) (code_part before ms h))
+is_short before (string s) h = absurd cc
+is_short before (integer z) h = absurd cc
+is_short before (float x) h = absurd cc
+is_short before (boolean b) h = absurd cc
+is_short before (datetime d) h = absurd cc
+is_short before (array ds) h = absurd cc
+
+task_holds : (before shared : List (List ℕ)) (d : Data) → first (task_faults before d) ≡ None → first (body_faults shared (lines_of d)) ≡ None → IsTask (task_of shared d)
+task_holds before shared d h k = record {
+  name = is_named before d h;
+  code = omega (arith, length-code_of shared (lines_of d), is_short before d h);
+  commands = commands_fit shared (lines_of d) k;
+}
+
+-- ---- all tasks
+
+tasks_hold : (before shared : List (List ℕ)) (ds : Items) → first (tasks_faults before ds) ≡ None → first (bodies_faults shared ds) ≡ None → All IsTask (tasks_of shared ds)
+tasks_hold before shared no_items h k = All-nil IsTask
+tasks_hold before shared (item d ds) h k =
+    All-cons IsTask (task_of shared d) (tasks_of (shared_after shared (lines_of d)) ds)
+    (task_holds before shared d (first_left _ _ h) (first_left _ _ k))
+    (tasks_hold (before ++ name_of d ∷ []) (shared_after shared (lines_of d)) ds (first_right (task_faults before d) _ h) (first_right (body_faults shared (lines_of d)) _ k))
+
+length-tasks_of : (shared : List (List ℕ)) (ds : Items) → length (tasks_of shared ds) ≡ count_items ds
+length-tasks_of shared no_items = refl
+length-tasks_of shared (item d ds) = rw (length-tasks_of (shared_after shared (lines_of d)) ds) (omega arith)
+
+-- ---- names
+
+abbrev names_in : Items → List (List ℕ)
+names_in no_items = []
+names_in (item d ds) = name_of d ∷ names_in ds
+
+task_names-tasks_of : (shared : List (List ℕ)) (ds : Items) → task_names (tasks_of shared ds) ≡ names_in ds
+task_names-tasks_of shared no_items = refl
+task_names-tasks_of shared (item d ds) = ap (λ ns. name_of d ∷ ns) (task_names-tasks_of (shared_after shared (lines_of d)) ds)
+
+unused_parts : (n : List ℕ) (before : List (List ℕ)) (x : List ℕ) → list_any (bytes_eq n) (before ++ x ∷ []) ≡ false → (list_any (bytes_eq n) before ≡ false) × (bytes_eq n x ≡ false)
+unused_parts n before x h =
+    let parts = or_parts (list_any (bytes_eq n) before) (list_any (bytes_eq n) (x ∷ [])) (sym (list_any-append (bytes_eq n) before (x ∷ [])) ∙ h) in
+    (parts.0, (or_parts (bytes_eq n x) false parts.1).0)
+
+differ : (x n : List ℕ) → bytes_eq n x ≡ false → x ≢ n
+differ x n h = λ e. not_from_Decides (bytes_eq n x) (bytes_eq-Decides n x) h (sym e)
+
+-- no later name is one of those before
+all_fresh : (before : List (List ℕ)) (ds : Items) → first (tasks_faults before ds) ≡ None → All (λ n. list_any (bytes_eq n) before ≡ false) (names_in ds)
+all_fresh before no_items h = All-nil (λ n. list_any (bytes_eq n) before ≡ false)
+all_fresh before (item d ds) h =
+    let later = all_fresh (before ++ name_of d ∷ []) ds (first_right (task_faults before d) _ h) in
+    All-cons (λ n. list_any (bytes_eq n) before ≡ false) (name_of d) (names_in ds) (is_fresh before d (first_left _ _ h)) (λ k n lt. (unused_parts _ before (name_of d) (later k n lt)).0)
+
+all_differ : (before : List (List ℕ)) (ds : Items) → first (tasks_faults before ds) ≡ None → AllPairs (λ s t. s ≢ t) (names_in ds)
+all_differ before no_items h = λ i j d lt k. absurd (omega arith)
+all_differ before (item d ds) h =
+    let rest = first_right (task_faults before d) _ h in
+    let later = all_fresh (before ++ name_of d ∷ []) ds rest in
+    AllPairs-cons (λ s t. s ≢ t) (name_of d) (names_in ds) (λ k n lt. differ (name_of d) _ (unused_parts _ before (name_of d) (later k n lt)).1) (all_differ (before ++ name_of d ∷ []) ds rest)
+
+-- ---- the machine
+
+pub machine_holds : (ms : Members) → first (faults ms) ≡ None → IsMachine (machine_of ms)
+machine_holds ms h =
+    let rest = first_right (check (keys_are_among top_keys ms) UnknownKey) _ h in
+    let tree = array_passes 64 (tasks_faults []) (get_member (codes "task") ms) refl (first_left (optional (array_faults 64 (tasks_faults [])) (get_member (codes "task") ms)) _ rest) in
+    let lines = first_right (optional (array_faults 64 (tasks_faults [])) (get_member (codes "task") ms)) (bodies_faults [] (tasks_in ms)) rest in
+    record {
+      few = omega (arith, length-tasks_of [] (tasks_in ms), tree.0);
+      tasks = tasks_hold [] [] (tasks_in ms) tree.1 lines;
+      names = rw (task_names-tasks_of [] (tasks_in ms)) (all_differ [] (tasks_in ms) tree.1);
+    }
+
+-- the same of tasks that were read from the tree
+pub read_holds : (ms : Members) (shared : List (List ℕ)) (ds : Items) (ts : List TaskData) → shared ≡ [] → ds ≡ tasks_in ms
+    → keys_are_among top_keys ms ≡ true → first (optional (array_faults 64 (tasks_faults [])) (get_member (codes "task") ms)) ≡ None → first (bodies_faults shared ds) ≡ None
+    → ts ≡ tasks_of shared ds → IsMachine (record { tasks = ts })
+read_holds ms shared ds ts none is keys tree lines same =
+    let body : first (bodies_faults [] (tasks_in ms)) ≡ None = rw (← none, ← is) lines in
+    let top : first (check (keys_are_among top_keys ms) UnknownKey) ≡ None = ap (λ (b : Bool). first (check b UnknownKey)) keys in
+    rw (same, none, is) (machine_holds ms (first_none _ _ top ∙ first_none _ _ tree ∙ body))

@@ -1,0 +1,131 @@
+-- A line has at most one command.
+use Rattle.std.proofs.Common.{◌≡◌, ℕ, ◌≤◌, Bool, true, false, ◌||◌, cond, bytes_eq, codes, List, [], ◌∷◌, ◌++◌, Option, Some, None, refl, sym, ap, subst, ◌∙◌, arith, inl, inr, nat_le, nat_lt, length, ◌==◌}
+use Rattle.std.proofs.lemmas.Bool.{cases_Bool, and_parts}
+use Rattle.std.proofs.lemmas.Bool.Decides.{nat_tests}
+use Rattle.std.proofs.lemmas.Option.{same_Some}
+use Rattle.std.proofs.lemmas.Slice.Eq.{bytes_eq-Decides}
+use Rattle.taskscript.specs.declared.word.Word.{Word}
+use Rattle.taskscript.specs.declared.word.Word.TheVariants.{Set, Print, Signal, Wait}
+use Rattle.taskscript.specs.declared.word.Kind.{Kind}
+use Rattle.taskscript.specs.declared.word.Kind.TheVariants.{Value}
+use Rattle.taskscript.specs.Numbers.{is_digit, decimal_of, number_of}
+use Rattle.taskscript.specs.Words.{word_text, word_of, answers, kinds}
+use Rattle.taskscript.specs.Lines.{is_variable_name, NamedVariableData, variable_of, NamedArgumentData, variable, number, argument_of, arguments_of, target_of, with_word, cut_target, NamedCommandData, command_of}
+use Rattle.taskscript.specs.Law.{IsArgument, AreArguments, IsTarget, IsLine}
+
+same_bytes : (x y : List ℕ) → bytes_eq x y ≡ true → x ≡ y
+same_bytes x y h = (bytes_eq-Decides x y).0 h
+
+pub word_known : (w : Word) → word_of (word_text w) ≡ Some w
+word_known Set = refl
+word_known Print = refl
+word_known Signal = refl
+word_known Wait = refl
+
+-- no argument is `=`
+not_equals_sign : (k : Kind) (a : NamedArgumentData) → IsArgument k (codes "=") a → ⊥
+not_equals_sign Value (variable v) h = cc
+not_equals_sign Value (number n) h = cc
+
+arg_is_other : (k : Kind) (f : List ℕ) (a : NamedArgumentData) → IsArgument k f a → bytes_eq f (codes "=") ≡ false
+arg_is_other k f a h =
+    elim (cases_Bool (bytes_eq f (codes "="))) [
+      | inl same ↦ absurd (not_equals_sign k a (subst (λ (g : List ℕ). IsArgument k g a) (same_bytes f (codes "=") same) h))
+      | inr other ↦ other
+    ]
+
+no_digit : (b : ℕ) (bs : List ℕ) → is_digit b ≡ false → decimal_of (b ∷ bs) ≡ None
+no_digit b bs h = rw h (or_last (nat_lt (length (b ∷ bs)) 1) _)
+  where
+    or_last : {A : Type 0} (x : Bool) (o : Option A) → cond (x || true) None o ≡ None
+    or_last true o = refl
+    or_last false o = refl
+
+-- what begins with a byte above the digits is no number
+no_number : (b : ℕ) (bs : List ℕ) → 58 ≤ b → number_of (b ∷ bs) ≡ None
+no_number b bs h =
+    let a : (b == 36) ≡ false = grind (arith, nat_tests) in
+    let c : (b == 45) ≡ false = grind (arith, nat_tests) in
+    let d : is_digit b ≡ false = grind (arith, nat_tests) in
+    rw (a, c) (no_digit b bs d)
+
+begins_above : (b : ℕ) (bs : List ℕ) → is_variable_name (b ∷ bs) ≡ true → 58 ≤ b
+begins_above b bs h =
+    let front = (and_parts _ _ h).0 in
+    let low : nat_le 97 b ≡ true = (and_parts (nat_le 97 b) (nat_le b 122) (and_parts _ _ front).1).0 in
+    grind (arith, nat_tests)
+
+is_sign : (b : ℕ) → (b == 64) ≡ true → 58 ≤ b
+is_sign b h = grind (arith, nat_tests)
+
+no_name : (b : ℕ) (bs : List ℕ) → (b == 64) ≡ false → is_variable_name (b ∷ bs) ≡ false → variable_of (b ∷ bs) ≡ None
+no_name b bs h g = rw (h, g)
+
+clash : {A : Type 0} (b n : ℕ) (bs : List ℕ) → 58 ≤ b → number_of (b ∷ bs) ≡ Some n → A
+clash b n bs h e = let none = no_number b bs h in absurd cc
+
+-- a number is no variable
+number_is_other : (b n : ℕ) (bs : List ℕ) → number_of (b ∷ bs) ≡ Some n → variable_of (b ∷ bs) ≡ None
+number_is_other b n bs h =
+    elim (cases_Bool (b == 64)) [
+      | inl sign ↦ clash b n bs (is_sign b sign) h
+      | inr other ↦ elim (cases_Bool (is_variable_name (b ∷ bs))) [
+        | inl name ↦ clash b n bs (begins_above b bs name) h
+        | inr none ↦ no_name b bs other none
+      ]
+    ]
+
+arg_from : (k : Kind) (f : List ℕ) (a : NamedArgumentData) → IsArgument k f a → argument_of k f ≡ Some a
+arg_from Value f (variable v) h = rw h
+arg_from Value [] (number n) h = absurd cc
+arg_from Value (b ∷ bs) (number n) h = rw (number_is_other b n bs h, h)
+
+args_from : (ks : List Kind) (fs : List (List ℕ)) (found : List NamedArgumentData) → AreArguments ks fs found → arguments_of ks fs ≡ Some found
+unfolding arguments_of
+args_from [] [] [] h = refl
+args_from [] [] (a ∷ found) h = absurd h
+args_from [] (f ∷ fs) found h = absurd h
+args_from (k ∷ ks) [] found h = absurd h
+args_from (k ∷ ks) (f ∷ fs) [] h = absurd h
+args_from (k ∷ ks) (f ∷ fs) (a ∷ found) h = rw (arg_from k f a h.0, args_from ks fs found h.1)
+
+with_word_from : (t : Option (List ℕ)) (fs : List (List ℕ)) (c : NamedCommandData) → target_of (answers c.word) t ≡ Some c.target → AreArguments (kinds c.word) fs c.arguments → with_word t (word_text c.word ∷ fs) ≡ Some c
+unfolding with_word
+with_word_from t fs c target args = rw (word_known c.word, target, args_from (kinds c.word) fs c.arguments args)
+
+-- no target is cut off where the arguments follow the word
+uncut : (w : List ℕ) (ks : List Kind) (fs : List (List ℕ)) (found : List NamedArgumentData) → AreArguments ks fs found → cut_target (w ∷ fs) ≡ (None, w ∷ fs)
+uncut w ks [] found h = refl
+uncut w [] (f ∷ fs) found h = absurd h
+uncut w (k ∷ ks) (f ∷ fs) [] h = absurd h
+uncut w (k ∷ ks) (f ∷ fs) (a ∷ found) h = rw (arg_is_other k f a h.0)
+
+from_parts : (may : Bool) (w : Word) (t : Option NamedVariableData) (found : List NamedArgumentData) (before after : List (List ℕ)) → answers w ≡ may → IsTarget may before t → AreArguments (kinds w) after found
+    → command_of (before ++ word_text w ∷ after) ≡ Some (record { word = w; target = t; arguments = found })
+from_parts may w None found [] after e target args = rw (uncut (word_text w) (kinds w) after found args) (with_word_from None after (record { word = w; target = None; arguments = found }) refl args)
+from_parts true w (Some v) found (f ∷ g ∷ []) after e target args =
+    rw target.0 (with_word_from (Some f) after (record { word = w; target = Some v; arguments = found }) (rw (e, target.1)) args)
+from_parts true w (Some v) found [] after e target args = absurd target
+from_parts true w (Some v) found (f ∷ []) after e target args = absurd target
+from_parts true w (Some v) found (f ∷ g ∷ h ∷ more) after e target args = absurd target
+from_parts true w None found (f ∷ []) after e target args = absurd target
+from_parts true w None found (f ∷ g ∷ []) after e target args = absurd target
+from_parts true w None found (f ∷ g ∷ h ∷ more) after e target args = absurd target
+from_parts false w None found (f ∷ []) after e target args = absurd target
+from_parts false w None found (f ∷ g ∷ []) after e target args = absurd target
+from_parts false w None found (f ∷ g ∷ h ∷ more) after e target args = absurd target
+from_parts false w (Some v) found [] after e target args = absurd target
+from_parts false w (Some v) found (f ∷ []) after e target args = absurd target
+from_parts false w (Some v) found (f ∷ g ∷ []) after e target args = absurd target
+from_parts false w (Some v) found (f ∷ g ∷ h ∷ more) after e target args = absurd target
+
+pub line_has_command : (fs : List (List ℕ)) (c : NamedCommandData) → IsLine fs c → command_of fs ≡ Some c
+line_has_command fs c l = ap command_of l.parts ∙ from_parts (answers c.word) c.word c.target c.arguments l.before l.after refl l.target l.arguments
+
+-- a line has at most one command
+pub one_command : (fs : List (List ℕ)) (c d : NamedCommandData) → IsLine fs c → IsLine fs d → c ≡ d
+one_command fs c d p q = same_Some _ _ (sym (line_has_command fs c p) ∙ line_has_command fs d q)
+
+-- where none is read, the line says none
+pub refused_line_has_none : (fs : List (List ℕ)) (c : NamedCommandData) → command_of fs ≡ None → ¬ IsLine fs c
+refused_line_has_none fs c none l = let some = line_has_command fs c l in cc

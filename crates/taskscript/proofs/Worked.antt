@@ -1,0 +1,29 @@
+-- Worked texts, computed from the definitions alone.
+use Rattle.std.proofs.Common.{◌≡◌, codes, ◌++◌, ◌∷◌, [], Ok, Err, refl}
+use Rattle.std.specs.Str.{is_utf8, chars}
+use Rattle.toml.proofs.OnLiterals.{toml_on_literals}
+use Rattle.taskscript.specs.declared.event.Event.TheVariants.{Run}
+use Rattle.taskscript.specs.declared.fault.EventFault.TheVariants.{BadLine, TooMany}
+use Rattle.taskscript.specs.declared.fault.FileFault.TheVariants.{UnknownKey, MissingKey}
+use Rattle.taskscript.specs.Events.{event_of, script_of}
+use Rattle.taskscript.specs.File.{file_of}
+
+two_runs : script_of (codes "run 2" ++ 10 ∷ codes "# run 3" ++ 10 ∷ codes "run 4") ≡ Ok (Run 2 ∷ Run 4 ∷ [])
+unfolding script_of event_of
+two_runs = refl
+
+no_word : script_of (codes "run 1" ++ 10 ∷ codes "tic") ≡ Err (BadLine 2)
+unfolding script_of event_of
+no_word = refl
+
+too_many_steps : script_of (codes "run 1000000" ++ 10 ∷ codes "run 1") ≡ Err TooMany
+unfolding script_of event_of
+too_many_steps = refl
+
+unknown_key : file_of (codes "speed = 1") ≡ Err UnknownKey
+unfolding file_of toml_on_literals is_utf8 chars
+unknown_key = refl
+
+no_code : file_of (codes "[[task]]" ++ 10 ∷ codes "name = 'a'") ≡ Err MissingKey
+unfolding file_of toml_on_literals is_utf8 chars
+no_code = refl

@@ -1,0 +1,12 @@
+use Rattle.std.proofs.lemmas.Result.{err_from_is_err_and}
+use Rattle.toml.specs.View.{table_view}
+use Rattle.taskscript.proofs.Whole.{refused, decided}
+use Rattle.taskscript.proofs.reading.read_machine.Goals as goal
+
+pub returns-in_err-table : goal.returns-in_err-table
+returns-in_err-table c =
+    let p = err_from_is_err_and c.from_residual.result c.from_residual.ensures.1 in
+    rw (p.1, p.2) (refused c.args.bytes.now c.in_err-table.field-0.0 c.in_err-table.ensures.err)
+
+pub returns : goal.returns
+returns c = decided c.args.bytes.now (table_view c.in_ok-table.table) c.machine_of.result c.in_ok-table.ensures.ok c.machine_of.ensures

@@ -1,0 +1,32 @@
+-- What a line says, as a relation between its fields and a command.
+use Rattle.std.specs.Prelude.{◌≡◌, ℕ, Bool, true, codes, List, [], ◌∷◌, ◌++◌, Option, Some, None}
+use Rattle.taskscript.specs.declared.word.Kind.{Kind}
+use Rattle.taskscript.specs.declared.word.Kind.TheVariants.{Value}
+use Rattle.taskscript.specs.Numbers.{number_of}
+use Rattle.taskscript.specs.Words.{word_text, answers, kinds}
+use Rattle.taskscript.specs.Lines.{NamedVariableData, variable_of, NamedArgumentData, variable, number, NamedCommandData}
+
+-- a value is a variable or a number
+abbrev pub IsArgument : Kind → List ℕ → NamedArgumentData → Type 0
+IsArgument Value field (variable v) = variable_of field ≡ Some v
+IsArgument Value field (number n) = number_of field ≡ Some n
+
+-- one field of each kind
+abbrev pub AreArguments : List Kind → List (List ℕ) → List NamedArgumentData → Type 0
+AreArguments [] [] [] = Unit {0}
+AreArguments (kind ∷ kinds) (field ∷ fields) (a ∷ others) = IsArgument kind field a × AreArguments kinds fields others
+AreArguments _ _ _ = ⊥
+
+-- nothing, or where the word answers a variable and `=`
+abbrev pub IsTarget : Bool → List (List ℕ) → Option NamedVariableData → Type 0
+IsTarget may [] None = Unit {0}
+IsTarget true (target ∷ equals ∷ []) (Some v) = (equals ≡ codes "=") × (variable_of target ≡ Some v)
+IsTarget _ _ _ = ⊥
+
+-- the fields are a target or none, the text of the word, and its arguments
+pub record IsLine (fields : List (List ℕ)) (c : NamedCommandData) : Type 0 where
+  pub before : List (List ℕ)
+  pub after : List (List ℕ)
+  pub parts : fields ≡ before ++ word_text c.word ∷ after
+  pub target : IsTarget (answers c.word) before c.target
+  pub arguments : AreArguments (kinds c.word) after c.arguments

@@ -1,0 +1,22 @@
+-- What holds of the machine of every file that is accepted.
+use Rattle.std.specs.Prelude.{◌≡◌, ◌≢◌, ℕ, ◌≤◌, true, All, List, length, map}
+use Rattle.std.specs.List.{AllPairs}
+use Rattle.taskscript.specs.Commands.{CommandFits}
+use Rattle.taskscript.specs.File.{TaskData, MachineData}
+use Rattle.taskscript.specs.Names.{is_name}
+
+-- a task of a file: its name is a name, it has at most 1,024 commands, and their variables are within the limits
+pub record IsTask (task : TaskData) : Type 0 where
+  pub name : is_name task.name ≡ true
+  pub code : length task.code ≤ 1024
+  pub commands : All CommandFits task.code
+
+-- the names of some tasks
+abbrev pub task_names : List TaskData → List (List ℕ)
+task_names tasks = map (λ (t : TaskData). t.name) tasks
+
+-- a machine of a file: at most 64 tasks, whose names differ
+pub record IsMachine (machine : MachineData) : Type 0 where
+  pub few : length machine.tasks ≤ 64
+  pub tasks : All IsTask machine.tasks
+  pub names : AllPairs (λ s t. s ≢ t) (task_names machine.tasks)

@@ -1,0 +1,80 @@
+-- The tree that a text states, and the faults of its places. Each place is judged by itself, from the tree alone.
+use Rattle.std.specs.Prelude.{ℕ, ◌+◌, Bool, true, false, not, ◌&&◌, ℤ, int_le, nat_le, bytes_eq, List, [], ◌∷◌, ◌++◌, Option, Some, None, if◌then◌else◌}
+use Rattle.std.specs.List.{list_any}
+use Rattle.std.specs.Str.{is_utf8}
+use Rattle.toml.specs.Data.{Data, string, integer, array, table, Items, no_items, item, Members, no_members, member}
+use Rattle.toml.specs.Parse.{parse_document}
+use Rattle.taskscript.specs.declared.fault.FileFault.{FileFault}
+use Rattle.taskscript.specs.declared.fault.FileFault.TheVariants.{MissingKey, BadValue, NameTwice, TooMany}
+use Rattle.taskscript.specs.Faults.{check}
+use Rattle.taskscript.specs.Names.{is_name}
+
+-- the tree of a text: none for bytes that are no UTF-8, and for a text that is no TOML document
+abbrev pub document_of : List ℕ → Option Members
+document_of bytes = if is_utf8 bytes then parse_document bytes else None
+
+-- ---- keys
+
+-- a key that has to be there
+abbrev pub required : (Data → List FileFault) → Option Data → List FileFault
+required judge None = MissingKey ∷ []
+required judge (Some value) = judge value
+
+-- a key that may be absent
+abbrev pub optional : (Data → List FileFault) → Option Data → List FileFault
+optional judge None = []
+optional judge (Some value) = judge value
+
+-- each key of the table is one of those listed
+abbrev pub keys_are_among : List (List ℕ) → Members → Bool
+keys_are_among listed no_members = true
+keys_are_among listed (member key value rest) = list_any (bytes_eq key) listed && keys_are_among listed rest
+
+-- ---- values
+
+-- an integer from low to high
+abbrev pub integer_faults : ℤ → ℤ → Data → List FileFault
+integer_faults low high (integer z) = check (int_le low z && int_le z high) BadValue
+integer_faults low high _ = BadValue ∷ []
+
+-- a name that is none of the names before it
+abbrev pub name_faults : List (List ℕ) → Data → List FileFault
+name_faults before (string s) = if is_name s then check (not (list_any (bytes_eq s) before)) NameTwice else BadValue ∷ []
+name_faults before _ = BadValue ∷ []
+
+abbrev pub count_items : Items → ℕ
+count_items no_items = 0
+count_items (item value rest) = count_items rest + 1
+
+-- an array of at most so many items, which are then judged in their order
+abbrev pub array_faults : ℕ → (Items → List FileFault) → Data → List FileFault
+array_faults limit judge (array items) = check (nat_le (count_items items) limit) TooMany ++ judge items
+array_faults limit judge _ = BadValue ∷ []
+
+abbrev pub are_strings : Items → Bool
+are_strings no_items = true
+are_strings (item (string s) rest) = are_strings rest
+are_strings (item _ rest) = false
+
+-- an array of strings, of which there are at most 1,024
+abbrev pub code_faults : Data → List FileFault
+code_faults (array items) = check (are_strings items) BadValue ++ check (nat_le (count_items items) 1024) TooMany
+code_faults _ = BadValue ∷ []
+
+-- ---- what stands at a place, or a plain value where it is of another kind
+
+abbrev pub integer_or : ℤ → Option Data → ℤ
+integer_or otherwise (Some (integer z)) = z
+integer_or otherwise _ = otherwise
+
+abbrev pub string_or_nothing : Option Data → List ℕ
+string_or_nothing (Some (string s)) = s
+string_or_nothing _ = []
+
+abbrev pub items_or_none : Option Data → Items
+items_or_none (Some (array items)) = items
+items_or_none _ = no_items
+
+abbrev pub members_or_none : Data → Members
+members_or_none (table members) = members
+members_or_none _ = no_members

@@ -1,0 +1,109 @@
+//! Places of the tree that a text states: the document, the keys of a table, and what a key holds.
+ghost use Rattle.std.specs.Prelude.{◌≡◌, Some, None, true, option_map, map, bytes_eq, int_le, IfOk, IfErr};
+ghost use Rattle.std.specs.List.{list_any};
+ghost use Rattle.toml.specs.Data.{get_member};
+ghost use Rattle.toml.specs.View.{table_view, view, items_view};
+ghost use Rattle.taskscript.specs.Faults.{Judges};
+ghost use Rattle.taskscript.specs.Records.{DocumentFault};
+ghost use Rattle.taskscript.specs.Tree.{keys_are_among, optional, integer_faults, integer_or, items_or_none, document_of, are_strings};
+
+use crate::fault::FileFault;
+use std::alloc::Global;
+use toml::{Table, Value};
+
+/// The tree that the bytes state. Bytes that are no UTF-8 state none.
+pub fn document(alloc: Global, bytes: &[u8]) -> Result<Table, FileFault>
+    ensures ok { IfOk result (λ t. document_of bytes.now ≡ Some (table_view t)) }
+    ensures err { IfErr result (λ f. DocumentFault f bytes.now) }
+{
+    match toml::table_from_slice(alloc, bytes) {
+        Ok(table) => Ok(table),
+        Err(error) => {
+            if error.is_memory() {
+                Err(FileFault::OutOfMemory)
+            } else {
+                Err(FileFault::NotToml)
+            }
+        }
+    }
+}
+
+/// What the key holds.
+pub fn member<'a>(table: &'a Table, key: &str) -> Option<&'a Value>
+    ensures { option_map (λ v. view v.now) result ≡ get_member key.now (table_view table.now) }
+{
+    table.get(key)
+}
+
+fn is_among(listed: &[&str], key: &str) -> bool
+    ensures { result ≡ list_any (λ k. bytes_eq key.now k.now) listed.now }
+{
+    listed.iter().any(|k| key == *k)
+}
+
+/// Whether each key of the table is one of those listed.
+pub fn has_only(table: &Table, listed: &[&str]) -> bool
+    ensures { result ≡ keys_are_among (map (λ k. k.now) listed.now) (table_view table.now) }
+{
+    for (key, _value) in table {
+        if !is_among(listed, key.as_str()) {
+            return false;
+        }
+    }
+    true
+}
+
+/// The integer from `low` to `high` that the key holds, or `otherwise` where the key is absent.
+pub fn optional_integer(
+    table: &Table,
+    key: &str,
+    low: i64,
+    high: i64,
+    otherwise: i64,
+) -> Result<i64, FileFault>
+    requires low_in { int_le low otherwise ≡ true }
+    requires high_in { int_le otherwise high ≡ true }
+    ensures exact { Judges result (optional (integer_faults low high) (get_member key.now (table_view table.now))) (λ z. z ≡ integer_or otherwise (get_member key.now (table_view table.now))) }
+    ensures low_out { IfOk result (λ z. int_le low z ≡ true) }
+    ensures high_out { IfOk result (λ z. int_le z high ≡ true) }
+{
+    match member(table, key) {
+        None => Ok(otherwise),
+        Some(value) => match value.as_integer() {
+            None => Err(FileFault::BadValue),
+            Some(z) => {
+                if low <= z && z <= high {
+                    Ok(z)
+                } else {
+                    Err(FileFault::BadValue)
+                }
+            }
+        },
+    }
+}
+
+/// The items of the array that the key holds, or none.
+pub fn items_at<'a>(table: &'a Table, key: &str) -> &'a [Value]
+    ensures { items_view result.now ≡ items_or_none (get_member key.now (table_view table.now)) }
+{
+    let value = match member(table, key) {
+        None => return &[],
+        Some(value) => value,
+    };
+    match value.as_array() {
+        None => &[],
+        Some(items) => items,
+    }
+}
+
+/// Whether the items are strings.
+pub fn are_strings(items: &[Value]) -> bool
+    ensures { result ≡ are_strings (items_view items.now) }
+{
+    for item in items {
+        if !item.is_str() {
+            return false;
+        }
+    }
+    true
+}
