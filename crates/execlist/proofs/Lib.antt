@@ -1,4 +1,4 @@
-mod OrderLaws
+pub mod OrderLaws
 mod PlainLemmas
 mod Walks
 mod Computed

@@ -493,3 +493,13 @@ read_home homes n o e l = get_or_read homes n o l e None
 pub if_some_from : {P : ℕ → Type 0} (o : Option ℕ) → ((h : ℕ) → o ≡ Some h → P h) → IfSome o P
 if_some_from None p = tt
 if_some_from (Some h) p = p h refl
+
+-- The header of a linked node is one of the space's.
+pub home_header : (all : List (List ℕ)) (homes : List (Option ℕ)) (n h : ℕ) → times n (sequence all h) ≡ cond (is_at (home homes n) h) 1 0 → home homes n ≡ Some h → h < length all
+home_header all homes n h law own = by_case (cases_lt h (length all)) where
+  once : times n (sequence all h) ≡ 1
+  once = law ∙ ap (λ b. cond b 1 0) (at_own homes n h own)
+
+  by_case : (h < length all) ⊎ (length all ≤ h) → h < length all
+  by_case (inl l) = l
+  by_case (inr l) = let none = ap (times n) (get_or_past all h [] l) in absurd (omega (arith, once))

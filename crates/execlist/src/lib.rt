@@ -6,3 +6,5 @@ pub mod key;
 pub mod laws;
 pub mod plain;
 pub mod space;
+#[cfg(test)]
+mod tests;

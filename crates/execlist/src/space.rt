@@ -41,7 +41,8 @@ pub trait ListSpace: Drop {
     /// Answers the header whose sequence has the node, or none. Own choice: Exec cannot tell.
     fn home(&self, n: NodeId) -> Option<HeaderId>
         requires { n < length (homes self.now) }
-        ensures { result ≡ home (homes self.now) n };
+        ensures value { result ≡ home (homes self.now) n }
+        ensures known { IfSome result (λ h. h < length (sequences self.now)) };
 
     /// Answers the first node of the header, or none where it is empty, and takes nothing out.
     /// RKM Libraries, Exec Lists and Queues: scanning a list.
