@@ -1,7 +1,8 @@
 -- What follows from a schedule's being sound, and the schedules that calls on the tasks lead to.
 use Rattle.std.proofs.Common.{◌≡◌, ℕ, ◌<◌, ◌+◌, zero, suc, Bool, true, false, cond, not, eqb, List, [], ◌∷◌, Option, Some, None, IfSome, length, slice_set, slice_index_or, refl, sym, ap, ◌∙◌, arith}
 use Rattle.std.specs.Prelude.{ℤ, ◌&&◌}
-use Rattle.std.proofs.lemmas.Bool.{eq-eqb, false≢true}
+use Rattle.std.proofs.lemmas.Bool.{eq-eqb}
+use Rattle.std.proofs.lemmas.List.{set-get_or}
 use Rattle.execlist.specs.Order.{enqueue, first, without}
 use Rattle.execlist.specs.Lists.{times}
 use Rattle.taskq.specs.Tasks.{Tasks, state_at, pri_at, is_ready}
@@ -11,9 +12,9 @@ use Rattle.taskq.specs.declared.Why.TheVariants.{Signals}
 use Rattle.signals.specs.Signals.{SignalSets}
 use Rattle.forbid.specs.Nesting.{Nesting, may_switch}
 use Rattle.scheduler.specs.declared.Switch.{Switch}
-use Rattle.scheduler.specs.declared.Switch.TheVariants.{To}
-use Rattle.scheduler.specs.Schedule.{Schedule, status_of, nesting_of, takes_over, switch_for, begins, waits_for, leaves}
-use Rattle.scheduler.specs.Dispatch.{arrives, switch_of, displaced, after_switch, rescheduled}
+use Rattle.scheduler.specs.declared.Switch.TheVariants.{To, Idle}
+use Rattle.scheduler.specs.Schedule.{Schedule, status_of, nesting_of, takes_over, switch_for, IsToOneOf, begins, waits_for, leaves, departs, removed, with_priority}
+use Rattle.scheduler.specs.Dispatch.{arrives, switch_of, displaced, after_switch, rescheduled, reprioritized}
 use Rattle.scheduler.specs.Sound.{IsSound, IsToReady, is_running, is_task}
 
 -- ---- the running task
@@ -72,6 +73,16 @@ switch_of-is s choice e = ap (λ o. switch_for s.running o s) e
 
 pub to_ready : (w : Option Switch) (t : ℕ) (states : List TaskState) → w ≡ Some (To t) → IsToReady w states → state_at states t ≡ Ready
 to_ready w t states e ready = rw e at ready
+
+ready_known : (states : List TaskState) (t : ℕ) → state_at states t ≡ Ready → t < length states
+ready_known [] t e = cc
+ready_known (x ∷ xs) zero e = omega arith
+ready_known (x ∷ xs) (suc t) e = omega (arith, ready_known xs t e)
+
+pub to_known : (w : Option Switch) (states : List TaskState) → IsToReady w states → IsToOneOf w (length states)
+to_known None states ready = tt
+to_known (Some Idle) states ready = tt
+to_known (Some (To t)) states ready = ready_known states t ready
 
 -- a task that begins to run takes the place of the running one
 pub begins-vacant : (t : ℕ) (s : Schedule) → begins t (record s { running = None }) ≡ begins t s
@@ -144,3 +155,34 @@ unfolding leaves
 retired s q t running once a b c d =
     let ready = without_absent t s.queue.ready (once ∙ ap (λ v. cond (is_ready v) 1 0) running) in
     ap (λ queue. record s { queue = queue; running = None }) (tasks_are q _ _ _ _ (a ∙ ready) b c d)
+
+pub removed_is : (s : Schedule) (q : Tasks) (t : ℕ)
+    → q.ready ≡ without t s.queue.ready → q.states ≡ slice_set s.queue.states t Removed
+    → q.pris ≡ s.queue.pris → q.names ≡ s.queue.names → record s { queue = q } ≡ removed t s
+unfolding removed
+removed_is s q t a b c d = ap (λ queue. record s { queue = queue }) (tasks_are q _ _ _ _ a b c d)
+
+was_ready : (v : TaskState) → is_ready v ≡ true → v ≡ Ready
+was_ready Absent e = cc
+was_ready Ready e = refl
+was_ready Running e = cc
+was_ready (Waiting why) e = cc
+was_ready Removed e = cc
+
+-- a ready task that is made ready keeps its state
+ready_again : (states : List TaskState) (t : ℕ) → is_ready (state_at states t) ≡ true → states ≡ slice_set states t Ready
+ready_again states t e = sym (ap (slice_set states t) (sym (was_ready (state_at states t) e)) ∙ set-get_or states t Absent)
+
+pub reprioritized_is : (s : Schedule) (q : Tasks) (t : ℕ) (pri : ℤ)
+    → q.ready ≡ cond (is_ready (state_at s.queue.states t)) (enqueue (pri_at q.pris) (without t s.queue.ready) t) s.queue.ready
+    → q.states ≡ s.queue.states → q.pris ≡ slice_set s.queue.pris t pri → q.names ≡ s.queue.names
+    → record s { queue = q } ≡ reprioritized t pri s
+unfolding reprioritized arrives
+reprioritized_is s q t pri a b c d = by_case (is_ready (state_at s.queue.states t)) refl a where
+  by_case : (b : Bool) → is_ready (state_at s.queue.states t) ≡ b
+      → q.ready ≡ cond b (enqueue (pri_at q.pris) (without t s.queue.ready) t) s.queue.ready
+      → record s { queue = q } ≡ cond b (arrives t (departs t (with_priority t pri s))) (with_priority t pri s)
+  by_case true ready order =
+      let arrival = order ∙ ap (λ pris. enqueue (pri_at pris) (without t s.queue.ready) t) c in
+      ap (λ queue. record s { queue = queue }) (tasks_are q _ _ _ _ arrival (b ∙ ready_again s.queue.states t ready) c d)
+  by_case false other order = ap (λ queue. record s { queue = queue }) (tasks_are q _ _ _ _ order b c d)

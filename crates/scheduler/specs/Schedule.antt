@@ -1,6 +1,6 @@
 -- What is known of the tasks as they are scheduled: lists by task number, the ready sequence, and the running task. The functions
 -- here leave open how the ready sequence is kept: none of them puts a task into it.
-use Rattle.std.specs.Prelude.{◌≡◌, ℕ, ◌-◌, ℤ, Bool, true, false, not, ◌&&◌, ◌||◌, if◌then◌else◌, nat_eq, int_lt, int_le, bit_and, List, [], length, find, replicate, Option, None, Some, slice_index_or, slice_set}
+use Rattle.std.specs.Prelude.{◌≡◌, ℕ, ◌-◌, ◌<◌, ℤ, Bool, true, false, not, ◌&&◌, ◌||◌, if◌then◌else◌, nat_eq, int_lt, int_le, bit_and, List, [], length, find, replicate, Option, None, Some, Result, Ok, Err, slice_index_or, slice_set}
 use Rattle.std.specs.List.{range_with_len}
 use Rattle.execlist.specs.Order.{without}
 use Rattle.taskq.specs.Tasks.{Tasks, state_at, pri_at, name_at, is_live, is_live_named}
@@ -8,8 +8,9 @@ use Rattle.taskq.specs.declared.TaskState.{TaskState}
 use Rattle.taskq.specs.declared.TaskState.TheVariants.{Absent, Ready, Running, Waiting, Removed}
 use Rattle.taskq.specs.declared.Why.{Why}
 use Rattle.taskq.specs.declared.Why.TheVariants.{Signals}
-use Rattle.signals.specs.Signals.{SignalSets, initial_sets, taken_signals, after_take}
+use Rattle.signals.specs.Signals.{SignalSets, initial_sets, taken_signals, after_take, grant, after_grant, after_set, after_free}
 use Rattle.forbid.specs.Nesting.{Nesting, initial_nesting, may_switch, may_interrupt}
+use Rattle.forbid.specs.declared.NestFault.{NestFault}
 use Rattle.scheduler.specs.declared.Switch.{Switch}
 use Rattle.scheduler.specs.declared.Switch.TheVariants.{To, Idle}
 
@@ -29,6 +30,10 @@ pub record Schedule : Type 0 where
   pub idle : Bool
 
 -- ---- parts of a schedule
+
+-- how many tasks there are
+abbrev pub task_count : Schedule → ℕ
+task_count s = length s.queue.states
 
 -- the name of task t
 abbrev pub name_of : Schedule → ℕ → List ℕ
@@ -100,6 +105,12 @@ switch_for None None s = if s.idle then None else Some Idle
 switch_for None (Some t) s = Some (To t)
 switch_for (Some r) None s = None
 switch_for (Some r) (Some t) s = if is_switching_allowed (Some r) s && takes_over t r s then Some (To t) else None
+
+-- where a switch is to a task, it is to one of so many
+abbrev pub IsToOneOf : Option Switch → (tasks : ℕ) → Type 0
+IsToOneOf None tasks = Unit {0}
+IsToOneOf (Some Idle) tasks = Unit {0}
+IsToOneOf (Some (To t)) tasks = t < tasks
 
 -- a quantum that has ended with no other task to run begins anew, once switching is allowed
 abbrev pub renewed : Option ℕ → Schedule → Schedule
@@ -180,6 +191,18 @@ come_for mask sets = if nat_eq (taken_signals mask sets) 0 then None else Some (
 abbrev pub after_wait : ℕ → ℕ → Schedule → Schedule
 after_wait t mask s = if nat_eq (taken_signals mask (signals_of s t)) 0 then waits_for t mask s else takes t mask s
 
+-- task t allocates signal n, or for -1 the highest free one, if it is given
+unfoldable pub allocates : ℕ → ℤ → Schedule → Schedule
+allocates t n s = with_signals t (after_grant (grant n (signals_of s t)) (signals_of s t)) s
+
+-- the received signals of the mask become those of new
+unfoldable pub sets_signals : ℕ → (new mask : ℕ) → Schedule → Schedule
+sets_signals t new mask s = with_signals t (after_set new mask (signals_of s t)) s
+
+-- Signal n of a live task is not allocated any more. A task that is not live has none to give back (own choice).
+unfoldable pub frees : ℕ → ℕ → Schedule → Schedule
+frees t n s = if is_live (status_of s t) then with_signals t (after_free n (signals_of s t)) s else s
+
 -- ---- nesting
 
 -- interrupts are allowed where no task runs, and else where the running task has not disabled them
@@ -191,3 +214,8 @@ is_interrupting_allowed (Some r) s = may_interrupt (nesting_of s r)
 abbrev pub nested : ℕ → Option Nesting → Schedule → Schedule
 nested t None s = s
 nested t (Some nesting) s = with_nesting t nesting s
+
+-- the answer of such a call: nothing, or the fault
+abbrev pub nest_answer : NestFault → Option Nesting → Result (Unit {0}) NestFault
+nest_answer fault None = Err fault
+nest_answer fault (Some nesting) = Ok tt

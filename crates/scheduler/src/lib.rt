@@ -2,17 +2,17 @@
 //! A `Sched` decides which task runs; what a task does while it runs is not kept here.
 #![tactic(auto)]
 
-ghost use Rattle.std.specs.Prelude.{◌≡◌, ◌<◌, ◌≤◌, ℕ, length, map, Option, Some, None, IfOk, IfSome, IsSome, IsTrue, not, nat_eq, if◌then◌else◌};
+ghost use Rattle.std.specs.Prelude.{◌≡◌, ◌<◌, ◌≤◌, ℕ, length, map, Option, Some, None, IfOk, IfSome, IsSome, IsTrue, ◌≢◌, not, nat_eq, if◌then◌else◌};
 ghost use Rattle.taskq.specs.Tasks.{state_at, is_live};
-ghost use Rattle.signals.specs.Signals.{taken_signals, after_post};
-ghost use Rattle.forbid.specs.Nesting.{may_switch};
-ghost use Rattle.scheduler.specs.Schedule.{Schedule, unstarted, name_of, status_of, signals_of, nesting_of, is_absent, is_switching_allowed, switch_for, takes_over, renewed, begins, awaits, come_for, after_wait, takes, waits_for, leaves, with_signals};
-ghost use Rattle.scheduler.specs.Dispatch.{arrives, displaced, switch_of, after_switch, rescheduled, added, signalled};
+ghost use Rattle.signals.specs.Signals.{taken_signals, after_post, grant, grant_number};
+ghost use Rattle.forbid.specs.Nesting.{may_switch, may_interrupt, after_forbid, after_permit, after_disable, after_enable};
+ghost use Rattle.scheduler.specs.Schedule.{Schedule, task_count, unstarted, name_of, priority_of, status_of, signals_of, nesting_of, is_absent, is_switching_allowed, switch_for, IsToOneOf, takes_over, renewed, begins, awaits, come_for, after_wait, takes, waits_for, leaves, removed, found, ticked, is_interrupting_allowed, nested, nest_answer, allocates, sets_signals, frees, with_signals};
+ghost use Rattle.scheduler.specs.Dispatch.{arrives, displaced, switch_of, after_switch, rescheduled, added, signalled, reprioritized};
 ghost use Rattle.scheduler.specs.Sound.{is_stopped, IsToReady};
 
 use execlist::key::Name;
 use execlist::space::ListSpace;
-use forbid::Nest;
+use forbid::{Nest, NestFault};
 use signals::SigState;
 use std::alloc::{AllocError, Global};
 use std::marker::Model;
@@ -83,7 +83,7 @@ impl<S: ListSpace> Sched<S> {
     /// Source: RKM Libraries, Exec Tasks: `ThisTask`.
     pub fn running(&self) -> Option<TaskId>
         ensures value { result ≡ self.now.running }
-        ensures known { IfSome result (λ t. t < length self.now.queue.states) }
+        ensures known { IfSome result (λ t. t < task_count self.now) }
         ensures runs { IfSome result (λ t. status_of self.now t ≡ TaskState.Running) }
     {
         self.running
@@ -93,7 +93,7 @@ impl<S: ListSpace> Sched<S> {
     fn runner(&self) -> TaskId
         requires { IsSome self.now.running }
         ensures value { self.now.running ≡ Some result }
-        ensures known { result < length self.now.queue.states }
+        ensures known { result < task_count self.now }
         ensures runs { status_of self.now result ≡ TaskState.Running }
     {
         match self.running {
@@ -104,9 +104,10 @@ impl<S: ListSpace> Sched<S> {
 
     // Makes a task ready that neither is ready, nor runs, nor has ended.
     fn arrive(&mut self, t: TaskId)
-        requires known { t < length self.old.queue.states }
+        requires known { t < task_count self.old }
         requires stopped { IsTrue (is_stopped (status_of self.old t)) }
-        ensures { self.new ≡ arrives t self.old }
+        ensures next { self.new ≡ arrives t self.old }
+        ensures tasks { task_count self.new ≡ task_count self.old }
     {
         self.queue.make_ready(t);
     }
@@ -117,9 +118,10 @@ impl<S: ListSpace> Sched<S> {
     /// Source: autodoc exec.library/AddTask. Own choice: a task that was removed is not added again.
     #[tactic(auto, unfolding(crate::specs::Dispatch::added))]
     pub fn add(&mut self, t: TaskId) -> bool
-        requires { t < length self.old.queue.states }
+        requires { t < task_count self.old }
         ensures answer { result ≡ is_absent (status_of self.old t) }
         ensures next { self.new ≡ added t self.old }
+        ensures tasks { task_count self.new ≡ task_count self.old }
     {
         if let TaskState::Absent = self.queue.state(t) {
             self.arrive(t);
@@ -140,6 +142,8 @@ impl<S: ListSpace> Sched<S> {
     pub fn reschedule(&mut self) -> Option<Switch>
         ensures answer { result ≡ switch_of self.old }
         ensures next { self.new ≡ rescheduled self.old }
+        ensures known { IsToOneOf result (task_count self.new) }
+        ensures tasks { task_count self.new ≡ task_count self.old }
     {
         let switch = self.due_switch();
         self.turn(switch);
@@ -165,7 +169,7 @@ impl<S: ListSpace> Sched<S> {
 
     // Whether ready task `t`, which is chosen, is to run now.
     fn gives_way(&self, t: TaskId) -> bool
-        requires { t < length self.now.queue.states }
+        requires { t < task_count self.now }
         ensures { switch_for self.now.running (Some t) self.now ≡ (if result then Some (Switch.To t) else None) }
     {
         match self.running {
@@ -188,8 +192,8 @@ impl<S: ListSpace> Sched<S> {
 
     // Whether ready task `t` takes the place of running task `r`.
     fn takes_over(&self, t: TaskId, r: TaskId) -> bool
-        requires ready_known { t < length self.now.queue.states }
-        requires running_known { r < length self.now.queue.states }
+        requires ready_known { t < task_count self.now }
+        requires running_known { r < task_count self.now }
         ensures { result ≡ takes_over t r self.now }
     {
         let own = self.queue.pri(r);
@@ -200,7 +204,8 @@ impl<S: ListSpace> Sched<S> {
     // Makes a switch, or where there is none lets a quantum that has ended begin anew.
     fn turn(&mut self, switch: Option<Switch>)
         requires { IsToReady switch self.old.queue.states }
-        ensures { self.new ≡ after_switch switch self.old }
+        ensures next { self.new ≡ after_switch switch self.old }
+        ensures tasks { task_count self.new ≡ task_count self.old }
     {
         match switch {
             None => self.renew(),
@@ -211,7 +216,8 @@ impl<S: ListSpace> Sched<S> {
     // Makes a switch.
     fn make_switch(&mut self, switch: Switch)
         requires { IsToReady (Some switch) self.old.queue.states }
-        ensures { self.new ≡ after_switch (Some switch) self.old }
+        ensures next { self.new ≡ after_switch (Some switch) self.old }
+        ensures tasks { task_count self.new ≡ task_count self.old }
     {
         match switch {
             Switch::Idle => self.idle = true,
@@ -224,7 +230,8 @@ impl<S: ListSpace> Sched<S> {
 
     // Makes the running task ready, if any, so that no task runs.
     fn displace(&mut self)
-        ensures { self.new ≡ record (displaced self.old.running self.old) { running = None } }
+        ensures next { self.new ≡ record (displaced self.old.running self.old) { running = None } }
+        ensures tasks { task_count self.new ≡ task_count self.old }
     {
         if let Some(r) = self.running {
             self.queue.make_ready(r);
@@ -236,7 +243,8 @@ impl<S: ListSpace> Sched<S> {
     fn begin(&mut self, t: TaskId)
         requires ready { status_of self.old t ≡ TaskState.Ready }
         requires vacant { self.old.running ≡ None }
-        ensures { self.new ≡ begins t self.old }
+        ensures next { self.new ≡ begins t self.old }
+        ensures tasks { task_count self.new ≡ task_count self.old }
     {
         self.queue.run(t);
         self.running = Some(t);
@@ -246,7 +254,8 @@ impl<S: ListSpace> Sched<S> {
 
     // Lets the running task's quantum begin anew where it has ended and switching is allowed.
     fn renew(&mut self)
-        ensures { self.new ≡ renewed self.old.running self.old }
+        ensures next { self.new ≡ renewed self.old.running self.old }
+        ensures tasks { task_count self.new ≡ task_count self.old }
     {
         if self.running.is_some() && self.may_switch() && self.left == 0 {
             self.left = self.quantum;
@@ -268,7 +277,7 @@ impl<S: ListSpace> Sched<S> {
 
     // Whether running task `r` lets another one have the processor.
     fn allows_switch(&self, r: TaskId) -> bool
-        requires { r < length self.now.queue.states }
+        requires { r < task_count self.now }
         ensures { result ≡ may_switch (nesting_of self.now r) }
     {
         self.nests[r].may_switch()
@@ -282,6 +291,7 @@ impl<S: ListSpace> Sched<S> {
         requires { IsSome self.old.running }
         ensures answer { IfSome self.old.running (λ t. result ≡ come_for mask (signals_of self.old t)) }
         ensures next { IfSome self.old.running (λ t. self.new ≡ after_wait t mask self.old) }
+        ensures tasks { task_count self.new ≡ task_count self.old }
     {
         let t = self.runner();
         if self.has_received(t, mask) {
@@ -294,7 +304,7 @@ impl<S: ListSpace> Sched<S> {
 
     // Whether the task has received a signal of the mask.
     fn has_received(&self, t: TaskId, mask: u32) -> bool
-        requires { t < length self.now.queue.states }
+        requires { t < task_count self.now }
         ensures { result ≡ not (nat_eq (taken_signals mask (signals_of self.now t)) 0) }
     {
         self.signals[t].received() & mask != 0
@@ -303,9 +313,10 @@ impl<S: ListSpace> Sched<S> {
     // Takes the signals of the mask that the task has received.
     #[tactic(auto, unfolding(crate::specs::Schedule::takes))]
     fn take(&mut self, t: TaskId, mask: u32) -> u32
-        requires { t < length self.old.queue.states }
+        requires { t < task_count self.old }
         ensures answer { result ≡ taken_signals mask (signals_of self.old t) }
         ensures next { self.new ≡ takes t mask self.old }
+        ensures tasks { task_count self.new ≡ task_count self.old }
     {
         self.signals[t].take(mask)
     }
@@ -313,7 +324,8 @@ impl<S: ListSpace> Sched<S> {
     // Lets the running task wait for signals of the mask.
     fn sleep(&mut self, t: TaskId, mask: u32)
         requires { self.old.running ≡ Some t }
-        ensures { self.new ≡ waits_for t mask self.old }
+        ensures next { self.new ≡ waits_for t mask self.old }
+        ensures tasks { task_count self.new ≡ task_count self.old }
     {
         self.queue.block(t, Why::Signals(mask));
         self.running = None;
@@ -322,7 +334,8 @@ impl<S: ListSpace> Sched<S> {
     /// Ends the running task for good; no task runs then. Autodoc exec.library/RemTask.
     pub fn leave(&mut self)
         requires { IsSome self.old.running }
-        ensures { IfSome self.old.running (λ t. self.new ≡ leaves t self.old) }
+        ensures next { IfSome self.old.running (λ t. self.new ≡ leaves t self.old) }
+        ensures tasks { task_count self.new ≡ task_count self.old }
     {
         let t = self.runner();
         self.retire(t);
@@ -331,11 +344,173 @@ impl<S: ListSpace> Sched<S> {
     // Ends the running task.
     fn retire(&mut self, t: TaskId)
         requires { self.old.running ≡ Some t }
-        ensures { self.new ≡ leaves t self.old }
+        ensures next { self.new ≡ leaves t self.old }
+        ensures tasks { task_count self.new ≡ task_count self.old }
     {
         self.queue.facts();
         self.queue.remove(t);
         self.running = None;
+    }
+
+    /// Ends a live task for good that does not run.
+    ///
+    /// Source: autodoc exec.library/RemTask.
+    pub fn remove(&mut self, t: TaskId)
+        requires live { IsTrue (is_live (status_of self.old t)) }
+        requires stopped { self.old.running ≢ Some t }
+        ensures next { self.new ≡ removed t self.old }
+        ensures tasks { task_count self.new ≡ task_count self.old }
+    {
+        self.queue.remove(t);
+    }
+
+    /// Gives a task another priority (-128 to 127) and answers the old one. A ready task arrives anew, also where the priority
+    /// stays; no switch is made.
+    ///
+    /// Source: autodoc exec.library/SetTaskPri. Own choice: that a ready task arrives anew.
+    pub fn set_pri(&mut self, t: TaskId, pri: i8) -> i8
+        requires { t < task_count self.old }
+        ensures answer { result ≡ priority_of self.old t }
+        ensures next { self.new ≡ reprioritized t pri self.old }
+        ensures tasks { task_count self.new ≡ task_count self.old }
+    {
+        self.queue.set_pri(t, pri)
+    }
+
+    /// Counts one serving of VERTB against the quantum of the running task, which does not go below zero. Where no task runs
+    /// nothing changes.
+    ///
+    /// Source: RKM Libraries, Exec Tasks: task scheduling. Own choice: the quantum in servings.
+    #[tactic(auto, unfolding(crate::specs::Schedule::ticked))]
+    pub fn quantum_tick(&mut self)
+        ensures next { self.new ≡ ticked self.old }
+        ensures tasks { task_count self.new ≡ task_count self.old }
+    {
+        if self.running.is_some() {
+            self.left = self.left.saturating_sub(1);
+        }
+    }
+
+    /// Answers whether an interrupt may be served: no task runs, or the running one has not called Disable without Enable.
+    ///
+    /// Source: autodoc exec.library/Disable.
+    pub fn may_interrupt(&self) -> bool
+        ensures { result ≡ is_interrupting_allowed self.now.running self.now }
+    {
+        match self.running {
+            None => true,
+            Some(r) => self.allows_interrupt(r),
+        }
+    }
+
+    // Whether running task `r` lets an interrupt be served.
+    fn allows_interrupt(&self, r: TaskId) -> bool
+        requires { r < task_count self.now }
+        ensures { result ≡ may_interrupt (nesting_of self.now r) }
+    {
+        self.nests[r].may_interrupt()
+    }
+
+    /// Counts one more Forbid of the running task: no other task runs until as many calls of `permit`.
+    ///
+    /// It is `TooDeep` and changes nothing where the count is 127 (own choice). Source: autodoc exec.library/Forbid.
+    pub fn forbid(&mut self) -> Result<(), NestFault>
+        requires { IsSome self.old.running }
+        ensures answer { IfSome self.old.running (λ t. result ≡ nest_answer NestFault.TooDeep (after_forbid (nesting_of self.old t))) }
+        ensures next { IfSome self.old.running (λ t. self.new ≡ nested t (after_forbid (nesting_of self.old t)) self.old) }
+        ensures tasks { task_count self.new ≡ task_count self.old }
+    {
+        let t = self.runner();
+        self.nests[t].forbid()
+    }
+
+    /// Takes back one Forbid of the running task; no switch is made.
+    ///
+    /// It is `NotNested` and changes nothing where the count is -1 (own choice). Source: autodoc exec.library/Permit.
+    pub fn permit(&mut self) -> Result<(), NestFault>
+        requires { IsSome self.old.running }
+        ensures answer { IfSome self.old.running (λ t. result ≡ nest_answer NestFault.NotNested (after_permit (nesting_of self.old t))) }
+        ensures next { IfSome self.old.running (λ t. self.new ≡ nested t (after_permit (nesting_of self.old t)) self.old) }
+        ensures tasks { task_count self.new ≡ task_count self.old }
+    {
+        let t = self.runner();
+        self.nests[t].permit()
+    }
+
+    /// Counts one more Disable of the running task: until as many calls of `enable` no other task runs and no interrupt is
+    /// served.
+    ///
+    /// It is `TooDeep` and changes nothing where the count is 127 (own choice). Source: autodoc exec.library/Disable.
+    pub fn disable(&mut self) -> Result<(), NestFault>
+        requires { IsSome self.old.running }
+        ensures answer { IfSome self.old.running (λ t. result ≡ nest_answer NestFault.TooDeep (after_disable (nesting_of self.old t))) }
+        ensures next { IfSome self.old.running (λ t. self.new ≡ nested t (after_disable (nesting_of self.old t)) self.old) }
+        ensures tasks { task_count self.new ≡ task_count self.old }
+    {
+        let t = self.runner();
+        self.nests[t].disable()
+    }
+
+    /// Takes back one Disable of the running task; no switch is made.
+    ///
+    /// It is `NotNested` and changes nothing where the count is -1 (own choice). Source: autodoc exec.library/Enable.
+    pub fn enable(&mut self) -> Result<(), NestFault>
+        requires { IsSome self.old.running }
+        ensures answer { IfSome self.old.running (λ t. result ≡ nest_answer NestFault.NotNested (after_enable (nesting_of self.old t))) }
+        ensures next { IfSome self.old.running (λ t. self.new ≡ nested t (after_enable (nesting_of self.old t)) self.old) }
+        ensures tasks { task_count self.new ≡ task_count self.old }
+    {
+        let t = self.runner();
+        self.nests[t].enable()
+    }
+
+    /// Allocates signal `n` of the running task, or for -1 the highest free one of 16 to 31, and answers its number.
+    ///
+    /// Answers -1 and changes nothing where `n` is allocated, where `n` is neither -1 nor from 16 to 31, and for -1 where all
+    /// of 16 to 31 are allocated. A signal that was allocated just now is not received.
+    ///
+    /// Source: autodoc exec.library/AllocSignal. Own choices: the highest one, and the answer to other numbers.
+    #[tactic(auto, unfolding(crate::specs::Schedule::allocates))]
+    pub fn alloc_signal(&mut self, n: i32) -> i32
+        requires { IsSome self.old.running }
+        ensures answer { IfSome self.old.running (λ t. result ≡ grant_number (grant n (signals_of self.old t))) }
+        ensures next { IfSome self.old.running (λ t. self.new ≡ allocates t n self.old) }
+        ensures tasks { task_count self.new ≡ task_count self.old }
+    {
+        let t = self.runner();
+        self.signals[t].alloc_signal(n)
+    }
+
+    /// Makes the received signals of the mask those of `new` for the running task, leaves the others, and answers the received
+    /// set as it was.
+    ///
+    /// Source: autodoc exec.library/SetSignal.
+    #[tactic(auto, unfolding(crate::specs::Schedule::sets_signals))]
+    pub fn set_signal(&mut self, new: u32, mask: u32) -> u32
+        requires { IsSome self.old.running }
+        ensures answer { IfSome self.old.running (λ t. result ≡ (signals_of self.old t).received) }
+        ensures next { IfSome self.old.running (λ t. self.new ≡ sets_signals t new mask self.old) }
+        ensures tasks { task_count self.new ≡ task_count self.old }
+    {
+        let t = self.runner();
+        self.signals[t].set_signal(new, mask)
+    }
+
+    /// Leaves signal `n`, from 16 to 31, of a live task unallocated, whether it was allocated or not. It stays received if it
+    /// was. For a task that is not live nothing changes.
+    ///
+    /// Source: autodoc exec.library/FreeSignal. Own choice: that nothing changes for a task which is not live.
+    #[tactic(auto, unfolding(crate::specs::Schedule::frees))]
+    pub fn free_signal(&mut self, t: TaskId, n: u32)
+        requires task { t < task_count self.old }
+        requires at_least_16 { 16 ≤ n }
+        requires at_most_31 { n ≤ 31 }
+        ensures next { self.new ≡ frees t n self.old }
+        ensures tasks { task_count self.new ≡ task_count self.old }
+    {
+        if self.is_live(t) {
+            self.signals[t].free_signal(n);
+        }
     }
 
     /// Adds the signals of the mask to those that a live task has received; a task that waits for any of them is ready then.
@@ -344,8 +519,9 @@ impl<S: ListSpace> Sched<S> {
     /// Source: autodoc exec.library/Signal. Own choice: that a task which is not live takes none.
     #[tactic(auto, unfolding(crate::specs::Dispatch::signalled))]
     pub fn signal(&mut self, t: TaskId, mask: u32)
-        requires { t < length self.old.queue.states }
-        ensures { self.new ≡ signalled t mask self.old }
+        requires { t < task_count self.old }
+        ensures next { self.new ≡ signalled t mask self.old }
+        ensures tasks { task_count self.new ≡ task_count self.old }
     {
         if !self.is_live(t) {
             return;
@@ -358,15 +534,16 @@ impl<S: ListSpace> Sched<S> {
 
     // Adds the signals of the mask to those that the task has received.
     fn post(&mut self, t: TaskId, mask: u32)
-        requires { t < length self.old.queue.states }
-        ensures { self.new ≡ with_signals t (after_post mask (signals_of self.old t)) self.old }
+        requires { t < task_count self.old }
+        ensures next { self.new ≡ with_signals t (after_post mask (signals_of self.old t)) self.old }
+        ensures tasks { task_count self.new ≡ task_count self.old }
     {
         self.signals[t].post(mask);
     }
 
     // Whether the task waits for a signal that it has received.
     fn is_woken(&self, t: TaskId) -> bool
-        requires { t < length self.now.queue.states }
+        requires { t < task_count self.now }
         ensures { result ≡ awaits (status_of self.now t) (signals_of self.now t).received }
     {
         match self.queue.state(t) {
@@ -379,7 +556,7 @@ impl<S: ListSpace> Sched<S> {
     ///
     /// Source: RKM Libraries, Exec Tasks: task states.
     pub fn is_live(&self, t: TaskId) -> bool
-        requires { t < length self.now.queue.states }
+        requires { t < task_count self.now }
         ensures { result ≡ is_live (status_of self.now t) }
     {
         match self.queue.state(t) {
@@ -387,11 +564,24 @@ impl<S: ListSpace> Sched<S> {
             _ => true,
         }
     }
+    /// Answers the live task of that name, or none. Names compare byte for byte; where several live tasks have the name, the
+    /// first in the order of their numbers is answered.
+    ///
+    /// Source: autodoc exec.library/FindTask.
+    #[tactic(auto, unfolding(crate::specs::Schedule::found))]
+    pub fn find(&self, name: &str) -> Option<TaskId>
+        ensures value { result ≡ found name.now self.now }
+        ensures known { IfSome result (λ t. t < task_count self.now) }
+        ensures live { IfSome result (λ t. IsTrue (is_live (status_of self.now t))) }
+    {
+        self.queue.find(name)
+    }
+
     /// Answers the name of a task.
     ///
     /// Source: RKM Libraries, Exec Tasks: `ln_Name`.
     pub fn name(&self, t: TaskId) -> Name
-        requires { t < length self.now.queue.states }
+        requires { t < task_count self.now }
         ensures { result.bytes ≡ name_of self.now t }
     {
         self.queue.name(t)

@@ -3,7 +3,7 @@ use Rattle.scheduler.specs.Dispatch.{arrives}
 use Rattle.scheduler.proofs.ScheduleLemmas.{arrived}
 use Rattle.scheduler.proofs.Sched.arrive.Goals as goal
 
-pub returns : goal.returns
-returns g c =
+pub returns-clause-next : goal.returns-clause-next
+returns-clause-next g c =
     let e = c.make_ready.ensures in
     arrived _ c.make_ready.new.self c.args.t e.ready e.states e.pris e.names ∙ ap (arrives c.args.t) c.self.view_is

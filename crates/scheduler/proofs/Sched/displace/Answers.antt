@@ -7,8 +7,8 @@ use Rattle.scheduler.proofs.Sched.displace.Goals as goal
 pub make_ready-requires-clause-known : goal.make_ready-requires-clause-known
 make_ready-requires-clause-known g c = runner_known _ _ _ _ _ c.self.invariant c.in-Some.is
 
-pub returns-in-Some : goal.returns-in-Some
-returns-in-Some g c =
+pub returns-in-Some-clause-next : goal.returns-in-Some-clause-next
+returns-in-Some-clause-next g c =
     let e = c.make_ready.ensures in
     displaced_is _ c.make_ready.new.self c.in-Some.r c.in-Some.is e.ready e.states e.pris e.names
     ∙ ap (λ (s : Schedule). record (displaced s.running s) { running = None }) c.self.view_is

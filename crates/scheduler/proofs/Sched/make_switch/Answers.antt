@@ -8,10 +8,10 @@ pub begin-requires-clause-ready : goal.begin-requires-clause-ready
 begin-requires-clause-ready g c =
     let s = c.args.self.now in
     let ready = to_ready (Some c.args.switch) c.in-To.t s.queue.states (ap Some c.in-To.is) c.requires in
-    rw c.displace.ensures (displaced_ready s s.running c.in-To.t ready)
+    rw c.displace.ensures.next (displaced_ready s s.running c.in-To.t ready)
 
-pub returns-in-To : goal.returns-in-To
-returns-in-To g c =
+pub returns-in-To-clause-next : goal.returns-in-To-clause-next
+returns-in-To-clause-next g c =
     let s = c.args.self.now in
     let t = c.in-To.t in
-    c.begin.ensures ∙ ap (begins t) c.displace.ensures ∙ begins-vacant t (displaced s.running s) ∙ ap (λ w. after_switch (Some w) s) (sym c.in-To.is)
+    c.begin.ensures.next ∙ ap (begins t) c.displace.ensures.next ∙ begins-vacant t (displaced s.running s) ∙ ap (λ w. after_switch (Some w) s) (sym c.in-To.is)

@@ -3,8 +3,8 @@ use Rattle.scheduler.specs.Schedule.{leaves}
 use Rattle.scheduler.proofs.ScheduleLemmas.{runner_runs, retired}
 use Rattle.scheduler.proofs.Sched.retire.Goals as goal
 
-pub returns : goal.returns
-returns g c =
+pub returns-clause-next : goal.returns-clause-next
+returns-clause-next g c =
     let e = c.remove.ensures in
     let running = runner_runs _ _ _ _ c.args.t c.self.invariant (ap (λ s. s.running) c.self.view_is ∙ c.requires) in
     retired _ c.remove.new.self c.args.t running (c.facts.ensures.ready c.args.t) e.ready e.states e.pris e.names

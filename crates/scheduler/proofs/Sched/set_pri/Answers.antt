@@ -1,0 +1,15 @@
+use Rattle.std.proofs.Common.{rules, ap, ◌∙◌, slice_set}
+use Rattle.std.proofs.lemmas.Int.{to_z-of_z}
+use Rattle.scheduler.specs.Dispatch.{reprioritized}
+use Rattle.scheduler.proofs.ScheduleLemmas.{reprioritized_is}
+use Rattle.scheduler.proofs.Sched.set_pri.Goals as goal
+use mir.Syntax.{w8}
+use mir.Val.{SFits}
+
+pub returns-clause-next : goal.returns-clause-next
+returns-clause-next g c =
+    let e = c.set_pri.ensures in
+    let fits : SFits w8 c.args.pri = search rules in
+    let pris = e.pris ∙ ap (slice_set c.self.inside.queue.pris c.args.t) (to_z-of_z w8 c.args.pri fits) in
+    reprioritized_is _ c.set_pri.new.self c.args.t c.args.pri e.ready e.states pris e.names
+    ∙ ap (reprioritized c.args.t c.args.pri) c.self.view_is
