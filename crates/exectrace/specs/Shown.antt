@@ -4,6 +4,7 @@ use Rattle.exectrace.specs.declared.lines.Line.{Line}
 use Rattle.exectrace.specs.declared.lines.Line.TheVariants as line
 use Rattle.exectrace.specs.declared.lines.Arg.{Arg}
 use Rattle.exectrace.specs.declared.lines.Arg.TheVariants as arg
+use Rattle.exectrace.specs.declared.lines.CallLine.{CallLine}
 use Rattle.exectrace.specs.declared.lines.CallOutcome.{CallOutcome}
 use Rattle.exectrace.specs.declared.lines.CallOutcome.TheVariants as outcome
 use Rattle.exectrace.specs.Trace.{Argument, Value, Quoted, Outcome, Done, Answers, Waits, TraceLine, Switch, Idle, Call, Serve, Timer, Server, Softint, Alert}
@@ -17,12 +18,16 @@ shown_outcome outcome.Done = Done
 shown_outcome (outcome.Answers n) = Answers n
 shown_outcome outcome.Waits = Waits
 
+-- a call of this outcome
+abbrev pub shown_call : CallLine → Outcome → TraceLine
+shown_call call outcome = Call call.name.bytes call.word.bytes (map shown_argument call.arguments.items) outcome
+
 abbrev pub shown : Line → TraceLine
 shown (line.Switch name) = Switch name.bytes
 shown line.Idle = Idle
-shown (line.Call name word arguments) = Call name.bytes word.bytes (map shown_argument arguments.items) Done
-shown (line.Answer name word arguments value) = Call name.bytes word.bytes (map shown_argument arguments.items) (Answers value)
-shown (line.Wait name word arguments) = Call name.bytes word.bytes (map shown_argument arguments.items) Waits
+shown (line.Call call) = shown_call call Done
+shown (line.Answer call value) = shown_call call (Answers value)
+shown (line.Wait call) = shown_call call Waits
 shown (line.Serve source) = Serve source.bytes
 shown (line.Timer value) = Timer value
 shown (line.Server name) = Server name.bytes

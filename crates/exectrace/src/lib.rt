@@ -11,7 +11,7 @@ pub mod lines;
 pub mod printing;
 pub mod sinks;
 
-pub use lines::{Arg, Arguments, CallOutcome, Line, Name};
+pub use lines::{Arg, Arguments, CallLine, CallOutcome, Line, Name};
 pub use printing::emit;
 pub use sinks::{Sink, SinkFault, SinkState, WriteFault, WriteSink};
 

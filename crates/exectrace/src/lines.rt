@@ -38,6 +38,14 @@ pub enum CallOutcome {
     Waits,
 }
 
+/// Who made a call, its word and its arguments.
+#[derive(Drop)]
+pub struct CallLine {
+    pub name: Name,
+    pub word: Name,
+    pub arguments: Arguments,
+}
+
 /// A line of a trace: what happened, and to whom. A name is that of a task, a software interrupt or a server.
 #[derive(Drop)]
 pub enum Line {
@@ -46,24 +54,11 @@ pub enum Line {
     /// `idle`: no task runs.
     Idle,
     /// `NAME WORD{ ARG}`: a call that does not answer.
-    Call {
-        name: Name,
-        word: Name,
-        arguments: Arguments,
-    },
+    Call(CallLine),
     /// `NAME WORD{ ARG} -> VALUE`: a call with its answer.
-    Answer {
-        name: Name,
-        word: Name,
-        arguments: Arguments,
-        value: u32,
-    },
-    /// `NAME WORD{ ARG} waits`: a call that waits.
-    Wait {
-        name: Name,
-        word: Name,
-        arguments: Arguments,
-    },
+    Answer(CallLine, u32),
+    /// `NAME WORD{ ARG} waits`: a call that waits, at each try.
+    Wait(CallLine),
     /// `serve SOURCE`: a latch is served.
     Serve(Name),
     /// `timer VALUE`: a queued request, at this address, finishes at a tick.
@@ -73,11 +68,7 @@ pub enum Line {
     /// `softint NAME`: a software interrupt's body begins.
     Softint(Name),
     /// `alert CODE NAME WORD`: a call was refused.
-    Alert {
-        code: Name,
-        name: Name,
-        word: Name,
-    },
+    Alert { code: Name, name: Name, word: Name },
 }
 
 impl Arg {
@@ -115,12 +106,25 @@ fn arguments_len(arguments: &[Arg]) -> usize
 }
 
 /// How many bytes a call's line has, up to its outcome.
-fn call_len(name: &Name, word: &Name, arguments: &Arguments) -> usize
-    ensures value { result ≡ length (name.now.bytes ++ codes " " ++ word.now.bytes ++ flat_map argument_text (map shown_argument arguments.now.items)) }
+fn call_len(call: &CallLine) -> usize
+    ensures value { result ≡ length (call.now.name.bytes ++ codes " " ++ call.now.word.bytes
+        ++ flat_map argument_text (map shown_argument call.now.arguments.items)) }
     ensures small { result ≤ 199 }
-    ensures fits { result ≤ 103 + 24 * count_by is_quoted (map shown_argument arguments.now.items) }
+    ensures fits { result ≤ 103 + 24 * count_by is_quoted (map shown_argument call.now.arguments.items) }
 {
-    name.len() + 1 + word.len() + arguments_len(arguments.as_slice())
+    call.name.len() + 1 + call.word.len() + arguments_len(call.arguments.as_slice())
+}
+
+impl CallLine {
+    /// How many arguments are quoted.
+    fn quoted_count(&self) -> usize
+        ensures { result ≡ count_by is_quoted (map shown_argument self.now.arguments.items) }
+    {
+        self.arguments
+            .iter()
+            .filter(|argument| argument.is_quoted())
+            .count()
+    }
 }
 
 impl Line {
@@ -129,12 +133,7 @@ impl Line {
         ensures { result ≡ quoted_count (shown self.now) }
     {
         match self {
-            Line::Call { arguments, .. }
-            | Line::Answer { arguments, .. }
-            | Line::Wait { arguments, .. } => arguments
-                .iter()
-                .filter(|argument| argument.is_quoted())
-                .count(),
+            Line::Call(call) | Line::Answer(call, _) | Line::Wait(call) => call.quoted_count(),
             _ => 0,
         }
     }
@@ -147,22 +146,9 @@ impl Line {
         match self {
             Line::Switch(name) => name.len() + 8,
             Line::Idle => 5,
-            Line::Call {
-                name,
-                word,
-                arguments,
-            } => call_len(name, word, arguments) + 1,
-            Line::Answer {
-                name,
-                word,
-                arguments,
-                value: _,
-            } => call_len(name, word, arguments) + 14,
-            Line::Wait {
-                name,
-                word,
-                arguments,
-            } => call_len(name, word, arguments) + 7,
+            Line::Call(call) => call_len(call) + 1,
+            Line::Answer(call, _) => call_len(call) + 14,
+            Line::Wait(call) => call_len(call) + 7,
             Line::Serve(source) => source.len() + 7,
             Line::Timer(_) => 16,
             Line::Server(name) => name.len() + 8,

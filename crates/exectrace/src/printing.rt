@@ -6,10 +6,10 @@ ghost use Rattle.std.specs.Prelude.{◌≡◌, ◌<◌, ◌≤◌, length, map, 
 ghost use Rattle.std.specs.List.{flat_map};
 ghost use Rattle.exectrace.specs.Sink.{Puts, Writes};
 ghost use Rattle.exectrace.specs.Trace.{printed_line, value_text, hex_digit, quoted_count, Switch, Idle, Call, Serve, Timer, Server, Softint, Alert, argument_text, outcome_text};
-ghost use Rattle.exectrace.specs.Shown.{shown, shown_argument, shown_outcome};
+ghost use Rattle.exectrace.specs.Shown.{shown, shown_argument, shown_outcome, shown_call};
 ghost use Rattle.exectrace.specs.declared.sinks.SinkState.{SinkState};
 
-use crate::lines::{Arg, CallOutcome, Line, Name};
+use crate::lines::{Arg, CallLine, CallOutcome, Line, Name};
 use crate::sinks::{Sink, WriteFault, put, written};
 
 /// The digit for a number below 16.
@@ -177,6 +177,13 @@ pub fn put_alert<W: Sink>(code: &str, name: &Name, word: &str, out: &mut W)
     put(b"\n", out);
 }
 
+fn put_call_line<W: Sink>(call: &CallLine, outcome: CallOutcome, out: &mut W)
+    ensures { Puts (W.tape out.old) (W.tape out.new) (printed_line (shown_call call.now (shown_outcome outcome))) }
+{
+    let word = call.word.as_str();
+    put_call(&call.name, word, call.arguments.as_slice(), outcome, out);
+}
+
 /// Puts any line: the one call for all of the above.
 pub fn put_line<W: Sink>(line: &Line, out: &mut W)
     ensures { Puts (W.tape out.old) (W.tape out.new) (printed_line (shown line.now)) }
@@ -184,46 +191,9 @@ pub fn put_line<W: Sink>(line: &Line, out: &mut W)
     match line {
         Line::Switch(name) => put_switch(name, out),
         Line::Idle => put_idle(out),
-        Line::Call {
-            name,
-            word,
-            arguments,
-        } => {
-            put_call(
-                name,
-                word.as_str(),
-                arguments.as_slice(),
-                CallOutcome::Done,
-                out,
-            )
-        }
-        Line::Answer {
-            name,
-            word,
-            arguments,
-            value,
-        } => {
-            put_call(
-                name,
-                word.as_str(),
-                arguments.as_slice(),
-                CallOutcome::Answers(*value),
-                out,
-            )
-        }
-        Line::Wait {
-            name,
-            word,
-            arguments,
-        } => {
-            put_call(
-                name,
-                word.as_str(),
-                arguments.as_slice(),
-                CallOutcome::Waits,
-                out,
-            )
-        }
+        Line::Call(call) => put_call_line(call, CallOutcome::Done, out),
+        Line::Answer(call, value) => put_call_line(call, CallOutcome::Answers(*value), out),
+        Line::Wait(call) => put_call_line(call, CallOutcome::Waits, out),
         Line::Serve(source) => put_serve(source.as_str(), out),
         Line::Timer(value) => put_timer(*value, out),
         Line::Server(name) => put_server(name, out),

@@ -3,7 +3,7 @@ ghost use Rattle.std.specs.Prelude.{◌≡◌, ◌≤◌, length};
 
 use crate::printing::{put_idle, put_line};
 use crate::sinks::written;
-use crate::{Arg, Arguments, Line, Name, Sink, SinkState, WriteFault, WriteSink, emit};
+use crate::{Arg, Arguments, CallLine, Line, Name, Sink, SinkState, WriteFault, WriteSink, emit};
 use std::alloc::Global;
 use std::io;
 use std::io::Write;
@@ -19,12 +19,19 @@ fn name(text: &str) -> Name
     name
 }
 
-fn arguments(given: &[Arg]) -> Arguments {
+fn call(by: &str, word: &str, given: &[Arg]) -> CallLine
+    requires by { length by.now ≤ 31 }
+    requires word { length word.now ≤ 31 }
+{
     let mut arguments = Arguments::new();
     for argument in given {
         let _ = arguments.try_push(*argument);
     }
-    arguments
+    CallLine {
+        name: name(by),
+        word: name(word),
+        arguments,
+    }
 }
 
 /// Emits the line into a vector, and compares what it then holds.
@@ -56,34 +63,28 @@ fn each_event_has_its_text(rt: HostRuntime) {
 
 #[test]
 fn each_call_has_its_text(rt: HostRuntime) {
-    let free = Line::Call {
-        name: name("a"),
-        word: name("FreeMem"),
-        arguments: arguments(&[Arg::Value(0x1000), Arg::Value(8)]),
-    };
-    prints(&rt, rt.alloc(), free, "a FreeMem $00001000 $00000008\n");
-    let forbid = Line::Call {
-        name: name("a"),
-        word: name("Forbid"),
-        arguments: arguments(&[]),
-    };
-    prints(&rt, rt.alloc(), forbid, "a Forbid\n");
-    let wait = Line::Wait {
-        name: name("c"),
-        word: name("Wait"),
-        arguments: arguments(&[Arg::Value(0x1000)]),
-    };
-    prints(&rt, rt.alloc(), wait, "c Wait $00001000 waits\n");
-    let signal = Line::Answer {
-        name: name("a"),
-        word: name("AllocSignal"),
-        arguments: arguments(&[Arg::Value(0xFFFF_FFFF)]),
-        value: 0x89AB_CDEF,
-    };
+    let free = call("a", "FreeMem", &[Arg::Value(0x1000), Arg::Value(8)]);
     prints(
         &rt,
         rt.alloc(),
-        signal,
+        Line::Call(free),
+        "a FreeMem $00001000 $00000008\n",
+    );
+    let forbid = call("a", "Forbid", &[]);
+    prints(&rt, rt.alloc(), Line::Call(forbid), "a Forbid\n");
+    let wait = call("c", "Wait", &[Arg::Value(0x1000)]);
+    prints(
+        &rt,
+        rt.alloc(),
+        Line::Wait(wait),
+        "c Wait $00001000 waits\n",
+    );
+    let signal = call("a", "AllocSignal", &[Arg::Value(0xFFFF_FFFF)]);
+    let answer = Line::Answer(signal, 0x89AB_CDEF);
+    prints(
+        &rt,
+        rt.alloc(),
+        answer,
         "a AllocSignal $FFFFFFFF -> $89ABCDEF\n",
     );
     prints(&rt, rt.alloc(), opening(), OPENING);
@@ -93,12 +94,8 @@ const OPENING: &str = "a OpenLibrary \"x.library\" $00000025 -> $00001000\n";
 
 /// The line whose text is `OPENING`.
 fn opening() -> Line {
-    Line::Answer {
-        name: name("a"),
-        word: name("OpenLibrary"),
-        arguments: arguments(&[Arg::Quoted(name("x.library")), Arg::Value(37)]),
-        value: 0x1000,
-    }
+    let arguments = [Arg::Quoted(name("x.library")), Arg::Value(37)];
+    Line::Answer(call("a", "OpenLibrary", &arguments), 0x1000)
 }
 
 #[derive(Clone, Copy)]
