@@ -1,0 +1,9 @@
+pub mod Tests
+pub mod Gaps
+pub mod Edits
+pub mod Slots
+pub mod Headers
+pub mod Choices
+pub mod Merged
+pub mod Together
+pub mod Memories

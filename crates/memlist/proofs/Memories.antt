@@ -1,0 +1,324 @@
+-- A memory as a whole: what its headers keep, where a block fits, and what a change of one header does to its value.
+use Rattle.std.proofs.Common.{◌≡◌, ◌≢◌, ℕ, zero, suc, ◌+◌, ◌^◌, ◌<◌, ◌≤◌, Bool, true, false, cond, List, [], ◌∷◌, ◌++◌, length, set, get_or, map, refl, sym, ◌∙◌, ap, subst, arith}
+use Rattle.std.specs.Prelude.{bit_and, nat_eq, nat_le, not, ◌&&◌, Option, Some, None, is_some, slice_get, IsSome, IsSomeAnd, IfSome}
+use Rattle.std.specs.List.{AllByRecursion, filter, flat_map, list_all, sum_by}
+use Rattle.std.specs.Option.{option_map, option_and_then}
+use Rattle.std.specs.Ordering.{nat_cmp}
+use Rattle.std.specs.FinMap.{put}
+use Rattle.std.proofs.lemmas.List.Elements.{All-from_recursion, All-get_or, recursion_from_All}
+use Rattle.std.proofs.lemmas.List.Sums.{sum_by-cons}
+use Rattle.std.proofs.lemmas.Option.{slice_get_within, slice_get-get_or, get_or_from_slice_get}
+use Rattle.memlist.specs.declared.gap.Gap.{Gap}
+use Rattle.memlist.specs.declared.memory.Offer.{Offer}
+use Rattle.memlist.specs.declared.region.MemFault.{MemFault}
+use Rattle.memlist.specs.declared.region.MemFault.TheVariants.{Misaligned, Overlap, TooLarge}
+use Rattle.memlist.specs.declared.region.Region.{Region}
+use Rattle.memlist.specs.declared.region.TheConstants.{TOTAL_LIMIT}
+use Rattle.memlist.specs.Regions.{are_apart, are_small, is_aligned, is_in_reach, region_end, regions_fault, total_size}
+use Rattle.memlist.specs.Blocks.{Blocks, block_at, freed, gaps, is_in}
+use Rattle.memlist.specs.Fit.{asks, avail, chosen, fit, free_sizes, front, greatest, has_room, is_suitable, lowest_gap, round}
+use Rattle.memlist.specs.Memory.{Memory, without_block}
+use Rattle.memlist.specs.Areas.{Area, AreMemory, IsLaidArea, area_gaps, empty_area, memory_of, merged, regions_of}
+use Rattle.memlist.specs.Choice.{IsHome, IsLowest, IsOffer, chosen_of, free_of, installed_of, largest_of, offers, sizes_of, suitable_of}
+use Rattle.memlist.proofs.Tests.{nat_eq-other}
+use Rattle.memlist.proofs.Headers.{IsAligned, IsGapWithin, aligned_region, and_left, and_right, end_aligned, from_le, gaps_within, sizes_fill}
+use Rattle.memlist.proofs.Choices.{free-cons}
+use Rattle.memlist.proofs.Together.{AreApart, apart_areas, at_place, found_in_none, found_of_area, gaps_of_area, is_in-true, merged-freed, merged-put}
+
+-- Sound regions
+
+pub record IsSound (total : ℕ) (regions : List Region) : Type 0 where
+  pub aligned : list_all is_aligned regions ≡ true
+  pub small : are_small total regions ≡ true
+  pub apart : are_apart regions ≡ true
+
+first_fault : Bool → Bool → Bool → Option MemFault
+first_fault aligned small apart = cond (not aligned) (Some Misaligned) (cond (not small) (Some TooLarge) (cond (not apart) (Some Overlap) None))
+
+no_fault : (aligned small apart : Bool) → first_fault aligned small apart ≡ None → (aligned ≡ true) × (small ≡ true) × (apart ≡ true)
+unfolding first_fault
+no_fault true true true e = (refl, refl, refl)
+no_fault true true false e = cc
+no_fault true false apart e = cc
+no_fault false small apart e = cc
+
+pub sound_regions : (total : ℕ) (regions : List Region) → regions_fault total regions ≡ None → IsSound total regions
+unfolding regions_fault first_fault
+sound_regions total regions e =
+    let parts = no_fault (list_all is_aligned regions) (are_small total regions) (are_apart regions) e in
+    record { aligned = parts.0; small = parts.1; apart = parts.2 }
+
+pub small_total : (total : ℕ) (regions : List Region) → are_small total regions ≡ true → total_size regions ≤ total
+small_total total regions e =
+    from_le (total_size regions) total (and_right (nat_le (length regions) 8) (nat_le (total_size regions) total)
+    (and_left (nat_le (length regions) 8 && nat_le (total_size regions) total) (list_all is_in_reach regions) e))
+
+pub small_reach : (total : ℕ) (regions : List Region) → are_small total regions ≡ true → list_all is_in_reach regions ≡ true
+small_reach total regions e = and_right (nat_le (length regions) 8 && nat_le (total_size regions) total) (list_all is_in_reach regions) e
+
+pub apart_memory : (areas : List Area) → AreMemory areas → AreApart areas
+apart_memory areas m = apart_areas areas (sound_regions TOTAL_LIMIT (regions_of areas) m.sound).apart
+
+-- Elements
+
+pub read_at : {X : Type 0} (P : X → Type 0) (xs : List X) (place : ℕ) (x : X) → IsSomeAnd (slice_get xs place) P → x ≡ get_or xs place x → (slice_get xs place ≡ Some x) × P x
+read_at P [] place x h is = absurd h
+read_at {X = X} P (y ∷ ys) zero x h is = (ap (λ (z : X). Some z) (sym is), subst P (sym is) h)
+read_at P (y ∷ ys) (suc place) x h is = read_at P ys place x h is
+
+list_all_at : (areas : List Area) (place : ℕ) (area : Area) → slice_get areas place ≡ Some area → list_all is_aligned (regions_of areas) ≡ true → is_aligned area.region ≡ true
+list_all_at [] place area at e = cc
+list_all_at (x ∷ rest) zero area at e = let here : x ≡ area = cc in subst (λ (a : Area). is_aligned a.region ≡ true) here (and_left (is_aligned x.region) (list_all is_aligned (regions_of rest)) e)
+list_all_at (x ∷ rest) (suc place) area at e = list_all_at rest place area at (and_right (is_aligned x.region) (list_all is_aligned (regions_of rest)) e)
+
+pub aligned_at : (areas : List Area) (place : ℕ) (area : Area) → AreMemory areas → slice_get areas place ≡ Some area → IsAligned area.region
+aligned_at areas place area m at = aligned_region area.region (list_all_at areas place area at (sound_regions TOTAL_LIMIT (regions_of areas) m.sound).aligned)
+
+-- a gap of an area lies in its region
+pub gap_inside : (areas : List Area) (place : ℕ) (area : Area) (which : ℕ) (gap : Gap) → AreMemory areas → slice_get areas place ≡ Some area → slice_get (area_gaps area) which ≡ Some gap → is_in area.region gap.address ≡ true
+gap_inside areas place area which gap m at read =
+    let a = aligned_at areas place area m at in
+    let laid = at_place IsLaidArea areas place area at m.laid in
+    let all = gaps_within area.region.base area.blocks (region_end area.region) a.base (end_aligned area.region a) laid in
+    let w = subst (IsGapWithin area.region.base (region_end area.region)) (get_or_from_slice_get (area_gaps area) which gap gap read)
+    (All-get_or (IsGapWithin area.region.base (region_end area.region)) (area_gaps area) which gap (slice_get_within (area_gaps area) which gap read)
+    (All-from_recursion (IsGapWithin area.region.base (region_end area.region)) (area_gaps area) all)) in
+    is_in-true area.region gap.address w.low (omega (arith, w.high, w.some))
+
+-- the gap of an offer, and the address at which it was taken
+pub record IsOffered (size : ℕ) (free : List Gap) (place taken : ℕ) : Type 0 where
+  pub gap : Gap
+  pub at : slice_get free place ≡ Some gap
+  pub lowest : lowest_gap size free ≡ Some gap
+  pub address : taken ≡ gap.address
+
+offered_by : (size : ℕ) (free : List Gap) (place address : ℕ) (o : Option Gap) → slice_get free place ≡ o
+    → IsSomeAnd o (λ gap. (lowest_gap size free ≡ Some gap) × (size ≤ gap.size)) → IfSome o (λ gap. address ≡ gap.address) → IsOffered size free place address
+offered_by size free place address None at h front = absurd h
+offered_by size free place address (Some gap) at h front = record { gap = gap; at = at; lowest = h.0; address = front }
+
+pub offered_gap : (size : ℕ) (free : List Gap) (place address : ℕ) → IsLowest size free (Some place) → IfSome (slice_get free place) (λ gap. address ≡ gap.address) → IsOffered size free place address
+offered_gap size free place address h front = offered_by size free place address (slice_get free place) refl h front
+
+fits_by : (size : ℕ) (free : List Gap) (o : Option Gap) → IsSomeAnd o (λ gap. (lowest_gap size free ≡ Some gap) × (size ≤ gap.size)) → IsSomeAnd o (λ gap. size ≤ gap.size)
+fits_by size free None h = absurd h
+fits_by size free (Some gap) h = h.1
+
+pub offered_fits : (size : ℕ) (free : List Gap) (place : ℕ) → IsLowest size free (Some place) → IsSomeAnd (slice_get free place) (λ gap. size ≤ gap.size)
+offered_fits size free place h = fits_by size free (slice_get free place) h
+
+some_within : {X : Type 0} (P : X → Type 0) (xs : List X) (place : ℕ) → IsSomeAnd (slice_get xs place) P → place < length xs
+some_within P [] place h = absurd h
+some_within P (x ∷ xs) zero h = omega arith
+some_within P (x ∷ xs) (suc place) h = let later = some_within P xs place h in omega (arith, later)
+
+pub offer_within : (areas : List Area) (size reqs : ℕ) (some : List Area) (offer : Offer) → IsOffer areas size reqs some (Some offer) → offer.header < length areas
+offer_within areas size reqs some offer h = some_within (λ (area : Area). (chosen_of size reqs some ≡ Some area.region) × IsLowest size (area_gaps area) (Some offer.gap)) areas offer.header h
+
+pub home_within : (areas : List Area) (place a : ℕ) → IsHome a areas (Some place) → place < length areas
+home_within areas place a h = some_within (λ (area : Area). is_in area.region a ≡ true) areas place h
+
+-- One area is changed
+
+regions_set : (areas : List Area) (place : ℕ) (area new : Area) → slice_get areas place ≡ Some area → new.region ≡ area.region → regions_of (set areas place new) ≡ regions_of areas
+regions_set [] place area new at same = cc
+regions_set (x ∷ rest) zero area new at same =
+    let here : x ≡ area = cc in ap (λ (r : Region). r ∷ regions_of rest) (same ∙ ap (λ (a : Area). a.region) (sym here))
+regions_set (x ∷ rest) (suc place) area new at same = ap (λ rs. x.region ∷ rs) (regions_set rest place area new at same)
+
+laid_set : (areas : List Area) (place : ℕ) (new : Area) → AllByRecursion IsLaidArea areas → IsLaidArea new → AllByRecursion IsLaidArea (set areas place new)
+laid_set [] place new all laid = tt
+laid_set (x ∷ rest) zero new all laid = (laid, all.1)
+laid_set (x ∷ rest) (suc place) new all laid = (all.0, laid_set rest place new all.1 laid)
+
+pub kept_memory : (areas : List Area) (place : ℕ) (area new : Area) → AreMemory areas → slice_get areas place ≡ Some area → new.region ≡ area.region → IsLaidArea new → AreMemory (set areas place new)
+kept_memory areas place area new m at same laid = record {
+  sound = ap (regions_fault TOTAL_LIMIT) (regions_set areas place area new at same) ∙ m.sound;
+  laid = laid_set areas place new m.laid laid;
+}
+
+shown_memory : (areas : List Area) (regions : List Region) (blocks : Blocks) → regions_of areas ≡ regions → merged areas ≡ blocks → memory_of areas ≡ record { regions = regions; blocks = blocks }
+shown_memory areas regions blocks r b =
+    ap (λ rs. let m : Memory = record { regions = rs; blocks = merged areas } in m) r ∙ ap (λ bs. let m : Memory = record { regions = regions; blocks = bs } in m) b
+
+pub memory_put : (areas : List Area) (place : ℕ) (area new : Area) (a : ℕ) (v : ℕ × ℕ) → AreMemory areas → slice_get areas place ≡ Some area → is_in area.region a ≡ true
+    → new ≡ record { region = area.region; blocks = put nat_cmp a v area.blocks } → memory_of (set areas place new) ≡ record { regions = regions_of areas; blocks = put nat_cmp a v (merged areas) }
+memory_put areas place area new a v m at inside is =
+    shown_memory (set areas place new) (regions_of areas) (put nat_cmp a v (merged areas))
+    (regions_set areas place area new at (ap (λ (x : Area). x.region) is))
+    (ap (λ (x : Area). merged (set areas place x)) is ∙ merged-put areas place area a v (apart_memory areas m) m.laid at inside)
+
+pub memory_freed : (areas : List Area) (place : ℕ) (area new : Area) (a : ℕ) → AreMemory areas → slice_get areas place ≡ Some area → is_in area.region a ≡ true
+    → new ≡ record { region = area.region; blocks = freed a area.blocks } → memory_of (set areas place new) ≡ without_block a (memory_of areas)
+memory_freed areas place area new a m at inside is =
+    shown_memory (set areas place new) (regions_of areas) (freed a (merged areas))
+    (regions_set areas place area new at (ap (λ (x : Area). x.region) is))
+    (ap (λ (x : Area). merged (set areas place x)) is ∙ merged-freed areas place area a (apart_memory areas m) m.laid at inside)
+
+-- Homes
+
+pub home_live : (areas : List Area) (a : ℕ) (home : Option ℕ) → AreMemory areas → IsSome (block_at a (merged areas)) → IsHome a areas home → IsSome home
+home_live areas a None m live all =
+    let none = found_in_none areas a m.laid (recursion_from_All (λ (area : Area). is_in area.region a ≡ false) areas all) in
+    let bad : false ≡ true = ap is_some (sym none) ∙ live in cc
+home_live areas a (Some place) m live h = refl
+
+pub found_home : (areas : List Area) (place : ℕ) (area : Area) (a : ℕ) → AreMemory areas → slice_get areas place ≡ Some area → is_in area.region a ≡ true → block_at a (merged areas) ≡ block_at a area.blocks
+found_home areas place area a m at inside = found_of_area areas place area a (apart_memory areas m) m.laid at inside
+
+pub found_homeless : (areas : List Area) (a : ℕ) → AreMemory areas → IsHome a areas None → block_at a (merged areas) ≡ None
+found_homeless areas a m all = found_in_none areas a m.laid (recursion_from_All (λ (area : Area). is_in area.region a ≡ false) areas all)
+
+-- The gaps of all regions
+
+abbrev pub ShowsGaps : List Area → List Area → Type 0
+ShowsGaps all areas = AllByRecursion (λ (area : Area). gaps area.region (merged all) ≡ area_gaps area) areas
+
+pub shows_gaps : (areas : List Area) → AreMemory areas → ShowsGaps areas areas
+shows_gaps areas m =
+    recursion_from_All (λ (area : Area). gaps area.region (merged areas) ≡ area_gaps area) areas
+    (λ k d within. gaps_of_area areas k (get_or areas k d) (apart_memory areas m) m.laid (slice_get-get_or areas k d within))
+
+rooms : (all areas : List Area) (size reqs : ℕ) → ShowsGaps all areas → filter (has_room size reqs (merged all)) (regions_of areas) ≡ regions_of (filter (offers size reqs) areas)
+rooms all [] size reqs shown = refl
+rooms all (area ∷ rest) size reqs shown =
+    ap (λ (free : List Gap). cond (is_suitable reqs area.region && is_some (lowest_gap size free)) (area.region ∷ filter (has_room size reqs (merged all)) (regions_of rest)) (filter (has_room size reqs (merged all)) (regions_of rest))) shown.0
+    ∙ elim (offers size reqs area) as (λ b. cond b (area.region ∷ filter (has_room size reqs (merged all)) (regions_of rest)) (filter (has_room size reqs (merged all)) (regions_of rest))
+    ≡ regions_of (cond b (area ∷ filter (offers size reqs) rest) (filter (offers size reqs) rest))) [
+      | true ↦ ap (λ rs. area.region ∷ rs) (rooms all rest size reqs shown.1)
+      | false ↦ rooms all rest size reqs shown.1
+    ]
+
+-- Where a block fits
+
+pub fit_nothing : (regions : List Region) (blocks : Blocks) (size reqs : ℕ) → size ≡ 0 → fit regions blocks size reqs ≡ None
+unfolding fit
+fit_nothing regions blocks size reqs e = rw e refl
+
+pub fit_none : (areas : List Area) (size reqs : ℕ) → AreMemory areas → size ≢ 0 → chosen_of (round size) reqs areas ≡ None → fit (regions_of areas) (merged areas) size reqs ≡ None
+unfolding fit
+fit_none areas size reqs m some none =
+    ap (λ b. cond b None (option_and_then (front (round size) (merged areas)) (chosen (filter (has_room (round size) reqs (merged areas)) (regions_of areas))))) (nat_eq-other size 0 some)
+    ∙ ap (λ rs. option_and_then (front (round size) (merged areas)) (chosen rs)) (rooms areas areas (round size) reqs (shows_gaps areas m))
+    ∙ ap (option_and_then (front (round size) (merged areas))) none
+
+pub fit_some : (areas : List Area) (size reqs place : ℕ) (area : Area) (gap : Gap) → AreMemory areas → size ≢ 0 → slice_get areas place ≡ Some area
+    → chosen_of (round size) reqs areas ≡ Some area.region → lowest_gap (round size) (area_gaps area) ≡ Some gap → fit (regions_of areas) (merged areas) size reqs ≡ Some gap.address
+unfolding fit
+fit_some areas size reqs place area gap m some at choice lowest =
+    let shown = gaps_of_area areas place area (apart_memory areas m) m.laid at in
+    ap (λ b. cond b None (option_and_then (front (round size) (merged areas)) (chosen (filter (has_room (round size) reqs (merged areas)) (regions_of areas))))) (nat_eq-other size 0 some)
+    ∙ ap (λ rs. option_and_then (front (round size) (merged areas)) (chosen rs)) (rooms areas areas (round size) reqs (shows_gaps areas m))
+    ∙ ap (option_and_then (front (round size) (merged areas))) choice
+    ∙ ap (λ (free : List Gap). option_map (λ (gap : Gap). gap.address) (lowest_gap (round size) free)) shown
+    ∙ ap (option_map (λ (gap : Gap). gap.address)) lowest
+
+-- A new memory
+
+regions_empty : (regions : List Region) → regions_of (map empty_area regions) ≡ regions
+regions_empty [] = refl
+regions_empty (region ∷ rest) = ap (λ rs. region ∷ rs) (regions_empty rest)
+
+merged_empty : (regions : List Region) → merged (map empty_area regions) ≡ []
+merged_empty [] = refl
+merged_empty (region ∷ rest) = merged_empty rest
+
+laid_empty : (regions : List Region) → AllByRecursion IsLaidArea (map empty_area regions)
+laid_empty [] = tt
+laid_empty (region ∷ rest) = (omega arith, laid_empty rest)
+
+pub new_memory : (areas : List Area) (regions : List Region) → areas ≡ map empty_area regions → regions_fault TOTAL_LIMIT regions ≡ None → AreMemory areas
+new_memory areas regions is sound =
+    subst AreMemory (sym is) record { sound = ap (regions_fault TOTAL_LIMIT) (regions_empty regions) ∙ sound; laid = laid_empty regions }
+
+pub new_shown : (areas : List Area) (regions : List Region) → areas ≡ map empty_area regions → memory_of areas ≡ record { regions = regions; blocks = [] }
+new_shown areas regions is = ap memory_of is ∙ shown_memory (map empty_area regions) regions [] (regions_empty regions) (merged_empty regions)
+
+-- Sizes
+
+free_area : (area : Area) → IsLaidArea area → sum_by (λ (gap : Gap). gap.size) (area_gaps area) ≤ area.region.size
+free_area area laid = omega (arith, sizes_fill area.region.base area.blocks (region_end area.region) laid)
+
+total-cons : (area : Area) (rest : List Area) → total_size (regions_of (area ∷ rest)) ≡ area.region.size + total_size (regions_of rest)
+total-cons area rest = sum_by-cons (λ (region : Region). region.size) area.region (regions_of rest)
+
+pub free_bound_of : (reqs : ℕ) (areas : List Area) → AllByRecursion IsLaidArea areas → free_of reqs areas ≤ total_size (regions_of areas)
+free_bound_of reqs [] laid = omega arith
+free_bound_of reqs (area ∷ rest) laid =
+    let later = free_bound_of reqs rest laid.1 in
+    let total = total-cons area rest in
+    let here = free_area area laid.0 in
+    subst (λ n. n ≤ total_size (regions_of (area ∷ rest))) (sym (free-cons reqs area rest))
+    (elim (is_suitable reqs area.region) as (λ b. cond b (sum_by (λ (gap : Gap). gap.size) (area_gaps area) + free_of reqs rest) (free_of reqs rest) ≤ total_size (regions_of (area ∷ rest))) [
+      | true ↦ omega (arith, later, total, here)
+      | false ↦ omega (arith, later, total)
+    ])
+
+pub installed_bound_of : (reqs : ℕ) (areas : List Area) → installed_of reqs areas ≤ total_size (regions_of areas)
+installed_bound_of reqs [] = omega arith
+installed_bound_of reqs (area ∷ rest) =
+    let later = installed_bound_of reqs rest in
+    let total = total-cons area rest in
+    elim (is_suitable reqs area.region) as (λ b. total_size (regions_of (cond b (area ∷ suitable_of reqs rest) (suitable_of reqs rest))) ≤ total_size (regions_of (area ∷ rest))) [
+      | true ↦ let here = total-cons area (suitable_of reqs rest) in omega (arith, later, total, here)
+      | false ↦ omega (arith, later, total)
+    ]
+
+pub limit_memory : (areas : List Area) → AreMemory areas → total_size (regions_of areas) ≤ TOTAL_LIMIT
+limit_memory areas m = small_total TOTAL_LIMIT (regions_of areas) (sound_regions TOTAL_LIMIT (regions_of areas) m.sound).small
+
+suitable_regions : (reqs : ℕ) (areas : List Area) → filter (is_suitable reqs) (regions_of areas) ≡ regions_of (suitable_of reqs areas)
+suitable_regions reqs [] = refl
+suitable_regions reqs (area ∷ rest) =
+    elim (is_suitable reqs area.region) as (λ b. cond b (area.region ∷ filter (is_suitable reqs) (regions_of rest)) (filter (is_suitable reqs) (regions_of rest))
+    ≡ regions_of (cond b (area ∷ suitable_of reqs rest) (suitable_of reqs rest))) [
+      | true ↦ ap (λ rs. area.region ∷ rs) (suitable_regions reqs rest)
+      | false ↦ suitable_regions reqs rest
+    ]
+
+suitable_gaps : (reqs : ℕ) (all areas : List Area) → ShowsGaps all areas → flat_map (λ region. gaps region (merged all)) (filter (is_suitable reqs) (regions_of areas)) ≡ flat_map area_gaps (suitable_of reqs areas)
+suitable_gaps reqs all [] shown = refl
+suitable_gaps reqs all (area ∷ rest) shown =
+    elim (is_suitable reqs area.region) as (λ b. flat_map (λ region. gaps region (merged all)) (cond b (area.region ∷ filter (is_suitable reqs) (regions_of rest)) (filter (is_suitable reqs) (regions_of rest)))
+    ≡ flat_map area_gaps (cond b (area ∷ suitable_of reqs rest) (suitable_of reqs rest))) [
+      | true ↦ ap (λ (free : List Gap). free ++ flat_map (λ region. gaps region (merged all)) (filter (is_suitable reqs) (regions_of rest))) shown.0 ∙ ap (λ (free : List Gap). area_gaps area ++ free) (suitable_gaps reqs all rest shown.1)
+      | false ↦ suitable_gaps reqs all rest shown.1
+    ]
+
+pub free_sizes_of : (areas : List Area) (reqs : ℕ) → AreMemory areas → free_sizes (regions_of areas) (merged areas) reqs ≡ sizes_of reqs areas
+free_sizes_of areas reqs m = ap (map (λ (gap : Gap). gap.size)) (suitable_gaps reqs areas areas (shows_gaps areas m))
+
+pub installed_sizes_of : (areas : List Area) (reqs : ℕ) → total_size (filter (is_suitable reqs) (regions_of areas)) ≡ installed_of reqs areas
+installed_sizes_of areas reqs = ap total_size (suitable_regions reqs areas)
+
+-- AvailMem's three answers
+
+pub asked : (reqs bit : ℕ) → bit_and reqs (2 ^ bit) ≢ 0 → asks bit reqs ≡ true
+asked reqs bit h = ap not (nat_eq-other (bit_and reqs (2 ^ bit)) 0 h)
+
+pub unasked : (reqs bit : ℕ) → bit_and reqs (2 ^ bit) ≡ 0 → asks bit reqs ≡ false
+unasked reqs bit e = ap (λ n. not (nat_eq n 0)) e
+
+avail_by : (largest total : Bool) (a b d : ℕ) → ℕ
+avail_by largest total a b d = cond largest a (cond total b d)
+
+module _ (areas : List Area) (reqs : ℕ) where
+  pub avail_largest : AreMemory areas → asks 17 reqs ≡ true → avail (regions_of areas) (merged areas) reqs ≡ largest_of reqs areas
+  unfolding avail avail_by
+  avail_largest m e =
+      ap (λ b. avail_by b (asks 19 reqs) (greatest (free_sizes (regions_of areas) (merged areas) reqs)) (total_size (filter (is_suitable reqs) (regions_of areas))) (sum_by (λ n. n) (free_sizes (regions_of areas) (merged areas) reqs))) e
+      ∙ ap greatest (free_sizes_of areas reqs m)
+
+  pub avail_installed : asks 17 reqs ≡ false → asks 19 reqs ≡ true → avail (regions_of areas) (merged areas) reqs ≡ installed_of reqs areas
+  unfolding avail avail_by
+  avail_installed e f =
+      ap (λ b. avail_by b (asks 19 reqs) (greatest (free_sizes (regions_of areas) (merged areas) reqs)) (total_size (filter (is_suitable reqs) (regions_of areas))) (sum_by (λ n. n) (free_sizes (regions_of areas) (merged areas) reqs))) e
+      ∙ ap (λ b. avail_by false b (greatest (free_sizes (regions_of areas) (merged areas) reqs)) (total_size (filter (is_suitable reqs) (regions_of areas))) (sum_by (λ n. n) (free_sizes (regions_of areas) (merged areas) reqs))) f
+      ∙ installed_sizes_of areas reqs
+
+  pub avail_free : AreMemory areas → asks 17 reqs ≡ false → asks 19 reqs ≡ false → avail (regions_of areas) (merged areas) reqs ≡ free_of reqs areas
+  unfolding avail avail_by
+  avail_free m e f =
+      ap (λ b. avail_by b (asks 19 reqs) (greatest (free_sizes (regions_of areas) (merged areas) reqs)) (total_size (filter (is_suitable reqs) (regions_of areas))) (sum_by (λ n. n) (free_sizes (regions_of areas) (merged areas) reqs))) e
+      ∙ ap (λ b. avail_by false b (greatest (free_sizes (regions_of areas) (merged areas) reqs)) (total_size (filter (is_suitable reqs) (regions_of areas))) (sum_by (λ n. n) (free_sizes (regions_of areas) (merged areas) reqs))) f
+      ∙ ap (sum_by (λ n. n)) (free_sizes_of areas reqs m)

@@ -1,0 +1,6 @@
+use Rattle.std.proofs.Common.{drop}
+use Rattle.memlist.specs.Choice.{IsOffer}
+use Rattle.memlist.proofs.memory.choose.Given as goal
+
+abbrev pub invariant-loop-place : goal.invariant-loop-place
+invariant-loop-place l = IsOffer l.headers l.size l.reqs (drop l.place l.headers) l.offer

@@ -1,0 +1,8 @@
+use Rattle.std.proofs.Common.{◌≡◌, false}
+use Rattle.std.specs.List.{AllWithin}
+use Rattle.memlist.specs.Areas.{Area}
+use Rattle.memlist.specs.Blocks.{is_in}
+use Rattle.memlist.proofs.memory.home.Given as goal
+
+abbrev pub invariant-loop-place : goal.invariant-loop-place
+invariant-loop-place l = AllWithin (λ (area : Area). is_in area.region l.address ≡ false) l.headers 0 l.place

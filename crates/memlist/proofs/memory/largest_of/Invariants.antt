@@ -1,0 +1,6 @@
+use Rattle.std.proofs.Common.{◌≡◌, drop, max}
+use Rattle.memlist.specs.Choice.{largest_of}
+use Rattle.memlist.proofs.memory.largest_of.Given as goal
+
+abbrev pub invariant-loop-header : goal.invariant-loop-header
+invariant-loop-header l = max l.largest (largest_of l.reqs (drop l.header-index l.headers)) ≡ largest_of l.reqs l.headers

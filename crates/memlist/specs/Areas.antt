@@ -1,0 +1,67 @@
+-- One region at a time: the value that a `MemHeader` is seen as, and how the headers of a memory show its blocks.
+use Rattle.std.specs.Prelude.{◌≡◌, ℕ, ◌+◌, ◌*◌, ◌≤◌, nat_eq, if◌then◌else◌, IsTrue, List, [], ◌∷◌, length, map, Option, None, Some}
+use Rattle.std.specs.List.{AllByRecursion}
+use Rattle.std.specs.Ordering.{nat_cmp}
+use Rattle.std.specs.FinMap.{put}
+use Rattle.memlist.specs.declared.gap.Gap.{Gap}
+use Rattle.memlist.specs.declared.slot.Slot.{Slot}
+use Rattle.memlist.specs.declared.region.Region.{Region}
+use Rattle.memlist.specs.declared.region.TheConstants.{TOTAL_LIMIT}
+use Rattle.memlist.specs.Regions.{region_end, is_aligned, is_in_reach, regions_fault}
+use Rattle.memlist.specs.Blocks.{Blocks, gaps_between}
+use Rattle.memlist.specs.Memory.{IsLaid, Memory}
+
+-- a region and the blocks that lie in it
+pub record Area : Type 0 where
+  pub region : Region
+  pub blocks : Blocks
+
+abbrev pub empty_area : Region → Area
+empty_area region = record { region = region; blocks = [] }
+
+abbrev pub area_gaps : Area → List Gap
+area_gaps area = gaps_between area.region.base area.blocks (region_end area.region)
+
+abbrev pub IsLaidArea : Area → Type 0
+IsLaidArea area = IsLaid area.region.base area.blocks (region_end area.region)
+
+-- the block that a slot says begins at its unit
+abbrev pub block_of : Slot → Option (ℕ × ℕ)
+block_of slot = if nat_eq slot.size 0 then None else Some (slot.size, slot.tag)
+
+-- the blocks of a table that has a slot for each unit of 8 bytes from an address on
+abbrev pub entries : ℕ → List Slot → Blocks
+entries from [] = []
+entries from (slot ∷ rest) =
+    if nat_eq slot.size 0 then entries (from + 8) rest else (from, (slot.size, slot.tag)) ∷ entries (from + 8) rest
+
+-- what a header keeps true of its fields: the gaps are those that the blocks leave, and there is room for each
+pub record IsHeader (region : Region) (slots : List Slot) (spaces : List Gap) (capacity : ℕ) : Type 0 where
+  pub aligned : IsTrue (is_aligned region)
+  pub in_reach : IsTrue (is_in_reach region)
+  pub units : 8 * length slots ≡ region.size
+  pub laid : IsLaid region.base (entries region.base slots) (region_end region)
+  pub free : spaces ≡ gaps_between region.base (entries region.base slots) (region_end region)
+  pub room : length slots ≤ capacity
+
+-- the blocks of two lists together, in order of address
+abbrev pub put_all : Blocks → Blocks → Blocks
+put_all [] blocks = blocks
+put_all (block ∷ rest) blocks = put nat_cmp block.0 block.1 (put_all rest blocks)
+
+-- the blocks of all areas, in order of address
+abbrev pub merged : List Area → Blocks
+merged [] = []
+merged (area ∷ rest) = put_all area.blocks (merged rest)
+
+abbrev pub regions_of : List Area → List Region
+regions_of areas = map (λ (area : Area). area.region) areas
+
+-- the memory that headers show
+abbrev pub memory_of : List Area → Memory
+memory_of areas = record { regions = regions_of areas; blocks = merged areas }
+
+-- what a `MemList` keeps true of its headers: its regions are sound, and in each of them blocks lie beside one another
+pub record AreMemory (areas : List Area) : Type 0 where
+  pub sound : regions_fault TOTAL_LIMIT (regions_of areas) ≡ None
+  pub laid : AllByRecursion IsLaidArea areas

@@ -1,0 +1,66 @@
+-- Where AllocMem takes memory, and what AvailMem answers (RKM Libraries, Exec Memory Allocation).
+use Rattle.std.specs.Prelude.{ℕ, ◌+◌, ◌*◌, ◌/◌, ◌^◌, max, Bool, not, ◌&&◌, nat_eq, nat_le, int_lt, if◌then◌else◌, bit_and, List, [], ◌∷◌, map, Option, None, Some, is_some}
+use Rattle.std.specs.List.{filter, find, flat_map, sum_by}
+use Rattle.std.specs.Option.{option_map, option_and_then}
+use Rattle.memlist.specs.declared.gap.Gap.{Gap}
+use Rattle.memlist.specs.declared.region.Region.{Region}
+use Rattle.memlist.specs.Regions.{total_size}
+use Rattle.memlist.specs.Blocks.{Blocks, gaps}
+
+-- the least multiple of 8 that is at least n; it has no upper bound and so never wraps
+abbrev pub round : ℕ → ℕ
+round n = (n + 7) / 8 * 8
+
+-- a region is suitable if it has all of bits 0 to 2 that are asked for
+abbrev pub is_suitable : ℕ → Region → Bool
+is_suitable reqs region = nat_eq (bit_and region.attrs (bit_and reqs 7)) (bit_and reqs 7)
+
+-- the lowest gap of at least a size
+abbrev pub lowest_gap : ℕ → List Gap → Option Gap
+lowest_gap size free = find (λ (gap : Gap). nat_le size gap.size) free
+
+-- whether a region is suitable and has a gap of at least a size
+abbrev pub has_room : ℕ → ℕ → Blocks → Region → Bool
+has_room size reqs blocks region = is_suitable reqs region && is_some (lowest_gap size (gaps region blocks))
+
+-- a region, unless what is chosen from those after it has a greater priority
+abbrev pub better : Region → Option Region → Option Region
+better region None = Some region
+better region (Some later) = if int_lt region.pri later.pri then Some later else Some region
+
+-- the earliest among the regions of greatest priority
+abbrev pub chosen : List Region → Option Region
+chosen [] = None
+chosen (region ∷ rest) = better region (chosen rest)
+
+-- the address of the lowest gap of a region that has at least a size
+abbrev pub front : ℕ → Blocks → Region → Option ℕ
+front size blocks region = option_map (λ (gap : Gap). gap.address) (lowest_gap size (gaps region blocks))
+
+-- Where a block of so many bytes goes: of the suitable regions with a gap of at least its rounded size, the
+-- earliest among those of greatest priority, and in it the front of the lowest such gap. None where there is
+-- no such region, and for size 0 (own choice).
+unfoldable pub fit : List Region → Blocks → ℕ → ℕ → Option ℕ
+fit regions blocks size reqs =
+    if nat_eq size 0 then None
+    else option_and_then (front (round size) blocks) (chosen (filter (has_room (round size) reqs blocks) regions))
+
+-- the sizes of all gaps of the suitable regions
+abbrev pub free_sizes : List Region → Blocks → ℕ → List ℕ
+free_sizes regions blocks reqs = map (λ (gap : Gap). gap.size) (flat_map (λ region. gaps region blocks) (filter (is_suitable reqs) regions))
+
+abbrev pub greatest : List ℕ → ℕ
+greatest [] = 0
+greatest (n ∷ rest) = max n (greatest rest)
+
+-- whether a bit is among those asked for
+abbrev pub asks : ℕ → ℕ → Bool
+asks bit reqs = not (nat_eq (bit_and reqs (2 ^ bit)) 0)
+
+-- The greatest gap of the suitable regions with bit 17 (MEMF_LARGEST), their installed size with bit 19
+-- (MEMF_TOTAL), and else the sum of their gaps (autodoc exec.library/AvailMem).
+unfoldable pub avail : List Region → Blocks → ℕ → ℕ
+avail regions blocks reqs =
+    if asks 17 reqs then greatest (free_sizes regions blocks reqs)
+    else (if asks 19 reqs then total_size (filter (is_suitable reqs) regions)
+    else sum_by (λ n. n) (free_sizes regions blocks reqs))

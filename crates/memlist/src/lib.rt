@@ -1,0 +1,14 @@
+//! Memory as Exec keeps it: regions, the blocks that are allocated in them and the gaps that are left.
+//!
+//! A `MemList` is seen as its regions and a finite map from the address of each block to its size and its tag
+//! (`specs/Memory.antt`); where AllocMem takes memory is `fit` of `specs/Fit.antt`.
+#![tactic(auto)]
+
+pub use memory::{MemList, NotABlock};
+pub use region::{MemFault, Region, TOTAL_LIMIT, check_regions};
+
+mod gap;
+mod header;
+mod memory;
+mod region;
+mod slot;
