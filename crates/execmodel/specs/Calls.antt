@@ -1,0 +1,100 @@
+-- Calls: the values of their arguments, and how they end. A call that waits is kept with its values, so that a variable that
+-- changes meanwhile is not read again; all other calls leave nothing behind.
+use Rattle.std.specs.Prelude.{ℕ, ◌+◌, Bool, true, List, [], ◌∷◌, Option, None, Some, map, codes, slice_get, slice_index_or, slice_set, option_map}
+use Rattle.exectrace.specs.Trace.{Argument, Value, Quoted, Done, Answers, Waits, Alert}
+use Rattle.exectrace.specs.Trace as trace
+use Rattle.taskscript.specs.declared.variable.Variable.{Variable}
+use Rattle.taskscript.specs.declared.variable.Variable.TheVariants.{Private, Shared}
+use Rattle.taskscript.specs.Commands.{ArgumentData, number, variable, quoted, place, CommandData}
+use Rattle.taskscript.specs.Words.{word_text}
+use Rattle.scheduler.specs.Schedule.{name_of}
+use Rattle.execmodel.specs.State.{Call, Program, Scripts, State, Outcome, quiet, says, program_of, with_program, on_scripts}
+
+-- ---- variables
+
+-- what a variable holds for task t
+abbrev pub content : ℕ → Scripts → Variable → ℕ
+content t scripts (Private k) = slice_index_or (program_of scripts t).variables k 0
+content t scripts (Shared k) = slice_index_or scripts.shared k 0
+
+-- a variable of task t, or none, is given a value
+abbrev pub stored : ℕ → Option Variable → ℕ → Scripts → Scripts
+stored t None value scripts = scripts
+stored t (Some (Private k)) value scripts =
+    with_program t (record (program_of scripts t) { variables = slice_set (program_of scripts t).variables k value }) scripts
+stored t (Some (Shared k)) value scripts = record scripts { shared = slice_set scripts.shared k value }
+
+-- ---- arguments
+
+-- the value of an argument for task t; a place in the code counts as its number
+abbrev pub evaluated : ℕ → Scripts → ArgumentData → Argument
+evaluated t scripts (number n) = Value n
+evaluated t scripts (variable v) = Value (content t scripts v)
+evaluated t scripts (quoted name) = Quoted name
+evaluated t scripts (place k) = Value k
+
+-- the call that a command is for task t, where the next command stands at that place
+unfoldable pub call_of : ℕ → ℕ → CommandData → Scripts → Call
+call_of t next command scripts = record {
+  word = command.word;
+  target = command.target;
+  arguments = map (evaluated t scripts) command.arguments;
+  next = next }
+
+-- the call of the next command, if any is left
+abbrev pub call_at : ℕ → Option CommandData → Scripts → Option Call
+call_at t None scripts = None
+call_at t (Some command) scripts = Some (call_of t ((program_of scripts t).place + 1) command scripts)
+
+-- a call that its task waits in is tried again
+abbrev pub call_after : ℕ → Option Call → Scripts → Option Call
+call_after t (Some kept) scripts = Some kept
+call_after t None scripts = call_at t (slice_get (program_of scripts t).code (program_of scripts t).place) scripts
+
+-- The call that task t tries next: the one that it waits in, or else that of its next command; none where its commands are used up.
+unfoldable pub next_call : ℕ → Scripts → Option Call
+next_call t scripts = call_after t (program_of scripts t).kept scripts
+
+abbrev pub number_in : Option Argument → ℕ
+number_in None = 0
+number_in (Some (Value n)) = n
+number_in (Some (Quoted name)) = 0
+
+-- the number that stands at an argument, counted from 0
+abbrev pub argument : ℕ → Call → ℕ
+argument k call = number_in (slice_get call.arguments k)
+
+-- ---- how a call ends
+
+-- task t goes on at the command of that place
+abbrev pub goes_on : ℕ → ℕ → Scripts → Scripts
+goes_on t next scripts = with_program t (record (program_of scripts t) { place = next; kept = None }) scripts
+
+-- task t will try this call again
+abbrev pub keeps : ℕ → Call → Scripts → Scripts
+keeps t call scripts = with_program t (record (program_of scripts t) { kept = Some call }) scripts
+
+-- the line of a call of task t
+abbrev pub line_of : ℕ → Call → trace.Outcome → State → trace.TraceLine
+line_of t call outcome s = trace.Call (name_of s.schedule t) (word_text call.word) call.arguments outcome
+
+-- the call has had its effect, and answers nothing
+unfoldable pub done : ℕ → Call → State → Outcome
+done t call s = says (line_of t call Done s) (on_scripts (goes_on t call.next) s)
+
+-- the call has had its effect, and answers, into its target if it has one
+unfoldable pub answered : ℕ → Call → ℕ → State → Outcome
+answered t call value s =
+    says (line_of t call (Answers value) s) (on_scripts (λ scripts. goes_on t call.next (stored t call.target value scripts)) s)
+
+-- the call has had the effect that its task waits; it is kept, to be tried again
+unfoldable pub waiting : ℕ → Call → State → Outcome
+waiting t call s = says (line_of t call Waits s) (on_scripts (keeps t call) s)
+
+-- a word that is no call of Exec: it answers, and prints nothing
+unfoldable pub silent : ℕ → Call → ℕ → State → Outcome
+silent t call value s = quiet (on_scripts (λ scripts. goes_on t call.next (stored t call.target value scripts)) s)
+
+-- The call is refused: it changes nothing, and the machine stops for good (own choice).
+unfoldable pub alerted : List ℕ → ℕ → Call → State → Outcome
+alerted code t call s = says (Alert code (name_of s.schedule t) (word_text call.word)) (record s { stopped = true })

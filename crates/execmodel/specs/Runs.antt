@@ -1,0 +1,104 @@
+-- Small machines and their whole traces, as the definitions compute them.
+use Rattle.std.specs.Prelude.{◌≡◌, ℕ, ℤ, pos, negsuc, List, [], ◌∷◌, None, Some, codes}
+use Rattle.exectrace.specs.Trace.{printed}
+use Rattle.taskscript.specs.declared.word.Word.{Word}
+use Rattle.taskscript.specs.declared.word.Word.TheVariants.{Set, Print, Signal, Wait}
+use Rattle.taskscript.specs.declared.variable.Variable.TheVariants.{Private, Shared}
+use Rattle.taskscript.specs.declared.event.Event.{Event}
+use Rattle.taskscript.specs.declared.event.Event.TheVariants.{Run}
+use Rattle.taskscript.specs.Commands.{ArgumentData, number, variable, CommandData}
+use Rattle.taskscript.specs.File.{MachineData, TaskData}
+use Rattle.execmodel.specs.Step.{run}
+
+-- a command without a target
+abbrev pub command : Word → List ArgumentData → CommandData
+command word arguments = record { word = word; target = None; arguments = arguments }
+
+abbrev pub task : List ℕ → ℤ → List CommandData → TaskData
+task name pri code = record { name = name; pri = pri; code = code }
+
+abbrev pub machine : List TaskData → MachineData
+machine tasks = record { tasks = tasks }
+
+-- the bytes that a machine writes over these events
+abbrev pub trace_of : List TaskData → List Event → List ℕ
+trace_of tasks events = printed (run (machine tasks) events).lines
+
+-- ---- machines
+
+abbrev pub prints_once : List TaskData
+prints_once = task (codes "a") (pos 0) (command Print (number 1 ∷ []) ∷ []) ∷ []
+
+abbrev pub signals_nobody : List TaskData
+signals_nobody =
+    task (codes "a") (pos 0) (command Signal (number 3 ∷ number 0x1000 ∷ []) ∷ [])
+    ∷ task (codes "b") (pos 0) (command Print (number 1 ∷ []) ∷ []) ∷ []
+
+abbrev pub waits_for_a_signal_of_exec : List TaskData
+waits_for_a_signal_of_exec = task (codes "a") (pos 0) (command Wait (number 0x800 ∷ []) ∷ []) ∷ []
+
+abbrev pub wakes_a_higher_one : List TaskData
+wakes_a_higher_one =
+    task (codes "a") (pos 0) (command Signal (number 2 ∷ number 0x1000 ∷ []) ∷ command Print (number 1 ∷ []) ∷ [])
+    ∷ task (codes "b") (pos 5) (command Wait (number 0x1000 ∷ []) ∷ []) ∷ []
+
+abbrev pub wakes_an_equal : List TaskData
+wakes_an_equal =
+    task (codes "a") (pos 0) (command Wait (number 0x1000 ∷ []) ∷ [])
+    ∷ task (codes "b") (pos 0) (command Signal (number 1 ∷ number 0x1000 ∷ []) ∷ command Print (number 2 ∷ []) ∷ []) ∷ []
+
+abbrev pub is_preempted_among_equals : List TaskData
+is_preempted_among_equals =
+    task (codes "a") (pos 0) (command Signal (number 3 ∷ number 0x1000 ∷ []) ∷ command Print (number 1 ∷ []) ∷ [])
+    ∷ task (codes "b") (pos 0) (command Print (number 2 ∷ []) ∷ [])
+    ∷ task (codes "c") (pos 1) (command Wait (number 0x1000 ∷ []) ∷ []) ∷ []
+
+-- the mask of a Wait stands in a shared variable, which another task changes while the Wait waits
+abbrev pub waits_for_what_was_asked : List TaskData
+waits_for_what_was_asked =
+    task (codes "a") (pos 1)
+      (record { word = Set; target = Some (Shared 0); arguments = number 0x1000 ∷ [] }
+      ∷ record { word = Wait; target = Some (Private 0); arguments = variable (Shared 0) ∷ [] }
+      ∷ command Print (variable (Private 0) ∷ []) ∷ [])
+    ∷ task (codes "b") (pos 0)
+      (record { word = Set; target = Some (Shared 0); arguments = number 0x2000 ∷ [] }
+      ∷ command Signal (number 1 ∷ number 0x1000 ∷ []) ∷ []) ∷ []
+
+-- ---- statements
+
+abbrev pub PrintsOnce : Type 0
+PrintsOnce = trace_of prints_once (Run 2 ∷ []) ≡ codes "switch a\na Print $00000001\na RemTask $00000000\nidle\n"
+
+abbrev pub StartsWithoutEvents : Type 0
+StartsWithoutEvents = trace_of prints_once [] ≡ codes "switch a\n"
+
+abbrev pub IdlesWithoutTasks : Type 0
+IdlesWithoutTasks = trace_of [] (Run 1 ∷ []) ≡ codes "idle\n"
+
+abbrev pub IdlesOnce : Type 0
+IdlesOnce = trace_of [] (Run 1 ∷ Run 3 ∷ []) ≡ codes "idle\n"
+
+abbrev pub SignalAsksForATask : Type 0
+SignalAsksForATask = trace_of signals_nobody (Run 1 ∷ []) ≡ codes "switch a\nalert HANDLE a Signal\n"
+
+abbrev pub NothingFollowsAnAlert : Type 0
+NothingFollowsAnAlert = trace_of signals_nobody (Run 1 ∷ Run 5 ∷ []) ≡ codes "switch a\nalert HANDLE a Signal\n"
+
+abbrev pub WaitAsksForSignalsOfScripts : Type 0
+WaitAsksForSignalsOfScripts = trace_of waits_for_a_signal_of_exec (Run 1 ∷ []) ≡ codes "switch a\nalert MASK a Wait\n"
+
+abbrev pub SignalWakesAHigherTask : Type 0
+SignalWakesAHigherTask = trace_of wakes_a_higher_one (Run 6 ∷ [])
+    ≡ codes "switch b\nb Wait $00001000 waits\nswitch a\na Signal $00000002 $00001000\nswitch b\nb Wait $00001000 -> $00001000\nb RemTask $00000000\nswitch a\na Print $00000001\na RemTask $00000000\nidle\n"
+
+abbrev pub EqualPriorityDoesNotPreempt : Type 0
+EqualPriorityDoesNotPreempt = trace_of wakes_an_equal (Run 4 ∷ [])
+    ≡ codes "switch a\na Wait $00001000 waits\nswitch b\nb Signal $00000001 $00001000\nb Print $00000002\nb RemTask $00000000\nswitch a\n"
+
+abbrev pub APreemptedTaskArrivesAnew : Type 0
+APreemptedTaskArrivesAnew = trace_of is_preempted_among_equals (Run 5 ∷ [])
+    ≡ codes "switch c\nc Wait $00001000 waits\nswitch a\na Signal $00000003 $00001000\nswitch c\nc Wait $00001000 -> $00001000\nc RemTask $00000000\nswitch b\nb Print $00000002\n"
+
+abbrev pub AWaitKeepsItsMask : Type 0
+AWaitKeepsItsMask = trace_of waits_for_what_was_asked (Run 7 ∷ [])
+    ≡ codes "switch a\na Wait $00001000 waits\nswitch b\nb Signal $00000001 $00001000\nswitch a\na Wait $00001000 -> $00001000\na Print $00001000\na RemTask $00000000\nswitch b\n"

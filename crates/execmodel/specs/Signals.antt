@@ -1,0 +1,36 @@
+-- Signals of tasks (RKM Libraries, Exec Signals).
+use Rattle.std.specs.Prelude.{ℕ, ◌-◌, Bool, not, ◌&&◌, if◌then◌else◌, nat_eq, nat_lt, nat_le, bit_and, length, codes, Option, None, Some}
+use Rattle.scheduler.specs.Schedule.{signals_of, come_for, after_wait}
+use Rattle.execmodel.specs.State.{Call, Scripts, State, Outcome, on_schedule}
+use Rattle.execmodel.specs.Scheduling.{signalled}
+use Rattle.execmodel.specs.Calls.{argument, done, answered, waiting, alerted}
+
+-- there is a task of that number; the first one is 1
+abbrev pub is_task : ℕ → Scripts → Bool
+is_task number scripts = nat_lt 0 number && nat_le number (length scripts.programs)
+
+-- a mask of signals that scripts may name: 12 to 31, and not those that Exec itself uses (own choice)
+abbrev pub is_mask : ℕ → Bool
+is_mask mask = nat_eq (bit_and mask 0xfff) 0
+
+-- Signal t mask (autodoc exec.library/Signal)
+unfoldable pub does_signal : ℕ → Call → State → Outcome
+does_signal t call s =
+    let other = argument 0 call in
+    let mask = argument 1 call in
+    if not (is_task other s.scripts) then alerted (codes "HANDLE") t call s
+    else (if not (is_mask mask) then alerted (codes "MASK") t call s
+    else done t call (on_schedule (signalled (other - 1) mask) s))
+
+-- how a Wait ends whose signals have come, or have not
+abbrev pub waited : ℕ → Call → Option ℕ → State → Outcome
+waited t call None s = waiting t call s
+waited t call (Some signals) s = answered t call signals s
+
+-- Wait mask: answers the signals of the mask that were received, and they leave; where there are none, the task waits for them
+-- and tries again when it next runs (autodoc exec.library/Wait; the retry: own choice)
+unfoldable pub does_wait : ℕ → Call → State → Outcome
+does_wait t call s =
+    let mask = argument 0 call in
+    if not (is_mask mask) then alerted (codes "MASK") t call s
+    else waited t call (come_for mask (signals_of s.schedule t)) (on_schedule (after_wait t mask) s)

@@ -1,0 +1,111 @@
+-- The state of the abstract machine, and what an action makes of it. Nothing in it is linked and nothing is sorted: each
+-- queue is a sequence in order of arrival.
+use Rattle.std.specs.Prelude.{ℕ, ◌+◌, Bool, true, false, List, [], ◌∷◌, ◌++◌, Option, None, Some, map, length, replicate, slice_index_or, slice_set}
+use Rattle.exectrace.specs.Trace.{Argument, TraceLine}
+use Rattle.taskscript.specs.declared.word.Word.{Word}
+use Rattle.taskscript.specs.declared.variable.Variable.{Variable}
+use Rattle.taskscript.specs.Commands.{CommandData}
+use Rattle.taskscript.specs.File.{MachineData, TaskData}
+use Rattle.scheduler.specs.Schedule.{Schedule, unstarted}
+
+-- a command of a task with the values that its arguments had when it was first tried, and the place of the command after it
+pub record Call : Type 0 where
+  pub word : Word
+  pub target : Option Variable
+  pub arguments : List Argument
+  pub next : ℕ
+
+-- what a task executes: its commands, the place of the next one, its own variables, and the call that it waits in, if any
+pub record Program : Type 0 where
+  pub code : List CommandData
+  pub place : ℕ
+  pub variables : List ℕ
+  pub kept : Option Call
+
+-- the programs by task number, and the variables that all bodies share
+pub record Scripts : Type 0 where
+  pub programs : List Program
+  pub shared : List ℕ
+
+pub record State : Type 0 where
+  -- the tasks' names, priorities, states and signals, the ready sequence, and the running task
+  pub schedule : Schedule
+  -- what the tasks execute, and the variables
+  pub scripts : Scripts
+  -- an alert has stopped the machine
+  pub stopped : Bool
+
+-- What an action leaves in the history of a port or a semaphore. Marks are not printed: the laws of whole runs speak of them.
+pub data Mark : Type 0 where
+  put : (port message : ℕ) → Mark
+  got : (port message : ℕ) → Mark
+  out : (port message : ℕ) → Mark
+  asked : (semaphore task : ℕ) → Mark
+  passed : (semaphore task : ℕ) → Mark
+  left : (semaphore task : ℕ) → Mark
+
+-- the next state, the lines that are printed on the way, and the marks that are left
+pub record Outcome : Type 0 where
+  pub state : State
+  pub lines : List TraceLine
+  pub marks : List Mark
+
+-- ---- actions
+
+-- nothing is printed
+abbrev pub quiet : State → Outcome
+quiet s = record { state = s; lines = []; marks = [] }
+
+-- one line is printed
+abbrev pub says : TraceLine → State → Outcome
+says line s = record { state = s; lines = line ∷ []; marks = [] }
+
+-- one action after another
+unfoldable pub andthen : (State → Outcome) → (State → Outcome) → State → Outcome
+andthen first next s =
+    let a = first s in
+    let b = next a.state in
+    record { state = b.state; lines = a.lines ++ b.lines; marks = a.marks ++ b.marks }
+
+-- ---- parts of a state
+
+abbrev pub no_program : Program
+no_program = record { code = []; place = 0; variables = []; kept = None }
+
+-- the program of task t
+abbrev pub program_of : Scripts → ℕ → Program
+program_of scripts t = slice_index_or scripts.programs t no_program
+
+abbrev pub with_program : ℕ → Program → Scripts → Scripts
+with_program t program scripts = record scripts { programs = slice_set scripts.programs t program }
+
+-- an action on the schedule alone, or on the scripts alone
+abbrev pub on_schedule : (Schedule → Schedule) → State → State
+on_schedule f s = record s { schedule = f s.schedule }
+
+abbrev pub on_scripts : (Scripts → Scripts) → State → State
+on_scripts f s = record s { scripts = f s.scripts }
+
+-- ---- the first state
+
+-- the limits on variables of one task, and on shared ones (own choice)
+abbrev pub private_variables : ℕ
+private_variables = 32
+
+abbrev pub shared_variables : ℕ
+shared_variables = 64
+
+-- a program at its first command; every variable begins at 0
+abbrev pub begun_with : List CommandData → Program
+begun_with code = record { code = code; place = 0; variables = replicate private_variables 0; kept = None }
+
+abbrev pub begun : TaskData → Program
+begun task = begun_with task.code
+
+-- The machine of a file before its start: no task was added, nothing runs, and it was not yet told to be idle. A full quantum is 4
+-- servings of VERTB (own choice).
+unfoldable pub booted : MachineData → State
+booted machine = record {
+  schedule = unstarted (length machine.tasks) (map (λ (task : TaskData). task.pri) machine.tasks) (map (λ (task : TaskData). task.name) machine.tasks) 4;
+  scripts = record { programs = map begun machine.tasks; shared = replicate shared_variables 0 };
+  stopped = false }

@@ -1,0 +1,97 @@
+-- Steps, settling and whole runs: all interleaving comes from the list of events.
+use Rattle.std.specs.Prelude.{ℕ, zero, suc, ◌+◌, Bool, if◌then◌else◌, List, [], ◌∷◌, Option, None, Some, codes, length}
+use Rattle.exectrace.specs.Trace.{Value, Done, Switch, Idle}
+use Rattle.exectrace.specs.Trace as trace
+use Rattle.taskscript.specs.declared.word.Word.{Word}
+use Rattle.taskscript.specs.declared.word.Word.TheVariants as word
+use Rattle.taskscript.specs.declared.event.Event.{Event}
+use Rattle.taskscript.specs.declared.event.Event.TheVariants.{Run}
+use Rattle.taskscript.specs.File.{MachineData}
+use Rattle.scheduler.specs.Schedule.{Schedule, name_of, leaves}
+use Rattle.scheduler.specs.declared.Switch.{Switch as Choice}
+use Rattle.scheduler.specs.declared.Switch.TheVariants as switch
+use Rattle.execmodel.specs.State.{Call, State, Outcome, quiet, says, andthen, on_schedule, booted}
+use Rattle.execmodel.specs.Scheduling.{switch_of, rescheduled, added}
+use Rattle.execmodel.specs.Calls.{next_call}
+use Rattle.execmodel.specs.Plain.{does_set, does_print}
+use Rattle.execmodel.specs.Signals.{does_signal, does_wait}
+
+-- ---- settle
+
+-- the line of a switch, if one is made
+abbrev pub announced : Option Choice → State → Outcome
+announced None s = quiet s
+announced (Some (switch.To t)) s = says (Switch (name_of s.schedule t)) s
+announced (Some switch.Idle) s = says Idle s
+
+-- the switch to another task, or to being idle
+unfoldable pub switches : State → Outcome
+switches s = announced (switch_of s.schedule) (on_schedule rescheduled s)
+
+-- what follows each action: at most one switch; a stopped machine stays as it is
+unfoldable pub settle : State → Outcome
+settle s = if s.stopped then quiet s else switches s
+
+-- ---- step
+
+-- a call of task t, by its word
+abbrev pub does_word : Word → ℕ → Call → State → Outcome
+does_word word.Set t call s = does_set t call s
+does_word word.Print t call s = does_print t call s
+does_word word.Signal t call s = does_signal t call s
+does_word word.Wait t call s = does_wait t call s
+
+unfoldable pub does : ℕ → Call → State → Outcome
+does t call s = does_word call.word t call s
+
+-- a task whose commands are used up ends, as by RemTask 0 (RKM Libraries, Exec Tasks: task termination)
+unfoldable pub ends : ℕ → State → Outcome
+ends t s = says (trace.Call (name_of s.schedule t) (codes "RemTask") (Value 0 ∷ []) Done) (on_schedule (leaves t) s)
+
+-- what task t does with its next call; where no task runs the step is used up
+abbrev pub call_step : ℕ → Option Call → State → Outcome
+call_step t None s = ends t s
+call_step t (Some call) s = does t call s
+
+abbrev pub task_step : Option ℕ → State → Outcome
+task_step None s = quiet s
+task_step (Some t) s = call_step t (next_call t s.scripts) s
+
+unfoldable pub acting : State → Outcome
+acting s = task_step s.schedule.running s
+
+-- a stopped machine does nothing
+unfoldable pub acts : State → Outcome
+acts s = if s.stopped then quiet s else acting s
+
+-- the running task does one command, and then the machine settles
+unfoldable pub step : State → Outcome
+step s = andthen acts settle s
+
+-- so many steps
+unfoldable pub steps : ℕ → State → Outcome
+steps zero s = quiet s
+steps (suc n) s = andthen (steps n) step s
+
+-- ---- run
+
+-- so many tasks are added, in the order of the file
+unfoldable pub all_added : ℕ → Schedule → Schedule
+all_added zero s = s
+all_added (suc n) s = added n (all_added n s)
+
+-- the start: the tasks are added in the order of the file, and then the machine settles once
+unfoldable pub starts : State → Outcome
+starts s = settle (on_schedule (all_added (length s.scripts.programs)) s)
+
+unfoldable pub event : Event → State → Outcome
+event (Run n) s = steps n s
+
+-- one event after another
+unfoldable pub events : List Event → State → Outcome
+events [] s = quiet s
+events (e ∷ rest) s = andthen (event e) (events rest) s
+
+-- the whole run of a machine: its start, and then each event in order
+unfoldable pub run : MachineData → List Event → Outcome
+run machine list = andthen starts (events list) (booted machine)
