@@ -249,3 +249,6 @@ impl<S: ListSpace> TaskQ<S> {
         })
     }
 }
+
+#[cfg(test)]
+mod tests;
