@@ -176,7 +176,8 @@ module _ {A : Type 0} (key other : A → ℤ) where
   enqueue_same : (x : A) (s : List A) → other x ≡ key x → Agree s → enqueue other s x ≡ enqueue key s x
   enqueue_same x [] e h = refl
   enqueue_same x (y ∷ ys) e h =
-      ap (λ b. cond b (x ∷ y ∷ ys) (y ∷ enqueue other ys x)) (rw (e, h.0)) ∙ ap (λ l. cond (is_lower key y x) (x ∷ y ∷ ys) (y ∷ l)) (enqueue_same x ys e h.1)
+      ap (λ b. cond b (x ∷ y ∷ ys) (y ∷ enqueue other ys x)) (rw (e, h.0))
+      ∙ ap (λ l. cond (is_lower key y x) (x ∷ y ∷ ys) (y ∷ l)) (enqueue_same x ys e h.1)
 
   agree_enqueue : (x : A) (s : List A) → other x ≡ key x → Agree s → Agree (enqueue key s x)
   agree_enqueue x [] e h = (e, tt)
@@ -189,7 +190,8 @@ module _ {A : Type 0} (key other : A → ℤ) where
   same_from s [] h p = refl
   same_from s (x ∷ xs) h p =
       let e = All-head (λ x. other x ≡ key x) x xs p in
-      ap (λ l. fold (enqueue other) l xs) (enqueue_same x s e h) ∙ (same_from (enqueue key s x) xs (agree_enqueue x s e h) (All-tail (λ x. other x ≡ key x) x xs p))
+      ap (λ l. fold (enqueue other) l xs) (enqueue_same x s e h)
+      ∙ (same_from (enqueue key s x) xs (agree_enqueue x s e h) (All-tail (λ x. other x ≡ key x) x xs p))
 
 pub order_takes : (A : Type 0) → OrderTakesArrival A
 unfolding order
@@ -212,7 +214,8 @@ pub order_rekeyed : OrderRekeyed
 order_rekeyed key other n xs same =
     let w = without n xs in
     let agree : All (λ x. other x ≡ key x) w = λ k d l. same (get_or w k d) (λ e. both_ways (eqb (get_or w k d) n) (not-true (eqb (get_or w k d) n) (filter_passes (λ x. not (eqb x n)) xs k d l)) (eq-eqb (get_or w k d) n e)) in
-    order_takes ℕ other w n ∙ ap (λ l. enqueue other l n) (order_reads_keys ℕ key other w agree ∙ order_leaves_out ℕ key (λ x. not (eqb x n)) xs)
+    order_takes ℕ other w n
+    ∙ ap (λ l. enqueue other l n) (order_reads_keys ℕ key other w agree ∙ order_leaves_out ℕ key (λ x. not (eqb x n)) xs)
 
 find_first : {A : Type 0} (p : A → Bool) (xs : List A) → find p xs ≡ first (filter p xs)
 find_first p [] = refl
@@ -222,4 +225,5 @@ find_first p (x ∷ xs) = by_case (p x) (find_first p xs) where
   by_case false ih = ih
 
 pub found_in_order : (A : Type 0) → FoundInOrderIsChosen A
-found_in_order A = λ key wanted xs. find_first wanted (order key xs) ∙ ap first (sym (order_leaves_out A key wanted xs)) ∙ first_of_order A key (filter wanted xs)
+found_in_order A = λ key wanted xs. find_first wanted (order key xs) ∙ ap first (sym (order_leaves_out A key wanted xs))
+    ∙ first_of_order A key (filter wanted xs)

@@ -114,9 +114,11 @@ module _ (headers : ℕ) (all : List ℕ) (homes : List (Option ℕ)) (i h n : �
 
         same : n ≡ m → times m (take i all) + times m (n ∷ drop i all) ≡ cond (is_some (home (slice_set homes n (Some h)) m)) 1 0
         same e =
-            let none : times m all ≡ 0 = s.stands m ∙ ap (λ k. cond (is_some (home homes k)) 1 0) (sym e) ∙ ap (λ o. cond (is_some o) 1 0) unlinked in
+            let none : times m all ≡ 0 = s.stands m ∙ ap (λ k. cond (is_some (home homes k)) 1 0) (sym e)
+            ∙ ap (λ o. cond (is_some o) 1 0) unlinked in
             let one : times m (n ∷ drop i all) ≡ suc (times m (drop i all)) = cond-true _ _ _ (eq-eqb n m e) in
-            let put : home (slice_set homes n (Some h)) m ≡ Some h = ap (home (slice_set homes n (Some h))) (sym e) ∙ home_same homes n (Some h) node in
+            let put : home (slice_set homes n (Some h)) m ≡ Some h = ap (home (slice_set homes n (Some h))) (sym e)
+            ∙ home_same homes n (Some h) node in
             rw (put, one) (omega (arith, total, none))
 
         other : (n ≡ m → ⊥) → times m (take i all) + times m (n ∷ drop i all) ≡ cond (is_some (home (slice_set homes n (Some h)) m)) 1 0
@@ -128,7 +130,8 @@ module _ (headers : ℕ) (all : List ℕ) (homes : List (Option ℕ)) (i h n : �
 
   put_homed : (m k : ℕ) → home (slice_set homes n (Some h)) m ≡ Some k → (m ≡ n) ⊎ (m ≡ n → ⊥) → k < headers
   put_homed m k e (inl here) =
-      let same : Some h ≡ Some k = sym (home_same homes n (Some h) node) ∙ ap (home (slice_set homes n (Some h))) (sym here) ∙ e in
+      let same : Some h ≡ Some k = sym (home_same homes n (Some h) node) ∙ ap (home (slice_set homes n (Some h))) (sym here)
+      ∙ e in
       let eq : h ≡ k = cc in
       omega (arith, eq)
   put_homed m k e (inr ne) = s.homed m k (sym (home_other homes n m (Some h) ne) ∙ e)
@@ -154,8 +157,10 @@ module _ (headers : ℕ) (all : List ℕ) (homes : List (Option ℕ)) (i n : ℕ
       let t = round_times m in
       let one : times m (n ∷ drop (suc i) all) ≡ suc (times m (drop (suc i) all)) = cond-true _ _ _ (eq-eqb n m e) in
       let h = has_home in
-      let once : times m all ≡ 1 = s.stands m ∙ ap (λ k. cond (is_some (home homes k)) 1 0) (sym e) ∙ ap (λ o. cond (is_some o) 1 0) h.1 in
-      let put : home (slice_set homes n None) m ≡ None = ap (home (slice_set homes n None)) (sym e) ∙ home_same homes n None (home_known homes n h.0 h.1) in
+      let once : times m all ≡ 1 = s.stands m ∙ ap (λ k. cond (is_some (home homes k)) 1 0) (sym e)
+      ∙ ap (λ o. cond (is_some o) 1 0) h.1 in
+      let put : home (slice_set homes n None) m ≡ None = ap (home (slice_set homes n None)) (sym e)
+      ∙ home_same homes n None (home_known homes n h.0 h.1) in
       rw (put, times-append m (take i all) (drop (suc i) all)) (omega arith)
   taken_times m (inr ne) =
       let t = round_times m in
@@ -167,7 +172,8 @@ module _ (headers : ℕ) (all : List ℕ) (homes : List (Option ℕ)) (i n : ℕ
   taken_homed : (m k : ℕ) → home (slice_set homes n None) m ≡ Some k → (m ≡ n) ⊎ (m ≡ n → ⊥) → k < headers
   taken_homed m k e (inl here) =
       let h = has_home in
-      let same : None ≡ Some k = sym (home_same homes n None (home_known homes n h.0 h.1)) ∙ ap (home (slice_set homes n None)) (sym here) ∙ e in
+      let same : None ≡ Some k = sym (home_same homes n None (home_known homes n h.0 h.1))
+      ∙ ap (home (slice_set homes n None)) (sym here) ∙ e in
       cc
   taken_homed m k e (inr ne) = s.homed m k (sym (home_other homes n m None ne) ∙ e)
 
@@ -185,7 +191,8 @@ held_fresh homes n k v (x ∷ xs) e = by_case (eqb x n) refl e (held_fresh homes
   by_case : (b : Bool) → eqb x n ≡ b → cond b (suc (times n xs)) (times n xs) ≡ 0 → (times n xs ≡ 0 → nodes_of (slice_set homes n v) k xs ≡ nodes_of homes k xs) → nodes_of (slice_set homes n v) k (x ∷ xs) ≡ nodes_of homes k (x ∷ xs)
   by_case true t z ih = absurd (omega arith)
   by_case false t z ih =
-      ap (λ o. cond (is_at o k) (x ∷ nodes_of (slice_set homes n v) k xs) (nodes_of (slice_set homes n v) k xs)) (home_other homes n x v (eqb-false x n t)) ∙ ap (λ l. cond (is_at (home homes x) k) (x ∷ l) l) (ih z)
+      ap (λ o. cond (is_at o k) (x ∷ nodes_of (slice_set homes n v) k xs) (nodes_of (slice_set homes n v) k xs)) (home_other homes n x v (eqb-false x n t))
+      ∙ ap (λ l. cond (is_at (home homes x) k) (x ∷ l) l) (ih z)
 
 held_in : (homes : List (Option ℕ)) (n k : ℕ) (xs : List ℕ) → is_at (home homes n) k ≡ true → nodes_of homes k (n ∷ xs) ≡ n ∷ nodes_of homes k xs
 held_in homes n k xs e = cond-true _ _ _ e
@@ -194,7 +201,8 @@ held_out : (homes : List (Option ℕ)) (n k : ℕ) (xs : List ℕ) → is_at (ho
 held_out homes n k xs e = cond-false _ _ _ e
 
 held_parts : (homes : List (Option ℕ)) (k : ℕ) (all : List ℕ) (i : ℕ) → nodes_of homes k (take i all) ++ nodes_of homes k (drop i all) ≡ nodes_of homes k all
-held_parts homes k all i = sym (filter-append (λ n. is_at (home homes n) k) (take i all) (drop i all)) ∙ ap (nodes_of homes k) (split_at all i)
+held_parts homes k all i = sym (filter-append (λ n. is_at (home homes n) k) (take i all) (drop i all))
+    ∙ ap (nodes_of homes k) (split_at all i)
 
 pub at_own : (homes : List (Option ℕ)) (n h : ℕ) → home homes n ≡ Some h → is_at (home homes n) h ≡ true
 at_own homes n h e = ap (λ o. is_at o h) e ∙ eq-eqb h h refl
@@ -211,9 +219,11 @@ map_set {A} f g headers h v l here others =
 
       at : (k : ℕ) (d : A) → k < headers → (k ≡ h) ⊎ (k ≡ h → ⊥) → get_or (map g (range_with_len 0 headers)) k d ≡ get_or (slice_set (map f (range_with_len 0 headers)) h v) k d
       at k d lk (inl e) =
-          get_or-map-range_with_len g 0 headers k k d lk (omega arith) ∙ ap g e ∙ here ∙ sym (ap (λ j. get_or (slice_set (map f (range_with_len 0 headers)) h v) j d) e ∙ get_or-set_same (map f (range_with_len 0 headers)) h v d long)
+          get_or-map-range_with_len g 0 headers k k d lk (omega arith) ∙ ap g e ∙ here
+          ∙ sym (ap (λ j. get_or (slice_set (map f (range_with_len 0 headers)) h v) j d) e ∙ get_or-set_same (map f (range_with_len 0 headers)) h v d long)
       at k d lk (inr ne) =
-          get_or-map-range_with_len g 0 headers k k d lk (omega arith) ∙ others k ne ∙ sym (get_or-set_other (map f (range_with_len 0 headers)) h k v d ne ∙ get_or-map-range_with_len f 0 headers k k d lk (omega arith))
+          get_or-map-range_with_len g 0 headers k k d lk (omega arith) ∙ others k ne
+          ∙ sym (get_or-set_other (map f (range_with_len 0 headers)) h k v d ne ∙ get_or-map-range_with_len f 0 headers k k d lk (omega arith))
 
 pub sequence_is : (headers : ℕ) (all : List ℕ) (homes : List (Option ℕ)) (h : ℕ) → h < headers → sequence (sequences_of headers all homes) h ≡ nodes_of homes h all
 sequence_is headers all homes h l = get_or-map-range_with_len (λ k. nodes_of homes k all) 0 headers h h [] l (omega arith)
@@ -265,7 +275,8 @@ without_fresh n (x ∷ xs) e = by_case (eqb x n) e (without_fresh n xs) where
 
 pub without_round : (n : ℕ) (xs ys : List ℕ) → times n xs ≡ 0 → times n ys ≡ 0 → without n (xs ++ n ∷ ys) ≡ xs ++ ys
 without_round n xs ys a b =
-    filter-append (λ x. not (eqb x n)) xs (n ∷ ys) ∙ ap (λ l. l ++ without n (n ∷ ys)) (without_fresh n xs a) ∙ ap (λ l. xs ++ l) (cond-false _ _ _ (ap not (eq-eqb n n refl)) ∙ without_fresh n ys b)
+    filter-append (λ x. not (eqb x n)) xs (n ∷ ys) ∙ ap (λ l. l ++ without n (n ∷ ys)) (without_fresh n xs a)
+    ∙ ap (λ l. xs ++ l) (cond-false _ _ _ (ap not (eq-eqb n n refl)) ∙ without_fresh n ys b)
 
 pub before_round : (n : ℕ) (xs ys : List ℕ) → times n xs ≡ 0 → part_before n (xs ++ n ∷ ys) ≡ xs
 before_round n [] ys a = cond-true _ _ _ (eq-eqb n n refl)
@@ -283,7 +294,9 @@ after_round n (x ∷ xs) ys a = by_case (eqb x n) a (after_round n xs ys) where
 
 split_held : (homes : List (Option ℕ)) (all : List ℕ) (i h n : ℕ) → i < length all → get_or all i 0 ≡ n → home homes n ≡ Some h → times n all ≡ 1 → (part_before n (nodes_of homes h all) ≡ nodes_of homes h (take i all)) × (part_after n (nodes_of homes h all) ≡ nodes_of homes h (drop (suc i) all))
 split_held homes all i h n l e own once =
-    let was : nodes_of homes h all ≡ nodes_of homes h (take i all) ++ n ∷ nodes_of homes h (drop (suc i) all) = ap (nodes_of homes h) (sym (split_round all i n l e)) ∙ filter-append (λ m. is_at (home homes m) h) (take i all) (n ∷ drop (suc i) all) ∙ ap (λ l. nodes_of homes h (take i all) ++ l) (held_in homes n h (drop (suc i) all) (at_own homes n h own)) in
+    let was : nodes_of homes h all ≡ nodes_of homes h (take i all) ++ n ∷ nodes_of homes h (drop (suc i) all) = ap (nodes_of homes h) (sym (split_round all i n l e))
+    ∙ filter-append (λ m. is_at (home homes m) h) (take i all) (n ∷ drop (suc i) all)
+    ∙ ap (λ l. nodes_of homes h (take i all) ++ l) (held_in homes n h (drop (suc i) all) (at_own homes n h own)) in
     let gone = times_held homes n h (take i all) (parts_fresh all i n l e once).0 in
     (ap (part_before n) was ∙ before_round n (nodes_of homes h (take i all)) (nodes_of homes h (drop (suc i) all)) gone, ap (part_after n) was ∙ after_round n (nodes_of homes h (take i all)) (nodes_of homes h (drop (suc i) all)) gone)
 
@@ -308,7 +321,8 @@ module _ (headers : ℕ) (all : List ℕ) (homes : List (Option ℕ)) (i h n : �
 
   put_held : (k : ℕ) → nodes_of (slice_set homes n (Some h)) k (insert all i n) ≡ nodes_of homes k (take i all) ++ nodes_of (slice_set homes n (Some h)) k (n ∷ drop i all)
   put_held k =
-      filter-append (λ m. is_at (home (slice_set homes n (Some h)) m) k) (take i all) (n ∷ drop i all) ∙ ap (λ l. l ++ nodes_of (slice_set homes n (Some h)) k (n ∷ drop i all)) (held_fresh homes n k (Some h) (take i all) put_fresh_parts.0)
+      filter-append (λ m. is_at (home (slice_set homes n (Some h)) m) k) (take i all) (n ∷ drop i all)
+      ∙ ap (λ l. l ++ nodes_of (slice_set homes n (Some h)) k (n ∷ drop i all)) (held_fresh homes n k (Some h) (take i all) put_fresh_parts.0)
 
   put_home : home (slice_set homes n (Some h)) n ≡ Some h
   put_home = home_same homes n (Some h) node
@@ -335,7 +349,10 @@ module _ (headers : ℕ) (all : List ℕ) (homes : List (Option ℕ)) (i h n : �
 put_after_held : (homes : List (Option ℕ)) (all : List ℕ) (i h n p : ℕ) → i < length all → get_or all i 0 ≡ p → home homes p ≡ Some h → times p all ≡ 1 → nodes_of homes h (take (suc i) all) ++ n ∷ nodes_of homes h (drop (suc i) all) ≡ put_after (Some p) n (nodes_of homes h all)
 put_after_held homes all i h n p l e own once =
     let s = split_held homes all i h p l e own once in
-    ap (λ x. x ++ n ∷ nodes_of homes h (drop (suc i) all)) (held_more homes all i h p l e own) ∙ append_assoc (nodes_of homes h (take i all)) (p ∷ []) (n ∷ nodes_of homes h (drop (suc i) all)) ∙ ap (λ x. x ++ p ∷ n ∷ nodes_of homes h (drop (suc i) all)) (sym s.0) ∙ ap (λ x. part_before p (nodes_of homes h all) ++ p ∷ n ∷ x) (sym s.1)
+    ap (λ x. x ++ n ∷ nodes_of homes h (drop (suc i) all)) (held_more homes all i h p l e own)
+    ∙ append_assoc (nodes_of homes h (take i all)) (p ∷ []) (n ∷ nodes_of homes h (drop (suc i) all))
+    ∙ ap (λ x. x ++ p ∷ n ∷ nodes_of homes h (drop (suc i) all)) (sym s.0)
+    ∙ ap (λ x. part_before p (nodes_of homes h all) ++ p ∷ n ∷ x) (sym s.1)
 
 -- What the sequences are after a node is taken out.
 module _ (headers : ℕ) (all : List ℕ) (homes : List (Option ℕ)) (i h n : ℕ) (s : IsSpace headers all homes) (within : i < length all) (there : get_or all i 0 ≡ n) (own : home homes n ≡ Some h) where
@@ -344,16 +361,22 @@ module _ (headers : ℕ) (all : List ℕ) (homes : List (Option ℕ)) (i h n : �
       let node = home_known homes n h own in
       let free : home (slice_set homes n None) n ≡ None = home_same homes n None node in
       let gone = parts_fresh all i n within there (there_once headers all homes n h s own) in
-      let left : (k : ℕ) → nodes_of (slice_set homes n None) k (remove all i) ≡ nodes_of homes k (take i all) ++ nodes_of homes k (drop (suc i) all) = λ k. filter-append (λ m. is_at (home (slice_set homes n None) m) k) (take i all) (drop (suc i) all) ∙ ap (λ l. l ++ nodes_of (slice_set homes n None) k (drop (suc i) all)) (held_fresh homes n k None (take i all) gone.0) ∙ ap (λ l. nodes_of homes k (take i all) ++ l) (held_fresh homes n k None (drop (suc i) all) gone.1) in
-      let was : (k : ℕ) → nodes_of homes k all ≡ nodes_of homes k (take i all) ++ nodes_of homes k (n ∷ drop (suc i) all) = λ k. ap (nodes_of homes k) (sym (split_round all i n within there)) ∙ filter-append (λ m. is_at (home homes m) k) (take i all) (n ∷ drop (suc i) all) in
-      let own_part : without n (nodes_of homes h all) ≡ nodes_of homes h (take i all) ++ nodes_of homes h (drop (suc i) all) = ap (without n) (was h ∙ ap (λ l. nodes_of homes h (take i all) ++ l) (held_in homes n h (drop (suc i) all) (at_own homes n h own))) ∙ without_round n (nodes_of homes h (take i all)) (nodes_of homes h (drop (suc i) all)) (times_held homes n h (take i all) gone.0) (times_held homes n h (drop (suc i) all) gone.1) in
+      let left : (k : ℕ) → nodes_of (slice_set homes n None) k (remove all i) ≡ nodes_of homes k (take i all) ++ nodes_of homes k (drop (suc i) all) = λ k. filter-append (λ m. is_at (home (slice_set homes n None) m) k) (take i all) (drop (suc i) all)
+      ∙ ap (λ l. l ++ nodes_of (slice_set homes n None) k (drop (suc i) all)) (held_fresh homes n k None (take i all) gone.0)
+      ∙ ap (λ l. nodes_of homes k (take i all) ++ l) (held_fresh homes n k None (drop (suc i) all) gone.1) in
+      let was : (k : ℕ) → nodes_of homes k all ≡ nodes_of homes k (take i all) ++ nodes_of homes k (n ∷ drop (suc i) all) = λ k. ap (nodes_of homes k) (sym (split_round all i n within there))
+      ∙ filter-append (λ m. is_at (home homes m) k) (take i all) (n ∷ drop (suc i) all) in
+      let own_part : without n (nodes_of homes h all) ≡ nodes_of homes h (take i all) ++ nodes_of homes h (drop (suc i) all) = ap (without n) (was h ∙ ap (λ l. nodes_of homes h (take i all) ++ l) (held_in homes n h (drop (suc i) all) (at_own homes n h own)))
+      ∙ without_round n (nodes_of homes h (take i all)) (nodes_of homes h (drop (suc i) all)) (times_held homes n h (take i all) gone.0) (times_held homes n h (drop (suc i) all) gone.1) in
       map_set (λ k. nodes_of homes k all) (λ k. nodes_of (slice_set homes n None) k (remove all i)) headers h (without n (sequence (sequences_of headers all homes) h)) (s.homed n h own) (left h ∙ sym own_part ∙ ap (without n) (sym (sequence_is headers all homes h (s.homed n h own)))) (λ k ne. left k ∙ sym (was k ∙ ap (λ l. nodes_of homes k (take i all) ++ l) (held_out homes n k (drop (suc i) all) (at_other homes n h k own ne))))
 
   pub after_held : part_after n (sequence (sequences_of headers all homes) h) ≡ nodes_of homes h (drop (suc i) all)
-  after_held = ap (part_after n) (sequence_is headers all homes h (s.homed n h own)) ∙ (split_held homes all i h n within there own (there_once headers all homes n h s own)).1
+  after_held = ap (part_after n) (sequence_is headers all homes h (s.homed n h own))
+      ∙ (split_held homes all i h n within there own (there_once headers all homes n h s own)).1
 
   pub before_held : part_before n (sequence (sequences_of headers all homes) h) ≡ nodes_of homes h (take i all)
-  before_held = ap (part_before n) (sequence_is headers all homes h (s.homed n h own)) ∙ (split_held homes all i h n within there own (there_once headers all homes n h s own)).0
+  before_held = ap (part_before n) (sequence_is headers all homes h (s.homed n h own))
+      ∙ (split_held homes all i h n within there own (there_once headers all homes n h s own)).0
 
 -- A node stands once in the sequence of its header.
 pub stands_once : (headers : ℕ) (all : List ℕ) (homes : List (Option ℕ)) → IsSpace headers all homes → (h n : ℕ) → times n (sequence (sequences_of headers all homes) h) ≡ cond (is_at (home homes n) h) 1 0
@@ -372,7 +395,8 @@ stands_once headers all homes s h n = by_case (cases_lt h headers) where
   by_case : (h < headers) ⊎ (headers ≤ h) → times n (sequence (sequences_of headers all homes) h) ≡ cond (is_at (home homes n) h) 1 0
   by_case (inl l) = ap (times n) (sequence_is headers all homes h l) ∙ inside (home homes n) refl
   by_case (inr l) =
-      ap (times n) (get_or_past (sequences_of headers all homes) h [] (omega (arith, length-map-range_with_len (λ k. nodes_of homes k all) 0 headers))) ∙ outside l (home homes n) refl
+      ap (times n) (get_or_past (sequences_of headers all homes) h [] (omega (arith, length-map-range_with_len (λ k. nodes_of homes k all) 0 headers)))
+      ∙ outside l (home homes n) refl
 
 -- The ends.
 pub without_first : (n : ℕ) (xs : List ℕ) → first xs ≡ Some n → times n xs ≡ 1 → without n xs ≡ drop 1 xs
@@ -419,7 +443,8 @@ held_step homes h all i l = filter_more (λ n. is_at (home homes n) h) all i 0 l
 
 pub last_is : (homes : List (Option ℕ)) (h : ℕ) (all : List ℕ) (i : ℕ) → i < length all → is_at (home homes (slice_index all i)) h ≡ true → last (nodes_of homes h (take (i + 1) all)) ≡ Some (slice_index all i)
 last_is homes h all i l e =
-    ap last (held_step homes h all i l ∙ ap (λ m. nodes_of homes h (take i all) ++ m) (cond-true _ _ _ e)) ∙ last-push (nodes_of homes h (take i all)) (slice_index all i)
+    ap last (held_step homes h all i l ∙ ap (λ m. nodes_of homes h (take i all) ++ m) (cond-true _ _ _ e))
+    ∙ last-push (nodes_of homes h (take i all)) (slice_index all i)
 
 pub last_before : (homes : List (Option ℕ)) (h : ℕ) (all : List ℕ) (i : ℕ) → i < length all → is_at (home homes (slice_index all i)) h ≡ false → last (nodes_of homes h (take (i + 1) all)) ≡ last (nodes_of homes h (take i all))
 last_before homes h all i l e =
@@ -431,7 +456,8 @@ header_in headers all homes h l = omega (arith, length-map-range_with_len (λ k.
 -- A node after another is put in.
 pub put_after_in : (headers : ℕ) (all : List ℕ) (homes : List (Option ℕ)) (i j h n p : ℕ) → IsSpace headers all homes → h < headers → n < length homes → home homes n ≡ None → home homes p ≡ Some h → i < length all → slice_index all i ≡ p → j ≡ i + 1 → sequences_of headers (insert all j n) (slice_set homes n (Some h)) ≡ slice_set (sequences_of headers all homes) h (put_after (Some p) n (sequence (sequences_of headers all homes) h))
 put_after_in headers all homes i j h n p s header node unlinked own l e next =
-    ap (λ k. sequences_of headers (insert all k n) (slice_set homes n (Some h))) (next ∙ add-one i) ∙ put_sequences headers all homes (suc i) h n s header node unlinked (put_after (Some p) n (sequence (sequences_of headers all homes) h)) (put_after_held homes all i h n p l e own (there_once headers all homes p h s own) ∙ ap (put_after (Some p) n) (sym (sequence_is headers all homes h header)))
+    ap (λ k. sequences_of headers (insert all k n) (slice_set homes n (Some h))) (next ∙ add-one i)
+    ∙ put_sequences headers all homes (suc i) h n s header node unlinked (put_after (Some p) n (sequence (sequences_of headers all homes) h)) (put_after_held homes all i h n p l e own (there_once headers all homes p h s own) ∙ ap (put_after (Some p) n) (sym (sequence_is headers all homes h header)))
 
 -- No node is linked.
 homes_none : (nodes n : ℕ) → home (replicate nodes None) n ≡ None

@@ -81,7 +81,8 @@ home_for_none Removed other = refl
 
 -- the header of a task whose state was read
 pub home_read : (homes : List (Option ℕ)) (states : List TaskState) (t : ℕ) (v : TaskState) → homes ≡ map home_for states → t < length states → v ≡ slice_index_or states t v → slice_index_or homes t None ≡ home_for v
-home_read homes states t v same l e = ap (λ o. slice_index_or o t None) same ∙ home_from_state states t v (state_read states t v l e)
+home_read homes states t v same l e = ap (λ o. slice_index_or o t None) same
+    ∙ home_from_state states t v (state_read states t v l e)
 
 pub known_live : (states : List TaskState) (t : ℕ) → is_live (state_at states t) ≡ true → t < length states
 known_live [] t e = cc
@@ -94,13 +95,15 @@ only_written : (all : List (List ℕ)) (xs : List ℕ) → length all ≡ 1 → 
 only_written all xs e = get_or-set_same all 0 xs [] (omega arith)
 
 pub arrived : (all new : List (List ℕ)) (keys : List Key) (t : ℕ) → length all ≡ 1 → new ≡ slice_set all 0 (enqueue (pri_of keys) (sequence all 0) t) → sequence new 0 ≡ enqueue (pri_at (pris_of keys)) (sequence all 0) t
-arrived all new keys t one e = ap (λ l. sequence l 0) e ∙ only_written all (enqueue (pri_of keys) (sequence all 0) t) one ∙ enqueue_by_pris keys (sequence all 0) t
+arrived all new keys t one e = ap (λ l. sequence l 0) e ∙ only_written all (enqueue (pri_of keys) (sequence all 0) t) one
+    ∙ enqueue_by_pris keys (sequence all 0) t
 
 pub departed : (all new : List (List ℕ)) (o : Option ℕ) (t : ℕ) → length all ≡ 1 → o ≡ Some 0 → IfSome o (λ h. new ≡ slice_set all h (without t (sequence all h))) → sequence new 0 ≡ without t (sequence all 0)
 departed all new None t one own e = cc
 departed all new (Some h) t one own e =
     let here : h ≡ 0 = cc in
-    ap (λ l. sequence l 0) (e ∙ ap (λ k. slice_set all k (without t (sequence all k))) here) ∙ only_written all (without t (sequence all 0)) one
+    ap (λ l. sequence l 0) (e ∙ ap (λ k. slice_set all k (without t (sequence all k))) here)
+    ∙ only_written all (without t (sequence all 0)) one
 
 -- a task that doesn't stand in the sequence leaves it as it is
 without_absent : (t : ℕ) (xs : List ℕ) → times t xs ≡ 0 → without t xs ≡ xs
@@ -117,7 +120,8 @@ not_there t xs o none law = sym (without_absent t xs (law ∙ ap (λ k. cond (is
 
 pub pris_set : (keys : List Key) (ps : List ℤ) (t : ℕ) (k : Key) → t < length keys → t < length ps → take t (pris_of keys) ≡ take t ps → k.pri ≡ slice_index_or ps t (pos 0) → take (t + 1) (pris_of (slice_set keys t k)) ≡ take (t + 1) ps
 pris_set keys ps t k lk lp e p =
-    ap (take (t + 1)) (pris_written keys t k) ∙ take_more_set (pris_of keys) t k.pri (omega (arith, length-map keys (λ x. x.pri))) ∙ ap (λ l. l ++ k.pri ∷ []) e ∙ ap (λ x. take t ps ++ x ∷ []) p ∙ sym (take_more ps t (pos 0) lp)
+    ap (take (t + 1)) (pris_written keys t k) ∙ take_more_set (pris_of keys) t k.pri (omega (arith, length-map keys (λ x. x.pri)))
+    ∙ ap (λ l. l ++ k.pri ∷ []) e ∙ ap (λ x. take t ps ++ x ∷ []) p ∙ sym (take_more ps t (pos 0) lp)
 
 -- The first task that passes a test.
 
@@ -129,14 +133,17 @@ find_from p a (suc n) zero l before here =
 find_from p a (suc n) (suc t) l before here =
     let e : a + 0 ≡ a = omega arith in
     let f : (k : ℕ) → (a + 1) + k ≡ a + suc k = λ k. omega arith in
-    cond-false _ _ _ (ap p (sym e) ∙ before 0 (omega arith)) ∙ find_from p (a + 1) n t (omega arith) (λ k lk. ap p (f k) ∙ before (suc k) (omega arith)) (ap p (f t) ∙ here) ∙ ap Some (f t)
+    cond-false _ _ _ (ap p (sym e) ∙ before 0 (omega arith))
+    ∙ find_from p (a + 1) n t (omega arith) (λ k lk. ap p (f k) ∙ before (suc k) (omega arith)) (ap p (f t) ∙ here)
+    ∙ ap Some (f t)
 
 find_none_from : (p : ℕ → Bool) (a n : ℕ) → ((k : ℕ) → k < n → p (a + k) ≡ false) → find p (range_with_len a n) ≡ None
 find_none_from p a zero none = refl
 find_none_from p a (suc n) none =
     let e : a + 0 ≡ a = omega arith in
     let f : (k : ℕ) → (a + 1) + k ≡ a + suc k = λ k. omega arith in
-    cond-false _ _ _ (ap p (sym e) ∙ none 0 (omega arith)) ∙ find_none_from p (a + 1) n (λ k lk. ap p (f k) ∙ none (suc k) (omega arith))
+    cond-false _ _ _ (ap p (sym e) ∙ none 0 (omega arith))
+    ∙ find_none_from p (a + 1) n (λ k lk. ap p (f k) ∙ none (suc k) (omega arith))
 
 pub found_at : (p : ℕ → Bool) (n t : ℕ) → t < n → ((k : ℕ) → k < t → p k ≡ false) → p t ≡ true → Some t ≡ find p (range_with_len 0 n)
 found_at p n t l before here =
@@ -147,3 +154,6 @@ pub none_found : (p : ℕ → Bool) (n : ℕ) → ((k : ℕ) → k < n → p k �
 none_found p n none =
     let z : (k : ℕ) → 0 + k ≡ k = λ k. omega arith in
     sym (find_none_from p 0 n (λ k lk. ap p (z k) ∙ none k lk))
+
+-- What a change of one task leaves, for the calls that need no answer.
+pub ruleset changes = (homes_written, written_same, written_twice, home_from_state, homes_absent, headers_kept, states_kept, pris_written, enqueue_by_pris)

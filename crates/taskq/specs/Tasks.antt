@@ -1,6 +1,6 @@
 -- What calls on the tasks speak of: the state, the priority and the name of each task, by its number,
 -- and the ready tasks in the order in which they are to run. RKM Libraries, Exec Tasks.
-use Rattle.std.specs.Prelude.{ℕ, ℤ, pos, List, [], Option, Some, None, Bool, true, false, ◌&&◌, ◌==◌, slice_index_or, map}
+use Rattle.std.specs.Prelude.{◌≡◌, ℕ, ℤ, pos, length, List, [], Option, Some, None, Bool, true, false, ◌&&◌, ◌==◌, slice_index_or, map}
 use Rattle.std.specs.Cmp.Lexicographic.{pointwise}
 use Rattle.execlist.specs.Lists.{Key}
 use Rattle.taskq.specs.declared.TaskState.{TaskState}
@@ -56,3 +56,10 @@ home_for Removed = None
 -- the priorities of keys
 abbrev pub pris_of : List Key → List ℤ
 pris_of keys = map (λ k. k.pri) keys
+
+-- a list space with these homes stands for tasks of these states: it has one header, which holds the
+-- ready ones, and each task has a name
+pub record IsSound (headers : ℕ) (homes : List (Option ℕ)) (states : List TaskState) (named : ℕ) : Type 0 where
+  pub one_header : headers ≡ 1
+  pub ready_held : homes ≡ map home_for states
+  pub all_named : named ≡ length states

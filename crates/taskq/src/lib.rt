@@ -23,9 +23,10 @@ pub struct TaskInit {
     pub pri: i8,
 }
 
-/// What a task waits for: one of the signals of a mask.
+/// What a task waits for.
 #[derive(Clone, Copy, Debug, PartialEq, Eq)]
 pub enum Why {
+    /// Any of the signals of this mask. Autodoc exec.library/Wait.
     Signals(u32),
 }
 
@@ -54,31 +55,42 @@ pub struct TaskQ<S: ListSpace> {
     names: Vec<Name>,
 }
 
-/// The names of the tasks, in their order.
-fn names_of(alloc: Global, tasks: &[TaskInit]) -> Result<Vec<Name>, AllocError>
-    ensures { IfOk result (λ v. v.items ≡ map (λ t. t.name) tasks.now) }
-{
-    let mut names = Vec::with_capacity(alloc, tasks.len())?;
-    for task in tasks {
-        names.push(task.name)?;
-    }
-    Ok(names)
-}
-
 impl<S: ListSpace> Model for TaskQ<S> {
-    ghost use Rattle.std.specs.Prelude.{◌≡◌, length, map};
+    ghost use Rattle.std.specs.Prelude.{length, map};
     ghost use Rattle.execlist.specs.Lists.{sequence};
-    ghost use Rattle.taskq.specs.Tasks.{Tasks, home_for, pris_of};
+    ghost use Rattle.taskq.specs.Tasks.{Tasks, pris_of, IsSound};
 
     ghost Value = { Tasks };
 
     ghost view = { λ q. record { ready = sequence (S.sequences q.space) 0; states = q.states.items; pris = pris_of (S.keys q.space); names = map (λ n. n.bytes) q.names.items } };
 
-    ghost invariant = { λ q. (length (S.sequences q.space) ≡ 1) × ((S.homes q.space ≡ map home_for q.states.items) × (length q.names.items ≡ length q.states.items)) };
+    ghost invariant = { λ q. IsSound (length (S.sequences q.space)) (S.homes q.space) q.states.items (length q.names.items) };
 }
 
-#[tactic(auto, using(crate::proofs::TaskLemmas::homes_written, crate::proofs::TaskLemmas::written_same, crate::proofs::TaskLemmas::written_twice, crate::proofs::TaskLemmas::home_from_state, crate::proofs::TaskLemmas::homes_absent, crate::proofs::TaskLemmas::headers_kept, crate::proofs::TaskLemmas::states_kept, crate::proofs::TaskLemmas::pris_written, crate::proofs::TaskLemmas::enqueue_by_pris))]
+#[tactic(auto, using(crate::proofs::TaskLemmas::changes))]
 impl<S: ListSpace> TaskQ<S> {
+    /// Makes absent tasks of these names and priorities, at most 4,096, numbered in the order given.
+    /// An error means that memory is lacking.
+    pub fn new(alloc: Global, tasks: &[TaskInit]) -> Result<Self, AllocError>
+        requires { length tasks.now ≤ 4096 }
+        ensures ready { IfOk result (λ q. q.ready ≡ []) }
+        ensures states { IfOk result (λ q. q.states ≡ replicate (length tasks.now) TaskState.Absent) }
+        ensures pris { IfOk result (λ q. q.pris ≡ map (λ t. t.pri) tasks.now) }
+        ensures names { IfOk result (λ q. q.names ≡ map (λ t. t.name.bytes) tasks.now) }
+    {
+        let mut space = S::new(alloc, 1, tasks.len())?;
+        let states = Vec::from_elem(alloc, TaskState::Absent, tasks.len())?;
+        let names = names_of(alloc, tasks)?;
+        for t in 0..tasks.len() {
+            space.set_key(t, tasks[t].pri, None);
+        }
+        Ok(TaskQ {
+            space,
+            states,
+            names,
+        })
+    }
+
     /// Answers the task that is to run next, which stays ready, or none where no task is ready.
     /// RKM Libraries, Exec Tasks: scheduling.
     pub fn pick(&self) -> Option<TaskId>
@@ -103,8 +115,8 @@ impl<S: ListSpace> TaskQ<S> {
         self.states[t] = TaskState::Ready;
     }
 
-    /// Lets a ready task run: it leaves the ready ones.
-    /// RKM Libraries, Exec Tasks: scheduling.
+    /// Lets a ready task run: it leaves the ready ones. It is the caller who sees to it that one task runs
+    /// at a time. RKM Libraries, Exec Tasks: scheduling.
     pub fn run(&mut self, t: TaskId)
         requires ready { state_at self.old.states t ≡ TaskState.Ready }
         ensures ready { self.new.ready ≡ without t self.old.ready }
@@ -116,7 +128,7 @@ impl<S: ListSpace> TaskQ<S> {
         self.states[t] = TaskState::Running;
     }
 
-    /// Lets a running task wait. Autodoc exec.library/Wait.
+    /// Lets a running task wait for what `why` says. Autodoc exec.library/Wait.
     pub fn block(&mut self, t: TaskId, why: Why)
         requires running { state_at self.old.states t ≡ TaskState.Running }
         ensures ready { self.new.ready ≡ self.old.ready }
@@ -226,28 +238,17 @@ impl<S: ListSpace> TaskQ<S> {
     {
         self.states[t]
     }
+}
 
-    /// Makes absent tasks of these names and priorities, at most 4,096, numbered in the order given.
-    /// An error means that memory is lacking.
-    pub fn new(alloc: Global, tasks: &[TaskInit]) -> Result<Self, AllocError>
-        requires { length tasks.now ≤ 4096 }
-        ensures ready { IfOk result (λ q. q.ready ≡ []) }
-        ensures states { IfOk result (λ q. q.states ≡ replicate (length tasks.now) TaskState.Absent) }
-        ensures pris { IfOk result (λ q. q.pris ≡ map (λ t. t.pri) tasks.now) }
-        ensures names { IfOk result (λ q. q.names ≡ map (λ t. t.name.bytes) tasks.now) }
-    {
-        let mut space = S::new(alloc, 1, tasks.len())?;
-        let states = Vec::from_elem(alloc, TaskState::Absent, tasks.len())?;
-        let names = names_of(alloc, tasks)?;
-        for t in 0..tasks.len() {
-            space.set_key(t, tasks[t].pri, None);
-        }
-        Ok(TaskQ {
-            space,
-            states,
-            names,
-        })
+/// The names of the tasks, in their order.
+fn names_of(alloc: Global, tasks: &[TaskInit]) -> Result<Vec<Name>, AllocError>
+    ensures { IfOk result (λ v. v.items ≡ map (λ t. t.name) tasks.now) }
+{
+    let mut names = Vec::with_capacity(alloc, tasks.len())?;
+    for task in tasks {
+        names.push(task.name)?;
     }
+    Ok(names)
 }
 
 #[cfg(test)]

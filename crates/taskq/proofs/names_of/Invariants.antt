@@ -1,3 +1,4 @@
+-- The names so far are those of the tasks so far.
 use Rattle.std.proofs.Common.{◌≡◌, take, map}
 use Rattle.taskq.proofs.names_of.Given as goal
 

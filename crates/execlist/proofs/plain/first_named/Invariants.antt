@@ -1,3 +1,4 @@
+-- No node of the header so far has the name.
 use Rattle.std.proofs.Common.{◌≡◌, drop}
 use Rattle.std.specs.Prelude.{find}
 use Rattle.execlist.specs.Lists.{is_named}

@@ -1,3 +1,4 @@
+-- No node so far is one of the header.
 use Rattle.std.proofs.Common.{◌≡◌, drop}
 use Rattle.execlist.specs.Plain.{nodes_of}
 use Rattle.execlist.proofs.plain.first_of.Given as goal

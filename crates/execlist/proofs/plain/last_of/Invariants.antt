@@ -1,3 +1,4 @@
+-- No node from here on is one of the header.
 use Rattle.std.proofs.Common.{◌≡◌, ◌≤◌, take, length}
 use Rattle.execlist.specs.Lists.{last}
 use Rattle.execlist.specs.Plain.{nodes_of}

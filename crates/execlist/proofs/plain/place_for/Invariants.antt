@@ -1,3 +1,4 @@
+-- No node of the header so far is of lower priority.
 use Rattle.std.proofs.Common.{◌≡◌, ◌++◌, take, drop}
 use Rattle.execlist.specs.Order.{enqueue}
 use Rattle.execlist.specs.Lists.{pri_of}

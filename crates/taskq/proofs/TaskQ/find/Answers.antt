@@ -1,3 +1,4 @@
+-- The task at which the loop stops is the first of all that is live and has the name.
 use Rattle.std.proofs.Common.{rules, ◌≡◌, ◌<◌, length, true, arith}
 use Rattle.std.proofs.lemmas.Grind.{common_steps}
 use Rattle.taskq.specs.Tasks.{is_live_named}

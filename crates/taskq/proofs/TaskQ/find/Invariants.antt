@@ -1,3 +1,4 @@
+-- No task so far is live and has the name.
 use Rattle.std.proofs.Common.{◌≡◌, ℕ, ◌<◌, false}
 use Rattle.taskq.specs.Tasks.{is_live_named}
 use Rattle.taskq.proofs.TaskQ.find.Given as goal

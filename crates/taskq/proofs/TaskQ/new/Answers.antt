@@ -1,3 +1,4 @@
+-- One more priority is set; with all of them set, the tasks are as they were given.
 use Rattle.std.proofs.Common.{rules, ◌≡◌, ◌<◌, ◌+◌, ℕ, Option, None, take, length, map, replicate, slice_index_or, sym, ap, ◌∙◌, arith}
 use Rattle.std.specs.Prelude.{pos}
 use Rattle.std.proofs.lemmas.Int.{to_z-of_z}
@@ -22,7 +23,8 @@ loop-t-preserved g c =
     record {
       sequences = c.set_key.ensures.sequences ∙ c.loop-t.invariant.sequences;
       homes = c.set_key.ensures.homes ∙ c.loop-t.invariant.homes;
-      pris = ap (λ k. take (c.loop-t.t + 1) (pris_of k)) c.set_key.ensures.keys ∙ pris_set keys pris c.loop-t.t _ known given c.loop-t.invariant.pris (to_z-of_z w8 task.pri fits ∙ sym (get_or-map (λ t. t.pri) tasks c.loop-t.t c.index-tasks-t.result (pos 0) c.loop-t-test.true));
+      pris = ap (λ k. take (c.loop-t.t + 1) (pris_of k)) c.set_key.ensures.keys
+          ∙ pris_set keys pris c.loop-t.t _ known given c.loop-t.invariant.pris (to_z-of_z w8 task.pri fits ∙ sym (get_or-map (λ t. t.pri) tasks c.loop-t.t c.index-tasks-t.result (pos 0) c.loop-t-test.true));
     }
 
 pub invariant_of-result : goal.invariant_of-result
@@ -30,7 +32,12 @@ invariant_of-result g c =
     let n = length c.args.tasks.now in
     let absent : c.in_ok-states.states.items ≡ replicate n Absent = search rules in
     let homes = c.loop-t.invariant.homes ∙ sym (homes_absent n) ∙ ap (map home_for) (sym absent) in
-    (ap length c.loop-t.invariant.sequences, (homes, ap length c.in_ok-names.ensures ∙ length-map c.args.tasks.now (λ t. t.name) ∙ sym (ap length absent ∙ length-replicate n Absent)))
+    record {
+      one_header = ap length c.loop-t.invariant.sequences;
+      ready_held = homes;
+      all_named = ap length c.in_ok-names.ensures ∙ length-map c.args.tasks.now (λ t. t.name)
+          ∙ sym (ap length absent ∙ length-replicate n Absent);
+    }
 
 pub returns-clause-names : goal.returns-clause-names
 returns-clause-names g c =

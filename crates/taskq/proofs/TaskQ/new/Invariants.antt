@@ -1,3 +1,4 @@
+-- The one header stays empty, and the priorities so far are those of the tasks so far.
 use Rattle.std.proofs.Common.{◌≡◌, take, length, map, replicate, [], ◌∷◌, None}
 use Rattle.taskq.specs.Tasks.{pris_of}
 use Rattle.taskq.proofs.TaskQ.new.Given as goal

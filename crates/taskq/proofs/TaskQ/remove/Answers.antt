@@ -1,3 +1,4 @@
+-- A ready task leaves its header; any other stood in none, and leaving it out changes nothing.
 use Rattle.std.proofs.Common.{◌<◌, None, ap, ◌∙◌, sym, arith, length, slice_set}
 use Rattle.execlist.specs.Order.{without}
 use Rattle.execlist.specs.Lists.{home, sequence}
@@ -12,12 +13,12 @@ invariant_of-self g c =
     let s = c.self.inside.space in
     let states = c.self.inside.states.items in
     let known : c.args.t < length states = omega (arith, known_live c.args.self.now.states c.args.t c.requires.live, ap (λ q. length q.states) c.self.view_is) in
-    let own = home_read (g.S.ListSpace.homes s) states c.args.t c.index.result.now c.self.invariant.1.0 known c.index.ensures in
-    let named = c.self.invariant.1.1 ∙ sym (states_kept states c.args.t Removed) in
+    let own = home_read (g.S.ListSpace.homes s) states c.args.t c.index.result.now c.self.invariant.ready_held known c.index.ensures in
+    let named = c.self.invariant.all_named ∙ sym (states_kept states c.args.t Removed) in
     let removed = sym (homes_written states c.args.t Removed) in
     elim c.match-index.branch [
-      | in-Ready w ↦ rw w.self-inside-is (w.remove.ensures.headers ∙ c.self.invariant.0, (w.remove.ensures.homes ∙ ap (λ o. slice_set o c.args.t None) c.self.invariant.1.0 ∙ removed, named))
-      | in_default w ↦ rw w.self-inside-is (c.self.invariant.0, (sym (written_same (g.S.ListSpace.homes s) c.args.t None (own ∙ home_for_none c.index.result.now w.in_default.not-Ready)) ∙ ap (λ o. slice_set o c.args.t None) c.self.invariant.1.0 ∙ removed, named))
+      | in-Ready w ↦ rw w.self-inside-is (record { one_header = w.remove.ensures.headers ∙ c.self.invariant.one_header; ready_held = w.remove.ensures.homes ∙ ap (λ o. slice_set o c.args.t None) c.self.invariant.ready_held ∙ removed; all_named = named })
+      | in_default w ↦ rw w.self-inside-is (record { one_header = c.self.invariant.one_header; ready_held = sym (written_same (g.S.ListSpace.homes s) c.args.t None (own ∙ home_for_none c.index.result.now w.in_default.not-Ready)) ∙ ap (λ o. slice_set o c.args.t None) c.self.invariant.ready_held ∙ removed; all_named = named })
     ]
 
 pub returns-clause-ready : goal.returns-clause-ready
@@ -25,8 +26,10 @@ returns-clause-ready g c =
     let s = c.self.inside.space in
     let all = g.S.ListSpace.sequences s in
     let known : c.args.t < length c.self.inside.states.items = omega (arith, known_live c.args.self.now.states c.args.t c.requires.live, ap (λ q. length q.states) c.self.view_is) in
-    let own = home_read (g.S.ListSpace.homes s) c.self.inside.states.items c.args.t c.index.result.now c.self.invariant.1.0 known c.index.ensures in
+    let own = home_read (g.S.ListSpace.homes s) c.self.inside.states.items c.args.t c.index.result.now c.self.invariant.ready_held known c.index.ensures in
     elim c.match-index.branch [
-      | in-Ready w ↦ rw w.self-inside-is (departed all (g.S.ListSpace.sequences w.remove.new.self) (home (g.S.ListSpace.homes s) c.args.t) c.args.t c.self.invariant.0 (own ∙ ap home_for w.in-Ready.is) w.remove.ensures.taken) ∙ ap (λ q. without c.args.t q.ready) c.self.view_is
-      | in_default w ↦ rw w.self-inside-is (not_there c.args.t (sequence all 0) (home (g.S.ListSpace.homes s) c.args.t) (own ∙ home_for_none c.index.result.now w.in_default.not-Ready) (g.met.S.ListSpace.stands s 0 c.args.t)) ∙ ap (λ q. without c.args.t q.ready) c.self.view_is
+      | in-Ready w ↦ rw w.self-inside-is (departed all (g.S.ListSpace.sequences w.remove.new.self) (home (g.S.ListSpace.homes s) c.args.t) c.args.t c.self.invariant.one_header (own ∙ ap home_for w.in-Ready.is) w.remove.ensures.taken)
+          ∙ ap (λ q. without c.args.t q.ready) c.self.view_is
+      | in_default w ↦ rw w.self-inside-is (not_there c.args.t (sequence all 0) (home (g.S.ListSpace.homes s) c.args.t) (own ∙ home_for_none c.index.result.now w.in_default.not-Ready) (g.met.S.ListSpace.stands s 0 c.args.t))
+          ∙ ap (λ q. without c.args.t q.ready) c.self.view_is
     ]

@@ -1,3 +1,4 @@
+-- The first node of the name after a place is the first in that part of the sequence.
 use Rattle.std.proofs.Common.{◌<◌, arith, sym, ap, ◌∙◌, add-one, length}
 use Rattle.std.specs.Prelude.{find, slice_index}
 use Rattle.execlist.specs.Lists.{is_named, sequence, part_from}
@@ -22,7 +23,9 @@ returns-in-None-clause-value c =
     let seq = sequence (sequences_of s.headers s.order.items s.homes.items) c.args.h in
     let named = is_named (keys_of s.keys.items) c.args.name.now in
     let header = header_in s.headers s.order.items s.homes.items c.args.h c.requires.header in
-    (rw (c.deref.ensures.value, c.deref-in-None.ensures.value, c.deref-in-None-2.ensures.value) at c.first_named.ensures.value) ∙ ap (find named) (sym (sequence_is s.headers s.order.items s.homes.items c.args.h header)) ∙ ap (λ o. find named (part_from o seq)) (sym c.in-None.is)
+    (rw (c.deref.ensures.value, c.deref-in-None.ensures.value, c.deref-in-None-2.ensures.value) at c.first_named.ensures.value)
+    ∙ ap (find named) (sym (sequence_is s.headers s.order.items s.homes.items c.args.h header))
+    ∙ ap (λ o. find named (part_from o seq)) (sym c.in-None.is)
 
 pub returns-in-Some-clause-value : goal.returns-in-Some-clause-value
 returns-in-Some-clause-value c =
@@ -33,4 +36,6 @@ returns-in-Some-clause-value c =
     let at = c.place_of-at.result in
     let within : at < length s.order.items = omega (arith, s.order.ok.0, ap length c.deref-in-Some.ensures.value, c.place_of-at.ensures.within) in
     let there = sym (ap (λ l. slice_index l at) c.deref-in-Some.ensures.value) ∙ c.place_of-at.ensures.there in
-    (rw (c.deref-in-Some-2.ensures.value, c.deref-in-Some-3.ensures.value, c.deref-in-Some-4.ensures.value, add-one) at c.first_named-in-Some.ensures.value) ∙ ap (find named) (sym (after_held s.headers s.order.items s.homes.items at c.args.h c.in-Some.n s.kept within there own)) ∙ ap (λ o. find named (part_from o seq)) (sym c.in-Some.is)
+    (rw (c.deref-in-Some-2.ensures.value, c.deref-in-Some-3.ensures.value, c.deref-in-Some-4.ensures.value, add-one) at c.first_named-in-Some.ensures.value)
+    ∙ ap (find named) (sym (after_held s.headers s.order.items s.homes.items at c.args.h c.in-Some.n s.kept within there own))
+    ∙ ap (λ o. find named (part_from o seq)) (sym c.in-Some.is)

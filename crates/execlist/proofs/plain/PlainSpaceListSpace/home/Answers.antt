@@ -1,3 +1,4 @@
+-- The header of a linked node has it in its sequence, so it is one of the space.
 use Rattle.std.proofs.Common.{◌∙◌, sym, arith}
 use Rattle.execlist.specs.Plain.{sequences_of}
 use Rattle.execlist.proofs.PlainLemmas.{home_header, read_home, if_some_from}
