@@ -6,6 +6,9 @@ ghost use Rattle.taskscript.specs.Commands.{command_view};
 ghost use Rattle.taskscript.specs.Faults.{Judges};
 ghost use Rattle.taskscript.specs.Numbering.{texts};
 
+#[cfg(test)]
+mod tests;
+
 use crate::command::Command;
 use crate::fault::FileFault;
 use crate::line::read_line;
