@@ -12,7 +12,7 @@ use Rattle.memlist.specs.declared.region.Region.{Region}
 use Rattle.memlist.specs.Fit.{better, chosen, greatest, is_suitable, lowest_gap}
 use Rattle.memlist.specs.Areas.{Area, area_gaps, regions_of}
 use Rattle.memlist.specs.Choice.{IsLowest, IsOffer, chosen_of, free_of, is_below, is_outranked, largest_of, offers, sizes_of, suitable_of}
-use Rattle.memlist.proofs.Tests.{nat_lt-true, nat_lt-false}
+use Rattle.memlist.proofs.Answered.{nat_lt-true, nat_lt-false}
 use Rattle.memlist.proofs.Headers.{from_le}
 
 -- The lowest gap

@@ -9,7 +9,7 @@ use Rattle.std.proofs.lemmas.Bool.{cases_lt}
 use Rattle.memlist.specs.declared.gap.Gap.{Gap}
 use Rattle.memlist.specs.Blocks.{stretch}
 use Rattle.memlist.specs.Joins.{IsSpread, AllEndBefore, Around, joined_start, joined_end, lower_start, upper_end}
-use Rattle.memlist.proofs.Tests.{nat_lt-true, nat_lt-false, nat_eq-same, nat_eq-other}
+use Rattle.memlist.proofs.Answered.{nat_lt-true, nat_lt-false, nat_eq-same, nat_eq-other}
 use Rattle.memlist.proofs.Gaps.{stretch_some, stretch_cases}
 
 -- what is left of a gap that is not taken whole

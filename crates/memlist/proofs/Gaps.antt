@@ -7,7 +7,7 @@ use Rattle.memlist.specs.declared.gap.Gap.{Gap}
 use Rattle.memlist.specs.Blocks.{Blocks, block_at, freed, stretch, gaps_between}
 use Rattle.memlist.specs.Memory.{IsLaid}
 use Rattle.memlist.specs.Joins.{IsSpread, AllEndBefore, Around}
-use Rattle.memlist.proofs.Tests.{nat_lt-true, nat_lt-false, nat_eq-same, nat_eq-other, put_before, put_after, cases_eq, found_here, found_later}
+use Rattle.memlist.proofs.Answered.{nat_lt-true, nat_lt-false, nat_eq-same, nat_eq-other, put_before, put_after, cases_eq, found_here, found_later}
 
 pub stretch_some : (from to : ℕ) → from < to → stretch from to ≡ record { address = from; size = to - from } ∷ []
 stretch_some from to h = ap (λ b. cond b (record { address = from; size = to - from } ∷ []) []) (nat_lt-true from to h)

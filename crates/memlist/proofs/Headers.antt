@@ -17,7 +17,7 @@ use Rattle.memlist.specs.Blocks.{Blocks, block_at, freed, is_in, stretch, gaps_b
 use Rattle.memlist.specs.Memory.{IsLaid}
 use Rattle.memlist.specs.Joins.{Around}
 use Rattle.memlist.specs.Areas.{Area, IsHeader, area_gaps, entries, block_of}
-use Rattle.memlist.proofs.Tests.{cases_eq, found_here, found_later}
+use Rattle.memlist.proofs.Answered.{cases_eq, found_here, found_later}
 use Rattle.memlist.proofs.Gaps.{stretch_some, stretch_cases, taken, frees, units_used}
 use Rattle.memlist.proofs.Slots.{entries-put, entries-freed, found-entries, found_between}
 

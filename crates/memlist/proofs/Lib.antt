@@ -1,4 +1,4 @@
-pub mod Tests
+pub mod Answered
 pub mod Gaps
 pub mod Edits
 pub mod Slots
@@ -7,3 +7,6 @@ pub mod Choices
 pub mod Merged
 pub mod Together
 pub mod Memories
+pub mod Tiling
+pub mod Keeping
+pub mod Fitting

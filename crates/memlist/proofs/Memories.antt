@@ -20,7 +20,7 @@ use Rattle.memlist.specs.Fit.{asks, avail, chosen, fit, free_sizes, front, great
 use Rattle.memlist.specs.Memory.{Memory, without_block}
 use Rattle.memlist.specs.Areas.{Area, AreMemory, IsLaidArea, area_gaps, empty_area, memory_of, merged, regions_of}
 use Rattle.memlist.specs.Choice.{IsHome, IsLowest, IsOffer, chosen_of, free_of, installed_of, largest_of, offers, sizes_of, suitable_of}
-use Rattle.memlist.proofs.Tests.{nat_eq-other}
+use Rattle.memlist.proofs.Answered.{nat_eq-other}
 use Rattle.memlist.proofs.Headers.{IsAligned, IsGapWithin, aligned_region, and_left, and_right, end_aligned, from_le, gaps_within, sizes_fill}
 use Rattle.memlist.proofs.Choices.{free-cons}
 use Rattle.memlist.proofs.Together.{AreApart, apart_areas, at_place, found_in_none, found_of_area, gaps_of_area, is_in-true, merged-freed, merged-put}

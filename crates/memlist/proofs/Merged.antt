@@ -8,14 +8,14 @@ use Rattle.std.specs.FinMap.Entries.{find-put, where_key}
 use Rattle.std.proofs.lemmas.Bool.{cases_lt}
 use Rattle.memlist.specs.Blocks.{Blocks, block_at}
 use Rattle.memlist.specs.Areas.{put_all}
-use Rattle.memlist.proofs.Tests.{cases_eq, key_other, put_after, put_at, put_before}
+use Rattle.memlist.proofs.Answered.{cases_eq, key_other, put_after, put_at, put_before}
 use Rattle.memlist.proofs.Slots.{AllFrom, all_from_lower, put_front}
 
 -- keys in three orders
-cases_order : {C : Type 0} (a b : ℕ) → (a < b → C) → (a ≡ b → C) → (b < a → C) → C
+pub cases_order : {C : Type 0} (a b : ℕ) → (a < b → C) → (a ≡ b → C) → (b < a → C) → C
 cases_order a b less same more = ⊎_elim less (λ (le : b ≤ a). cases_eq a b same (λ other. more (omega arith))) (cases_lt a b)
 
-put_same : (a : ℕ) (v : ℕ × ℕ) (b : ℕ × (ℕ × ℕ)) (rest : Blocks) → a ≡ b.0 → put nat_cmp a v (b ∷ rest) ≡ (b.0, v) ∷ rest
+pub put_same : (a : ℕ) (v : ℕ × ℕ) (b : ℕ × (ℕ × ℕ)) (rest : Blocks) → a ≡ b.0 → put nat_cmp a v (b ∷ rest) ≡ (b.0, v) ∷ rest
 put_same a v b rest e = subst (λ k. put nat_cmp k v (b ∷ rest) ≡ (b.0, v) ∷ rest) (sym e) (put_at b.0 v b.1 rest)
 
 -- Entries that are put one after another
@@ -116,14 +116,14 @@ pub cases_bool : {C : Type 0} (b : Bool) → (b ≡ true → C) → (b ≡ false
 cases_bool true passes fails = passes refl
 cases_bool false passes fails = fails refl
 
-from_where : (p : ℕ → Bool) (low : ℕ) (xs : Blocks) → AllFrom low xs → AllFrom low (where_key nat_cmp p xs)
+pub from_where : (p : ℕ → Bool) (low : ℕ) (xs : Blocks) → AllFrom low xs → AllFrom low (where_key nat_cmp p xs)
 from_where p low [] all = tt
 from_where p low (x ∷ xs) all =
     cases_bool (p x.0)
     (λ t. subst (AllFrom low) (sym (where_pass p x xs t)) (all.0, from_where p low xs all.1))
     (λ f. subst (AllFrom low) (sym (where_fail p x xs f)) (from_where p low xs all.1))
 
-where_put_fail : (p : ℕ → Bool) (a : ℕ) (v : ℕ × ℕ) (xs : Blocks) → p a ≡ false → where_key nat_cmp p (put nat_cmp a v xs) ≡ where_key nat_cmp p xs
+pub where_put_fail : (p : ℕ → Bool) (a : ℕ) (v : ℕ × ℕ) (xs : Blocks) → p a ≡ false → where_key nat_cmp p (put nat_cmp a v xs) ≡ where_key nat_cmp p xs
 where_put_fail p a v [] f = where_fail p (a, v) [] f
 where_put_fail p a v (x ∷ xs) f =
     cases_order a x.0
@@ -135,7 +135,7 @@ where_put_fail p a v (x ∷ xs) f =
     (λ t. where_pass p x (put nat_cmp a v xs) t ∙ ap (λ ys. x ∷ ys) (where_put_fail p a v xs f) ∙ sym (where_pass p x xs t))
     (λ g. where_fail p x (put nat_cmp a v xs) g ∙ where_put_fail p a v xs f ∙ sym (where_fail p x xs g)))
 
-where_put_pass : (p : ℕ → Bool) (a : ℕ) (v : ℕ × ℕ) (xs : Blocks) → p a ≡ true → IsRising xs → where_key nat_cmp p (put nat_cmp a v xs) ≡ put nat_cmp a v (where_key nat_cmp p xs)
+pub where_put_pass : (p : ℕ → Bool) (a : ℕ) (v : ℕ × ℕ) (xs : Blocks) → p a ≡ true → IsRising xs → where_key nat_cmp p (put nat_cmp a v xs) ≡ put nat_cmp a v (where_key nat_cmp p xs)
 where_put_pass p a v [] t h = where_pass p (a, v) [] t
 where_put_pass p a v (x ∷ xs) t h =
     cases_order a x.0

@@ -7,7 +7,7 @@ use Rattle.memlist.specs.declared.slot.Slot.{Slot}
 use Rattle.memlist.specs.Blocks.{Blocks, block_at, freed}
 use Rattle.memlist.specs.Memory.{IsLaid}
 use Rattle.memlist.specs.Areas.{entries, block_of}
-use Rattle.memlist.proofs.Tests.{nat_eq-same, nat_eq-other, key_same, key_other, put_before, put_after, put_at}
+use Rattle.memlist.proofs.Answered.{nat_eq-same, nat_eq-other, key_same, key_other, put_before, put_after, put_at}
 use Rattle.memlist.proofs.Gaps.{freed_later}
 
 -- no block begins below an address

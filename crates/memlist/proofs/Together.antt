@@ -11,7 +11,7 @@ use Rattle.memlist.specs.Regions.{are_apart, overlaps, region_end}
 use Rattle.memlist.specs.Blocks.{Blocks, block_at, blocks_in, freed, gaps, gaps_between, is_in}
 use Rattle.memlist.specs.Memory.{IsLaid}
 use Rattle.memlist.specs.Areas.{Area, IsLaidArea, area_gaps, merged, put_all, regions_of}
-use Rattle.memlist.proofs.Tests.{nat_eq-other, nat_lt-true}
+use Rattle.memlist.proofs.Answered.{nat_eq-other, nat_lt-true}
 use Rattle.memlist.proofs.Slots.{AllFrom}
 use Rattle.memlist.proofs.Headers.{and_left, and_right, ends_within, inside_region}
 use Rattle.memlist.proofs.Merged.{AllAnswer, IsRising, found_nowhere, found_outside, found_put_all, or_else, put_all-nil, put_all-others, put_all-put, rising_put_all, where_all, where_none, where_put_all}
@@ -42,7 +42,7 @@ rising_laid from [] to laid = tt
 rising_laid from (block ∷ rest) to laid = (from_laid (block.0 + 1) (block.0 + block.1.0) rest to (omega (arith, laid.1)) laid.4, rising_laid (block.0 + block.1.0) rest to laid.4)
 
 -- an address of one region is none of another
-apart_in : (a b : Region) (address : ℕ) → overlaps a b ≡ false → is_in a address ≡ true → is_in b address ≡ false
+pub apart_in : (a b : Region) (address : ℕ) → overlaps a b ≡ false → is_in a address ≡ true → is_in b address ≡ false
 apart_in a b address apart inside =
     elim (is_in b address) as (λ t. is_in b address ≡ t → t ≡ false) [
       | true ↦ λ e.
@@ -53,7 +53,7 @@ apart_in a b address apart inside =
       | false ↦ λ e. refl
     ] refl
 
-apart_out : (a b : Region) (address : ℕ) → overlaps a b ≡ false → is_in b address ≡ true → is_in a address ≡ false
+pub apart_out : (a b : Region) (address : ℕ) → overlaps a b ≡ false → is_in b address ≡ true → is_in a address ≡ false
 apart_out a b address apart inside =
     elim (is_in a address) as (λ t. is_in a address ≡ t → t ≡ false) [
       | true ↦ λ e. let bad : true ≡ false = sym inside ∙ apart_in a b address apart e in cc

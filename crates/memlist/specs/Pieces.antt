@@ -1,5 +1,6 @@
--- Blocks and gaps side by side: what the laws of memory speak of.
-use Rattle.std.specs.Prelude.{◌≡◌, ℕ, ◌+◌, ◌<◌, Bool, ◌&&◌, nat_le, List, ◌++◌, ◌⊎◌, Any, map}
+-- Blocks and gaps side by side: what the laws of memory say.
+use Rattle.std.specs.Prelude.{◌≡◌, ◌⊎◌, ◌+◌, ◌%◌, ◌<◌, ◌≤◌, ◌&&◌, ◌++◌, List, Bool, Some, map, nat_le, slice_get, ℕ, ◌≤ℤ◌, ◌<ℤ◌}
+use Rattle.std.specs.List.{All, AllPairs, Any, count_by, sum_by}
 use Rattle.memlist.specs.declared.gap.Gap.{Gap}
 use Rattle.memlist.specs.declared.region.Region.{Region}
 use Rattle.memlist.specs.Regions.{region_end}
@@ -17,13 +18,33 @@ pieces region blocks = map stretch_of (blocks_in region blocks) ++ gaps region b
 abbrev pub holds_unit : ℕ → Gap → Bool
 holds_unit unit piece = nat_le piece.address unit && nat_le (unit + 8) (piece.address + piece.size)
 
--- a gap ends before the next one begins
-abbrev pub EndsBefore : Gap → Gap → Type 0
-EndsBefore gap next = gap.address + gap.size < next.address
-
 -- A gap of a region goes as far as it can: from the region's base or the end of a block up to the region's end or
 -- the address of a block.
 pub record IsMaximal (region : Region) (blocks : Blocks) (gap : Gap) : Type 0 where
   pub some : 0 < gap.size
   pub below : (gap.address ≡ region.base) ⊎ Any (λ (block : ℕ × (ℕ × ℕ)). block.0 + block.1.0 ≡ gap.address) (blocks_in region blocks)
   pub above : (gap.address + gap.size ≡ region_end region) ⊎ Any (λ (block : ℕ × (ℕ × ℕ)). block.0 ≡ gap.address + gap.size) (blocks_in region blocks)
+
+-- Blocks and gaps tile a region: each unit of 8 bytes lies in exactly one of them, their sizes add up to the region's,
+-- and gaps are maximal and touch no other.
+pub record IsTiled (region : Region) (blocks : Blocks) : Type 0 where
+  pub once : (unit : ℕ) → unit % 8 ≡ 0 → region.base ≤ unit → unit < region_end region → count_by (holds_unit unit) (pieces region blocks) ≡ 1
+  pub sizes : sum_by (λ (piece : Gap). piece.size) (pieces region blocks) ≡ region.size
+  pub maximal : All (IsMaximal region blocks) (gaps region blocks)
+  pub apart : AllPairs (λ (gap next : Gap). gap.address + gap.size < next.address) (gaps region blocks)
+
+-- a block lies whole in a region
+abbrev pub LiesIn : ℕ × (ℕ × ℕ) → Region → Type 0
+LiesIn block region = (region.base ≤ block.0) × (block.0 + block.1.0 ≤ region_end region)
+
+-- Each block lies in a region, and no two blocks meet.
+pub record AreDisjoint (regions : List Region) (blocks : Blocks) : Type 0 where
+  pub inside : All (λ (block : ℕ × (ℕ × ℕ)). Any (LiesIn block) regions) blocks
+  pub apart : AllPairs (λ (block next : ℕ × (ℕ × ℕ)). block.0 + block.1.0 ≤ next.0) blocks
+
+-- A region is the earliest among those of greatest priority.
+pub record IsEarliestGreatest (regions : List Region) (region : Region) : Type 0 where
+  pub place : ℕ
+  pub at : slice_get regions place ≡ Some region
+  pub greatest : (k : ℕ) (other : Region) → slice_get regions k ≡ Some other → other.pri ≤ℤ region.pri
+  pub earliest : (k : ℕ) (other : Region) → k < place → slice_get regions k ≡ Some other → other.pri <ℤ region.pri

@@ -9,6 +9,9 @@ pub use region::{MemFault, Region, TOTAL_LIMIT, check_regions};
 
 mod gap;
 mod header;
+pub mod laws;
 mod memory;
 mod region;
 mod slot;
+#[cfg(test)]
+mod tests;

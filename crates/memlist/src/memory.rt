@@ -4,7 +4,7 @@ ghost use Rattle.std.specs.List.{list_all};
 ghost use Rattle.memlist.specs.Regions.{is_aligned, is_in_reach, regions_fault};
 ghost use Rattle.memlist.specs.Blocks.{block_at};
 ghost use Rattle.memlist.specs.Fit.{asks, avail, fit, round};
-ghost use Rattle.memlist.specs.Memory.{Memory, allocated, can_free, names, untouched, without_block};
+ghost use Rattle.memlist.specs.Memory.{IsWellFormed, Memory, allocated, can_free, names, untouched, without_block};
 ghost use Rattle.memlist.specs.Areas.{Area, empty_area};
 ghost use Rattle.memlist.specs.Choice.{IsHome, IsOffer, free_of, installed_of, is_outranked, largest_of};
 
@@ -66,6 +66,13 @@ impl MemList {
             Ok(headers) => Ok(MemList { headers }),
             Err(_) => Err(MemFault::OutOfMemory),
         }
+    }
+
+    /// The law of every memory list: its blocks lie in its regions, in order and beside one another. It costs nothing.
+    pub fn is_well_formed(&self)
+        ensures { IsWellFormed self.now.regions self.now.blocks }
+    {
+        let _ = &self.headers;
     }
 
     /// Allocates a block of a size in bytes, which is rounded up to a multiple of 8, and answers its address.

@@ -1,0 +1,308 @@
+-- What a fit is: the chosen region, its lowest large enough gap, and a memory that stays well formed.
+use Rattle.std.proofs.Common.{◌≡◌, ◌≢◌, ℕ, ℤ, zero, suc, ◌+◌, ◌<◌, ◌≤◌, Bool, true, false, cond, List, [], ◌∷◌, ◌++◌, get_or, refl, sym, ◌∙◌, ap, subst, arith, ⊎_elim}
+use Rattle.std.specs.Prelude.{nat_eq, nat_le, int_lt, ◌≤ℤ◌, ◌<ℤ◌, ◌||◌, Option, Some, None, slice_get}
+use Rattle.std.specs.List.{AllByRecursion, filter}
+use Rattle.std.specs.Option.{option_map, option_and_then}
+use Rattle.std.specs.Ordering.{nat_cmp}
+use Rattle.std.specs.FinMap.{put}
+use Rattle.std.specs.FinMap.Entries.{where_key}
+use Rattle.std.proofs.lemmas.Int.{ints}
+use Rattle.std.proofs.lemmas.Bool.{cases_lt}
+use Rattle.std.proofs.lemmas.Option.{slice_get-get_or, slice_get_within, get_or_from_slice_get}
+use Rattle.memlist.specs.declared.gap.Gap.{Gap}
+use Rattle.memlist.specs.declared.region.Region.{Region}
+use Rattle.memlist.specs.Regions.{region_end}
+use Rattle.memlist.specs.Blocks.{Blocks, blocks_in, gaps, gaps_between, is_in}
+use Rattle.memlist.specs.Fit.{better, chosen, fit, front, has_room, lowest_gap, round}
+use Rattle.memlist.specs.Memory.{IsLaid, IsWellFormed}
+use Rattle.memlist.specs.Pieces.{AreDisjoint, IsEarliestGreatest}
+use Rattle.memlist.proofs.Gaps.{taken}
+use Rattle.memlist.proofs.Headers.{IsGapWithin, end_aligned, ends_within, from_le, gaps_within}
+use Rattle.memlist.proofs.Slots.{AllFrom}
+use Rattle.memlist.proofs.Merged.{AllAnswer, IsRising, cases_bool, rising_put, where_fail, where_pass}
+use Rattle.memlist.proofs.Together.{is_in-true}
+use Rattle.memlist.proofs.Tiling.{aligned_in, laid_at}
+use Rattle.memlist.proofs.Keeping.{are_laid_put, answers_put, from_home, in_some, in_some_at, rising_sorted, sorted_rising, to_home}
+
+-- The chosen region
+
+better_some : (region : Region) (o : Option Region) → better region o ≢ None
+better_some region None e = cc
+better_some region (Some later) e = elim (int_lt region.pri later.pri) as (λ b. cond b (Some later) (Some region) ≡ None → ⊥) [ true ↦ λ f. cc | false ↦ λ f. cc ] e
+
+pub chosen_none : (regions : List Region) → chosen regions ≡ None → regions ≡ []
+chosen_none [] e = refl
+chosen_none (region ∷ rest) e = absurd (better_some region (chosen rest) e)
+
+none_at : (regions : List Region) (k : ℕ) (other : Region) → regions ≡ [] → slice_get regions k ≡ Some other → ⊥
+none_at [] k other e at = cc
+none_at (x ∷ rest) k other e at = cc
+
+lt_of : (a b : ℤ) → int_lt a b ≡ true → a <ℤ b
+lt_of a b h = grind (arith, ints)
+
+le_of : (a b : ℤ) → int_lt a b ≡ false → b ≤ℤ a
+le_of a b h = grind (arith, ints)
+
+le_self : (a : ℤ) → a ≤ℤ a
+le_self a = grind (arith, ints)
+
+le_trans_z : (a b c : ℤ) → a ≤ℤ b → b ≤ℤ c → a ≤ℤ c
+le_trans_z a b c h k = grind (arith, ints)
+
+lt_le_z : (a b : ℤ) → a <ℤ b → a ≤ℤ b
+lt_le_z a b h = grind (arith, ints)
+
+first_cases : (region : Region) (rest : List Region) → ((k : ℕ) (other : Region) → slice_get rest k ≡ Some other → other.pri ≤ℤ region.pri)
+    → (k : ℕ) (other : Region) → slice_get (region ∷ rest) k ≡ Some other → other.pri ≤ℤ region.pri
+first_cases region rest others zero other at = let here : region ≡ other = cc in subst (λ (r : Region). r.pri ≤ℤ region.pri) here (le_self region.pri)
+first_cases region rest others (suc k) other at = others k other at
+
+-- the first of the regions is chosen
+first_greatest : (region : Region) (rest : List Region) → ((k : ℕ) (other : Region) → slice_get rest k ≡ Some other → other.pri ≤ℤ region.pri) → IsEarliestGreatest (region ∷ rest) region
+first_greatest region rest others = record {
+  place = 0;
+  at = refl;
+  greatest = λ k other at. first_cases region rest others k other at;
+  earliest = λ k other lt at. absurd (omega arith);
+}
+
+later_greatest : (region : Region) (rest : List Region) (later : Region) → region.pri <ℤ later.pri → IsEarliestGreatest rest later
+    → (k : ℕ) (other : Region) → slice_get (region ∷ rest) k ≡ Some other → other.pri ≤ℤ later.pri
+later_greatest region rest later lt g zero other at = let here : region ≡ other = cc in subst (λ (r : Region). r.pri ≤ℤ later.pri) here (lt_le_z region.pri later.pri lt)
+later_greatest region rest later lt g (suc k) other at = g.greatest k other at
+
+later_earliest : (region : Region) (rest : List Region) (later : Region) (place : ℕ) → region.pri <ℤ later.pri
+    → ((k : ℕ) (other : Region) → k < place → slice_get rest k ≡ Some other → other.pri <ℤ later.pri)
+    → (k : ℕ) (other : Region) → k < suc place → slice_get (region ∷ rest) k ≡ Some other → other.pri <ℤ later.pri
+later_earliest region rest later place lt g zero other below at = let here : region ≡ other = cc in subst (λ (r : Region). r.pri <ℤ later.pri) here lt
+later_earliest region rest later place lt g (suc k) other below at = g k other (omega arith) at
+
+chosen_by : (region : Region) (rest : List Region) (o : Option Region) (answer : Region) → chosen rest ≡ o → ((later : Region) → o ≡ Some later → IsEarliestGreatest rest later)
+    → better region o ≡ Some answer → IsEarliestGreatest (region ∷ rest) answer
+chosen_by region rest None answer is later e =
+    let here : region ≡ answer = cc in
+    subst (IsEarliestGreatest (region ∷ rest)) here (first_greatest region rest (λ k other at. absurd (none_at rest k other (chosen_none rest is) at)))
+chosen_by region rest (Some next) answer is later e =
+    let g = later next refl in
+    elim (int_lt region.pri next.pri) as (λ b. int_lt region.pri next.pri ≡ b → cond b (Some next) (Some region) ≡ Some answer → IsEarliestGreatest (region ∷ rest) answer) [
+      | true ↦ λ t f. let here : next ≡ answer = cc in
+          let lt = lt_of region.pri next.pri t in
+          subst (IsEarliestGreatest (region ∷ rest)) here record {
+            place = suc g.place;
+            at = g.at;
+            greatest = later_greatest region rest next lt g;
+            earliest = later_earliest region rest next g.place lt g.earliest;
+          }
+      | false ↦ λ t f. let here : region ≡ answer = cc in
+          subst (IsEarliestGreatest (region ∷ rest)) here
+          (first_greatest region rest (λ k other at. le_trans_z other.pri next.pri region.pri (g.greatest k other at) (le_of region.pri next.pri t)))
+    ] refl e
+
+pub chosen_greatest : (regions : List Region) (region : Region) → chosen regions ≡ Some region → IsEarliestGreatest regions region
+chosen_greatest [] region e = cc
+chosen_greatest (x ∷ rest) region e = chosen_by x rest (chosen rest) region refl (chosen_greatest rest) e
+
+-- The parts of a fit
+
+some_same : (x y : Gap) → Some x ≡ Some y → x ≡ y
+some_same x y e = cc
+
+some_number : (x y : ℕ) → Some x ≡ Some y → x ≡ y
+some_number x y e = cc
+
+not_zero : (n : ℕ) → nat_eq n 0 ≡ false → n ≢ 0
+not_zero n f e = let bad : true ≡ false = sym (ap (λ k. nat_eq k 0) e) ∙ f in cc
+
+record IsMember {X : Type 0} (p : X → Bool) (xs : List X) (x : X) : Type 0 where
+  place : ℕ
+  at : slice_get xs place ≡ Some x
+  passes : p x ≡ true
+
+member_later : {X : Type 0} (p : X → Bool) (y : X) (xs : List X) (x : X) → IsMember p xs x → IsMember p (y ∷ xs) x
+member_later p y xs x m = record { place = suc m.place; at = m.at; passes = m.passes }
+
+filtered_first : (p : Region → Bool) (y : Region) (ys : List Region) (k : ℕ) (x : Region) → p y ≡ true → ((k : ℕ) (x : Region) → slice_get (filter p ys) k ≡ Some x → IsMember p ys x)
+    → slice_get (y ∷ filter p ys) k ≡ Some x → IsMember p (y ∷ ys) x
+filtered_first p y ys zero x t later at = let here : y ≡ x = cc in record { place = 0; at = at; passes = subst (λ (r : Region). p r ≡ true) here t }
+filtered_first p y ys (suc k) x t later at = member_later p y ys x (later k x at)
+
+-- what stands in a filtered list
+filtered : (p : Region → Bool) (xs : List Region) (k : ℕ) (x : Region) → slice_get (filter p xs) k ≡ Some x → IsMember p xs x
+filtered p [] k x at = cc
+filtered p (y ∷ ys) k x at =
+    cases_bool (p y)
+    (λ t. filtered_first p y ys k x t (filtered p ys) (ap (λ b. slice_get (cond b (y ∷ filter p ys) (filter p ys)) k) (sym t) ∙ at))
+    (λ f. member_later p y ys x (filtered p ys k x (ap (λ b. slice_get (cond b (y ∷ filter p ys) (filter p ys)) k) (sym f) ∙ at)))
+
+-- the lowest large enough gap, with the gaps before and after it
+record IsSplit (size : ℕ) (free : List Gap) (gap : Gap) : Type 0 where
+  before : List Gap
+  after : List Gap
+  is : free ≡ before ++ gap ∷ after
+  fits : size ≤ gap.size
+
+split_lowest : (size : ℕ) (free : List Gap) (gap : Gap) → lowest_gap size free ≡ Some gap → IsSplit size free gap
+split_lowest size [] gap e = cc
+split_lowest size (x ∷ rest) gap e =
+    cases_bool (nat_le size x.size)
+    (λ t. let here : x ≡ gap = some_same x gap (ap (λ b. cond b (Some x) (lowest_gap size rest)) (sym t) ∙ e) in
+    record { before = []; after = rest; is = ap (λ (g : Gap). g ∷ rest) here; fits = subst (λ (g : Gap). size ≤ g.size) here (from_le size x.size t) })
+    (λ f. let later = split_lowest size rest gap (ap (λ b. cond b (Some x) (lowest_gap size rest)) (sym f) ∙ e) in
+    record { before = x ∷ later.before; after = later.after; is = ap (λ gs. x ∷ gs) later.is; fits = later.fits })
+
+within_split : (from to : ℕ) (before : List Gap) (gap : Gap) (after : List Gap) → AllByRecursion (IsGapWithin from to) (before ++ gap ∷ after) → IsGapWithin from to gap
+within_split from to [] gap after all = all.0
+within_split from to (x ∷ xs) gap after all = within_split from to xs gap after all.1
+
+-- where a fit lies
+record IsFit (regions : List Region) (blocks : Blocks) (size reqs address : ℕ) : Type 0 where
+  some : size ≢ 0
+  region : Region
+  place : ℕ
+  at : slice_get regions place ≡ Some region
+  gap : Gap
+  lowest : lowest_gap (round size) (gaps region blocks) ≡ Some gap
+  front : gap.address ≡ address
+
+fit_gap : (regions : List Region) (blocks : Blocks) (size reqs address : ℕ) (region : Region) (o : Option Gap) → size ≢ 0 → IsMember (has_room (round size) reqs blocks) regions region
+    → lowest_gap (round size) (gaps region blocks) ≡ o → option_map (λ (gap : Gap). gap.address) o ≡ Some address → IsFit regions blocks size reqs address
+fit_gap regions blocks size reqs address region None some m is e = cc
+fit_gap regions blocks size reqs address region (Some gap) some m is e = record { some = some; region = region; place = m.place; at = m.at; gap = gap; lowest = is; front = some_number gap.address address e }
+
+fit_region : (regions : List Region) (blocks : Blocks) (size reqs address : ℕ) (o : Option Region) → size ≢ 0 → chosen (filter (has_room (round size) reqs blocks) regions) ≡ o
+    → option_and_then (front (round size) blocks) o ≡ Some address → IsFit regions blocks size reqs address
+fit_region regions blocks size reqs address None some is e = cc
+fit_region regions blocks size reqs address (Some region) some is e =
+    let g = chosen_greatest (filter (has_room (round size) reqs blocks) regions) region is in
+    fit_gap regions blocks size reqs address region (lowest_gap (round size) (gaps region blocks)) some
+    (filtered (has_room (round size) reqs blocks) regions g.place region g.at) refl e
+
+fit_parts : (regions : List Region) (blocks : Blocks) (size reqs address : ℕ) → fit regions blocks size reqs ≡ Some address → IsFit regions blocks size reqs address
+unfolding fit
+fit_parts regions blocks size reqs address e =
+    let inner = option_and_then (front (round size) blocks) (chosen (filter (has_room (round size) reqs blocks) regions)) in
+    cases_bool (nat_eq size 0)
+    (λ t. let bad : None ≡ Some address = ap (λ b. cond b None inner) (sym t) ∙ e in cc)
+    (λ f. fit_region regions blocks size reqs address (chosen (filter (has_room (round size) reqs blocks) regions)) (not_zero size f) refl (ap (λ b. cond b None inner) (sym f) ∙ e))
+
+pub fitted_well_formed : (regions : List Region) (blocks : Blocks) (size reqs tag address : ℕ) → IsWellFormed regions blocks → fit regions blocks size reqs ≡ Some address
+    → IsWellFormed regions (put nat_cmp address (round size, tag) blocks)
+unfolding gaps
+fitted_well_formed regions blocks size reqs tag address w e =
+    let f = fit_parts regions blocks size reqs address e in
+    let a = aligned_in regions f.place f.region f.at w.aligned in
+    let laid = laid_at regions blocks f.place f.region f.at w.laid in
+    let mine = blocks_in f.region blocks in
+    let end = region_end f.region in
+    let s = split_lowest (round size) (gaps_between f.region.base mine end) f.gap f.lowest in
+    let g = within_split f.region.base end s.before f.gap s.after (subst (AllByRecursion (IsGapWithin f.region.base end)) s.is (gaps_within f.region.base mine end a.base (end_aligned f.region a) laid)) in
+    let inside = subst (λ k. is_in f.region k ≡ true) f.front (is_in-true f.region f.gap.address g.low (omega (arith, g.high, g.some))) in
+    let some : size ≢ 0 = f.some in
+    let t = taken f.region.base mine end (round size) tag s.before f.gap s.after (omega arith) (omega arith) a.base s.fits laid s.is in
+    let new = subst (λ k. IsLaid f.region.base (put nat_cmp k (round size, tag) mine) end) f.front t.laid in
+    let rising = rising_sorted blocks w.in_order in
+    record {
+      aligned = w.aligned;
+      in_reach = w.in_reach;
+      apart = w.apart;
+      in_order = sorted_rising (put nat_cmp address (round size, tag) blocks) (rising_put address (round size, tag) blocks rising);
+      at_home = to_home regions (put nat_cmp address (round size, tag) blocks)
+          (answers_put (in_some regions) true address (round size, tag) blocks (in_some_at regions f.place f.region address f.at inside) (from_home regions blocks w.at_home));
+      laid = are_laid_put regions blocks f.place f.region address (round size, tag) w.apart rising f.at inside new w.laid;
+    }
+
+-- Blocks that do not meet
+
+record IsHomed (regions : List Region) (address : ℕ) : Type 0 where
+  region : Region
+  place : ℕ
+  at : slice_get regions place ≡ Some region
+  inside : is_in region address ≡ true
+
+homed : (regions : List Region) (address : ℕ) → in_some regions address ≡ true → IsHomed regions address
+homed [] address e = let bad : false ≡ true = e in cc
+homed (x ∷ rest) address e =
+    cases_bool (is_in x address)
+    (λ t. record { region = x; place = 0; at = refl; inside = t })
+    (λ f. let later = homed rest address (ap (λ b. b || in_some rest address) (sym f) ∙ e) in
+    record { region = later.region; place = suc later.place; at = later.at; inside = later.inside })
+
+answer_at : (p : ℕ → Bool) (blocks : Blocks) (k : ℕ) (block : ℕ × (ℕ × ℕ)) → AllAnswer p true blocks → slice_get blocks k ≡ Some block → p block.0 ≡ true
+answer_at p [] k block all at = cc
+answer_at p (x ∷ rest) zero block all at = let here : x ≡ block = cc in subst (λ (b : ℕ × (ℕ × ℕ)). p b.0 ≡ true) here all.0
+answer_at p (x ∷ rest) (suc k) block all at = answer_at p rest k block all.1 at
+
+from_at : (low : ℕ) (blocks : Blocks) (k : ℕ) (block : ℕ × (ℕ × ℕ)) → AllFrom low blocks → slice_get blocks k ≡ Some block → low ≤ block.0
+from_at low [] k block all at = cc
+from_at low (x ∷ rest) zero block all at = let here : x ≡ block = cc in subst (λ (b : ℕ × (ℕ × ℕ)). low ≤ b.0) here all.0
+from_at low (x ∷ rest) (suc k) block all at = from_at low rest k block all.1 at
+
+rising_at : (blocks : Blocks) (i j : ℕ) (a b : ℕ × (ℕ × ℕ)) → IsRising blocks → i < j → slice_get blocks i ≡ Some a → slice_get blocks j ≡ Some b → a.0 < b.0
+rising_at [] i j a b h lt ai bj = cc
+rising_at (x ∷ rest) i zero a b h lt ai bj = absurd (omega arith)
+rising_at (x ∷ rest) zero (suc j) a b h lt ai bj =
+    let here : x ≡ a = cc in
+    let later = subst (λ (y : ℕ × (ℕ × ℕ)). y.0 + 1 ≤ b.0) here (from_at (x.0 + 1) rest j b h.0 bj) in omega (arith, later)
+rising_at (x ∷ rest) (suc i) (suc j) a b h lt ai bj = rising_at rest i j a b h.1 (omega arith) ai bj
+
+-- a block of a region lies between the addresses between which the region's blocks lie
+laid_member : (p : ℕ → Bool) (from : ℕ) (blocks : Blocks) (to k : ℕ) (block : ℕ × (ℕ × ℕ)) → IsLaid from (where_key nat_cmp p blocks) to → slice_get blocks k ≡ Some block → p block.0 ≡ true
+    → (from ≤ block.0) × (block.0 + block.1.0 ≤ to)
+laid_member p from [] to k block laid at t = cc
+laid_member p from (x ∷ rest) to zero block laid at t =
+    let here : x ≡ block = cc in
+    let tx = subst (λ (b : ℕ × (ℕ × ℕ)). p b.0 ≡ true) (sym here) t in
+    let l = subst (λ bs. IsLaid from bs to) (where_pass p x rest tx) laid in
+    subst (λ (b : ℕ × (ℕ × ℕ)). (from ≤ b.0) × (b.0 + b.1.0 ≤ to)) here (l.0, ends_within (x.0 + x.1.0) (where_key nat_cmp p rest) to l.4)
+laid_member p from (x ∷ rest) to (suc k) block laid at t =
+    cases_bool (p x.0)
+    (λ tx. let l = subst (λ bs. IsLaid from bs to) (where_pass p x rest tx) laid in
+    let later = laid_member p (x.0 + x.1.0) rest to k block l.4 at t in (omega (arith, l.0, later.0), later.1))
+    (λ fx. laid_member p from rest to k block (subst (λ bs. IsLaid from bs to) (where_fail p x rest fx) laid) at t)
+
+laid_pair : (p : ℕ → Bool) (from : ℕ) (blocks : Blocks) (to i j : ℕ) (a b : ℕ × (ℕ × ℕ)) → IsLaid from (where_key nat_cmp p blocks) to → i < j
+    → slice_get blocks i ≡ Some a → slice_get blocks j ≡ Some b → p a.0 ≡ true → p b.0 ≡ true → a.0 + a.1.0 ≤ b.0
+laid_pair p from [] to i j a b laid lt ai bj ta tb = cc
+laid_pair p from (x ∷ rest) to i zero a b laid lt ai bj ta tb = absurd (omega arith)
+laid_pair p from (x ∷ rest) to zero (suc j) a b laid lt ai bj ta tb =
+    let here : x ≡ a = cc in
+    let tx = subst (λ (b : ℕ × (ℕ × ℕ)). p b.0 ≡ true) (sym here) ta in
+    let l = subst (λ bs. IsLaid from bs to) (where_pass p x rest tx) laid in
+    subst (λ (y : ℕ × (ℕ × ℕ)). y.0 + y.1.0 ≤ b.0) here (laid_member p (x.0 + x.1.0) rest to j b l.4 bj tb).0
+laid_pair p from (x ∷ rest) to (suc i) (suc j) a b laid lt ai bj ta tb =
+    cases_bool (p x.0)
+    (λ tx. laid_pair p (x.0 + x.1.0) rest to i j a b (subst (λ bs. IsLaid from bs to) (where_pass p x rest tx) laid).4 (omega arith) ai bj ta tb)
+    (λ fx. laid_pair p from rest to i j a b (subst (λ bs. IsLaid from bs to) (where_fail p x rest fx) laid) (omega arith) ai bj ta tb)
+
+not_in : (region : Region) (address : ℕ) → is_in region address ≡ false → region.base ≤ address → region_end region ≤ address
+not_in region address f low =
+    ⊎_elim
+    (λ (lt : address < region_end region). let bad : true ≡ false = sym (is_in-true region address low lt) ∙ f in cc)
+    (λ (le : region_end region ≤ address). le)
+    (cases_lt address (region_end region))
+
+pub disjoint : (regions : List Region) (blocks : Blocks) → IsWellFormed regions blocks → AreDisjoint regions blocks
+disjoint regions blocks w =
+    let homes = from_home regions blocks w.at_home in
+    let rising = rising_sorted blocks w.in_order in
+    record {
+      inside = λ k d within.
+          let block = get_or blocks k d in
+          let at = slice_get-get_or blocks k d within in
+          let h = homed regions block.0 (answer_at (in_some regions) blocks k block homes at) in
+          let m = laid_member (is_in h.region) h.region.base blocks (region_end h.region) k block (laid_at regions blocks h.place h.region h.at w.laid) at h.inside in
+          (h.place, h.region, slice_get_within regions h.place h.region h.at, get_or_from_slice_get regions h.place h.region h.region h.at, m);
+      apart = λ i j d lt within.
+          let a = get_or blocks i d in
+          let b = get_or blocks j d in
+          let ai = slice_get-get_or blocks i d (omega arith) in
+          let bj = slice_get-get_or blocks j d within in
+          let h = homed regions a.0 (answer_at (in_some regions) blocks i a homes ai) in
+          let laid = laid_at regions blocks h.place h.region h.at w.laid in
+          let m = laid_member (is_in h.region) h.region.base blocks (region_end h.region) i a laid ai h.inside in
+          let order = rising_at blocks i j a b rising lt ai bj in
+          cases_bool (is_in h.region b.0)
+          (λ t. laid_pair (is_in h.region) h.region.base blocks (region_end h.region) i j a b laid lt ai bj h.inside t)
+          (λ f. let high = not_in h.region b.0 f (omega (arith, m.0, order)) in omega (arith, m.1, high));
+    }

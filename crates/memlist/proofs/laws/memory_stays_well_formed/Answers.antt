@@ -1,0 +1,12 @@
+use Rattle.memlist.proofs.Fitting.{fitted_well_formed}
+use Rattle.memlist.proofs.Keeping.{freed_well_formed, untouched_well_formed}
+use Rattle.memlist.proofs.laws.memory_stays_well_formed.Goals as goal
+
+pub returns-clause-untouched : goal.returns-clause-untouched
+returns-clause-untouched c = untouched_well_formed
+
+pub returns-clause-allocated : goal.returns-clause-allocated
+returns-clause-allocated c = fitted_well_formed
+
+pub returns-clause-freed : goal.returns-clause-freed
+returns-clause-freed c = freed_well_formed

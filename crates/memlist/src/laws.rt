@@ -1,0 +1,39 @@
+//! Laws of memory: functions without effect whose contracts say what the definitions amount to.
+ghost use Rattle.std.specs.Prelude.{◌≡◌, ◌+◌, ◌%◌, ◌<◌, ◌≤◌, ℕ, List, [], None, Some, slice_get};
+ghost use Rattle.memlist.specs.Regions.{regions_fault};
+ghost use Rattle.memlist.specs.Blocks.{Blocks, freed, with_block};
+ghost use Rattle.memlist.specs.Fit.{chosen, fit, round};
+ghost use Rattle.memlist.specs.Memory.{IsWellFormed};
+ghost use Rattle.memlist.specs.Pieces.{AreDisjoint, IsEarliestGreatest, IsTiled};
+ghost use Rattle.memlist.specs.declared.region.Region.{Region};
+
+/// A rounded size is the least multiple of 8 that is at least the size.
+pub fn rounds_up()
+    ensures whole { (n : ℕ) → round n % 8 ≡ 0 }
+    ensures enough { (n : ℕ) → n ≤ round n }
+    ensures least { (n m : ℕ) → n ≤ m → m % 8 ≡ 0 → round n ≤ m }
+{}
+
+/// The region that is chosen is the earliest among those of greatest priority, and none is chosen of none alone.
+pub fn chosen_is_earliest_of_greatest()
+    ensures some { (regions : List Region) (region : Region) → chosen regions ≡ Some region → IsEarliestGreatest regions region }
+    ensures none { (regions : List Region) → chosen regions ≡ None → regions ≡ [] }
+{}
+
+/// Blocks and gaps tile each region of a well-formed memory.
+pub fn regions_are_tiled()
+    ensures { (regions : List Region) (blocks : Blocks) (place : ℕ) (region : Region) → IsWellFormed regions blocks → slice_get regions place ≡ Some region → IsTiled region blocks }
+{}
+
+/// The blocks of a well-formed memory lie in its regions and do not meet.
+pub fn blocks_are_disjoint()
+    ensures { (regions : List Region) (blocks : Blocks) → IsWellFormed regions blocks → AreDisjoint regions blocks }
+{}
+
+/// A memory in which nothing is allocated is well formed, and it stays so when a block is put where it fits and when one
+/// is freed.
+pub fn memory_stays_well_formed()
+    ensures untouched { (total : ℕ) (regions : List Region) → regions_fault total regions ≡ None → IsWellFormed regions [] }
+    ensures allocated { (regions : List Region) (blocks : Blocks) (size reqs tag address : ℕ) → IsWellFormed regions blocks → fit regions blocks size reqs ≡ Some address → IsWellFormed regions (with_block address (round size) tag blocks) }
+    ensures freed { (regions : List Region) (blocks : Blocks) (address : ℕ) → IsWellFormed regions blocks → IsWellFormed regions (freed address blocks) }
+{}
