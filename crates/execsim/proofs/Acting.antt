@@ -1,0 +1,50 @@
+-- How the public calls follow from what the machine does without its failure to write.
+use Rattle.std.proofs.Common.{◌≡◌, Bool, true, false, refl, ap, sym, ◌∙◌}
+use Rattle.std.specs.Prelude.{List, Result, Ok, Err}
+use Rattle.exectrace.specs.Sink.{Tape}
+use Rattle.exectrace.specs.declared.sinks.SinkState.TheVariants.{Good}
+use Rattle.exectrace.specs.declared.sinks.WriteFault.{WriteFault}
+use Rattle.exectrace.proofs.Pieces.{puts_written}
+use Rattle.taskscript.specs.File.{MachineData}
+use Rattle.taskscript.specs.declared.event.Event.{Event}
+use Rattle.taskscript.specs.declared.fault.FileFault.{FileFault}
+use Rattle.taskscript.specs.declared.fault.EventFault.{EventFault}
+use Rattle.execmodel.specs.State.{State, Outcome, andthen, booted}
+use Rattle.execmodel.specs.Step.{starts, events, run}
+use Rattle.execsim.specs.Agreement.{Seen, Agrees, Follows}
+use Rattle.execsim.specs.declared.machine.Flow.{Flow}
+use Rattle.execsim.specs.Headline.{Shown, Acts, Finishes, Simulates, flow_of, end_of, end_for, ended}
+
+pub acts_by : {next : State → Outcome} {old new : Shown} {mid : Seen} {a b : Tape} {failed : Bool} {result : Result Flow WriteFault}
+    → Follows next old.seen mid a b → a.state ≡ Good → Finishes (record { seen = mid; failed = failed }) new b result → Acts next old new a b result
+acts_by {result = result} follows good finishes = record {
+  agrees = λ s e. rw finishes.same (follows.agrees s e);
+  writes = λ s e. puts_written result (follows.prints s e) good finishes.written;
+  going = finishes.going;
+  failing = finishes.failing;
+}
+
+end-flow : (b : Bool) → end_for (flow_of b) ≡ end_of b
+end-flow true = refl
+end-flow false = refl
+
+-- the whole run of a machine that was booted from its file
+pub simulates : {old new : Shown} {a b : Tape} (file : Result MachineData FileFault) (script : Result (List Event) EventFault) (machine : MachineData) (list : List Event)
+    (result : Result Flow WriteFault) → file ≡ Ok machine → script ≡ Ok list → Agrees old.seen (booted machine)
+    → Acts (andthen starts (events list)) old new a b result → Simulates file script a b (ended result)
+unfolding run
+simulates file script machine list (Ok flow) reads_file reads_events agrees acts = record {
+  machine = machine;
+  events = list;
+  reads_file = reads_file;
+  reads_events = reads_events;
+  writes = acts.writes (booted machine) agrees;
+  ends = ap end_for acts.going.0 ∙ end-flow _ ∙ ap end_of (acts.agrees (booted machine) agrees).stopped;
+}
+simulates file script machine list (Err why) reads_file reads_events agrees acts = record {
+  machine = machine;
+  events = list;
+  reads_file = reads_file;
+  reads_events = reads_events;
+  writes = acts.writes (booted machine) agrees;
+}

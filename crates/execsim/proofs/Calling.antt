@@ -1,0 +1,33 @@
+-- The calls that commands are.
+use Rattle.std.proofs.Common.{◌≡◌, ℕ, ◌+◌, List, [], ◌∷◌, Option, None, Some, refl, ap, sym, ◌∙◌, map, take}
+use Rattle.std.proofs.lemmas.List.{take-map}
+use Rattle.std.specs.Prelude.{slice_get}
+use Rattle.std.specs.Option.{option_map}
+use Rattle.taskscript.specs.Commands.{CommandData}
+use Rattle.execmodel.specs.State.{Call, Scripts, program_of}
+use Rattle.execmodel.specs.Calls.{call_of, call_at, call_after, next_call}
+
+pub map-map_as : {A B C : Type 0} (f : B → C) (v : A → B) (xs : List A) → map (λ a. f (v a)) xs ≡ map f (map v xs)
+map-map_as f v [] = refl
+map-map_as f v (x ∷ xs) = ap (λ ys. f (v x) ∷ ys) (map-map_as f v xs)
+
+-- the first of some values, where all of them are shown as the values of all arguments
+pub first_shown : {A B C D : Type 0} (shown : A → C) (value : D → C) (view : B → D) (n : ℕ) (values : List A) (arguments : List B)
+    → map shown values ≡ map (λ a. value (view a)) arguments → map shown (take n values) ≡ map value (map view (take n arguments))
+first_shown shown value view n values arguments e =
+    sym (take-map shown n values) ∙ ap (take n) e ∙ take-map (λ a. value (view a)) n arguments ∙ map-map_as value view (take n arguments)
+
+pub next-kept : (t : ℕ) (scripts : Scripts) (call : Call) → (program_of scripts t).kept ≡ Some call → next_call t scripts ≡ Some call
+unfolding next_call
+next-kept t scripts call kept = ap (λ k. call_after t k scripts) kept
+
+pub next-none : (t : ℕ) (scripts : Scripts) → (program_of scripts t).kept ≡ None
+    → slice_get (program_of scripts t).code (program_of scripts t).place ≡ None → next_call t scripts ≡ None
+unfolding next_call
+next-none t scripts kept used = ap (λ k. call_after t k scripts) kept ∙ ap (λ c. call_at t c scripts) used
+
+pub next-command : (t : ℕ) (scripts : Scripts) (command : CommandData) → (program_of scripts t).kept ≡ None
+    → slice_get (program_of scripts t).code (program_of scripts t).place ≡ Some command
+    → next_call t scripts ≡ Some (call_of t ((program_of scripts t).place + 1) command scripts)
+unfolding next_call
+next-command t scripts command kept here = ap (λ k. call_after t k scripts) kept ∙ ap (λ c. call_at t c scripts) here

@@ -1,0 +1,100 @@
+-- Actions that follow one another, and the actions of one layer.
+use Rattle.std.proofs.Common.{◌≡◌, List, [], ◌∷◌, ◌++◌, Bool, refl, ap, sym, ◌∙◌, subst, append-nil}
+use Rattle.std.proofs.lemmas.Grind.{flat_map-append}
+use Rattle.exectrace.specs.Sink.{Tape, Puts}
+use Rattle.exectrace.specs.Trace.{TraceLine, printed, printed_line}
+use Rattle.exectrace.proofs.Pieces.{puts_none, puts_then, put_same}
+use Rattle.scheduler.specs.Schedule.{Schedule}
+use Rattle.execmodel.specs.State.{State, Scripts, Outcome, quiet, says, andthen, on_schedule, on_scripts}
+use Rattle.execsim.specs.Agreement.{Seen, Agrees, Follows, Moves, in_order}
+
+-- What the state that is agreed with holds, by what the machine shows.
+
+module _ {m : Seen} {X : Type 0} where
+  -- a reading of the schedule that does not look at an order
+  pub reads_schedule : (read : Schedule → X) {x : X} → ((y : Schedule) → read (in_order y) ≡ read y) → read m.schedule ≡ x
+      → (s : State) → Agrees m s → read s.schedule ≡ x
+  reads_schedule read blind is s a = sym (blind s.schedule) ∙ ap read (sym a.schedule) ∙ is
+
+  pub reads_scripts : (read : Scripts → X) {x : X} → read m.scripts ≡ x → (s : State) → Agrees m s → read s.scripts ≡ x
+  reads_scripts read is s a = ap read (sym a.scripts) ∙ is
+
+pub reads_stopped : {m : Seen} {b : Bool} → m.stopped ≡ b → (s : State) → Agrees m s → s.stopped ≡ b
+reads_stopped is s a = sym a.stopped ∙ is
+
+-- Changes of one layer.
+
+pub moves_schedule : {m n : Seen} (next seen : Schedule → Schedule) → ((y : Schedule) → seen (in_order y) ≡ in_order (next y))
+    → n ≡ record m { schedule = seen m.schedule } → Moves (on_schedule next) m n
+moves_schedule next seen commutes is = record {
+  agrees = λ s a. record {
+    schedule = ap (λ (x : Seen). x.schedule) is ∙ ap seen a.schedule ∙ commutes s.schedule;
+    scripts = ap (λ (x : Seen). x.scripts) is ∙ a.scripts;
+    stopped = ap (λ (x : Seen). x.stopped) is ∙ a.stopped;
+  };
+}
+
+pub moves_scripts : {m n : Seen} (next : Scripts → Scripts) → n ≡ record m { scripts = next m.scripts } → Moves (on_scripts next) m n
+moves_scripts next is = record {
+  agrees = λ s a. record {
+    schedule = ap (λ (x : Seen). x.schedule) is ∙ a.schedule;
+    scripts = ap (λ (x : Seen). x.scripts) is ∙ ap next a.scripts;
+    stopped = ap (λ (x : Seen). x.stopped) is ∙ a.stopped;
+  };
+}
+
+pub moves_stopped : {m n : Seen} (stopped : Bool) → n ≡ record m { stopped = stopped } → Moves (λ s. record s { stopped = stopped }) m n
+moves_stopped stopped is = record {
+  agrees = λ s a. record {
+    schedule = ap (λ (x : Seen). x.schedule) is ∙ a.schedule;
+    scripts = ap (λ (x : Seen). x.scripts) is ∙ a.scripts;
+    stopped = ap (λ (x : Seen). x.stopped) is;
+  };
+}
+
+pub moves_nowhere : (m : Seen) → Moves (λ s. s) m m
+moves_nowhere m = record { agrees = λ s a. a }
+
+pub moves_then : {f g : State → State} {m n o : Seen} → Moves f m n → Moves g n o → Moves (λ s. g (f s)) m o
+moves_then {f} p q = record { agrees = λ s a. q.agrees (f s) (p.agrees s a) }
+
+pub moves_as : {f g : State → State} {m n : Seen} → ((s : State) → Agrees m s → f s ≡ g s) → Moves g m n → Moves f m n
+moves_as is moves = record { agrees = λ s a. rw (is s a) (moves.agrees s a) }
+
+-- Actions.
+
+pub follows_as : {f g : State → Outcome} {m n : Seen} {a b : Tape} → ((s : State) → Agrees m s → f s ≡ g s) → Follows g m n a b → Follows f m n a b
+follows_as is follows = record {
+  agrees = λ s e. rw (is s e) (follows.agrees s e);
+  prints = λ s e. rw (is s e) (follows.prints s e);
+}
+
+-- nothing is printed
+pub follows_quietly : {f : State → State} {m n : Seen} (t : Tape) → Moves f m n → Follows (λ s. quiet (f s)) m n t t
+follows_quietly t moves = record { agrees = moves.agrees; prints = λ s e. puts_none t }
+
+pub follows_nothing : (m : Seen) (t : Tape) → Follows quiet m m t t
+follows_nothing m t = record { agrees = λ s e. e; prints = λ s e. puts_none t }
+
+-- one line is printed, which is the same in each state that is agreed with
+pub follows_saying : {f : State → State} {line : State → TraceLine} {m n : Seen} {a b : Tape} (said : TraceLine)
+    → ((s : State) → Agrees m s → line s ≡ said) → Puts a b (printed_line said) → Moves f m n → Follows (λ s. says (line s) (f s)) m n a b
+follows_saying {a = a} {b = b} said same puts moves = record {
+  agrees = moves.agrees;
+  prints = λ s e. put_same _ (subst (λ l. Puts a b (printed_line l)) (sym (same s e)) puts) (append-nil _);
+}
+
+-- a change of the state, and then an action
+pub follows_change : {f : State → State} {g : State → Outcome} {m n o : Seen} {a b : Tape} → Moves f m n → Follows g n o a b → Follows (λ s. g (f s)) m o a b
+follows_change {f} moves follows = record {
+  agrees = λ s e. follows.agrees (f s) (moves.agrees s e);
+  prints = λ s e. follows.prints (f s) (moves.agrees s e);
+}
+
+-- one action after another
+pub follows_then : {f g : State → Outcome} {m n o : Seen} {a b c : Tape} → Follows f m n a b → Follows g n o b c → Follows (andthen f g) m o a c
+unfolding andthen
+follows_then {f} {g} p q = record {
+  agrees = λ s e. q.agrees (f s).state (p.agrees s e);
+  prints = λ s e. puts_then _ (p.prints s e) (q.prints (f s).state (p.agrees s e)) (flat_map-append printed_line (f s).lines (g (f s).state).lines);
+}

@@ -1,0 +1,178 @@
+-- How the machine follows settling, steps and events.
+use Rattle.std.proofs.Common.{◌≡◌, ℕ, zero, suc, ◌+◌, ◌<◌, List, [], ◌∷◌, ◌++◌, length, take, get_or, true, false, Option, None, Some, refl, ap, sym, ◌∙◌, append-nil, append_assoc, add-one}
+use Rattle.std.proofs.lemmas.List.{take_more}
+use Rattle.std.specs.Prelude.{codes}
+use Rattle.exectrace.specs.Sink.{Tape, Puts}
+use Rattle.exectrace.specs.Trace.{TraceLine, printed_line, Switch, Idle, Value, Done}
+use Rattle.exectrace.specs.Trace as trace
+use Rattle.taskscript.specs.declared.event.Event.{Event}
+use Rattle.taskscript.specs.declared.word.Word.{Word}
+use Rattle.taskscript.specs.declared.event.Event.TheVariants.{Run}
+use Rattle.scheduler.specs.Schedule.{Schedule, name_of, leaves}
+use Rattle.scheduler.specs.Dispatch as dispatch
+use Rattle.scheduler.specs.declared.Switch.{Switch as Choice}
+use Rattle.scheduler.specs.declared.Switch.TheVariants as switch
+use Rattle.execmodel.specs.State.{Call, State, Outcome, Mark, quiet, andthen, on_schedule}
+use Rattle.execmodel.specs.Scheduling.{switch_of, rescheduled, added}
+use Rattle.execmodel.specs.Calls.{next_call}
+use Rattle.execmodel.specs.Step.{announced, switches, settle, does_word, does, ends, call_step, task_step, acting, acts, step, steps, all_added, starts, event, events}
+use Rattle.execsim.specs.Agreement.{Seen, Agrees, Follows, Moves, in_order}
+use Rattle.execsim.proofs.Following.{reads_schedule, reads_scripts, reads_stopped, moves_schedule, moves_nowhere, moves_then, moves_as, follows_as, follows_nothing, follows_saying, follows_change, follows_then}
+use Rattle.execsim.proofs.Ordering.{switch_of-in_order, rescheduled-in_order, added-in_order}
+
+-- Settle
+
+pub switches_as : {m n o : Seen} {a b : Tape} (choice : Option Choice) → choice ≡ dispatch.switch_of m.schedule
+    → n ≡ record m { schedule = dispatch.rescheduled m.schedule } → Follows (announced choice) n o a b → Follows switches m o a b
+unfolding switches
+switches_as {m} choice due is follows = follows_as
+    {g = λ s. announced choice (on_schedule rescheduled s)}
+    (λ s e. ap (λ c. announced c (on_schedule rescheduled s))
+    (sym (switch_of-in_order s.schedule) ∙ ap dispatch.switch_of (sym e.schedule) ∙ sym due))
+    (follows_change (moves_schedule rescheduled dispatch.rescheduled rescheduled-in_order is) follows)
+
+pub announces_task : {m : Seen} {a b : Tape} (t : ℕ) → Puts a b (printed_line (Switch (name_of m.schedule t))) → Follows (announced (Some (switch.To t))) m m a b
+announces_task {m} t puts = follows_saying (Switch (name_of m.schedule t))
+    (λ s e. ap Switch (reads_schedule (λ y. name_of y t) (λ y. refl) refl s e)) puts (moves_nowhere m)
+
+pub announces_idle : {m : Seen} {a b : Tape} → Puts a b (printed_line Idle) → Follows (announced (Some switch.Idle)) m m a b
+announces_idle {m} puts = follows_saying Idle (λ s e. refl) puts (moves_nowhere m)
+
+pub announces_none : (m : Seen) (t : Tape) → Follows (announced None) m m t t
+announces_none m t = follows_nothing m t
+
+pub settle_stopped : {m : Seen} (t : Tape) → m.stopped ≡ true → Follows settle m m t t
+unfolding settle
+settle_stopped {m} t stopped = follows_as {g = quiet}
+    (λ s e. let same : s.stopped ≡ true = reads_stopped stopped s e in rw same refl) (follows_nothing m t)
+
+pub settle_going : {m n : Seen} {a b : Tape} → m.stopped ≡ false → Follows switches m n a b → Follows settle m n a b
+unfolding settle
+settle_going going follows = follows_as {g = switches}
+    (λ s e. let same : s.stopped ≡ false = reads_stopped going s e in rw same refl) follows
+
+-- Step
+
+leaves-in_order : (t : ℕ) (y : Schedule) → leaves t (in_order y) ≡ in_order (leaves t y)
+unfolding leaves
+leaves-in_order t y = refl
+
+pub ends_as : {m n : Seen} {a b : Tape} (t : ℕ) → n ≡ record m { schedule = leaves t m.schedule }
+    → Puts a b (printed_line (trace.Call (name_of m.schedule t) (codes "RemTask") (Value 0 ∷ []) Done)) → Follows (ends t) m n a b
+unfolding ends
+ends_as {m} t is puts = follows_saying _
+    (λ s e. ap (λ name. trace.Call name (codes "RemTask") (Value 0 ∷ []) Done) (reads_schedule (λ y. name_of y t) (λ y. refl) refl s e)) puts
+    (moves_schedule (leaves t) (leaves t) (leaves-in_order t) is)
+
+-- a call is done as its word says
+pub does_as : {m n : Seen} {a b : Tape} (t : ℕ) (call : Call) (word : Word) → call.word ≡ word → Follows (does_word word t call) m n a b → Follows (does t call) m n a b
+unfolding does
+does_as t call word is follows = follows_as {g = does_word word t call} (λ s e. ap (λ w. does_word w t call s) is) follows
+
+-- what runs does its next call
+pub acting_as : {m n : Seen} {a b : Tape} (running : Option ℕ) → m.schedule.running ≡ running → Follows (task_step running) m n a b → Follows acting m n a b
+unfolding acting
+acting_as running runs follows = follows_as {g = task_step running}
+    (λ s e. ap (λ r. task_step r s) (reads_schedule (λ y. y.running) (λ y. refl) runs s e)) follows
+
+pub task_step_as : {m n : Seen} {a b : Tape} (t : ℕ) (call : Option Call) → next_call t m.scripts ≡ call
+    → Follows (call_step t call) m n a b → Follows (task_step (Some t)) m n a b
+task_step_as t call is follows = follows_as {g = call_step t call}
+    (λ s e. ap (λ c. call_step t c s) (reads_scripts (next_call t) is s e)) follows
+
+pub acting_none : {m : Seen} (t : Tape) → m.schedule.running ≡ None → Follows acting m m t t
+acting_none {m} t none = acting_as None none (follows_nothing m t)
+
+pub acts_stopped : {m : Seen} (t : Tape) → m.stopped ≡ true → Follows acts m m t t
+unfolding acts
+acts_stopped {m} t stopped = follows_as {g = quiet}
+    (λ s e. let same : s.stopped ≡ true = reads_stopped stopped s e in rw same refl) (follows_nothing m t)
+
+pub acts_going : {m n : Seen} {a b : Tape} → m.stopped ≡ false → Follows acting m n a b → Follows acts m n a b
+unfolding acts
+acts_going going follows = follows_as {g = acting}
+    (λ s e. let same : s.stopped ≡ false = reads_stopped going s e in rw same refl) follows
+
+pub step_as : {m n o : Seen} {a b c : Tape} → Follows acts m n a b → Follows settle n o b c → Follows step m o a c
+unfolding step
+step_as acted settled = follows_then acted settled
+
+pub no_steps : (m : Seen) (t : Tape) → Follows (steps 0) m m t t
+unfolding steps
+no_steps m t = follows_nothing m t
+
+suc_steps : {m n o : Seen} {a b c : Tape} (i : ℕ) → Follows (steps i) m n a b → Follows step n o b c → Follows (steps (suc i)) m o a c
+unfolding steps
+suc_steps i before last = follows_then before last
+
+pub more_steps : {m n o : Seen} {a b c : Tape} (i : ℕ) → Follows (steps i) m n a b → Follows step n o b c → Follows (steps (i + 1)) m o a c
+more_steps i before last = rw add-one (suc_steps i before last)
+
+-- Run
+
+pub none_added : (m : Seen) → Moves (on_schedule (all_added 0)) m m
+unfolding all_added
+none_added m = moves_nowhere m
+
+suc_added : {m n o : Seen} (i : ℕ) → Moves (on_schedule (all_added i)) m n → Moves (on_schedule (added i)) n o → Moves (on_schedule (all_added (suc i))) m o
+unfolding all_added
+suc_added i before last = moves_then before last
+
+pub more_added : {m n o : Seen} (i : ℕ) → Moves (on_schedule (all_added i)) m n → o ≡ record n { schedule = dispatch.added i n.schedule }
+    → Moves (on_schedule (all_added (i + 1))) m o
+more_added i before is = rw add-one (suc_added i before (moves_schedule (added i) (dispatch.added i) (added-in_order i) is))
+
+pub starts_as : {m n o : Seen} {a b : Tape} → Moves (on_schedule (all_added (length m.scripts.programs))) m n → Follows settle n o a b → Follows starts m o a b
+unfolding starts
+starts_as {m} moves follows = follows_as
+    {g = λ s. settle (on_schedule (all_added (length m.scripts.programs)) s)}
+    (λ s e. ap (λ scripts. settle (on_schedule (all_added (length scripts.programs)) s)) (sym e.scripts))
+    (follows_change moves follows)
+
+pub event_run : {m o : Seen} {a b : Tape} (n : ℕ) → Follows (steps n) m o a b → Follows (event (Run n)) m o a b
+unfolding event
+event_run n follows = follows
+
+andthen-assoc : (f g h : State → Outcome) (s : State) → andthen f (andthen g h) s ≡ andthen (andthen f g) h s
+unfolding andthen
+andthen-assoc f g h s =
+    ap (λ (lines : List TraceLine). record {
+      state = (h (g (f s).state).state).state;
+      lines = lines;
+      marks = (f s).marks ++ ((g (f s).state).marks ++ (h (g (f s).state).state).marks);
+    })
+    (sym (append_assoc (f s).lines (g (f s).state).lines (h (g (f s).state).state).lines))
+    ∙ ap (λ (marks : List Mark). record {
+      state = (h (g (f s).state).state).state;
+      lines = ((f s).lines ++ (g (f s).state).lines) ++ (h (g (f s).state).state).lines;
+      marks = marks;
+    })
+    (sym (append_assoc (f s).marks (g (f s).state).marks (h (g (f s).state).state).marks))
+
+andthen-second : (f g h : State → Outcome) (s : State) → ((t : State) → g t ≡ h t) → andthen f g s ≡ andthen f h s
+unfolding andthen
+andthen-second f g h s same =
+    ap (λ (o : Outcome). record { state = o.state; lines = (f s).lines ++ o.lines; marks = (f s).marks ++ o.marks }) (same (f s).state)
+
+andthen-quiet : (o : Outcome) → record { state = o.state; lines = o.lines ++ []; marks = o.marks ++ [] } ≡ o
+andthen-quiet o =
+    ap (λ (lines : List TraceLine). record { state = o.state; lines = lines; marks = o.marks ++ [] }) (append-nil o.lines)
+    ∙ ap (λ (marks : List Mark). record { state = o.state; lines = o.lines; marks = marks }) (append-nil o.marks)
+
+-- one event more at the end
+events-more : (list : List Event) (e : Event) (s : State) → events (list ++ e ∷ []) s ≡ andthen (events list) (event e) s
+unfolding events andthen
+events-more [] e s = andthen-quiet (event e s)
+events-more (d ∷ list) e s =
+    andthen-second (event d) (events (list ++ e ∷ [])) (andthen (events list) (event e)) s (events-more list e)
+    ∙ andthen-assoc (event d) (events list) (event e) s
+
+pub no_events : (m : Seen) (t : Tape) → Follows (events []) m m t t
+unfolding events
+no_events m t = follows_nothing m t
+
+pub more_events : {m n o : Seen} {a b c : Tape} (list : List Event) (k : ℕ) (d : Event) → k < length list
+    → Follows (events (take k list)) m n a b → Follows (event (get_or list k d)) n o b c → Follows (events (take (k + 1) list)) m o a c
+more_events list k d within before last = follows_as {g = andthen (events (take k list)) (event (get_or list k d))}
+    (λ s e. ap (λ (l : List Event). events l s) (take_more list k d within) ∙ events-more (take k list) (get_or list k d) s)
+    (follows_then before last)

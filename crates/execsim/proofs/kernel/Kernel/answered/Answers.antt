@@ -1,0 +1,5 @@
+use Rattle.execsim.proofs.Endings.{follows_answered}
+use Rattle.execsim.proofs.kernel.Kernel.answered.Goals as goal
+
+pub returns : goal.returns
+returns g c = follows_answered _ _ _ c.store.ensures c.go_on.ensures c.say.ensures

@@ -1,0 +1,5 @@
+use Rattle.execsim.proofs.Endings.{follows_done}
+use Rattle.execsim.proofs.kernel.Kernel.done.Goals as goal
+
+pub returns : goal.returns
+returns g c = follows_done _ _ c.go_on.ensures c.say.ensures

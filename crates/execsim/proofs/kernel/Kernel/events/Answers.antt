@@ -1,0 +1,8 @@
+use Rattle.execsim.proofs.Stepping.{no_events, more_events}
+use Rattle.execsim.proofs.kernel.Kernel.events.Goals as goal
+
+pub loop-one-init : goal.loop-one-init
+loop-one-init g c = no_events _ _
+
+pub loop-one-preserved : goal.loop-one-preserved
+loop-one-preserved g c = more_events _ _ _ c.loop-one-test.true c.loop-one.invariant c.event.ensures

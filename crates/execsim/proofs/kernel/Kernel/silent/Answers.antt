@@ -1,0 +1,5 @@
+use Rattle.execsim.proofs.Endings.{follows_silent}
+use Rattle.execsim.proofs.kernel.Kernel.silent.Goals as goal
+
+pub returns : goal.returns
+returns g c tape = follows_silent _ _ _ tape c.store.ensures c.go_on.ensures

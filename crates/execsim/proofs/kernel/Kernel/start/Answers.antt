@@ -1,0 +1,5 @@
+use Rattle.execsim.proofs.Stepping.{starts_as}
+use Rattle.execsim.proofs.kernel.Kernel.start.Goals as goal
+
+pub returns : goal.returns
+returns g c = starts_as c.add_all.ensures c.settle.ensures

@@ -1,0 +1,5 @@
+use Rattle.execsim.proofs.Stepping.{step_as}
+use Rattle.execsim.proofs.kernel.Kernel.step.Goals as goal
+
+pub returns : goal.returns
+returns g c = step_as c.act.ensures c.settle.ensures

@@ -1,0 +1,8 @@
+use Rattle.execsim.proofs.Stepping.{no_steps, more_steps}
+use Rattle.execsim.proofs.kernel.Kernel.steps.Goals as goal
+
+pub loop-done-init : goal.loop-done-init
+loop-done-init g c = no_steps _ _
+
+pub loop-done-preserved : goal.loop-done-preserved
+loop-done-preserved g c = more_steps _ c.loop-done.invariant c.step.ensures

@@ -1,0 +1,7 @@
+use Rattle.std.proofs.Common.{ap, sym}
+use Rattle.execsim.proofs.Acting.{acts_by}
+use Rattle.execsim.proofs.Following.{follows_then}
+use Rattle.execsim.proofs.machine.Machine.run.Goals as goal
+
+pub returns : goal.returns
+returns g c = rw (← c.self.view_is) (acts_by (follows_then c.start.ensures c.events.ensures) c.requires.good c.finish.ensures)

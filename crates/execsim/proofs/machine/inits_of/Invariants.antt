@@ -1,0 +1,9 @@
+use Rattle.std.proofs.Common.{◌≡◌, map, take}
+use Rattle.execsim.proofs.machine.inits_of.Given as goal
+
+-- the tasks so far have given their names and priorities
+abbrev pub invariant-loop-task : goal.invariant-loop-task
+invariant-loop-task l = record {
+  names : map (λ t. t.name.bytes) l.inits.items ≡ map (λ t. t.name.bytes) (take l.task-index l.tasks);
+  pris : map (λ t. t.pri) l.inits.items ≡ map (λ t. t.pri) (take l.task-index l.tasks);
+}

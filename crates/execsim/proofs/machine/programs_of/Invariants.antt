@@ -1,0 +1,8 @@
+use Rattle.std.proofs.Common.{◌≡◌, map, take}
+use Rattle.taskscript.specs.Records.{task_view}
+use Rattle.execmodel.specs.State.{begun}
+use Rattle.execsim.proofs.machine.programs_of.Given as goal
+
+-- the tasks so far have their programs
+abbrev pub invariant-loop-task : goal.invariant-loop-task
+invariant-loop-task l = l.programs.items ≡ map begun (map task_view (take l.task-index l.tasks))

@@ -1,0 +1,40 @@
+-- How the machine agrees with the abstract machine, and how a part of it follows an action. The abstract state keeps its ready
+-- tasks in order of arrival; the machine keeps them in order of running. All else is equal.
+use Rattle.std.specs.Prelude.{◌≡◌, ℕ, Bool, List}
+use Rattle.exectrace.specs.Sink.{Tape, Puts}
+use Rattle.exectrace.specs.Trace.{printed}
+use Rattle.exectrace.specs.Trace as trace
+use Rattle.taskscript.specs.Words.{word_text}
+use Rattle.execlist.specs.Order.{order}
+use Rattle.taskq.specs.Tasks.{pri_at}
+use Rattle.scheduler.specs.Schedule.{Schedule, name_of}
+use Rattle.execmodel.specs.State.{Call, State, Scripts, Outcome}
+
+-- what the layers of the machine show, a field for each
+pub record Seen : Type 0 where
+  pub schedule : Schedule
+  pub scripts : Scripts
+  pub stopped : Bool
+
+-- the schedule with its ready tasks in the order in which they are to run
+abbrev pub in_order : Schedule → Schedule
+in_order s = record s { queue = record s.queue { ready = order (pri_at s.queue.pris) s.queue.ready } }
+
+-- the machine shows this state
+pub record Agrees (seen : Seen) (s : State) : Type 0 where
+  pub schedule : seen.schedule ≡ in_order s.schedule
+  pub scripts : seen.scripts ≡ s.scripts
+  pub stopped : seen.stopped ≡ s.stopped
+
+-- the line of a call of task t, by what the machine shows
+abbrev pub line_seen : ℕ → Call → trace.Outcome → Seen → trace.TraceLine
+line_seen t call outcome seen = trace.Call (name_of seen.schedule t) (word_text call.word) call.arguments outcome
+
+-- From any state that it agrees with, the machine goes on as the action says, and prints its lines.
+pub record Follows (next : State → Outcome) (old new : Seen) (before after : Tape) : Type 0 where
+  pub agrees : (s : State) → Agrees old s → Agrees new (next s).state
+  pub prints : (s : State) → Agrees old s → Puts before after (printed (next s).lines)
+
+-- The same of a change of the state alone.
+pub record Moves (next : State → State) (old new : Seen) : Type 0 where
+  pub agrees : (s : State) → Agrees old s → Agrees new (next s)

@@ -1,0 +1,197 @@
+//! The machine without its failure to write. The methods here touch its fields, and have one equation each.
+ghost use Rattle.std.specs.Prelude.{◌≡◌, ◌<◌, length, true, false, Some, None, slice_set, map, replicate};
+ghost use Rattle.std.specs.Option.{option_map};
+ghost use Rattle.exectrace.specs.Shown.{shown_argument};
+ghost use Rattle.taskscript.specs.Commands.{argument_view, command_view};
+ghost use Rattle.scheduler.specs.Schedule.{name_of, task_count};
+ghost use Rattle.execmodel.specs.State.{program_of, shared_variables};
+ghost use Rattle.execmodel.specs.Calls.{content, evaluated, stored, goes_on, keeps, call_of, next_call};
+ghost use Rattle.execmodel.specs.Signals.{is_task};
+ghost use Rattle.execsim.specs.Views.{call_view};
+
+use crate::program::{Call, Program};
+use execlist::space::ListSpace;
+use exectrace::{Arg, Name};
+use scheduler::Sched;
+use std::marker::Model;
+use taskq::TaskId;
+use taskscript::{Argument, Command, Variable};
+
+/// How many variables all tasks share.
+const SHARED_VARIABLES: usize = 64;
+
+/// The tasks, what they execute, and whether an alert has stopped them.
+#[derive(Drop)]
+pub struct Kernel<S: ListSpace> {
+    pub(crate) sched: Sched<S>,
+    pub(crate) programs: Vec<Program>,
+    pub(crate) shared: [u32; SHARED_VARIABLES],
+    pub(crate) stopped: bool,
+}
+
+impl<S: ListSpace> Model for Kernel<S> {
+    ghost use Rattle.std.specs.Prelude.{◌≡◌, length};
+    ghost use Rattle.execsim.specs.Agreement.{Seen};
+
+    ghost Value = { Seen };
+
+    ghost view = { λ k. record {
+      schedule = k.sched;
+      scripts = record { programs = k.programs.items; shared = k.shared };
+      stopped = k.stopped;
+    } };
+
+    ghost invariant = { λ k. length k.programs.items ≡ length k.sched.queue.states };
+}
+
+impl<S: ListSpace> Kernel<S> {
+    /// The machine of these tasks, with every shared variable 0.
+    pub(crate) fn new(sched: Sched<S>, programs: Vec<Program>) -> Self
+        requires { length programs.items ≡ task_count sched }
+        ensures { result ≡ record {
+          schedule = sched;
+          scripts = record { programs = programs.items; shared = replicate shared_variables 0 };
+          stopped = false;
+        } }
+    {
+        Kernel {
+            sched,
+            programs,
+            shared: [0; SHARED_VARIABLES],
+            stopped: false,
+        }
+    }
+
+    /// The program of task t.
+    fn program(&self, t: TaskId) -> &Program
+        requires { t < length self.now.scripts.programs }
+        ensures { result.now ≡ program_of self.now.scripts t }
+    {
+        &self.programs[t]
+    }
+
+    /// The name of task t.
+    pub(crate) fn name(&self, t: TaskId) -> Name
+        requires { t < length self.now.scripts.programs }
+        ensures { result.bytes ≡ name_of self.now.schedule t }
+    {
+        self.sched.name(t)
+    }
+
+    /// What a variable holds for task t; 0 where there is no such variable.
+    fn content(&self, t: TaskId, variable: Variable) -> u32
+        requires { t < length self.now.scripts.programs }
+        ensures { result ≡ content t self.now.scripts variable }
+    {
+        match variable {
+            Variable::Private(k) => self.programs[t].variable(k),
+            Variable::Shared(k) => self.shared.get(k).copied().unwrap_or(0),
+        }
+    }
+
+    /// The value of an argument for task t.
+    fn evaluate(&self, t: TaskId, argument: Argument) -> Arg
+        requires { t < length self.now.scripts.programs }
+        ensures { shown_argument result ≡ evaluated t self.now.scripts (argument_view argument) }
+    {
+        match argument {
+            Argument::Number(n) => Arg::Value(n),
+            Argument::Variable(variable) => Arg::Value(self.content(t, variable)),
+            Argument::Quoted(name) => Arg::Quoted(name),
+            Argument::Place(place) => Arg::Value(place),
+        }
+    }
+
+    /// The values of all arguments of a command for task t.
+    fn evaluate_all(&self, t: TaskId, arguments: [Argument; 4]) -> [Arg; 4]
+        requires { t < length self.now.scripts.programs }
+        ensures { map shown_argument result ≡ map (λ a. evaluated t self.now.scripts (argument_view a)) arguments }
+    {
+        let [first, second, third, fourth] = arguments;
+        [
+            self.evaluate(t, first),
+            self.evaluate(t, second),
+            self.evaluate(t, third),
+            self.evaluate(t, fourth),
+        ]
+    }
+
+    /// The call that a command is for task t, where the next command stands at that place.
+    fn call_of(&self, t: TaskId, next: usize, command: Command) -> Call
+        requires { t < length self.now.scripts.programs }
+        ensures { call_view result ≡ call_of t next (command_view command) self.now.scripts }
+    {
+        Call {
+            word: command.word,
+            target: command.target,
+            arguments: self.evaluate_all(t, command.arguments),
+            next,
+        }
+    }
+
+    /// The call that task t tries next: the one that it waits in, or else that of its next command; none where its commands are
+    /// used up.
+    pub(crate) fn next_call(&self, t: TaskId) -> Option<Call>
+        requires { t < length self.now.scripts.programs }
+        ensures { option_map call_view result ≡ next_call t self.now.scripts }
+    {
+        let program = self.program(t);
+        match program.kept() {
+            Some(call) => Some(call),
+            None => match program.command() {
+                Some(command) => Some(self.call_of(t, program.next(), command)),
+                None => None,
+            },
+        }
+    }
+
+    /// Gives a variable of task t, or none, a value.
+    pub(crate) fn store(&mut self, t: TaskId, target: Option<Variable>, value: u32)
+        requires { t < length self.old.scripts.programs }
+        ensures { self.new ≡ record self.old { scripts = stored t target value self.old.scripts } }
+    {
+        match target {
+            None => {}
+            Some(Variable::Private(k)) => self.programs[t].store(k, value),
+            Some(Variable::Shared(k)) => self.store_shared(k, value),
+        }
+    }
+
+    fn store_shared(&mut self, k: usize, value: u32)
+        ensures { self.new ≡ record self.old { scripts = record self.old.scripts { shared = slice_set self.old.scripts.shared k value } } }
+    {
+        if k < SHARED_VARIABLES {
+            self.shared[k] = value;
+        }
+    }
+
+    /// Task t goes on at the command of that place.
+    pub(crate) fn go_on(&mut self, t: TaskId, next: usize)
+        requires { t < length self.old.scripts.programs }
+        ensures { self.new ≡ record self.old { scripts = goes_on t next self.old.scripts } }
+    {
+        self.programs[t].go_on(next);
+    }
+
+    /// Task t will try this call again.
+    pub(crate) fn keep(&mut self, t: TaskId, call: &Call)
+        requires { t < length self.old.scripts.programs }
+        ensures { self.new ≡ record self.old { scripts = keeps t (call_view call.now) self.old.scripts } }
+    {
+        self.programs[t].keep(call);
+    }
+
+    /// The machine stops for good.
+    pub(crate) fn stop(&mut self)
+        ensures { self.new ≡ record self.old { stopped = true } }
+    {
+        self.stopped = true;
+    }
+
+    /// Whether there is a task of that number; the first one is 1.
+    pub(crate) fn is_task(&self, number: u32) -> bool
+        ensures { result ≡ is_task number self.now.scripts }
+    {
+        0 < number && number as usize <= self.programs.len()
+    }
+}

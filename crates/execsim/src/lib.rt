@@ -1,0 +1,16 @@
+//! The machine: it runs what a machine file states over a list of events, and prints the trace.
+//! `Machine` is what callers use, `simulate` the whole way from two texts to a trace. `Kernel` is the machine without its failure to
+//! write; each word group has a module of its own.
+#![tactic(auto)]
+
+mod calls;
+mod kernel;
+mod machine;
+mod plain;
+mod program;
+mod signals;
+mod simulation;
+mod step;
+
+pub use machine::{Flow, Machine};
+pub use simulation::{End, SimFault, simulate};

@@ -1,0 +1,187 @@
+//! The machine as its callers see it: made from a machine file, started once, and given one event after another.
+ghost use Rattle.std.specs.Prelude.{◌≡◌, ◌≤◌, true, false, length, map, IfOk};
+ghost use Rattle.exectrace.specs.Sink.{Writes};
+ghost use Rattle.exectrace.specs.Trace.{printed};
+ghost use Rattle.exectrace.specs.declared.sinks.SinkState.{SinkState};
+ghost use Rattle.taskscript.specs.Commands.{command_view};
+ghost use Rattle.taskscript.specs.Records.{task_view};
+ghost use Rattle.execmodel.specs.State.{State, booted, begun, andthen};
+ghost use Rattle.execmodel.specs.Step.{starts, event, events};
+ghost use Rattle.execsim.specs.Agreement.{Agrees};
+ghost use Rattle.execsim.specs.Headline.{Acts, StaysFailed, Finishes, flow_of};
+
+use crate::kernel::Kernel;
+use crate::program::Program;
+use execlist::space::ListSpace;
+use exectrace::sinks::written;
+use exectrace::{Sink, WriteFault};
+use scheduler::Sched;
+use std::alloc::{AllocError, Global};
+use std::marker::Model;
+use taskq::TaskInit;
+use taskscript::{Command, Event, MachineFile, TaskRecord};
+
+/// The servings of VERTB in a full quantum.
+const QUANTUM: u8 = 4;
+
+/// Whether a machine goes on.
+#[derive(Clone, Copy, Debug, PartialEq, Eq)]
+pub enum Flow {
+    /// It goes on.
+    Going,
+    /// An alert has stopped it for good.
+    Alerted,
+}
+
+/// A machine over list spaces of the type S.
+#[derive(Drop)]
+pub struct Machine<S: ListSpace> {
+    kernel: Kernel<S>,
+    failed: bool,
+}
+
+impl<S: ListSpace> Model for Machine<S> {
+    ghost use Rattle.execsim.specs.Headline.{Shown};
+
+    ghost Value = { Shown };
+
+    ghost view = { λ m. record { seen = m.kernel; failed = m.failed } };
+}
+
+/// The names and priorities of the tasks, in the order of the file.
+fn inits_of(alloc: Global, tasks: &[TaskRecord]) -> Result<Vec<TaskInit>, AllocError>
+    ensures names { IfOk result (λ v. map (λ t. t.name.bytes) v.items ≡ map (λ t. t.name.bytes) tasks.now) }
+    ensures pris { IfOk result (λ v. map (λ t. t.pri) v.items ≡ map (λ t. t.pri) tasks.now) }
+    ensures count { IfOk result (λ v. length v.items ≡ length tasks.now) }
+{
+    let mut inits = Vec::new(alloc);
+    for task in tasks {
+        inits.push(TaskInit {
+            name: task.name,
+            pri: task.pri,
+        })?;
+    }
+    Ok(inits)
+}
+
+/// A copy of the commands of a task.
+fn code_of(alloc: Global, code: &[Command]) -> Result<Vec<Command>, AllocError>
+    ensures { IfOk result (λ v. v.items ≡ code.now) }
+{
+    let mut copy = Vec::new(alloc);
+    copy.extend_from_slice(code)?;
+    Ok(copy)
+}
+
+/// The programs of the tasks, in the order of the file.
+fn programs_of(alloc: Global, tasks: &[TaskRecord]) -> Result<Vec<Program>, AllocError>
+    ensures { IfOk result (λ v. v.items ≡ map begun (map task_view tasks.now)) }
+{
+    let mut programs = Vec::new(alloc);
+    for task in tasks {
+        let code = code_of(alloc, &task.code)?;
+        programs.push(Program::new(code))?;
+    }
+    Ok(programs)
+}
+
+impl<S: ListSpace> Machine<S> {
+    /// Makes the machine that a file states, before its start.
+    ///
+    /// All room that the machine ever needs is made here: `start` and `event` take no memory.
+    ///
+    /// # Errors
+    ///
+    /// Memory is lacking.
+    pub fn boot(alloc: Global, file: &MachineFile) -> Result<Machine<S>, AllocError>
+        ensures agrees { IfOk result (λ m. Agrees m.seen (booted file.now)) }
+        ensures whole { IfOk result (λ m. m.failed ≡ false) }
+    {
+        let tasks = file.tasks();
+        let inits = inits_of(alloc, tasks)?;
+        let sched = Sched::new(alloc, &inits, QUANTUM)?;
+        let programs = programs_of(alloc, tasks)?;
+        Ok(Machine {
+            kernel: Kernel::new(sched, programs),
+            failed: false,
+        })
+    }
+
+    /// Answers whether the machine goes on, or fails it where the sink has failed.
+    fn finish<W: Sink>(&mut self, out: &W) -> Result<Flow, WriteFault>
+        requires { self.old.failed ≡ false }
+        ensures { Finishes self.old self.new (W.tape out.now) result }
+    {
+        match written(out) {
+            Ok(()) => Ok(self.flow()),
+            Err(fault) => {
+                self.failed = true;
+                Err(fault)
+            }
+        }
+    }
+
+    fn flow(&self) -> Flow
+        ensures { result ≡ flow_of self.now.seen.stopped }
+    {
+        if self.kernel.stopped {
+            Flow::Alerted
+        } else {
+            Flow::Going
+        }
+    }
+
+    /// Starts the machine: its tasks are added in the order of the file, and it settles once. It is called once, before the first event.
+    ///
+    /// The lines that the start prints are written to `out`, which is good unless the machine has failed.
+    ///
+    /// # Errors
+    ///
+    /// A write failed: a part of the lines was taken, the sink is then failed or has taken nothing 16 times in a row, and the machine has
+    /// failed. A machine that has failed writes nothing and answers the same again.
+    ///
+    /// Source: own choice.
+    pub fn start<W: Sink>(&mut self, out: &mut W) -> Result<Flow, WriteFault>
+        requires { self.old.failed ≡ false → (W.tape out.old).state ≡ SinkState.Good }
+        ensures acts { self.old.failed ≡ false → Acts starts self.old self.new (W.tape out.old) (W.tape out.new) result }
+        ensures failed { self.old.failed ≡ true → StaysFailed self.old self.new (W.tape out.old) (W.tape out.new) result }
+    {
+        if self.failed {
+            return Err(WriteFault);
+        }
+        self.kernel.start(out);
+        self.finish(out)
+    }
+
+    /// Does one event: so many steps, each followed by a settle. After an alert nothing happens, and the answer is `Alerted`.
+    ///
+    /// The lines that the event prints are written to `out`, which is good unless the machine has failed.
+    ///
+    /// # Errors
+    ///
+    /// As those of `start`.
+    ///
+    /// Source: own choice.
+    pub fn event<W: Sink>(&mut self, one: Event, out: &mut W) -> Result<Flow, WriteFault>
+        requires { self.old.failed ≡ false → (W.tape out.old).state ≡ SinkState.Good }
+        ensures acts { self.old.failed ≡ false → Acts (event one) self.old self.new (W.tape out.old) (W.tape out.new) result }
+        ensures failed { self.old.failed ≡ true → StaysFailed self.old self.new (W.tape out.old) (W.tape out.new) result }
+    {
+        if self.failed {
+            return Err(WriteFault);
+        }
+        self.kernel.event(one, out);
+        self.finish(out)
+    }
+
+    /// Starts the machine and does one event after another.
+    pub(crate) fn run<W: Sink>(&mut self, list: &[Event], out: &mut W) -> Result<Flow, WriteFault>
+        requires going { self.old.failed ≡ false }
+        requires good { (W.tape out.old).state ≡ SinkState.Good }
+        ensures { Acts (andthen starts (events list.now)) self.old self.new (W.tape out.old) (W.tape out.new) result }
+    {
+        self.kernel.start(out);
+        self.kernel.events(list, out);
+        self.finish(out)
+    }
+}

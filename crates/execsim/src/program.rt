@@ -1,0 +1,139 @@
+//! What a task executes: its commands, its own variables, and the call that it waits in.
+ghost use Rattle.std.specs.Prelude.{◌≡◌, ◌<◌, ◌+◌, map, length, Some, None, slice_get, slice_set, slice_index_or};
+ghost use Rattle.std.specs.Option.{option_map};
+ghost use Rattle.exectrace.specs.Shown.{shown_argument};
+ghost use Rattle.taskscript.specs.Commands.{command_view};
+ghost use Rattle.execmodel.specs.Calls.{argument};
+ghost use Rattle.execmodel.specs.State.{begun_with};
+ghost use Rattle.execsim.specs.Views.{call_view};
+
+use exectrace::Arg;
+use std::marker::Model;
+use taskscript::{Command, Variable, Word};
+
+/// How many variables of its own a task has.
+pub const PRIVATE_VARIABLES: usize = 32;
+
+/// A command of a task with the values that its arguments had when it was first tried.
+#[derive(Clone, Copy)]
+pub struct Call {
+    pub word: Word,
+    /// Where the answer goes.
+    pub target: Option<Variable>,
+    /// The arguments from left to right; anything past those that the word has.
+    pub arguments: [Arg; 4],
+    /// The place of the command after it.
+    pub next: usize,
+}
+
+impl Call {
+    /// The arguments that the word has, as the trace prints them.
+    pub fn shown(&self) -> &[Arg]
+        ensures { map shown_argument result.now ≡ (call_view self.now).arguments }
+    {
+        &self.arguments[..self.word.kinds().len()]
+    }
+
+    /// The number that stands at an argument, counted from 0; 0 where none does.
+    pub fn number(&self, k: usize) -> u32
+        ensures { result ≡ argument k (call_view self.now) }
+    {
+        match self.shown().get(k) {
+            Some(Arg::Value(n)) => *n,
+            _ => 0,
+        }
+    }
+}
+
+/// The program of a task.
+#[derive(Drop)]
+pub struct Program {
+    code: Vec<Command>,
+    place: usize,
+    variables: [u32; PRIVATE_VARIABLES],
+    kept: Option<Call>,
+}
+
+impl Model for Program {
+    ghost use Rattle.std.specs.Prelude.{map};
+    ghost use Rattle.std.specs.Option.{option_map};
+    ghost use Rattle.taskscript.specs.Commands.{command_view};
+    ghost use Rattle.execmodel.specs.State as model;
+    ghost use Rattle.execsim.specs.Views.{call_view};
+
+    ghost Value = { model.Program };
+
+    ghost view = { λ p. record {
+      code = map command_view p.code.items;
+      place = p.place;
+      variables = p.variables;
+      kept = option_map call_view p.kept;
+    } };
+}
+
+impl Program {
+    /// The program of these commands, at its first one, with every variable 0.
+    pub fn new(code: Vec<Command>) -> Self
+        ensures { result ≡ begun_with (map command_view code.items) }
+    {
+        Program {
+            code,
+            place: 0,
+            variables: [0; PRIVATE_VARIABLES],
+            kept: None,
+        }
+    }
+
+    /// The call that the task waits in, if any.
+    pub fn kept(&self) -> Option<Call>
+        ensures { option_map call_view result ≡ self.now.kept }
+    {
+        self.kept
+    }
+
+    /// The next command, if any is left.
+    pub fn command(&self) -> Option<Command>
+        ensures { option_map command_view result ≡ slice_get self.now.code self.now.place }
+    {
+        self.code.as_slice().get(self.place).copied()
+    }
+
+    /// The place of the command after the next one.
+    pub fn next(&self) -> usize
+        requires { self.now.place < length self.now.code }
+        ensures { result ≡ self.now.place + 1 }
+    {
+        self.place + 1
+    }
+
+    /// What a variable of the task holds; 0 where it has no such variable.
+    pub fn variable(&self, k: usize) -> u32
+        ensures { result ≡ slice_index_or self.now.variables k 0 }
+    {
+        self.variables.get(k).copied().unwrap_or(0)
+    }
+
+    /// Gives a variable of the task a value; nothing changes where it has no such variable.
+    pub fn store(&mut self, k: usize, value: u32)
+        ensures { self.new ≡ record self.old { variables = slice_set self.old.variables k value } }
+    {
+        if k < PRIVATE_VARIABLES {
+            self.variables[k] = value;
+        }
+    }
+
+    /// The task goes on at the command of that place.
+    pub fn go_on(&mut self, next: usize)
+        ensures { self.new ≡ record self.old { place = next; kept = None } }
+    {
+        self.place = next;
+        self.kept = None;
+    }
+
+    /// The task will try this call again.
+    pub fn keep(&mut self, call: &Call)
+        ensures { self.new ≡ record self.old { kept = Some (call_view call.now) } }
+    {
+        self.kept = Some(*call);
+    }
+}

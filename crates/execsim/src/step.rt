@@ -1,0 +1,187 @@
+//! Steps and settling: all interleaving comes from the list of events.
+ghost use Rattle.std.specs.Prelude.{◌≡◌, ◌<◌, length, Some, IfSome};
+ghost use Rattle.exectrace.specs.Sink.{Puts};
+ghost use Rattle.exectrace.specs.Trace.{printed_line};
+ghost use Rattle.scheduler.specs.Dispatch as dispatch;
+ghost use Rattle.scheduler.specs.Schedule.{leaves, IsToOneOf};
+ghost use Rattle.execmodel.specs.State.{on_schedule};
+ghost use Rattle.execmodel.specs.Step.{announced, switches, settle, does, ends, acts, acting, step, steps, starts, all_added, event, events};
+ghost use Rattle.execsim.specs.Agreement.{Follows, Moves};
+ghost use Rattle.execsim.specs.Views.{call_view};
+
+use crate::kernel::Kernel;
+use crate::program::Call;
+use execlist::space::ListSpace;
+use exectrace::lines::CallOutcome;
+use exectrace::printing::{put_call, put_idle, put_switch};
+use exectrace::{Arg, Sink};
+use scheduler::Switch;
+use taskq::TaskId;
+use taskscript::{Event, Word};
+
+impl<S: ListSpace> Kernel<S> {
+    // ---- settle
+
+    /// The switch to another task, or to being idle, if one is due.
+    fn switch<W: Sink>(&mut self, out: &mut W)
+        ensures { Follows switches self.old self.new (W.tape out.old) (W.tape out.new) }
+    {
+        let choice = self.reschedule();
+        self.announce(choice, out);
+    }
+
+    fn reschedule(&mut self) -> Option<Switch>
+        ensures answer { result ≡ dispatch.switch_of self.old.schedule }
+        ensures next { self.new ≡ record self.old { schedule = dispatch.rescheduled self.old.schedule } }
+        ensures known { IsToOneOf result (length self.new.scripts.programs) }
+    {
+        self.sched.reschedule()
+    }
+
+    /// Prints the line of a switch, if one was made.
+    fn announce<W: Sink>(&self, choice: Option<Switch>, out: &mut W)
+        requires { IsToOneOf choice (length self.now.scripts.programs) }
+        ensures { Follows (announced choice) self.now self.now (W.tape out.old) (W.tape out.new) }
+    {
+        match choice {
+            None => {}
+            Some(Switch::Idle) => put_idle(out),
+            Some(Switch::To(t)) => put_switch(&self.name(t), out),
+        }
+    }
+
+    /// What follows each action; a stopped machine stays as it is.
+    pub(crate) fn settle<W: Sink>(&mut self, out: &mut W)
+        ensures { Follows settle self.old self.new (W.tape out.old) (W.tape out.new) }
+    {
+        if !self.stopped {
+            self.switch(out);
+        }
+    }
+
+    // ---- step
+
+    /// A call of task t, by its word.
+    #[tactic(auto, unfolding(execmodel::specs::Step::does))]
+    fn does<W: Sink>(&mut self, t: TaskId, call: &Call, out: &mut W)
+        requires known { t < length self.old.scripts.programs }
+        requires runs { self.old.schedule.running ≡ Some t }
+        ensures { Follows (does t (call_view call.now)) self.old self.new (W.tape out.old) (W.tape out.new) }
+    {
+        match call.word {
+            Word::Set => self.set(t, call),
+            Word::Print => self.print(t, call, out),
+            Word::Signal => self.signal(t, call, out),
+            Word::Wait => self.wait(t, call, out),
+        }
+    }
+
+    /// A task whose commands are used up ends, as by RemTask 0.
+    fn end<W: Sink>(&mut self, t: TaskId, out: &mut W)
+        requires known { t < length self.old.scripts.programs }
+        requires runs { self.old.schedule.running ≡ Some t }
+        ensures { Follows (ends t) self.old self.new (W.tape out.old) (W.tape out.new) }
+    {
+        let name = self.name(t);
+        put_call(&name, "RemTask", &[Arg::Value(0)], CallOutcome::Done, out);
+        self.leave(t);
+    }
+
+    fn leave(&mut self, t: TaskId)
+        requires { self.old.schedule.running ≡ Some t }
+        ensures { self.new ≡ record self.old { schedule = leaves t self.old.schedule } }
+    {
+        self.sched.leave();
+    }
+
+    /// The running task does one command; where none runs, the step is used up.
+    fn run_task<W: Sink>(&mut self, out: &mut W)
+        ensures { Follows acting self.old self.new (W.tape out.old) (W.tape out.new) }
+    {
+        match self.running() {
+            None => {}
+            Some(t) => match self.next_call(t) {
+                None => self.end(t, out),
+                Some(call) => self.does(t, &call, out),
+            },
+        }
+    }
+
+    fn running(&self) -> Option<TaskId>
+        ensures value { result ≡ self.now.schedule.running }
+        ensures known { IfSome result (λ t. t < length self.now.scripts.programs) }
+    {
+        self.sched.running()
+    }
+
+    /// What a step does before the machine settles; a stopped machine does nothing.
+    fn act<W: Sink>(&mut self, out: &mut W)
+        ensures { Follows acts self.old self.new (W.tape out.old) (W.tape out.new) }
+    {
+        if !self.stopped {
+            self.run_task(out);
+        }
+    }
+
+    /// One step.
+    fn step<W: Sink>(&mut self, out: &mut W)
+        ensures { Follows step self.old self.new (W.tape out.old) (W.tape out.new) }
+    {
+        self.act(out);
+        self.settle(out);
+    }
+
+    /// So many steps.
+    fn steps<W: Sink>(&mut self, n: u32, out: &mut W)
+        ensures { Follows (steps n) self.old self.new (W.tape out.old) (W.tape out.new) }
+    {
+        for _done in 0..n {
+            self.step(out);
+        }
+    }
+
+    // ---- run
+
+    /// The tasks are added in the order of the file.
+    fn add_all(&mut self)
+        ensures { Moves (on_schedule (all_added (length self.old.scripts.programs))) self.old self.new }
+    {
+        for t in 0..self.programs.len() {
+            self.add(t);
+        }
+    }
+
+    fn add(&mut self, t: TaskId)
+        requires { t < length self.old.scripts.programs }
+        ensures { self.new ≡ record self.old { schedule = dispatch.added t self.old.schedule } }
+    {
+        self.sched.add(t);
+    }
+
+    /// The start of the machine.
+    pub(crate) fn start<W: Sink>(&mut self, out: &mut W)
+        ensures { Follows starts self.old self.new (W.tape out.old) (W.tape out.new) }
+    {
+        self.add_all();
+        self.settle(out);
+    }
+
+    /// One event.
+    #[tactic(auto, unfolding(execmodel::specs::Step::event))]
+    pub(crate) fn event<W: Sink>(&mut self, one: Event, out: &mut W)
+        ensures { Follows (event one) self.old self.new (W.tape out.old) (W.tape out.new) }
+    {
+        match one {
+            Event::Run(n) => self.steps(n, out),
+        }
+    }
+
+    /// One event after another.
+    pub(crate) fn events<W: Sink>(&mut self, list: &[Event], out: &mut W)
+        ensures { Follows (events list.now) self.old self.new (W.tape out.old) (W.tape out.new) }
+    {
+        for one in list {
+            self.event(*one, out);
+        }
+    }
+}
