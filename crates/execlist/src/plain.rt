@@ -239,8 +239,8 @@ impl ListSpace for PlainSpace {
 
     // The three calls below have bodies of their own: a walk by `succ` would read the list for each node.
     fn add_tail(&mut self, h: HeaderId, n: NodeId) {
-        let at = self.order.len();
-        self.place(at, h, n);
+        let end = self.order.len();
+        self.place(end, h, n);
     }
 
     fn enqueue(&mut self, h: HeaderId, n: NodeId) {

@@ -13,4 +13,4 @@ returns-clause-placed c =
     let s = c.args.self.now in
     let header = header_in s.headers s.order.items s.homes.items c.args.h c.requires.header in
     same_sequences c.place.ensures.headers c.place.ensures.order c.place.ensures.homes
-    ∙ put_last s.headers s.order.items s.homes.items c.len-at.result c.args.h c.args.n s.kept header (omega (arith, s.homes.ok.0, c.requires.node)) c.requires.unlinked (omega (arith, c.len-at.ensures, s.order.ok.0))
+    ∙ put_last s.headers s.order.items s.homes.items c.len-end.result c.args.h c.args.n s.kept header (omega (arith, s.homes.ok.0, c.requires.node)) c.requires.unlinked (omega (arith, c.len-end.ensures, s.order.ok.0))
