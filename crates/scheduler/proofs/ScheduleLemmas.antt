@@ -25,6 +25,7 @@ known [] t e = cc
 known (x ∷ xs) zero e = omega arith
 known (x ∷ xs) (suc t) e = omega (arith, known xs t e)
 
+-- the test of the state of running
 runs : (v : TaskState) → is_running v ≡ true → v ≡ Running
 runs Absent e = cc
 runs Ready e = cc
@@ -32,21 +33,25 @@ runs Running e = refl
 runs (Waiting why) e = cc
 runs Removed e = cc
 
+-- the running task passes that test
 is_running-runner : (states : List TaskState) (running : Option ℕ) (signals : List SignalSets) (nestings : List Nesting) (r : ℕ)
     → IsSound states running signals nestings → running ≡ Some r → is_running (state_at states r) ≡ true
 is_running-runner states running signals nestings r sound e =
     sound.one_runs r ∙ ap (λ o. is_task o r) e ∙ eq-eqb r r refl
 
+-- the running task is one of the file
 pub runner_known : (states : List TaskState) (running : Option ℕ) (signals : List SignalSets) (nestings : List Nesting) (r : ℕ)
     → IsSound states running signals nestings → running ≡ Some r → r < length states
 runner_known states running signals nestings r sound e =
     known states r (is_running-runner states running signals nestings r sound e)
 
+-- the running task is in the state of running
 pub runner_runs : (states : List TaskState) (running : Option ℕ) (signals : List SignalSets) (nestings : List Nesting) (r : ℕ)
     → IsSound states running signals nestings → running ≡ Some r → state_at states r ≡ Running
 runner_runs states running signals nestings r sound e =
     runs (state_at states r) (is_running-runner states running signals nestings r sound e)
 
+-- the running task, if any, is one of the file
 pub running_known : (states : List TaskState) (running : Option ℕ) (signals : List SignalSets) (nestings : List Nesting)
     → IsSound states running signals nestings → IfSome running (λ t. t < length states)
 running_known states None signals nestings sound = tt
@@ -60,6 +65,7 @@ ready_still (x ∷ xs) zero (suc t) e = e
 ready_still (x ∷ xs) (suc r) zero e = e
 ready_still (x ∷ xs) (suc r) (suc t) e = ready_still xs r t e
 
+-- a ready task is ready where the running one, if any, is put back
 pub displaced_ready : (s : Schedule) (running : Option ℕ) (t : ℕ) → status_of s t ≡ Ready → status_of (displaced running s) t ≡ Ready
 unfolding arrives
 displaced_ready s None t e = e
@@ -67,18 +73,22 @@ displaced_ready s (Some r) t e = ready_still s.queue.states r t e
 
 -- ---- switches
 
+-- the switch that is due, by what is chosen
 pub switch_of-is : (s : Schedule) (choice : Option ℕ) → first s.queue.ready ≡ choice → switch_of s ≡ switch_for s.running choice s
 unfolding switch_of
 switch_of-is s choice e = ap (λ o. switch_for s.running o s) e
 
+-- the task of a switch is ready
 pub to_ready : (w : Option Switch) (t : ℕ) (states : List TaskState) → w ≡ Some (To t) → IsToReady w states → state_at states t ≡ Ready
 to_ready w t states e ready = rw e at ready
 
+-- a ready task is one of the file
 ready_known : (states : List TaskState) (t : ℕ) → state_at states t ≡ Ready → t < length states
 ready_known [] t e = cc
 ready_known (x ∷ xs) zero e = omega arith
 ready_known (x ∷ xs) (suc t) e = omega (arith, ready_known xs t e)
 
+-- the task of a switch is one of the file
 pub to_known : (w : Option Switch) (states : List TaskState) → IsToReady w states → IsToOneOf w (length states)
 to_known None states ready = tt
 to_known (Some Idle) states ready = tt
@@ -89,6 +99,7 @@ pub begins-vacant : (t : ℕ) (s : Schedule) → begins t (record s { running = 
 unfolding begins
 begins-vacant t s = refl
 
+-- making the switch that is due is all that `rescheduled` does
 pub rescheduled-is : (s : Schedule) (w : Option Switch) → w ≡ switch_of s → after_switch w s ≡ rescheduled s
 unfolding rescheduled
 rescheduled-is s w e = ap (λ o. after_switch o s) e
@@ -111,12 +122,14 @@ tasks_are q ready states pris names a b c d =
     ∙ ap (λ (x : List ℤ). record q { ready = ready; states = states; pris = x }) c
     ∙ ap (λ (x : List (List ℕ)). record { ready = ready; states = states; pris = pris; names = x }) d
 
+-- the tasks with t ready
 pub arrived : (s : Schedule) (q : Tasks) (t : ℕ)
     → q.ready ≡ enqueue (pri_at s.queue.pris) s.queue.ready t → q.states ≡ slice_set s.queue.states t Ready
     → q.pris ≡ s.queue.pris → q.names ≡ s.queue.names → record s { queue = q } ≡ arrives t s
 unfolding arrives
 arrived s q t a b c d = ap (λ queue. record s { queue = queue }) (tasks_are q _ _ _ _ a b c d)
 
+-- the tasks with t running, and a full quantum
 pub begun : (s : Schedule) (q : Tasks) (t : ℕ)
     → q.ready ≡ without t s.queue.ready → q.states ≡ slice_set s.queue.states t Running
     → q.pris ≡ s.queue.pris → q.names ≡ s.queue.names
@@ -124,6 +137,7 @@ pub begun : (s : Schedule) (q : Tasks) (t : ℕ)
 unfolding begins
 begun s q t a b c d = ap (λ queue. record s { queue = queue; running = Some t; left = s.quantum; idle = false }) (tasks_are q _ _ _ _ a b c d)
 
+-- the tasks with the running one waiting
 pub slept : (s : Schedule) (q : Tasks) (t mask : ℕ)
     → q.ready ≡ s.queue.ready → q.states ≡ slice_set s.queue.states t (Waiting (Signals mask))
     → q.pris ≡ s.queue.pris → q.names ≡ s.queue.names
@@ -131,6 +145,7 @@ pub slept : (s : Schedule) (q : Tasks) (t mask : ℕ)
 unfolding waits_for
 slept s q t mask a b c d = ap (λ queue. record s { queue = queue; running = None }) (tasks_are q _ _ _ _ a b c d)
 
+-- the tasks with the running one ready
 pub displaced_is : (s : Schedule) (q : Tasks) (r : ℕ) → s.running ≡ Some r
     → q.ready ≡ enqueue (pri_at s.queue.pris) s.queue.ready r → q.states ≡ slice_set s.queue.states r Ready
     → q.pris ≡ s.queue.pris → q.names ≡ s.queue.names
@@ -146,6 +161,7 @@ without_absent t (x ∷ xs) e = by_case (eqb x t) e (without_absent t xs) where
   by_case true z ih = absurd (omega arith)
   by_case false z ih = ap (λ l. x ∷ l) (ih z)
 
+-- the tasks with the running one removed: it did not stand among the ready ones
 pub retired : (s : Schedule) (q : Tasks) (t : ℕ) → state_at s.queue.states t ≡ Running
     → times t s.queue.ready ≡ cond (is_ready (state_at s.queue.states t)) 1 0
     → q.ready ≡ without t s.queue.ready → q.states ≡ slice_set s.queue.states t Removed
@@ -156,12 +172,14 @@ retired s q t running once a b c d =
     let ready = without_absent t s.queue.ready (once ∙ ap (λ v. cond (is_ready v) 1 0) running) in
     ap (λ queue. record s { queue = queue; running = None }) (tasks_are q _ _ _ _ (a ∙ ready) b c d)
 
+-- the tasks with t removed
 pub removed_is : (s : Schedule) (q : Tasks) (t : ℕ)
     → q.ready ≡ without t s.queue.ready → q.states ≡ slice_set s.queue.states t Removed
     → q.pris ≡ s.queue.pris → q.names ≡ s.queue.names → record s { queue = q } ≡ removed t s
 unfolding removed
 removed_is s q t a b c d = ap (λ queue. record s { queue = queue }) (tasks_are q _ _ _ _ a b c d)
 
+-- the test of the state of being ready
 was_ready : (v : TaskState) → is_ready v ≡ true → v ≡ Ready
 was_ready Absent e = cc
 was_ready Ready e = refl
@@ -173,6 +191,7 @@ was_ready Removed e = cc
 ready_again : (states : List TaskState) (t : ℕ) → is_ready (state_at states t) ≡ true → states ≡ slice_set states t Ready
 ready_again states t e = sym (ap (slice_set states t) (sym (was_ready (state_at states t) e)) ∙ set-get_or states t Absent)
 
+-- the tasks with another priority of t
 pub reprioritized_is : (s : Schedule) (q : Tasks) (t : ℕ) (pri : ℤ)
     → q.ready ≡ cond (is_ready (state_at s.queue.states t)) (enqueue (pri_at q.pris) (without t s.queue.ready) t) s.queue.ready
     → q.states ≡ s.queue.states → q.pris ≡ slice_set s.queue.pris t pri → q.names ≡ s.queue.names

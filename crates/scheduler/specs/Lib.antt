@@ -1,3 +1,4 @@
 pub mod Schedule
 pub mod Dispatch
 pub mod Sound
+pub mod Lending

@@ -9,6 +9,8 @@ ghost use Rattle.forbid.specs.Nesting.{may_switch, may_interrupt, after_forbid, 
 ghost use Rattle.scheduler.specs.Schedule.{Schedule, task_count, unstarted, name_of, priority_of, status_of, signals_of, nesting_of, is_absent, is_switching_allowed, switch_for, IsToOneOf, takes_over, renewed, begins, awaits, come_for, after_wait, takes, waits_for, leaves, removed, found, ticked, is_interrupting_allowed, nested, nest_answer, allocates, sets_signals, frees, with_signals};
 ghost use Rattle.scheduler.specs.Dispatch.{arrives, displaced, switch_of, after_switch, rescheduled, added, signalled, reprioritized};
 ghost use Rattle.scheduler.specs.Sound.{is_stopped, IsToReady};
+ghost use Rattle.std.specs.Borrow.{sem};
+ghost use Rattle.scheduler.specs.Lending.{lends_signals, lends_nesting};
 
 use execlist::key::Name;
 use execlist::space::ListSpace;
@@ -47,22 +49,31 @@ impl<S: ListSpace> Model for Sched<S> {
 
     ghost Value = { Schedule };
 
-    ghost view = { λ s. record { queue = s.queue; running = s.running; signals = s.signals.items; nestings = s.nests.items; quantum = s.quantum; left = s.left; idle = s.idle } };
+    ghost view = { λ s. record {
+      queue = s.queue;
+      running = s.running;
+      signals = s.signals.items;
+      nestings = s.nests.items;
+      quantum = s.quantum;
+      left = s.left;
+      idle = s.idle;
+    } };
 
     ghost invariant = { λ s. IsSound s.queue.states s.running s.signals.items s.nests.items };
 }
 
 impl<S: ListSpace> Sched<S> {
-    /// Makes the schedule of tasks of these names and first priorities, at most 4,096, numbered in the order given. `quantum`
-    /// is the length of a full quantum, in servings of VERTB.
+    /// Makes the schedule of tasks of these names and first priorities, at most 4,096, numbered in the order
+    /// given. `quantum` is the length of a full quantum, in servings of VERTB.
     ///
-    /// No task was added, none runs, and the machine was not yet told to be idle. Each task has the signals and the nesting
-    /// of one that begins. An error means that memory is lacking.
+    /// No task was added, none runs, and the machine was not yet told to be idle. Each task has the signals and
+    /// the nesting of one that begins. An error means that memory is lacking.
     ///
     /// Source: RKM Libraries, Exec Tasks. Own choice: the quantum in servings.
     pub fn new(alloc: Global, tasks: &[TaskInit], quantum: u8) -> Result<Self, AllocError>
         requires { length tasks.now ≤ 4096 }
-        ensures { IfOk result (λ s. s ≡ unstarted (length tasks.now) (map (λ t. t.pri) tasks.now) (map (λ t. t.name.bytes) tasks.now) quantum) }
+        ensures { IfOk result (λ s. s ≡ unstarted (length tasks.now) (map (λ t. t.pri) tasks.now)
+            (map (λ t. t.name.bytes) tasks.now) quantum) }
     {
         let queue = TaskQ::new(alloc, tasks)?;
         let signals = Vec::from_elem(alloc, SigState::new(), tasks.len())?;
@@ -102,18 +113,44 @@ impl<S: ListSpace> Sched<S> {
         }
     }
 
-    // Makes a task ready that neither is ready, nor runs, nor has ended.
-    fn arrive(&mut self, t: TaskId)
-        requires known { t < task_count self.old }
-        requires stopped { IsTrue (is_stopped (status_of self.old t)) }
-        ensures next { self.new ≡ arrives t self.old }
-        ensures tasks { task_count self.new ≡ task_count self.old }
+    /// Answers whether a task was added and has not ended.
+    ///
+    /// Source: RKM Libraries, Exec Tasks: task states.
+    pub fn is_live(&self, t: TaskId) -> bool
+        requires { t < task_count self.now }
+        ensures { result ≡ is_live (status_of self.now t) }
     {
-        self.queue.make_ready(t);
+        self.queue.is_live(t)
     }
 
-    /// Adds a task that never was added, which then is ready, and answers true; for any other it changes nothing and
-    /// answers false.
+    /// Answers the name of a task.
+    ///
+    /// Source: RKM Libraries, Exec Tasks: `ln_Name`.
+    pub fn name(&self, t: TaskId) -> Name
+        requires { t < task_count self.now }
+        ensures { result.bytes ≡ name_of self.now t }
+    {
+        self.queue.name(t)
+    }
+
+    /// Answers the live task of that name, or none. Names compare byte for byte; where several live tasks have
+    /// the name, the first in the order of their numbers is answered.
+    ///
+    /// Source: autodoc exec.library/FindTask.
+    #[tactic(auto, unfolding(crate::specs::Schedule::found))]
+    pub fn find(&self, name: &str) -> Option<TaskId>
+        ensures value { result ≡ found name.now self.now }
+        ensures known { IfSome result (λ t. t < task_count self.now) }
+        ensures live { IfSome result (λ t. IsTrue (is_live (status_of self.now t))) }
+    {
+        self.queue.find(name)
+    }
+}
+
+/// How a task is added and ends, and its priority.
+impl<S: ListSpace> Sched<S> {
+    /// Adds a task that never was added, which then is ready, and answers true; for any other it changes
+    /// nothing and answers false.
     ///
     /// Source: autodoc exec.library/AddTask. Own choice: a task that was removed is not added again.
     #[tactic(auto, unfolding(crate::specs::Dispatch::added))]
@@ -131,12 +168,74 @@ impl<S: ListSpace> Sched<S> {
         }
     }
 
-    /// Lets another task run, or the machine be idle, where that is due, and answers what the machine turned to.
+    // Makes a task ready that neither is ready, nor runs, nor has ended.
+    fn arrive(&mut self, t: TaskId)
+        requires known { t < task_count self.old }
+        requires stopped { IsTrue (is_stopped (status_of self.old t)) }
+        ensures next { self.new ≡ arrives t self.old }
+        ensures tasks { task_count self.new ≡ task_count self.old }
+    {
+        self.queue.make_ready(t);
+    }
+
+    /// Ends the running task for good; no task runs then. The next `reschedule` chooses another one.
     ///
-    /// Where no task runs, the first ready task does, and where there is none the machine is idle, which is answered once.
-    /// A running task that allows switching gives way to a ready one of higher priority, and to one of equal priority
-    /// where its quantum has ended; it then is ready, behind those of its priority. A quantum that has ended otherwise begins
-    /// anew. A task that begins to run has a full quantum.
+    /// Source: autodoc exec.library/RemTask.
+    pub fn leave(&mut self)
+        requires { IsSome self.old.running }
+        ensures next { IfSome self.old.running (λ t. self.new ≡ leaves t self.old) }
+        ensures tasks { task_count self.new ≡ task_count self.old }
+    {
+        let t = self.runner();
+        self.retire(t);
+    }
+
+    // Ends the running task, which does not stand among the ready ones.
+    fn retire(&mut self, r: TaskId)
+        requires { self.old.running ≡ Some r }
+        ensures next { self.new ≡ leaves r self.old }
+        ensures tasks { task_count self.new ≡ task_count self.old }
+    {
+        self.queue.facts();
+        self.queue.remove(r);
+        self.running = None;
+    }
+
+    /// Ends a live task for good that does not run.
+    ///
+    /// Source: autodoc exec.library/RemTask.
+    pub fn remove(&mut self, t: TaskId)
+        requires live { IsTrue (is_live (status_of self.old t)) }
+        requires stopped { self.old.running ≢ Some t }
+        ensures next { self.new ≡ removed t self.old }
+        ensures tasks { task_count self.new ≡ task_count self.old }
+    {
+        self.queue.remove(t);
+    }
+
+    /// Gives a task another priority (-128 to 127) and answers the old one. A ready task arrives anew, also
+    /// where the priority stays; no switch is made.
+    ///
+    /// Source: autodoc exec.library/SetTaskPri. Own choice: that a ready task arrives anew.
+    pub fn set_pri(&mut self, t: TaskId, pri: i8) -> i8
+        requires { t < task_count self.old }
+        ensures answer { result ≡ priority_of self.old t }
+        ensures next { self.new ≡ reprioritized t pri self.old }
+        ensures tasks { task_count self.new ≡ task_count self.old }
+    {
+        self.queue.set_pri(t, pri)
+    }
+}
+
+/// Which task runs, and for how long.
+impl<S: ListSpace> Sched<S> {
+    /// Lets another task run, or the machine be idle, where that is due, and answers what the machine turned
+    /// to.
+    ///
+    /// Where no task runs, the first ready task does, and where there is none the machine is idle, which is
+    /// answered once. A running task that allows switching gives way to a ready one of higher priority, and to
+    /// one of equal priority where its quantum has ended; it then is ready, behind those of its priority. A
+    /// quantum that has ended otherwise begins anew. A task that begins to run has a full quantum.
     ///
     /// Source: RKM Libraries, Exec Tasks: task scheduling. Own choice: when a quantum begins.
     pub fn reschedule(&mut self) -> Option<Switch>
@@ -170,7 +269,8 @@ impl<S: ListSpace> Sched<S> {
     // Whether ready task `t`, which is chosen, is to run now.
     fn gives_way(&self, t: TaskId) -> bool
         requires { t < task_count self.now }
-        ensures { switch_for self.now.running (Some t) self.now ≡ (if result then Some (Switch.To t) else None) }
+        ensures { switch_for self.now.running (Some t) self.now
+            ≡ (if result then Some (Switch.To t) else None) }
     {
         match self.running {
             None => true,
@@ -262,29 +362,26 @@ impl<S: ListSpace> Sched<S> {
         }
     }
 
-    /// Answers whether another task may be given the processor: no task runs, or the running one has called neither Forbid
-    /// nor Disable without its counterpart.
+    /// Counts one serving of VERTB against the quantum of the running task, which does not go below zero. Where
+    /// no task runs nothing changes.
     ///
-    /// Source: autodocs exec.library/Forbid and exec.library/Disable.
-    pub fn may_switch(&self) -> bool
-        ensures { result ≡ is_switching_allowed self.now.running self.now }
+    /// Source: RKM Libraries, Exec Tasks: task scheduling. Own choice: the quantum in servings.
+    #[tactic(auto, unfolding(crate::specs::Schedule::ticked))]
+    pub fn quantum_tick(&mut self)
+        ensures next { self.new ≡ ticked self.old }
+        ensures tasks { task_count self.new ≡ task_count self.old }
     {
-        match self.running {
-            None => true,
-            Some(r) => self.allows_switch(r),
+        if self.running.is_some() {
+            self.left = self.left.saturating_sub(1);
         }
     }
+}
 
-    // Whether running task `r` lets another one have the processor.
-    fn allows_switch(&self, r: TaskId) -> bool
-        requires { r < task_count self.now }
-        ensures { result ≡ may_switch (nesting_of self.now r) }
-    {
-        self.nests[r].may_switch()
-    }
-
-    /// Takes the signals of the mask that the running task has received, and answers them; where there are none it answers
-    /// none, and the task waits for them: no task runs then. The next `reschedule` chooses another one.
+/// Signals.
+impl<S: ListSpace> Sched<S> {
+    /// Takes the signals of the mask that the running task has received, and answers them; where there are none
+    /// it answers none, and the task waits for them: no task runs then. The next `reschedule` chooses another
+    /// one, also where the waiting task has called Forbid or Disable: these hold again when it runs again.
     ///
     /// Source: autodoc exec.library/Wait.
     pub fn wait(&mut self, mask: u32) -> Option<u32>
@@ -331,190 +428,8 @@ impl<S: ListSpace> Sched<S> {
         self.running = None;
     }
 
-    /// Ends the running task for good; no task runs then. Autodoc exec.library/RemTask.
-    pub fn leave(&mut self)
-        requires { IsSome self.old.running }
-        ensures next { IfSome self.old.running (λ t. self.new ≡ leaves t self.old) }
-        ensures tasks { task_count self.new ≡ task_count self.old }
-    {
-        let t = self.runner();
-        self.retire(t);
-    }
-
-    // Ends the running task.
-    fn retire(&mut self, t: TaskId)
-        requires { self.old.running ≡ Some t }
-        ensures next { self.new ≡ leaves t self.old }
-        ensures tasks { task_count self.new ≡ task_count self.old }
-    {
-        self.queue.facts();
-        self.queue.remove(t);
-        self.running = None;
-    }
-
-    /// Ends a live task for good that does not run.
-    ///
-    /// Source: autodoc exec.library/RemTask.
-    pub fn remove(&mut self, t: TaskId)
-        requires live { IsTrue (is_live (status_of self.old t)) }
-        requires stopped { self.old.running ≢ Some t }
-        ensures next { self.new ≡ removed t self.old }
-        ensures tasks { task_count self.new ≡ task_count self.old }
-    {
-        self.queue.remove(t);
-    }
-
-    /// Gives a task another priority (-128 to 127) and answers the old one. A ready task arrives anew, also where the priority
-    /// stays; no switch is made.
-    ///
-    /// Source: autodoc exec.library/SetTaskPri. Own choice: that a ready task arrives anew.
-    pub fn set_pri(&mut self, t: TaskId, pri: i8) -> i8
-        requires { t < task_count self.old }
-        ensures answer { result ≡ priority_of self.old t }
-        ensures next { self.new ≡ reprioritized t pri self.old }
-        ensures tasks { task_count self.new ≡ task_count self.old }
-    {
-        self.queue.set_pri(t, pri)
-    }
-
-    /// Counts one serving of VERTB against the quantum of the running task, which does not go below zero. Where no task runs
-    /// nothing changes.
-    ///
-    /// Source: RKM Libraries, Exec Tasks: task scheduling. Own choice: the quantum in servings.
-    #[tactic(auto, unfolding(crate::specs::Schedule::ticked))]
-    pub fn quantum_tick(&mut self)
-        ensures next { self.new ≡ ticked self.old }
-        ensures tasks { task_count self.new ≡ task_count self.old }
-    {
-        if self.running.is_some() {
-            self.left = self.left.saturating_sub(1);
-        }
-    }
-
-    /// Answers whether an interrupt may be served: no task runs, or the running one has not called Disable without Enable.
-    ///
-    /// Source: autodoc exec.library/Disable.
-    pub fn may_interrupt(&self) -> bool
-        ensures { result ≡ is_interrupting_allowed self.now.running self.now }
-    {
-        match self.running {
-            None => true,
-            Some(r) => self.allows_interrupt(r),
-        }
-    }
-
-    // Whether running task `r` lets an interrupt be served.
-    fn allows_interrupt(&self, r: TaskId) -> bool
-        requires { r < task_count self.now }
-        ensures { result ≡ may_interrupt (nesting_of self.now r) }
-    {
-        self.nests[r].may_interrupt()
-    }
-
-    /// Counts one more Forbid of the running task: no other task runs until as many calls of `permit`.
-    ///
-    /// It is `TooDeep` and changes nothing where the count is 127 (own choice). Source: autodoc exec.library/Forbid.
-    pub fn forbid(&mut self) -> Result<(), NestFault>
-        requires { IsSome self.old.running }
-        ensures answer { IfSome self.old.running (λ t. result ≡ nest_answer NestFault.TooDeep (after_forbid (nesting_of self.old t))) }
-        ensures next { IfSome self.old.running (λ t. self.new ≡ nested t (after_forbid (nesting_of self.old t)) self.old) }
-        ensures tasks { task_count self.new ≡ task_count self.old }
-    {
-        let t = self.runner();
-        self.nests[t].forbid()
-    }
-
-    /// Takes back one Forbid of the running task; no switch is made.
-    ///
-    /// It is `NotNested` and changes nothing where the count is -1 (own choice). Source: autodoc exec.library/Permit.
-    pub fn permit(&mut self) -> Result<(), NestFault>
-        requires { IsSome self.old.running }
-        ensures answer { IfSome self.old.running (λ t. result ≡ nest_answer NestFault.NotNested (after_permit (nesting_of self.old t))) }
-        ensures next { IfSome self.old.running (λ t. self.new ≡ nested t (after_permit (nesting_of self.old t)) self.old) }
-        ensures tasks { task_count self.new ≡ task_count self.old }
-    {
-        let t = self.runner();
-        self.nests[t].permit()
-    }
-
-    /// Counts one more Disable of the running task: until as many calls of `enable` no other task runs and no interrupt is
-    /// served.
-    ///
-    /// It is `TooDeep` and changes nothing where the count is 127 (own choice). Source: autodoc exec.library/Disable.
-    pub fn disable(&mut self) -> Result<(), NestFault>
-        requires { IsSome self.old.running }
-        ensures answer { IfSome self.old.running (λ t. result ≡ nest_answer NestFault.TooDeep (after_disable (nesting_of self.old t))) }
-        ensures next { IfSome self.old.running (λ t. self.new ≡ nested t (after_disable (nesting_of self.old t)) self.old) }
-        ensures tasks { task_count self.new ≡ task_count self.old }
-    {
-        let t = self.runner();
-        self.nests[t].disable()
-    }
-
-    /// Takes back one Disable of the running task; no switch is made.
-    ///
-    /// It is `NotNested` and changes nothing where the count is -1 (own choice). Source: autodoc exec.library/Enable.
-    pub fn enable(&mut self) -> Result<(), NestFault>
-        requires { IsSome self.old.running }
-        ensures answer { IfSome self.old.running (λ t. result ≡ nest_answer NestFault.NotNested (after_enable (nesting_of self.old t))) }
-        ensures next { IfSome self.old.running (λ t. self.new ≡ nested t (after_enable (nesting_of self.old t)) self.old) }
-        ensures tasks { task_count self.new ≡ task_count self.old }
-    {
-        let t = self.runner();
-        self.nests[t].enable()
-    }
-
-    /// Allocates signal `n` of the running task, or for -1 the highest free one of 16 to 31, and answers its number.
-    ///
-    /// Answers -1 and changes nothing where `n` is allocated, where `n` is neither -1 nor from 16 to 31, and for -1 where all
-    /// of 16 to 31 are allocated. A signal that was allocated just now is not received.
-    ///
-    /// Source: autodoc exec.library/AllocSignal. Own choices: the highest one, and the answer to other numbers.
-    #[tactic(auto, unfolding(crate::specs::Schedule::allocates))]
-    pub fn alloc_signal(&mut self, n: i32) -> i32
-        requires { IsSome self.old.running }
-        ensures answer { IfSome self.old.running (λ t. result ≡ grant_number (grant n (signals_of self.old t))) }
-        ensures next { IfSome self.old.running (λ t. self.new ≡ allocates t n self.old) }
-        ensures tasks { task_count self.new ≡ task_count self.old }
-    {
-        let t = self.runner();
-        self.signals[t].alloc_signal(n)
-    }
-
-    /// Makes the received signals of the mask those of `new` for the running task, leaves the others, and answers the received
-    /// set as it was.
-    ///
-    /// Source: autodoc exec.library/SetSignal.
-    #[tactic(auto, unfolding(crate::specs::Schedule::sets_signals))]
-    pub fn set_signal(&mut self, new: u32, mask: u32) -> u32
-        requires { IsSome self.old.running }
-        ensures answer { IfSome self.old.running (λ t. result ≡ (signals_of self.old t).received) }
-        ensures next { IfSome self.old.running (λ t. self.new ≡ sets_signals t new mask self.old) }
-        ensures tasks { task_count self.new ≡ task_count self.old }
-    {
-        let t = self.runner();
-        self.signals[t].set_signal(new, mask)
-    }
-
-    /// Leaves signal `n`, from 16 to 31, of a live task unallocated, whether it was allocated or not. It stays received if it
-    /// was. For a task that is not live nothing changes.
-    ///
-    /// Source: autodoc exec.library/FreeSignal. Own choice: that nothing changes for a task which is not live.
-    #[tactic(auto, unfolding(crate::specs::Schedule::frees))]
-    pub fn free_signal(&mut self, t: TaskId, n: u32)
-        requires task { t < task_count self.old }
-        requires at_least_16 { 16 ≤ n }
-        requires at_most_31 { n ≤ 31 }
-        ensures next { self.new ≡ frees t n self.old }
-        ensures tasks { task_count self.new ≡ task_count self.old }
-    {
-        if self.is_live(t) {
-            self.signals[t].free_signal(n);
-        }
-    }
-
-    /// Adds the signals of the mask to those that a live task has received; a task that waits for any of them is ready then.
-    /// A task that is not live takes none.
+    /// Adds the signals of the mask to those that a live task has received; a task that waits for any of them
+    /// is ready then. A task that is not live takes none.
     ///
     /// Source: autodoc exec.library/Signal. Own choice: that a task which is not live takes none.
     #[tactic(auto, unfolding(crate::specs::Dispatch::signalled))]
@@ -552,38 +467,191 @@ impl<S: ListSpace> Sched<S> {
         }
     }
 
-    /// Answers whether a task was added and has not ended.
+    /// Allocates signal `n` of the running task, or for -1 the highest free one of 16 to 31, and answers its
+    /// number.
     ///
-    /// Source: RKM Libraries, Exec Tasks: task states.
-    pub fn is_live(&self, t: TaskId) -> bool
-        requires { t < task_count self.now }
-        ensures { result ≡ is_live (status_of self.now t) }
-    {
-        match self.queue.state(t) {
-            TaskState::Absent | TaskState::Removed => false,
-            _ => true,
-        }
-    }
-    /// Answers the live task of that name, or none. Names compare byte for byte; where several live tasks have the name, the
-    /// first in the order of their numbers is answered.
+    /// Answers -1 and changes nothing where `n` is allocated, where `n` is neither -1 nor from 16 to 31, and
+    /// for -1 where all of 16 to 31 are allocated. A signal that was allocated just now is not received.
     ///
-    /// Source: autodoc exec.library/FindTask.
-    #[tactic(auto, unfolding(crate::specs::Schedule::found))]
-    pub fn find(&self, name: &str) -> Option<TaskId>
-        ensures value { result ≡ found name.now self.now }
-        ensures known { IfSome result (λ t. t < task_count self.now) }
-        ensures live { IfSome result (λ t. IsTrue (is_live (status_of self.now t))) }
+    /// Source: autodoc exec.library/AllocSignal. Own choices: the highest one, and the answer to other numbers.
+    #[tactic(auto, unfolding(crate::specs::Schedule::allocates))]
+    pub fn alloc_signal(&mut self, n: i32) -> i32
+        requires { IsSome self.old.running }
+        ensures answer { IfSome self.old.running
+            (λ t. result ≡ grant_number (grant n (signals_of self.old t))) }
+        ensures next { IfSome self.old.running (λ t. self.new ≡ allocates t n self.old) }
+        ensures tasks { task_count self.new ≡ task_count self.old }
     {
-        self.queue.find(name)
+        let t = self.runner();
+        self.signals[t].alloc_signal(n)
     }
 
-    /// Answers the name of a task.
+    /// Leaves signal `n`, from 16 to 31, of a live task unallocated, whether it was allocated or not. It stays
+    /// received if it was. For a task that is not live nothing changes.
     ///
-    /// Source: RKM Libraries, Exec Tasks: `ln_Name`.
-    pub fn name(&self, t: TaskId) -> Name
-        requires { t < task_count self.now }
-        ensures { result.bytes ≡ name_of self.now t }
+    /// Source: autodoc exec.library/FreeSignal. Own choice: that nothing changes for a task which is not live.
+    #[tactic(auto, unfolding(crate::specs::Schedule::frees))]
+    pub fn free_signal(&mut self, t: TaskId, n: u32)
+        requires task { t < task_count self.old }
+        requires at_least_16 { 16 ≤ n }
+        requires at_most_31 { n ≤ 31 }
+        ensures next { self.new ≡ frees t n self.old }
+        ensures tasks { task_count self.new ≡ task_count self.old }
     {
-        self.queue.name(t)
+        if self.is_live(t) {
+            self.signals[t].free_signal(n);
+        }
+    }
+
+    /// Makes the received signals of the mask those of `new` for the running task, leaves the others, and
+    /// answers the received set as it was.
+    ///
+    /// Source: autodoc exec.library/SetSignal.
+    #[tactic(auto, unfolding(crate::specs::Schedule::sets_signals))]
+    pub fn set_signal(&mut self, new: u32, mask: u32) -> u32
+        requires { IsSome self.old.running }
+        ensures answer { IfSome self.old.running (λ t. result ≡ (signals_of self.old t).received) }
+        ensures next { IfSome self.old.running (λ t. self.new ≡ sets_signals t new mask self.old) }
+        ensures tasks { task_count self.new ≡ task_count self.old }
+    {
+        let t = self.runner();
+        self.signals[t].set_signal(new, mask)
+    }
+
+    /// Lends the signals of the running task: what is left in them when the loan ends is what the task has.
+    ///
+    /// Source: RKM Libraries, Exec Signals.
+    pub fn sigs(&mut self) -> &mut SigState
+        requires { IsSome self.old.running }
+        ensures value { IfSome self.old.running (λ t. result.now ≡ signals_of self.old t) }
+        ensures* writes_back { sem 𝓛 (lends_signals S.row S.ListSpace self.entry result) }
+    {
+        let t = self.runner();
+        &mut self.signals[t]
     }
 }
+
+/// Forbid and Disable.
+impl<S: ListSpace> Sched<S> {
+    /// Counts one more Forbid of the running task: no other task runs until as many calls of `permit`.
+    ///
+    /// It is `TooDeep` and changes nothing where the count is 127 (own choice).
+    /// Source: autodoc exec.library/Forbid.
+    pub fn forbid(&mut self) -> Result<(), NestFault>
+        requires { IsSome self.old.running }
+        ensures answer { IfSome self.old.running
+            (λ t. result ≡ nest_answer NestFault.TooDeep (after_forbid (nesting_of self.old t))) }
+        ensures next { IfSome self.old.running
+            (λ t. self.new ≡ nested t (after_forbid (nesting_of self.old t)) self.old) }
+        ensures tasks { task_count self.new ≡ task_count self.old }
+    {
+        let t = self.runner();
+        self.nests[t].forbid()
+    }
+
+    /// Takes back one Forbid of the running task; no switch is made.
+    ///
+    /// It is `NotNested` and changes nothing where the count is -1 (own choice).
+    /// Source: autodoc exec.library/Permit.
+    pub fn permit(&mut self) -> Result<(), NestFault>
+        requires { IsSome self.old.running }
+        ensures answer { IfSome self.old.running
+            (λ t. result ≡ nest_answer NestFault.NotNested (after_permit (nesting_of self.old t))) }
+        ensures next { IfSome self.old.running
+            (λ t. self.new ≡ nested t (after_permit (nesting_of self.old t)) self.old) }
+        ensures tasks { task_count self.new ≡ task_count self.old }
+    {
+        let t = self.runner();
+        self.nests[t].permit()
+    }
+
+    /// Counts one more Disable of the running task: until as many calls of `enable` no other task runs and no
+    /// interrupt is served.
+    ///
+    /// It is `TooDeep` and changes nothing where the count is 127 (own choice).
+    /// Source: autodoc exec.library/Disable.
+    pub fn disable(&mut self) -> Result<(), NestFault>
+        requires { IsSome self.old.running }
+        ensures answer { IfSome self.old.running
+            (λ t. result ≡ nest_answer NestFault.TooDeep (after_disable (nesting_of self.old t))) }
+        ensures next { IfSome self.old.running
+            (λ t. self.new ≡ nested t (after_disable (nesting_of self.old t)) self.old) }
+        ensures tasks { task_count self.new ≡ task_count self.old }
+    {
+        let t = self.runner();
+        self.nests[t].disable()
+    }
+
+    /// Takes back one Disable of the running task; no switch is made.
+    ///
+    /// It is `NotNested` and changes nothing where the count is -1 (own choice).
+    /// Source: autodoc exec.library/Enable.
+    pub fn enable(&mut self) -> Result<(), NestFault>
+        requires { IsSome self.old.running }
+        ensures answer { IfSome self.old.running
+            (λ t. result ≡ nest_answer NestFault.NotNested (after_enable (nesting_of self.old t))) }
+        ensures next { IfSome self.old.running
+            (λ t. self.new ≡ nested t (after_enable (nesting_of self.old t)) self.old) }
+        ensures tasks { task_count self.new ≡ task_count self.old }
+    {
+        let t = self.runner();
+        self.nests[t].enable()
+    }
+
+    /// Lends the nesting of the running task: what is left in it when the loan ends is what the task has.
+    ///
+    /// Source: RKM Libraries, Exec Tasks, on forbidding and disabling.
+    pub fn nest(&mut self) -> &mut Nest
+        requires { IsSome self.old.running }
+        ensures value { IfSome self.old.running (λ t. result.now ≡ nesting_of self.old t) }
+        ensures* writes_back { sem 𝓛 (lends_nesting S.row S.ListSpace self.entry result) }
+    {
+        let t = self.runner();
+        &mut self.nests[t]
+    }
+
+    /// Answers whether another task may be given the processor: no task runs, or the running one has called
+    /// neither Forbid nor Disable without its counterpart.
+    ///
+    /// Source: autodocs exec.library/Forbid and exec.library/Disable.
+    pub fn may_switch(&self) -> bool
+        ensures { result ≡ is_switching_allowed self.now.running self.now }
+    {
+        match self.running {
+            None => true,
+            Some(r) => self.allows_switch(r),
+        }
+    }
+
+    // Whether running task `r` lets another one have the processor.
+    fn allows_switch(&self, r: TaskId) -> bool
+        requires { r < task_count self.now }
+        ensures { result ≡ may_switch (nesting_of self.now r) }
+    {
+        self.nests[r].may_switch()
+    }
+
+    /// Answers whether an interrupt may be served: no task runs, or the running one has not called Disable
+    /// without Enable.
+    ///
+    /// Source: autodoc exec.library/Disable.
+    pub fn may_interrupt(&self) -> bool
+        ensures { result ≡ is_interrupting_allowed self.now.running self.now }
+    {
+        match self.running {
+            None => true,
+            Some(r) => self.allows_interrupt(r),
+        }
+    }
+
+    // Whether running task `r` lets an interrupt be served.
+    fn allows_interrupt(&self, r: TaskId) -> bool
+        requires { r < task_count self.now }
+        ensures { result ≡ may_interrupt (nesting_of self.now r) }
+    {
+        self.nests[r].may_interrupt()
+    }
+}
+
+#[cfg(test)]
+mod tests;

@@ -1,3 +1,4 @@
+-- The tasks with one more ready one are those of `arrives`.
 use Rattle.std.proofs.Common.{ap, ◌∙◌}
 use Rattle.scheduler.specs.Dispatch.{arrives}
 use Rattle.scheduler.proofs.ScheduleLemmas.{arrived}

@@ -1,3 +1,4 @@
+-- The tasks with a ready one running are those of `begins`.
 use Rattle.std.proofs.Common.{ap, ◌∙◌}
 use Rattle.scheduler.specs.Schedule.{begins}
 use Rattle.scheduler.proofs.ScheduleLemmas.{begun}

@@ -1,3 +1,4 @@
+-- The running task is one of the file, and the tasks with it ready are those of `displaced`.
 use Rattle.std.proofs.Common.{ap, ◌∙◌, None}
 use Rattle.scheduler.specs.Schedule.{Schedule}
 use Rattle.scheduler.specs.Dispatch.{displaced}

@@ -1,3 +1,4 @@
+-- The task that is picked is the first ready one, of which `switch_of` speaks.
 use Rattle.std.proofs.Common.{sym, ap, ◌∙◌, cond, Some, None}
 use Rattle.execlist.specs.Order.{first}
 use Rattle.scheduler.specs.declared.Switch.TheVariants.{To}

@@ -1,3 +1,4 @@
+-- A ready task is still ready when the running one is put back, and begins then.
 use Rattle.std.proofs.Common.{ap, sym, ◌∙◌, Some}
 use Rattle.scheduler.specs.Schedule.{begins}
 use Rattle.scheduler.specs.Dispatch.{displaced, after_switch}

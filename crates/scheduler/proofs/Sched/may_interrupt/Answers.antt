@@ -1,3 +1,4 @@
+-- The running task is one of the file.
 use Rattle.scheduler.proofs.ScheduleLemmas.{runner_known}
 use Rattle.scheduler.proofs.Sched.may_interrupt.Goals as goal
 

@@ -1,3 +1,4 @@
+-- The tasks with one of them removed are those of `removed`.
 use Rattle.std.proofs.Common.{ap, ◌∙◌}
 use Rattle.scheduler.specs.Schedule.{removed}
 use Rattle.scheduler.proofs.ScheduleLemmas.{removed_is}

@@ -1,3 +1,4 @@
+-- What is made of the switch that is due is `rescheduled`; its task was ready, so it is one of the file.
 use Rattle.std.proofs.Common.{◌∙◌}
 use Rattle.scheduler.proofs.ScheduleLemmas.{rescheduled-is, to_known}
 use Rattle.scheduler.proofs.Sched.reschedule.Goals as goal

@@ -1,3 +1,4 @@
+-- The running task, if any, is one of the file.
 use Rattle.scheduler.proofs.ScheduleLemmas.{running_known}
 use Rattle.scheduler.proofs.Sched.running.Goals as goal
 

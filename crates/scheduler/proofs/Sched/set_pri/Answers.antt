@@ -1,3 +1,4 @@
+-- The priority is stored as it was given, and the tasks with it are those of `reprioritized`.
 use Rattle.std.proofs.Common.{rules, ap, ◌∙◌, slice_set}
 use Rattle.std.proofs.lemmas.Int.{to_z-of_z}
 use Rattle.scheduler.specs.Dispatch.{reprioritized}

@@ -1,3 +1,4 @@
+-- The tasks with the running one waiting are those of `waits_for`.
 use Rattle.std.proofs.Common.{ap, ◌∙◌}
 use Rattle.scheduler.specs.Schedule.{waits_for}
 use Rattle.scheduler.proofs.ScheduleLemmas.{slept}
