@@ -169,10 +169,7 @@ mod tests {
 
     #[test]
     fn a_name_stands_between_double_quotes(rt: HostRuntime) {
-        match argument_of(Kind::Name, "\"x.Y_9-\"") {
-            Some(NamedArgument::Quoted(name)) => assert_eq!(rt; name.as_str(), "x.Y_9-"),
-            _ => assert!(rt; false),
-        }
+        assert!(rt; is_argument(Kind::Name, "\"x.Y_9-\""));
         let fields = [
             "",
             "\"",
