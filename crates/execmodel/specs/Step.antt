@@ -13,8 +13,8 @@ use Rattle.scheduler.specs.declared.Switch.TheVariants as switch
 use Rattle.execmodel.specs.State.{Call, State, Outcome, quiet, says, andthen, on_schedule, booted}
 use Rattle.execmodel.specs.Scheduling.{switch_of, rescheduled, added}
 use Rattle.execmodel.specs.Calls.{next_call}
-use Rattle.execmodel.specs.Plain.{does_set, does_print}
-use Rattle.execmodel.specs.Signals.{does_signal, does_wait}
+use Rattle.execmodel.specs.Plain.{does_set, does_add, does_sub, does_and, does_or, does_jump, does_jump_zero, does_jump_not_zero, does_print}
+use Rattle.execmodel.specs.Signals.{does_alloc_signal, does_free_signal, does_set_signal, does_signal, does_wait}
 
 -- ---- settle
 
@@ -37,7 +37,17 @@ settle s = if s.stopped then quiet s else switches s
 -- a call of task t, by its word
 abbrev pub does_word : Word → ℕ → Call → State → Outcome
 does_word word.Set t call s = does_set t call s
+does_word word.Add t call s = does_add t call s
+does_word word.Sub t call s = does_sub t call s
+does_word word.And t call s = does_and t call s
+does_word word.Or t call s = does_or t call s
+does_word word.Jump t call s = does_jump t call s
+does_word word.JumpZ t call s = does_jump_zero t call s
+does_word word.JumpNZ t call s = does_jump_not_zero t call s
 does_word word.Print t call s = does_print t call s
+does_word word.AllocSignal t call s = does_alloc_signal t call s
+does_word word.FreeSignal t call s = does_free_signal t call s
+does_word word.SetSignal t call s = does_set_signal t call s
 does_word word.Signal t call s = does_signal t call s
 does_word word.Wait t call s = does_wait t call s
 

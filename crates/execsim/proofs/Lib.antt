@@ -1,5 +1,6 @@
 pub mod Acting
 pub mod Booting
+pub mod Calculating
 pub mod Calling
 pub mod Endings
 pub mod Following
