@@ -1,0 +1,57 @@
+-- What holds of each word, by the table.
+use Rattle.std.proofs.Common.{◌≡◌, ◌≤◌, lit≤, false, nat_le, length, Some, refl}
+use Rattle.std.specs.Prelude.{slice_index}
+use Rattle.taskscript.specs.declared.word.Word.{Word}
+use Rattle.taskscript.specs.declared.word.Word.TheVariants.{Set, Add, Sub, And, Or, Jump, JumpZ, JumpNZ, Print, AllocSignal, FreeSignal, SetSignal, Signal, Wait}
+use Rattle.taskscript.specs.Words.{word_text, word_of, kinds}
+
+-- no word has more than four arguments
+pub few_kinds : (w : Word) → length (kinds w) ≤ 4
+few_kinds Set = lit≤ tt
+few_kinds Add = lit≤ tt
+few_kinds Sub = lit≤ tt
+few_kinds And = lit≤ tt
+few_kinds Or = lit≤ tt
+few_kinds Jump = lit≤ tt
+few_kinds JumpZ = lit≤ tt
+few_kinds JumpNZ = lit≤ tt
+few_kinds Print = lit≤ tt
+few_kinds AllocSignal = lit≤ tt
+few_kinds FreeSignal = lit≤ tt
+few_kinds SetSignal = lit≤ tt
+few_kinds Signal = lit≤ tt
+few_kinds Wait = lit≤ tt
+
+-- a word is the word of its text
+pub word_known : (w : Word) → word_of (word_text w) ≡ Some w
+word_known Set = refl
+word_known Add = refl
+word_known Sub = refl
+word_known And = refl
+word_known Or = refl
+word_known Jump = refl
+word_known JumpZ = refl
+word_known JumpNZ = refl
+word_known Print = refl
+word_known AllocSignal = refl
+word_known FreeSignal = refl
+word_known SetSignal = refl
+word_known Signal = refl
+word_known Wait = refl
+
+-- a word begins with no small letter
+pub word_is_capital : (w : Word) → nat_le 97 (slice_index (word_text w) 0) ≡ false
+word_is_capital Set = refl
+word_is_capital Add = refl
+word_is_capital Sub = refl
+word_is_capital And = refl
+word_is_capital Or = refl
+word_is_capital Jump = refl
+word_is_capital JumpZ = refl
+word_is_capital JumpNZ = refl
+word_is_capital Print = refl
+word_is_capital AllocSignal = refl
+word_is_capital FreeSignal = refl
+word_is_capital SetSignal = refl
+word_is_capital Signal = refl
+word_is_capital Wait = refl
