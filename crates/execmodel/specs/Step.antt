@@ -15,6 +15,7 @@ use Rattle.execmodel.specs.Scheduling.{switch_of, rescheduled, added}
 use Rattle.execmodel.specs.Calls.{next_call}
 use Rattle.execmodel.specs.Plain.{does_set, does_print}
 use Rattle.execmodel.specs.Signals.{does_signal, does_wait}
+use Rattle.execmodel.specs.Memory.{does_alloc_mem, does_free_mem, does_avail_mem}
 
 -- ---- settle
 
@@ -40,6 +41,9 @@ does_word word.Set t call s = does_set t call s
 does_word word.Print t call s = does_print t call s
 does_word word.Signal t call s = does_signal t call s
 does_word word.Wait t call s = does_wait t call s
+does_word word.AllocMem t call s = does_alloc_mem t call s
+does_word word.FreeMem t call s = does_free_mem t call s
+does_word word.AvailMem t call s = does_avail_mem t call s
 
 unfoldable pub does : ℕ → Call → State → Outcome
 does t call s = does_word call.word t call s

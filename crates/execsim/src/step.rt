@@ -73,6 +73,9 @@ impl<S: ListSpace> Kernel<S> {
             Word::Print => self.print(t, call, out),
             Word::Signal => self.signal(t, call, out),
             Word::Wait => self.wait(t, call, out),
+            Word::AllocMem => self.alloc_mem(t, call, out),
+            Word::FreeMem => self.free_mem(t, call, out),
+            Word::AvailMem => self.avail_mem(t, call, out),
         }
     }
 

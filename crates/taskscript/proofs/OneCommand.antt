@@ -5,7 +5,7 @@ use Rattle.std.proofs.lemmas.Bool.Decides.{nat_tests}
 use Rattle.std.proofs.lemmas.Option.{same_Some}
 use Rattle.std.proofs.lemmas.Slice.Eq.{bytes_eq-Decides}
 use Rattle.taskscript.specs.declared.word.Word.{Word}
-use Rattle.taskscript.specs.declared.word.Word.TheVariants.{Set, Print, Signal, Wait}
+use Rattle.taskscript.specs.declared.word.Word.TheVariants.{Set, Print, Signal, Wait, AllocMem, FreeMem, AvailMem}
 use Rattle.taskscript.specs.declared.word.Kind.{Kind}
 use Rattle.taskscript.specs.declared.word.Kind.TheVariants.{Value}
 use Rattle.taskscript.specs.Numbers.{is_digit, decimal_of, number_of}
@@ -21,6 +21,9 @@ word_known Set = refl
 word_known Print = refl
 word_known Signal = refl
 word_known Wait = refl
+word_known AllocMem = refl
+word_known FreeMem = refl
+word_known AvailMem = refl
 
 -- no argument is `=`
 not_equals_sign : (k : Kind) (a : NamedArgumentData) → IsArgument k (codes "=") a → ⊥

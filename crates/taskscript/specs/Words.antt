@@ -2,7 +2,7 @@
 -- for a call of exec.library stand for that call.
 use Rattle.std.specs.Prelude.{ℕ, Bool, true, false, bytes_eq, codes, find, List, [], ◌∷◌, Option}
 use Rattle.taskscript.specs.declared.word.Word.{Word}
-use Rattle.taskscript.specs.declared.word.Word.TheVariants.{Set, Print, Signal, Wait}
+use Rattle.taskscript.specs.declared.word.Word.TheVariants.{Set, Print, Signal, Wait, AllocMem, FreeMem, AvailMem}
 use Rattle.taskscript.specs.declared.word.Kind.{Kind}
 use Rattle.taskscript.specs.declared.word.Kind.TheVariants.{Value}
 
@@ -12,6 +12,9 @@ word_text Set = codes "Set"
 word_text Print = codes "Print"
 word_text Signal = codes "Signal"
 word_text Wait = codes "Wait"
+word_text AllocMem = codes "AllocMem"
+word_text FreeMem = codes "FreeMem"
+word_text AvailMem = codes "AvailMem"
 
 -- whether a word answers: only before such a word a target may stand
 abbrev pub answers : Word → Bool
@@ -19,6 +22,9 @@ answers Set = true
 answers Print = false
 answers Signal = false
 answers Wait = true
+answers AllocMem = true
+answers FreeMem = false
+answers AvailMem = true
 
 -- the kinds of a word's arguments, from left to right
 abbrev pub kinds : Word → List Kind
@@ -26,9 +32,12 @@ kinds Set = Value ∷ []
 kinds Print = Value ∷ []
 kinds Signal = Value ∷ Value ∷ []
 kinds Wait = Value ∷ []
+kinds AllocMem = Value ∷ Value ∷ []
+kinds FreeMem = Value ∷ Value ∷ []
+kinds AvailMem = Value ∷ []
 
 abbrev pub all_words : List Word
-all_words = Set ∷ Print ∷ Signal ∷ Wait ∷ []
+all_words = Set ∷ Print ∷ Signal ∷ Wait ∷ AllocMem ∷ FreeMem ∷ AvailMem ∷ []
 
 -- the word of a text, if there is one
 abbrev pub word_of : List ℕ → Option Word

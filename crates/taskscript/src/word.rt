@@ -14,6 +14,12 @@ pub enum Word {
     Signal,
     /// Waits for signals (autodoc exec.library/Wait).
     Wait,
+    /// Allocates memory (autodoc exec.library/AllocMem).
+    AllocMem,
+    /// Frees memory (autodoc exec.library/FreeMem).
+    FreeMem,
+    /// Asks how much memory there is (autodoc exec.library/AvailMem).
+    AvailMem,
 }
 
 /// What may stand at one place after a word.
@@ -24,7 +30,15 @@ pub enum Kind {
 }
 
 /// All words.
-pub const ALL: [Word; 4] = [Word::Set, Word::Print, Word::Signal, Word::Wait];
+pub const ALL: [Word; 7] = [
+    Word::Set,
+    Word::Print,
+    Word::Signal,
+    Word::Wait,
+    Word::AllocMem,
+    Word::FreeMem,
+    Word::AvailMem,
+];
 
 impl Word {
     /// The text of the word, as it stands in a line and in the trace.
@@ -36,6 +50,9 @@ impl Word {
             Word::Print => "Print",
             Word::Signal => "Signal",
             Word::Wait => "Wait",
+            Word::AllocMem => "AllocMem",
+            Word::FreeMem => "FreeMem",
+            Word::AvailMem => "AvailMem",
         }
     }
 
@@ -43,7 +60,7 @@ impl Word {
     pub fn answers(self) -> bool
         ensures { result ≡ answers self }
     {
-        matches!(self, Word::Set | Word::Wait)
+        matches!(self, Word::Set | Word::Wait | Word::AllocMem | Word::AvailMem)
     }
 
     /// The kinds of its arguments, from left to right.
@@ -51,8 +68,8 @@ impl Word {
         ensures { result.now ≡ kinds self }
     {
         match self {
-            Word::Set | Word::Print | Word::Wait => &[Kind::Value],
-            Word::Signal => &[Kind::Value, Kind::Value],
+            Word::Set | Word::Print | Word::Wait | Word::AvailMem => &[Kind::Value],
+            Word::Signal | Word::AllocMem | Word::FreeMem => &[Kind::Value, Kind::Value],
         }
     }
 }
