@@ -1,12 +1,13 @@
 -- The scheduler keeps its ready tasks in the order in which they are to run, the abstract machine in order of arrival: each change
 -- of a schedule goes the same way in both.
-use Rattle.std.proofs.Common.{◌≡◌, ℕ, List, Bool, true, false, Option, None, Some, refl, ap, sym, ◌∙◌}
+use Rattle.std.proofs.Common.{◌≡◌, ℕ, ℤ, List, [], ◌∷◌, ◌++◌, Bool, true, false, Option, None, Some, refl, ap, sym, ◌∙◌}
 use Rattle.std.specs.Prelude.{not, if◌then◌else◌, ◌==◌}
-use Rattle.execlist.specs.Order.{order, first}
+use Rattle.execlist.specs.Order.{order, first, chosen, without, enqueue}
 use Rattle.execlist.proofs.OrderLaws.{order_takes, order_leaves_out, first_of_order}
 use Rattle.taskq.specs.Tasks.{pri_at, is_live}
+use Rattle.taskq.specs.declared.TaskState.TheVariants.{Ready}
 use Rattle.signals.specs.Signals.{after_post}
-use Rattle.scheduler.specs.Schedule.{Schedule, status_of, signals_of, with_signals, switch_for, renewed, begins, is_absent, awaits}
+use Rattle.scheduler.specs.Schedule.{Schedule, status_of, signals_of, with_signals, switch_for, renewed, begins, is_absent, awaits, is_switching_allowed, is_quantum_over}
 use Rattle.scheduler.specs.Dispatch as dispatch
 use Rattle.scheduler.specs.declared.Switch.{Switch}
 use Rattle.scheduler.specs.declared.Switch.TheVariants.{To, Idle}

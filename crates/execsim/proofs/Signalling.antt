@@ -1,15 +1,15 @@
 -- How the machine follows the words of signals.
-use Rattle.std.proofs.Common.{◌≡◌, ℕ, ◌-◌, true, false, Option, refl, sym}
+use Rattle.std.proofs.Common.{◌≡◌, ℕ, ◌-◌, true, false, Option, None, Some, refl, ap, sym, ◌∙◌}
 use Rattle.std.specs.Prelude.{codes, nat_eq}
 use Rattle.exectrace.specs.Sink.{Tape}
 use Rattle.signals.specs.Signals.{taken_signals}
 use Rattle.scheduler.specs.Schedule.{Schedule, signals_of, come_for, after_wait, waits_for, takes}
 use Rattle.scheduler.specs.Dispatch as dispatch
-use Rattle.execmodel.specs.State.{Call, on_schedule}
+use Rattle.execmodel.specs.State.{Call, State, on_schedule}
 use Rattle.execmodel.specs.Scheduling.{signalled}
 use Rattle.execmodel.specs.Calls.{argument, done, alerted}
 use Rattle.execmodel.specs.Signals.{is_task, is_mask, does_signal, waited, does_wait}
-use Rattle.execsim.specs.Agreement.{Seen, Follows, in_order}
+use Rattle.execsim.specs.Agreement.{Seen, Agrees, Follows, in_order}
 use Rattle.execsim.proofs.Following.{reads_schedule, reads_scripts, moves_schedule, follows_as, follows_change}
 use Rattle.execsim.proofs.Ordering.{by_test, signalled-in_order}
 
