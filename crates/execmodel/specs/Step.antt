@@ -15,6 +15,7 @@ use Rattle.execmodel.specs.Scheduling.{switch_of, rescheduled, added}
 use Rattle.execmodel.specs.Calls.{next_call}
 use Rattle.execmodel.specs.Plain.{does_set, does_add, does_sub, does_and, does_or, does_jump, does_jump_zero, does_jump_not_zero, does_print}
 use Rattle.execmodel.specs.Signals.{does_alloc_signal, does_free_signal, does_set_signal, does_signal, does_wait}
+use Rattle.execmodel.specs.Memory.{does_alloc_mem, does_free_mem, does_avail_mem}
 
 -- ---- settle
 
@@ -50,6 +51,9 @@ does_word word.FreeSignal t call s = does_free_signal t call s
 does_word word.SetSignal t call s = does_set_signal t call s
 does_word word.Signal t call s = does_signal t call s
 does_word word.Wait t call s = does_wait t call s
+does_word word.AllocMem t call s = does_alloc_mem t call s
+does_word word.FreeMem t call s = does_free_mem t call s
+does_word word.AvailMem t call s = does_avail_mem t call s
 
 unfoldable pub does : ℕ → Call → State → Outcome
 does t call s = does_word call.word t call s

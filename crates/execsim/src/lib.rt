@@ -6,6 +6,7 @@
 mod calls;
 mod kernel;
 mod machine;
+mod memory;
 mod plain;
 mod program;
 mod signals;

@@ -83,6 +83,9 @@ impl<S: ListSpace> Kernel<S> {
             Word::SetSignal => self.set_signal(t, call, out),
             Word::Signal => self.signal(t, call, out),
             Word::Wait => self.wait(t, call, out),
+            Word::AllocMem => self.alloc_mem(t, call, out),
+            Word::FreeMem => self.free_mem(t, call, out),
+            Word::AvailMem => self.avail_mem(t, call, out),
         }
     }
 

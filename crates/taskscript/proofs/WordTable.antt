@@ -2,7 +2,7 @@
 use Rattle.std.proofs.Common.{◌≡◌, ◌≤◌, lit≤, false, nat_le, length, Some, refl}
 use Rattle.std.specs.Prelude.{slice_index}
 use Rattle.taskscript.specs.declared.word.Word.{Word}
-use Rattle.taskscript.specs.declared.word.Word.TheVariants.{Set, Add, Sub, And, Or, Jump, JumpZ, JumpNZ, Print, AllocSignal, FreeSignal, SetSignal, Signal, Wait}
+use Rattle.taskscript.specs.declared.word.Word.TheVariants.{Set, Add, Sub, And, Or, Jump, JumpZ, JumpNZ, Print, AllocSignal, FreeSignal, SetSignal, Signal, Wait, AllocMem, FreeMem, AvailMem}
 use Rattle.taskscript.specs.Words.{word_text, word_of, kinds}
 
 -- no word has more than four arguments
@@ -21,6 +21,9 @@ few_kinds FreeSignal = lit≤ tt
 few_kinds SetSignal = lit≤ tt
 few_kinds Signal = lit≤ tt
 few_kinds Wait = lit≤ tt
+few_kinds AllocMem = lit≤ tt
+few_kinds FreeMem = lit≤ tt
+few_kinds AvailMem = lit≤ tt
 
 -- a word is the word of its text
 pub word_known : (w : Word) → word_of (word_text w) ≡ Some w
@@ -38,6 +41,9 @@ word_known FreeSignal = refl
 word_known SetSignal = refl
 word_known Signal = refl
 word_known Wait = refl
+word_known AllocMem = refl
+word_known FreeMem = refl
+word_known AvailMem = refl
 
 -- a word begins with no small letter
 pub word_is_capital : (w : Word) → nat_le 97 (slice_index (word_text w) 0) ≡ false
@@ -55,3 +61,6 @@ word_is_capital FreeSignal = refl
 word_is_capital SetSignal = refl
 word_is_capital Signal = refl
 word_is_capital Wait = refl
+word_is_capital AllocMem = refl
+word_is_capital FreeMem = refl
+word_is_capital AvailMem = refl

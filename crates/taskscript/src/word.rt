@@ -34,6 +34,12 @@ pub enum Word {
     Signal,
     /// Waits for signals (autodoc exec.library/Wait).
     Wait,
+    /// Allocates memory (autodoc exec.library/AllocMem).
+    AllocMem,
+    /// Frees memory (autodoc exec.library/FreeMem).
+    FreeMem,
+    /// Asks how much memory there is (autodoc exec.library/AvailMem).
+    AvailMem,
 }
 
 /// What may stand at one place after a word.
@@ -50,7 +56,7 @@ pub enum Kind {
 }
 
 /// All words.
-pub const ALL: [Word; 14] = [
+pub const ALL: [Word; 17] = [
     Word::Set,
     Word::Add,
     Word::Sub,
@@ -65,6 +71,9 @@ pub const ALL: [Word; 14] = [
     Word::SetSignal,
     Word::Signal,
     Word::Wait,
+    Word::AllocMem,
+    Word::FreeMem,
+    Word::AvailMem,
 ];
 
 impl Word {
@@ -87,6 +96,9 @@ impl Word {
             Word::SetSignal => "SetSignal",
             Word::Signal => "Signal",
             Word::Wait => "Wait",
+            Word::AllocMem => "AllocMem",
+            Word::FreeMem => "FreeMem",
+            Word::AvailMem => "AvailMem",
         }
     }
 
@@ -109,6 +121,9 @@ impl Word {
             Word::SetSignal => true,
             Word::Signal => false,
             Word::Wait => true,
+            Word::AllocMem => true,
+            Word::FreeMem => false,
+            Word::AvailMem => true,
         }
     }
 
@@ -131,6 +146,9 @@ impl Word {
             Word::SetSignal => &[Kind::Value, Kind::Value],
             Word::Signal => &[Kind::Value, Kind::Value],
             Word::Wait => &[Kind::Value],
+            Word::AllocMem => &[Kind::Value, Kind::Value],
+            Word::FreeMem => &[Kind::Value, Kind::Value],
+            Word::AvailMem => &[Kind::Value],
         }
     }
 }
