@@ -1,13 +1,15 @@
 -- The traces of small machines are computed.
 use Rattle.std.specs.Prelude.{refl}
 use Rattle.execmodel.specs.State.{andthen, booted}
-use Rattle.scheduler.specs.Schedule.{begins, leaves, waits_for, takes}
-use Rattle.execmodel.specs.Scheduling.{arrives, switch_of, rescheduled, added, signalled}
+use Rattle.scheduler.specs.Schedule.{begins, leaves, removed, waits_for, takes}
+use Rattle.execmodel.specs.Scheduling.{arrives, switch_of, rescheduled, added, reprioritized, signalled}
 use Rattle.execmodel.specs.Calls.{call_of, next_call, done, answered, waiting, silent, alerted}
 use Rattle.execmodel.specs.Plain.{does_set, does_print}
 use Rattle.execmodel.specs.Signals.{does_signal, does_wait}
+use Rattle.execmodel.specs.Nesting.{does_forbid, does_permit, does_disable, does_enable}
+use Rattle.execmodel.specs.Tasks.{does_set_task_pri, does_add_task, does_rem_task}
 use Rattle.execmodel.specs.Step.{switches, settle, does, ends, acting, acts, step, steps, all_added, starts, event, events, run}
-use Rattle.execmodel.specs.Runs.{PrintsOnce, StartsWithoutEvents, IdlesWithoutTasks, IdlesOnce, SignalAsksForATask, NothingFollowsAnAlert, WaitAsksForSignalsOfScripts, SignalWakesAHigherTask, EqualPriorityDoesNotPreempt, APreemptedTaskArrivesAnew, AWaitKeepsItsMask}
+use Rattle.execmodel.specs.Runs.{PrintsOnce, StartsWithoutEvents, IdlesWithoutTasks, IdlesOnce, SignalAsksForATask, NothingFollowsAnAlert, WaitAsksForSignalsOfScripts, SignalWakesAHigherTask, EqualPriorityDoesNotPreempt, APreemptedTaskArrivesAnew, AWaitKeepsItsMask, ForbidKeepsOthersOff, AWaitBreaksForbid, TheSamePriorityArrivesAnew, APriorityIsASignedWord, AnEndedTaskIsNotAdded}
 
 pub a_task_prints_once_and_ends-computed : PrintsOnce
 unfolding andthen booted arrives begins switch_of rescheduled added leaves signalled waits_for takes call_of next_call done answered waiting silent alerted does_set does_print does_signal does_wait switches settle does ends acting acts step steps all_added starts event events run
@@ -52,3 +54,23 @@ a_preempted_task_arrives_anew-computed = refl
 pub a_wait_keeps_its_mask-computed : AWaitKeepsItsMask
 unfolding andthen booted arrives begins switch_of rescheduled added leaves signalled waits_for takes call_of next_call done answered waiting silent alerted does_set does_print does_signal does_wait switches settle does ends acting acts step steps all_added starts event events run
 a_wait_keeps_its_mask-computed = refl
+
+pub forbid_keeps_others_off-computed : ForbidKeepsOthersOff
+unfolding andthen booted arrives begins switch_of rescheduled added reprioritized leaves removed signalled waits_for takes call_of next_call done answered waiting silent alerted does_set does_print does_signal does_wait does_forbid does_permit does_disable does_enable does_set_task_pri does_add_task does_rem_task switches settle does ends acting acts step steps all_added starts event events run
+forbid_keeps_others_off-computed = refl
+
+pub a_wait_breaks_forbid-computed : AWaitBreaksForbid
+unfolding andthen booted arrives begins switch_of rescheduled added reprioritized leaves removed signalled waits_for takes call_of next_call done answered waiting silent alerted does_set does_print does_signal does_wait does_forbid does_permit does_disable does_enable does_set_task_pri does_add_task does_rem_task switches settle does ends acting acts step steps all_added starts event events run
+a_wait_breaks_forbid-computed = refl
+
+pub the_same_priority_arrives_anew-computed : TheSamePriorityArrivesAnew
+unfolding andthen booted arrives begins switch_of rescheduled added reprioritized leaves removed signalled waits_for takes call_of next_call done answered waiting silent alerted does_set does_print does_signal does_wait does_forbid does_permit does_disable does_enable does_set_task_pri does_add_task does_rem_task switches settle does ends acting acts step steps all_added starts event events run
+the_same_priority_arrives_anew-computed = refl
+
+pub a_priority_is_a_signed_word-computed : APriorityIsASignedWord
+unfolding andthen booted arrives begins switch_of rescheduled added reprioritized leaves removed signalled waits_for takes call_of next_call done answered waiting silent alerted does_set does_print does_signal does_wait does_forbid does_permit does_disable does_enable does_set_task_pri does_add_task does_rem_task switches settle does ends acting acts step steps all_added starts event events run
+a_priority_is_a_signed_word-computed = refl
+
+pub an_ended_task_is_not_added-computed : AnEndedTaskIsNotAdded
+unfolding andthen booted arrives begins switch_of rescheduled added reprioritized leaves removed signalled waits_for takes call_of next_call done answered waiting silent alerted does_set does_print does_signal does_wait does_forbid does_permit does_disable does_enable does_set_task_pri does_add_task does_rem_task switches settle does ends acting acts step steps all_added starts event events run
+an_ended_task_is_not_added-computed = refl

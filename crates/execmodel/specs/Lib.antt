@@ -3,5 +3,7 @@ pub mod Scheduling
 pub mod Calls
 pub mod Plain
 pub mod Signals
+pub mod Nesting
+pub mod Tasks
 pub mod Step
 pub mod Runs

@@ -15,6 +15,8 @@ use Rattle.execmodel.specs.Scheduling.{switch_of, rescheduled, added}
 use Rattle.execmodel.specs.Calls.{next_call}
 use Rattle.execmodel.specs.Plain.{does_set, does_print}
 use Rattle.execmodel.specs.Signals.{does_signal, does_wait}
+use Rattle.execmodel.specs.Nesting.{does_forbid, does_permit, does_disable, does_enable}
+use Rattle.execmodel.specs.Tasks.{does_set_task_pri, does_add_task, does_rem_task}
 
 -- ---- settle
 
@@ -40,6 +42,13 @@ does_word word.Set t call s = does_set t call s
 does_word word.Print t call s = does_print t call s
 does_word word.Signal t call s = does_signal t call s
 does_word word.Wait t call s = does_wait t call s
+does_word word.Forbid t call s = does_forbid t call s
+does_word word.Permit t call s = does_permit t call s
+does_word word.Disable t call s = does_disable t call s
+does_word word.Enable t call s = does_enable t call s
+does_word word.SetTaskPri t call s = does_set_task_pri t call s
+does_word word.AddTask t call s = does_add_task t call s
+does_word word.RemTask t call s = does_rem_task t call s
 
 unfoldable pub does : ℕ → Call → State → Outcome
 does t call s = does_word call.word t call s

@@ -2,7 +2,7 @@
 //! The functions here have no effect. Their contracts are whole traces of small machines, as the definitions compute them.
 #![tactic(auto)]
 
-ghost use Rattle.execmodel.specs.Runs.{PrintsOnce, StartsWithoutEvents, IdlesWithoutTasks, IdlesOnce, SignalAsksForATask, NothingFollowsAnAlert, WaitAsksForSignalsOfScripts, SignalWakesAHigherTask, EqualPriorityDoesNotPreempt, APreemptedTaskArrivesAnew, AWaitKeepsItsMask};
+ghost use Rattle.execmodel.specs.Runs.{PrintsOnce, StartsWithoutEvents, IdlesWithoutTasks, IdlesOnce, SignalAsksForATask, NothingFollowsAnAlert, WaitAsksForSignalsOfScripts, SignalWakesAHigherTask, EqualPriorityDoesNotPreempt, APreemptedTaskArrivesAnew, AWaitKeepsItsMask, ForbidKeepsOthersOff, AWaitBreaksForbid, TheSamePriorityArrivesAnew, APriorityIsASignedWord, AnEndedTaskIsNotAdded};
 
 /// A task that prints once ends at its next step, and the machine is idle.
 pub fn a_task_prints_once_and_ends()
@@ -67,5 +67,35 @@ pub fn a_preempted_task_arrives_anew()
 /// A call that waits keeps the values that its arguments had.
 pub fn a_wait_keeps_its_mask()
     ensures { AWaitKeepsItsMask }
+{
+}
+
+/// A task that is signalled under Forbid runs once that is taken back.
+pub fn forbid_keeps_others_off()
+    ensures { ForbidKeepsOthersOff }
+{
+}
+
+/// A wait under Forbid lets other tasks run, and the Forbid holds again when its task runs again.
+pub fn a_wait_breaks_forbid()
+    ensures { AWaitBreaksForbid }
+{
+}
+
+/// A ready task whose priority is set stands behind those of that priority.
+pub fn the_same_priority_arrives_anew()
+    ensures { TheSamePriorityArrivesAnew }
+{
+}
+
+/// A priority is read and answered as a signed word; one outside its range is the alert VALUE.
+pub fn a_priority_is_a_signed_word()
+    ensures { APriorityIsASignedWord }
+{
+}
+
+/// A task that has ended is not begun again, and is not live.
+pub fn an_ended_task_is_not_added()
+    ensures { AnEndedTaskIsNotAdded }
 {
 }

@@ -3,6 +3,8 @@ pub mod Booting
 pub mod Calling
 pub mod Endings
 pub mod Following
+pub mod Forbidding
 pub mod Ordering
 pub mod Signalling
 pub mod Stepping
+pub mod Tasking

@@ -3,7 +3,8 @@
 #![tactic(auto)]
 
 ghost use Rattle.std.specs.Prelude.{◌≡◌, ◌<◌, ◌≤◌, ℕ, length, map, Option, Some, None, IfOk, IfSome, IsSome, IsTrue, ◌≢◌, not, nat_eq, if◌then◌else◌};
-ghost use Rattle.taskq.specs.Tasks.{state_at, is_live};
+ghost use Rattle.execlist.specs.Lists.{times};
+ghost use Rattle.taskq.specs.Tasks.{state_at, is_live, is_ready};
 ghost use Rattle.signals.specs.Signals.{taken_signals, after_post, grant, grant_number};
 ghost use Rattle.forbid.specs.Nesting.{may_switch, may_interrupt, after_forbid, after_permit, after_disable, after_enable};
 ghost use Rattle.scheduler.specs.Schedule.{Schedule, task_count, unstarted, name_of, priority_of, status_of, signals_of, nesting_of, is_absent, is_switching_allowed, switch_for, IsToOneOf, takes_over, renewed, begins, awaits, come_for, after_wait, takes, waits_for, leaves, removed, found, ticked, is_interrupting_allowed, nested, nest_answer, allocates, sets_signals, frees, with_signals};
@@ -121,6 +122,14 @@ impl<S: ListSpace> Sched<S> {
         ensures { result ≡ is_live (status_of self.now t) }
     {
         self.queue.is_live(t)
+    }
+
+    /// Does nothing: its clause is what always holds of the ready sequence. A ready task stands once in it, and
+    /// any other not at all.
+    pub fn facts(&self)
+        ensures { (t : ℕ) → times t self.now.queue.ready ≡ (if is_ready (status_of self.now t) then 1 else 0) }
+    {
+        self.queue.facts();
     }
 
     /// Answers the name of a task.

@@ -5,7 +5,7 @@ use Rattle.std.proofs.lemmas.Bool.Decides.{nat_tests}
 use Rattle.std.proofs.lemmas.Option.{same_Some}
 use Rattle.std.proofs.lemmas.Slice.Eq.{bytes_eq-Decides}
 use Rattle.taskscript.specs.declared.word.Word.{Word}
-use Rattle.taskscript.specs.declared.word.Word.TheVariants.{Set, Print, Signal, Wait}
+use Rattle.taskscript.specs.declared.word.Word.TheVariants.{Set, Print, Signal, Wait, Forbid, Permit, Disable, Enable, SetTaskPri, AddTask, RemTask}
 use Rattle.taskscript.specs.declared.word.Kind.{Kind}
 use Rattle.taskscript.specs.declared.word.Kind.TheVariants.{Value}
 use Rattle.taskscript.specs.Numbers.{is_digit, decimal_of, number_of}
@@ -21,6 +21,13 @@ word_known Set = refl
 word_known Print = refl
 word_known Signal = refl
 word_known Wait = refl
+word_known Forbid = refl
+word_known Permit = refl
+word_known Disable = refl
+word_known Enable = refl
+word_known SetTaskPri = refl
+word_known AddTask = refl
+word_known RemTask = refl
 
 -- no argument is `=`
 not_equals_sign : (k : Kind) (a : NamedArgumentData) → IsArgument k (codes "=") a → ⊥

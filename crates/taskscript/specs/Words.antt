@@ -2,7 +2,7 @@
 -- for a call of exec.library stand for that call.
 use Rattle.std.specs.Prelude.{ℕ, Bool, true, false, bytes_eq, codes, find, List, [], ◌∷◌, Option}
 use Rattle.taskscript.specs.declared.word.Word.{Word}
-use Rattle.taskscript.specs.declared.word.Word.TheVariants.{Set, Print, Signal, Wait}
+use Rattle.taskscript.specs.declared.word.Word.TheVariants.{Set, Print, Signal, Wait, Forbid, Permit, Disable, Enable, SetTaskPri, AddTask, RemTask}
 use Rattle.taskscript.specs.declared.word.Kind.{Kind}
 use Rattle.taskscript.specs.declared.word.Kind.TheVariants.{Value}
 
@@ -12,6 +12,13 @@ word_text Set = codes "Set"
 word_text Print = codes "Print"
 word_text Signal = codes "Signal"
 word_text Wait = codes "Wait"
+word_text Forbid = codes "Forbid"
+word_text Permit = codes "Permit"
+word_text Disable = codes "Disable"
+word_text Enable = codes "Enable"
+word_text SetTaskPri = codes "SetTaskPri"
+word_text AddTask = codes "AddTask"
+word_text RemTask = codes "RemTask"
 
 -- whether a word answers: only before such a word a target may stand
 abbrev pub answers : Word → Bool
@@ -19,6 +26,13 @@ answers Set = true
 answers Print = false
 answers Signal = false
 answers Wait = true
+answers Forbid = false
+answers Permit = false
+answers Disable = false
+answers Enable = false
+answers SetTaskPri = true
+answers AddTask = true
+answers RemTask = false
 
 -- the kinds of a word's arguments, from left to right
 abbrev pub kinds : Word → List Kind
@@ -26,9 +40,16 @@ kinds Set = Value ∷ []
 kinds Print = Value ∷ []
 kinds Signal = Value ∷ Value ∷ []
 kinds Wait = Value ∷ []
+kinds Forbid = []
+kinds Permit = []
+kinds Disable = []
+kinds Enable = []
+kinds SetTaskPri = Value ∷ Value ∷ []
+kinds AddTask = Value ∷ []
+kinds RemTask = Value ∷ []
 
 abbrev pub all_words : List Word
-all_words = Set ∷ Print ∷ Signal ∷ Wait ∷ []
+all_words = Set ∷ Print ∷ Signal ∷ Wait ∷ Forbid ∷ Permit ∷ Disable ∷ Enable ∷ SetTaskPri ∷ AddTask ∷ RemTask ∷ []
 
 -- the word of a text, if there is one
 abbrev pub word_of : List ℕ → Option Word

@@ -14,6 +14,20 @@ pub enum Word {
     Signal,
     /// Waits for signals (autodoc exec.library/Wait).
     Wait,
+    /// Keeps other tasks from running (autodoc exec.library/Forbid).
+    Forbid,
+    /// Takes back one Forbid (autodoc exec.library/Permit).
+    Permit,
+    /// Keeps interrupts and other tasks from running (autodoc exec.library/Disable).
+    Disable,
+    /// Takes back one Disable (autodoc exec.library/Enable).
+    Enable,
+    /// Gives a task another priority (autodoc exec.library/SetTaskPri).
+    SetTaskPri,
+    /// Starts a task that never was added (autodoc exec.library/AddTask).
+    AddTask,
+    /// Ends a task (autodoc exec.library/RemTask).
+    RemTask,
 }
 
 /// What may stand at one place after a word.
@@ -24,7 +38,19 @@ pub enum Kind {
 }
 
 /// All words.
-pub const ALL: [Word; 4] = [Word::Set, Word::Print, Word::Signal, Word::Wait];
+pub const ALL: [Word; 11] = [
+    Word::Set,
+    Word::Print,
+    Word::Signal,
+    Word::Wait,
+    Word::Forbid,
+    Word::Permit,
+    Word::Disable,
+    Word::Enable,
+    Word::SetTaskPri,
+    Word::AddTask,
+    Word::RemTask,
+];
 
 impl Word {
     /// The text of the word, as it stands in a line and in the trace.
@@ -36,6 +62,13 @@ impl Word {
             Word::Print => "Print",
             Word::Signal => "Signal",
             Word::Wait => "Wait",
+            Word::Forbid => "Forbid",
+            Word::Permit => "Permit",
+            Word::Disable => "Disable",
+            Word::Enable => "Enable",
+            Word::SetTaskPri => "SetTaskPri",
+            Word::AddTask => "AddTask",
+            Word::RemTask => "RemTask",
         }
     }
 
@@ -43,7 +76,10 @@ impl Word {
     pub fn answers(self) -> bool
         ensures { result ≡ answers self }
     {
-        matches!(self, Word::Set | Word::Wait)
+        matches!(
+            self,
+            Word::Set | Word::Wait | Word::SetTaskPri | Word::AddTask
+        )
     }
 
     /// The kinds of its arguments, from left to right.
@@ -51,8 +87,9 @@ impl Word {
         ensures { result.now ≡ kinds self }
     {
         match self {
-            Word::Set | Word::Print | Word::Wait => &[Kind::Value],
-            Word::Signal => &[Kind::Value, Kind::Value],
+            Word::Forbid | Word::Permit | Word::Disable | Word::Enable => &[],
+            Word::Set | Word::Print | Word::Wait | Word::AddTask | Word::RemTask => &[Kind::Value],
+            Word::Signal | Word::SetTaskPri => &[Kind::Value, Kind::Value],
         }
     }
 }
