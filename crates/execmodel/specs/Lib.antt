@@ -5,5 +5,7 @@ pub mod Plain
 pub mod Signals
 pub mod Nesting
 pub mod Tasks
+pub mod Memory
 pub mod Step
 pub mod Runs
+pub mod MemoryRuns

@@ -2,6 +2,8 @@
 //! The functions here have no effect. Their contracts are whole traces of small machines, as the definitions compute them.
 #![tactic(auto)]
 
+pub mod memory_runs;
+
 ghost use Rattle.execmodel.specs.Runs.{PrintsOnce, StartsWithoutEvents, IdlesWithoutTasks, IdlesOnce, SignalAsksForATask, NothingFollowsAnAlert, WaitAsksForSignalsOfScripts, SignalWakesAHigherTask, EqualPriorityDoesNotPreempt, APreemptedTaskArrivesAnew, AWaitKeepsItsMask, ForbidKeepsOthersOff, AWaitBreaksForbid, TheSamePriorityArrivesAnew, APriorityIsASignedWord, AnEndedTaskIsNotAdded};
 
 /// A task that prints once ends at its next step, and the machine is idle.

@@ -1,9 +1,11 @@
 pub mod Acting
+pub mod Allocating
 pub mod Booting
 pub mod Calling
 pub mod Endings
 pub mod Following
 pub mod Forbidding
+pub mod Heaps
 pub mod Ordering
 pub mod Signalling
 pub mod Stepping

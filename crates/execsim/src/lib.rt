@@ -7,6 +7,7 @@ mod calls;
 mod kernel;
 mod machine;
 mod nesting;
+mod memory;
 mod plain;
 mod program;
 mod signals;

@@ -5,7 +5,7 @@ use Rattle.std.proofs.lemmas.Bool.Decides.{nat_tests}
 use Rattle.std.proofs.lemmas.Option.{same_Some}
 use Rattle.std.proofs.lemmas.Slice.Eq.{bytes_eq-Decides}
 use Rattle.taskscript.specs.declared.word.Word.{Word}
-use Rattle.taskscript.specs.declared.word.Word.TheVariants.{Set, Print, Signal, Wait, Forbid, Permit, Disable, Enable, SetTaskPri, AddTask, RemTask}
+use Rattle.taskscript.specs.declared.word.Word.TheVariants.{Set, Print, Signal, Wait, Forbid, Permit, Disable, Enable, SetTaskPri, AddTask, RemTask, AllocMem, FreeMem, AvailMem}
 use Rattle.taskscript.specs.declared.word.Kind.{Kind}
 use Rattle.taskscript.specs.declared.word.Kind.TheVariants.{Value}
 use Rattle.taskscript.specs.Numbers.{is_digit, decimal_of, number_of}
@@ -28,6 +28,9 @@ word_known Enable = refl
 word_known SetTaskPri = refl
 word_known AddTask = refl
 word_known RemTask = refl
+word_known AllocMem = refl
+word_known FreeMem = refl
+word_known AvailMem = refl
 
 -- no argument is `=`
 not_equals_sign : (k : Kind) (a : NamedArgumentData) → IsArgument k (codes "=") a → ⊥

@@ -3,7 +3,7 @@ use Rattle.std.proofs.lemmas.List.{drop_more, take_more_set, map_push}
 use Rattle.std.proofs.lemmas.List.Sums.{fold-append}
 use Rattle.std.proofs.Math.ListN.{set}
 use Rattle.taskscript.specs.declared.word.Word.{Word}
-use Rattle.taskscript.specs.declared.word.Word.TheVariants.{Set, Print, Signal, Wait, Forbid, Permit, Disable, Enable, SetTaskPri, AddTask, RemTask}
+use Rattle.taskscript.specs.declared.word.Word.TheVariants.{Set, Print, Signal, Wait, Forbid, Permit, Disable, Enable, SetTaskPri, AddTask, RemTask, AllocMem, FreeMem, AvailMem}
 use Rattle.taskscript.specs.Words.{kinds}
 use Rattle.taskscript.specs.declared.command.Argument.{Argument}
 use Rattle.taskscript.specs.declared.line.NamedArgument.{NamedArgument}
@@ -26,6 +26,9 @@ few_kinds Enable = lit≤ tt
 few_kinds SetTaskPri = lit≤ tt
 few_kinds AddTask = lit≤ tt
 few_kinds RemTask = lit≤ tt
+few_kinds AllocMem = lit≤ tt
+few_kinds FreeMem = lit≤ tt
+few_kinds AvailMem = lit≤ tt
 
 and_then : (a b c d : Bool) → b ≡ (c && d) → (a && b) ≡ ((a && c) && d)
 and_then true b c d h = h

@@ -2,7 +2,7 @@
 -- for a call of exec.library stand for that call.
 use Rattle.std.specs.Prelude.{ℕ, Bool, true, false, bytes_eq, codes, find, List, [], ◌∷◌, Option}
 use Rattle.taskscript.specs.declared.word.Word.{Word}
-use Rattle.taskscript.specs.declared.word.Word.TheVariants.{Set, Print, Signal, Wait, Forbid, Permit, Disable, Enable, SetTaskPri, AddTask, RemTask}
+use Rattle.taskscript.specs.declared.word.Word.TheVariants.{Set, Print, Signal, Wait, Forbid, Permit, Disable, Enable, SetTaskPri, AddTask, RemTask, AllocMem, FreeMem, AvailMem}
 use Rattle.taskscript.specs.declared.word.Kind.{Kind}
 use Rattle.taskscript.specs.declared.word.Kind.TheVariants.{Value}
 
@@ -19,6 +19,9 @@ word_text Enable = codes "Enable"
 word_text SetTaskPri = codes "SetTaskPri"
 word_text AddTask = codes "AddTask"
 word_text RemTask = codes "RemTask"
+word_text AllocMem = codes "AllocMem"
+word_text FreeMem = codes "FreeMem"
+word_text AvailMem = codes "AvailMem"
 
 -- whether a word answers: only before such a word a target may stand
 abbrev pub answers : Word → Bool
@@ -33,6 +36,9 @@ answers Enable = false
 answers SetTaskPri = true
 answers AddTask = true
 answers RemTask = false
+answers AllocMem = true
+answers FreeMem = false
+answers AvailMem = true
 
 -- the kinds of a word's arguments, from left to right
 abbrev pub kinds : Word → List Kind
@@ -47,9 +53,12 @@ kinds Enable = []
 kinds SetTaskPri = Value ∷ Value ∷ []
 kinds AddTask = Value ∷ []
 kinds RemTask = Value ∷ []
+kinds AllocMem = Value ∷ Value ∷ []
+kinds FreeMem = Value ∷ Value ∷ []
+kinds AvailMem = Value ∷ []
 
 abbrev pub all_words : List Word
-all_words = Set ∷ Print ∷ Signal ∷ Wait ∷ Forbid ∷ Permit ∷ Disable ∷ Enable ∷ SetTaskPri ∷ AddTask ∷ RemTask ∷ []
+all_words = Set ∷ Print ∷ Signal ∷ Wait ∷ Forbid ∷ Permit ∷ Disable ∷ Enable ∷ SetTaskPri ∷ AddTask ∷ RemTask ∷ AllocMem ∷ FreeMem ∷ AvailMem ∷ []
 
 -- the word of a text, if there is one
 abbrev pub word_of : List ℕ → Option Word

@@ -28,6 +28,12 @@ pub enum Word {
     AddTask,
     /// Ends a task (autodoc exec.library/RemTask).
     RemTask,
+    /// Allocates memory (autodoc exec.library/AllocMem).
+    AllocMem,
+    /// Frees memory (autodoc exec.library/FreeMem).
+    FreeMem,
+    /// Asks how much memory there is (autodoc exec.library/AvailMem).
+    AvailMem,
 }
 
 /// What may stand at one place after a word.
@@ -38,7 +44,7 @@ pub enum Kind {
 }
 
 /// All words.
-pub const ALL: [Word; 11] = [
+pub const ALL: [Word; 14] = [
     Word::Set,
     Word::Print,
     Word::Signal,
@@ -50,6 +56,9 @@ pub const ALL: [Word; 11] = [
     Word::SetTaskPri,
     Word::AddTask,
     Word::RemTask,
+    Word::AllocMem,
+    Word::FreeMem,
+    Word::AvailMem,
 ];
 
 impl Word {
@@ -69,6 +78,9 @@ impl Word {
             Word::SetTaskPri => "SetTaskPri",
             Word::AddTask => "AddTask",
             Word::RemTask => "RemTask",
+            Word::AllocMem => "AllocMem",
+            Word::FreeMem => "FreeMem",
+            Word::AvailMem => "AvailMem",
         }
     }
 
@@ -78,7 +90,12 @@ impl Word {
     {
         matches!(
             self,
-            Word::Set | Word::Wait | Word::SetTaskPri | Word::AddTask
+            Word::Set
+                | Word::Wait
+                | Word::SetTaskPri
+                | Word::AddTask
+                | Word::AllocMem
+                | Word::AvailMem
         )
     }
 
@@ -88,8 +105,15 @@ impl Word {
     {
         match self {
             Word::Forbid | Word::Permit | Word::Disable | Word::Enable => &[],
-            Word::Set | Word::Print | Word::Wait | Word::AddTask | Word::RemTask => &[Kind::Value],
-            Word::Signal | Word::SetTaskPri => &[Kind::Value, Kind::Value],
+            Word::Set
+            | Word::Print
+            | Word::Wait
+            | Word::AddTask
+            | Word::RemTask
+            | Word::AvailMem => &[Kind::Value],
+            Word::Signal | Word::SetTaskPri | Word::AllocMem | Word::FreeMem => {
+                &[Kind::Value, Kind::Value]
+            }
         }
     }
 }
