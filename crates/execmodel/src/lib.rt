@@ -4,7 +4,7 @@
 
 pub mod memory_runs;
 
-ghost use Rattle.execmodel.specs.Runs.{CalculatesAndJumps, AllocatesSignals, AllocatesTheHighest, PrintsOnce, StartsWithoutEvents, IdlesWithoutTasks, IdlesOnce, SignalAsksForATask, NothingFollowsAnAlert, WaitAsksForSignalsOfScripts, SignalWakesAHigherTask, EqualPriorityDoesNotPreempt, APreemptedTaskArrivesAnew, AWaitKeepsItsMask};
+ghost use Rattle.execmodel.specs.Runs.{CalculatesAndJumps, AllocatesSignals, AllocatesTheHighest, PrintsOnce, StartsWithoutEvents, IdlesWithoutTasks, IdlesOnce, SignalAsksForATask, NothingFollowsAnAlert, WaitAsksForSignalsOfScripts, SignalWakesAHigherTask, EqualPriorityDoesNotPreempt, APreemptedTaskArrivesAnew, AWaitKeepsItsMask, ForbidKeepsOthersOff, AWaitBreaksForbid, TheSamePriorityArrivesAnew, APriorityIsASignedWord, AnEndedTaskIsNotAdded};
 
 /// A task that prints once ends at its next step, and the machine is idle.
 pub fn a_task_prints_once_and_ends()
@@ -87,5 +87,35 @@ pub fn a_signal_is_allocated_once()
 /// Asked for any signal, the highest free one is given.
 pub fn the_highest_free_signal_is_allocated()
     ensures { AllocatesTheHighest }
+{
+}
+
+/// A task that is signalled under Forbid runs once that is taken back.
+pub fn forbid_keeps_others_off()
+    ensures { ForbidKeepsOthersOff }
+{
+}
+
+/// A wait under Forbid lets other tasks run, and the Forbid holds again when its task runs again.
+pub fn a_wait_breaks_forbid()
+    ensures { AWaitBreaksForbid }
+{
+}
+
+/// A ready task whose priority is set stands behind those of that priority.
+pub fn the_same_priority_arrives_anew()
+    ensures { TheSamePriorityArrivesAnew }
+{
+}
+
+/// A priority is read and answered as a signed word; one outside its range is the alert VALUE.
+pub fn a_priority_is_a_signed_word()
+    ensures { APriorityIsASignedWord }
+{
+}
+
+/// A task that has ended is not begun again, and is not live.
+pub fn an_ended_task_is_not_added()
+    ensures { AnEndedTaskIsNotAdded }
 {
 }

@@ -29,16 +29,22 @@ reads_stopped is s a = sym a.stopped ∙ is
 stays : {m n : table.Memory} {memory : Memory} → n ≡ m → Holds m memory → Holds n memory
 stays is h = rw is h
 
-pub moves_schedule : {m n : Seen} (next seen : Schedule → Schedule) → ((y : Schedule) → seen (in_order y) ≡ in_order (next y))
+-- a change that goes the same way in the schedule that is agreed with
+pub moves_schedule_seen : {m n : Seen} (next seen : Schedule → Schedule) → ((y : Schedule) → m.schedule ≡ in_order y → seen (in_order y) ≡ in_order (next y))
     → n ≡ record m { schedule = seen m.schedule } → Moves (on_schedule next) m n
-moves_schedule next seen commutes is = record {
+moves_schedule_seen next seen commutes is = record {
   agrees = λ s a. record {
-    schedule = ap (λ (x : Seen). x.schedule) is ∙ ap seen a.schedule ∙ commutes s.schedule;
+    schedule = ap (λ (x : Seen). x.schedule) is ∙ ap seen a.schedule ∙ commutes s.schedule a.schedule;
     scripts = ap (λ (x : Seen). x.scripts) is ∙ a.scripts;
     memory = stays (ap (λ (x : Seen). x.memory) is) a.memory;
     stopped = ap (λ (x : Seen). x.stopped) is ∙ a.stopped;
   };
 }
+
+-- a change that goes the same way in every schedule
+pub moves_schedule : {m n : Seen} (next seen : Schedule → Schedule) → ((y : Schedule) → seen (in_order y) ≡ in_order (next y))
+    → n ≡ record m { schedule = seen m.schedule } → Moves (on_schedule next) m n
+moves_schedule next seen commutes is = moves_schedule_seen next seen (λ y e. commutes y) is
 
 pub moves_scripts : {m n : Seen} (next : Scripts → Scripts) → n ≡ record m { scripts = next m.scripts } → Moves (on_scripts next) m n
 moves_scripts next is = record {

@@ -2,9 +2,10 @@
 //! A `Sched` decides which task runs; what a task does while it runs is not kept here.
 #![tactic(auto)]
 
-ghost use Rattle.std.specs.Prelude.{◌≡◌, ◌≢◌, ◌<◌, ◌≤◌, length, map, not, nat_eq, if◌then◌else◌, Some, None, IsTrue, IsSome, IfSome, IfOk};
+ghost use Rattle.std.specs.Prelude.{◌≡◌, ◌≢◌, ℕ, ◌<◌, ◌≤◌, length, map, not, nat_eq, if◌then◌else◌, Some, None, IsTrue, IsSome, IfSome, IfOk};
 ghost use Rattle.std.specs.Borrow.{sem};
-ghost use Rattle.taskq.specs.Tasks.{is_live};
+ghost use Rattle.execlist.specs.Lists.{times};
+ghost use Rattle.taskq.specs.Tasks.{is_live, is_ready};
 ghost use Rattle.signals.specs.Signals.{taken_signals, after_post, grant, grant_number};
 ghost use Rattle.forbid.specs.Nesting.{may_switch, may_interrupt, after_forbid, after_permit, after_disable, after_enable};
 ghost use Rattle.scheduler.specs.Schedule.{task_count, name_of, priority_of, status_of, signals_of, nesting_of, unstarted, is_absent, leaves, removed, found};
@@ -124,6 +125,14 @@ impl<S: ListSpace> Sched<S> {
         ensures { result ≡ is_live (status_of self.now t) }
     {
         self.queue.is_live(t)
+    }
+
+    /// Does nothing: its clause is what always holds of the ready sequence. A ready task stands once in it, and
+    /// any other not at all.
+    pub fn facts(&self)
+        ensures { (t : ℕ) → times t self.now.queue.ready ≡ (if is_ready (status_of self.now t) then 1 else 0) }
+    {
+        self.queue.facts();
     }
 
     /// Answers the name of a task.
