@@ -2,7 +2,7 @@
 use Rattle.std.proofs.Common.{◌≡◌, ◌≤◌, lit≤, false, nat_le, length, Some, refl}
 use Rattle.std.specs.Prelude.{slice_index}
 use Rattle.taskscript.specs.declared.word.Word.{Word}
-use Rattle.taskscript.specs.declared.word.Word.TheVariants.{Set, Add, Sub, And, Or, Jump, JumpZ, JumpNZ, Print, AllocSignal, FreeSignal, SetSignal, Signal, Wait}
+use Rattle.taskscript.specs.declared.word.Word.TheVariants.{Set, Add, Sub, And, Or, Jump, JumpZ, JumpNZ, Print, AllocSignal, FreeSignal, SetSignal, Signal, Wait, Forbid, Permit, Disable, Enable, SetTaskPri, AddTask, RemTask, AllocMem, FreeMem, AvailMem}
 use Rattle.taskscript.specs.Words.{word_text, word_of, kinds}
 
 -- no word has more than four arguments
@@ -21,6 +21,16 @@ few_kinds FreeSignal = lit≤ tt
 few_kinds SetSignal = lit≤ tt
 few_kinds Signal = lit≤ tt
 few_kinds Wait = lit≤ tt
+few_kinds Forbid = lit≤ tt
+few_kinds Permit = lit≤ tt
+few_kinds Disable = lit≤ tt
+few_kinds Enable = lit≤ tt
+few_kinds SetTaskPri = lit≤ tt
+few_kinds AddTask = lit≤ tt
+few_kinds RemTask = lit≤ tt
+few_kinds AllocMem = lit≤ tt
+few_kinds FreeMem = lit≤ tt
+few_kinds AvailMem = lit≤ tt
 
 -- a word is the word of its text
 pub word_known : (w : Word) → word_of (word_text w) ≡ Some w
@@ -38,6 +48,16 @@ word_known FreeSignal = refl
 word_known SetSignal = refl
 word_known Signal = refl
 word_known Wait = refl
+word_known Forbid = refl
+word_known Permit = refl
+word_known Disable = refl
+word_known Enable = refl
+word_known SetTaskPri = refl
+word_known AddTask = refl
+word_known RemTask = refl
+word_known AllocMem = refl
+word_known FreeMem = refl
+word_known AvailMem = refl
 
 -- a word begins with no small letter
 pub word_is_capital : (w : Word) → nat_le 97 (slice_index (word_text w) 0) ≡ false
@@ -55,3 +75,13 @@ word_is_capital FreeSignal = refl
 word_is_capital SetSignal = refl
 word_is_capital Signal = refl
 word_is_capital Wait = refl
+word_is_capital Forbid = refl
+word_is_capital Permit = refl
+word_is_capital Disable = refl
+word_is_capital Enable = refl
+word_is_capital SetTaskPri = refl
+word_is_capital AddTask = refl
+word_is_capital RemTask = refl
+word_is_capital AllocMem = refl
+word_is_capital FreeMem = refl
+word_is_capital AvailMem = refl

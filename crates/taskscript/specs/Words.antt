@@ -2,7 +2,7 @@
 -- exec.library stands for that call.
 use Rattle.std.specs.Prelude.{ℕ, Bool, true, false, bytes_eq, codes, find, List, [], ◌∷◌, Option}
 use Rattle.taskscript.specs.declared.word.Word.{Word}
-use Rattle.taskscript.specs.declared.word.Word.TheVariants.{Set, Add, Sub, And, Or, Jump, JumpZ, JumpNZ, Print, AllocSignal, FreeSignal, SetSignal, Signal, Wait}
+use Rattle.taskscript.specs.declared.word.Word.TheVariants.{Set, Add, Sub, And, Or, Jump, JumpZ, JumpNZ, Print, AllocSignal, FreeSignal, SetSignal, Signal, Wait, Forbid, Permit, Disable, Enable, SetTaskPri, AddTask, RemTask, AllocMem, FreeMem, AvailMem}
 use Rattle.taskscript.specs.declared.word.Kind.{Kind}
 use Rattle.taskscript.specs.declared.word.Kind.TheVariants.{Value, Label}
 
@@ -22,6 +22,16 @@ word_text FreeSignal = codes "FreeSignal"
 word_text SetSignal = codes "SetSignal"
 word_text Signal = codes "Signal"
 word_text Wait = codes "Wait"
+word_text Forbid = codes "Forbid"
+word_text Permit = codes "Permit"
+word_text Disable = codes "Disable"
+word_text Enable = codes "Enable"
+word_text SetTaskPri = codes "SetTaskPri"
+word_text AddTask = codes "AddTask"
+word_text RemTask = codes "RemTask"
+word_text AllocMem = codes "AllocMem"
+word_text FreeMem = codes "FreeMem"
+word_text AvailMem = codes "AvailMem"
 
 -- whether a word answers: only before such a word a target may stand
 abbrev pub answers : Word → Bool
@@ -39,6 +49,16 @@ answers FreeSignal = false
 answers SetSignal = true
 answers Signal = false
 answers Wait = true
+answers Forbid = false
+answers Permit = false
+answers Disable = false
+answers Enable = false
+answers SetTaskPri = true
+answers AddTask = true
+answers RemTask = false
+answers AllocMem = true
+answers FreeMem = false
+answers AvailMem = true
 
 -- the kinds of a word's arguments, from left to right
 abbrev pub kinds : Word → List Kind
@@ -56,9 +76,19 @@ kinds FreeSignal = Value ∷ []
 kinds SetSignal = Value ∷ Value ∷ []
 kinds Signal = Value ∷ Value ∷ []
 kinds Wait = Value ∷ []
+kinds Forbid = []
+kinds Permit = []
+kinds Disable = []
+kinds Enable = []
+kinds SetTaskPri = Value ∷ Value ∷ []
+kinds AddTask = Value ∷ []
+kinds RemTask = Value ∷ []
+kinds AllocMem = Value ∷ Value ∷ []
+kinds FreeMem = Value ∷ Value ∷ []
+kinds AvailMem = Value ∷ []
 
 abbrev pub all_words : List Word
-all_words = Set ∷ Add ∷ Sub ∷ And ∷ Or ∷ Jump ∷ JumpZ ∷ JumpNZ ∷ Print ∷ AllocSignal ∷ FreeSignal ∷ SetSignal ∷ Signal ∷ Wait ∷ []
+all_words = Set ∷ Add ∷ Sub ∷ And ∷ Or ∷ Jump ∷ JumpZ ∷ JumpNZ ∷ Print ∷ AllocSignal ∷ FreeSignal ∷ SetSignal ∷ Signal ∷ Wait ∷ Forbid ∷ Permit ∷ Disable ∷ Enable ∷ SetTaskPri ∷ AddTask ∷ RemTask ∷ AllocMem ∷ FreeMem ∷ AvailMem ∷ []
 
 -- the word of a text, if there is one
 abbrev pub word_of : List ℕ → Option Word

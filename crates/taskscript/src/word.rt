@@ -34,6 +34,26 @@ pub enum Word {
     Signal,
     /// Waits for signals (autodoc exec.library/Wait).
     Wait,
+    /// Keeps other tasks from running (autodoc exec.library/Forbid).
+    Forbid,
+    /// Takes back one Forbid (autodoc exec.library/Permit).
+    Permit,
+    /// Keeps interrupts and other tasks from running (autodoc exec.library/Disable).
+    Disable,
+    /// Takes back one Disable (autodoc exec.library/Enable).
+    Enable,
+    /// Gives a task another priority (autodoc exec.library/SetTaskPri).
+    SetTaskPri,
+    /// Starts a task that never was added (autodoc exec.library/AddTask).
+    AddTask,
+    /// Ends a task (autodoc exec.library/RemTask).
+    RemTask,
+    /// Allocates memory (autodoc exec.library/AllocMem).
+    AllocMem,
+    /// Frees memory (autodoc exec.library/FreeMem).
+    FreeMem,
+    /// Asks how much memory there is (autodoc exec.library/AvailMem).
+    AvailMem,
 }
 
 /// What may stand at one place after a word.
@@ -50,7 +70,7 @@ pub enum Kind {
 }
 
 /// All words.
-pub const ALL: [Word; 14] = [
+pub const ALL: [Word; 24] = [
     Word::Set,
     Word::Add,
     Word::Sub,
@@ -65,6 +85,16 @@ pub const ALL: [Word; 14] = [
     Word::SetSignal,
     Word::Signal,
     Word::Wait,
+    Word::Forbid,
+    Word::Permit,
+    Word::Disable,
+    Word::Enable,
+    Word::SetTaskPri,
+    Word::AddTask,
+    Word::RemTask,
+    Word::AllocMem,
+    Word::FreeMem,
+    Word::AvailMem,
 ];
 
 impl Word {
@@ -87,6 +117,16 @@ impl Word {
             Word::SetSignal => "SetSignal",
             Word::Signal => "Signal",
             Word::Wait => "Wait",
+            Word::Forbid => "Forbid",
+            Word::Permit => "Permit",
+            Word::Disable => "Disable",
+            Word::Enable => "Enable",
+            Word::SetTaskPri => "SetTaskPri",
+            Word::AddTask => "AddTask",
+            Word::RemTask => "RemTask",
+            Word::AllocMem => "AllocMem",
+            Word::FreeMem => "FreeMem",
+            Word::AvailMem => "AvailMem",
         }
     }
 
@@ -109,6 +149,16 @@ impl Word {
             Word::SetSignal => true,
             Word::Signal => false,
             Word::Wait => true,
+            Word::Forbid => false,
+            Word::Permit => false,
+            Word::Disable => false,
+            Word::Enable => false,
+            Word::SetTaskPri => true,
+            Word::AddTask => true,
+            Word::RemTask => false,
+            Word::AllocMem => true,
+            Word::FreeMem => false,
+            Word::AvailMem => true,
         }
     }
 
@@ -131,6 +181,16 @@ impl Word {
             Word::SetSignal => &[Kind::Value, Kind::Value],
             Word::Signal => &[Kind::Value, Kind::Value],
             Word::Wait => &[Kind::Value],
+            Word::Forbid => &[],
+            Word::Permit => &[],
+            Word::Disable => &[],
+            Word::Enable => &[],
+            Word::SetTaskPri => &[Kind::Value, Kind::Value],
+            Word::AddTask => &[Kind::Value],
+            Word::RemTask => &[Kind::Value],
+            Word::AllocMem => &[Kind::Value, Kind::Value],
+            Word::FreeMem => &[Kind::Value, Kind::Value],
+            Word::AvailMem => &[Kind::Value],
         }
     }
 }
