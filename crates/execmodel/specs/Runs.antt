@@ -2,11 +2,11 @@
 use Rattle.std.specs.Prelude.{◌≡◌, ℕ, ℤ, true, pos, negsuc, List, [], ◌∷◌, None, Some, codes}
 use Rattle.exectrace.specs.Trace.{printed}
 use Rattle.taskscript.specs.declared.word.Word.{Word}
-use Rattle.taskscript.specs.declared.word.Word.TheVariants.{Set, Print, Signal, Wait, Forbid, Permit, SetTaskPri, AddTask, RemTask}
+use Rattle.taskscript.specs.declared.word.Word.TheVariants.{Set, Add, Sub, And, Jump, JumpZ, Print, AllocSignal, FreeSignal, Signal, Wait, Forbid, Permit, SetTaskPri, AddTask, RemTask}
 use Rattle.taskscript.specs.declared.variable.Variable.TheVariants.{Private, Shared}
 use Rattle.taskscript.specs.declared.event.Event.{Event}
 use Rattle.taskscript.specs.declared.event.Event.TheVariants.{Run}
-use Rattle.taskscript.specs.Commands.{ArgumentData, number, variable, CommandData}
+use Rattle.taskscript.specs.Commands.{ArgumentData, number, variable, place, CommandData}
 use Rattle.taskscript.specs.File.{MachineData, TaskData}
 use Rattle.execmodel.specs.Step.{run}
 
@@ -64,6 +64,31 @@ waits_for_what_was_asked =
     (record { word = Set; target = Some (Shared 0); arguments = number 0x2000 ∷ [] }
     ∷ command Signal (number 1 ∷ number 0x1000 ∷ []) ∷ []) ∷ []
 
+-- a command whose answer goes into a variable of its task
+abbrev pub into : ℕ → Word → List ArgumentData → CommandData
+into k word arguments = record { word = word; target = Some (Private k); arguments = arguments }
+
+-- 0 less 1, and 1 more, is 0 again, so the jump is made, past a command; then the lower bits are masked
+abbrev pub calculates_and_jumps : List TaskData
+calculates_and_jumps = task (codes "a") (pos 0)
+    (into 0 Sub (number 0 ∷ number 1 ∷ [])
+    ∷ into 1 Add (variable (Private 0) ∷ number 1 ∷ [])
+    ∷ command JumpZ (variable (Private 1) ∷ place 4 ∷ [])
+    ∷ command Print (variable (Private 0) ∷ [])
+    ∷ into 2 And (variable (Private 0) ∷ number 0xf0 ∷ [])
+    ∷ command Print (variable (Private 2) ∷ []) ∷ []) ∷ []
+
+abbrev pub allocates_signals : List TaskData
+allocates_signals = task (codes "a") (pos 0)
+    (command AllocSignal (number 16 ∷ []) ∷ command AllocSignal (number 16 ∷ []) ∷ command AllocSignal (number 3 ∷ [])
+    ∷ command FreeSignal (number 16 ∷ []) ∷ command AllocSignal (number 16 ∷ [])
+    ∷ command FreeSignal (number 0xffffffff ∷ []) ∷ command FreeSignal (number 15 ∷ []) ∷ []) ∷ []
+
+-- a loop
+abbrev pub allocates_the_highest : List TaskData
+allocates_the_highest = task (codes "a") (pos 0)
+    (command AllocSignal (number 0xffffffff ∷ []) ∷ command Jump (place 0 ∷ []) ∷ []) ∷ []
+
 -- the higher task is signalled under Forbid
 abbrev pub signals_under_forbid : List TaskData
 signals_under_forbid =
@@ -95,6 +120,17 @@ adds_an_ended_one =
     ∷ task (codes "b") (pos 0) (command Print (number 7 ∷ []) ∷ []) ∷ []
 
 -- ---- statements
+
+abbrev pub CalculatesAndJumps : Type 0
+CalculatesAndJumps = trace_of calculates_and_jumps (Run 6 ∷ []) ≡ codes "switch a\na Print $000000F0\na RemTask $00000000\nidle\n"
+
+abbrev pub AllocatesSignals : Type 0
+AllocatesSignals = trace_of allocates_signals (Run 7 ∷ [])
+    ≡ codes "switch a\na AllocSignal $00000010 -> $00000010\na AllocSignal $00000010 -> $FFFFFFFF\na AllocSignal $00000003 -> $FFFFFFFF\na FreeSignal $00000010\na AllocSignal $00000010 -> $00000010\na FreeSignal $FFFFFFFF\nalert MASK a FreeSignal\n"
+
+abbrev pub AllocatesTheHighest : Type 0
+AllocatesTheHighest = trace_of allocates_the_highest (Run 3 ∷ [])
+    ≡ codes "switch a\na AllocSignal $FFFFFFFF -> $0000001F\na AllocSignal $FFFFFFFF -> $0000001E\n"
 
 abbrev pub PrintsOnce : Type 0
 PrintsOnce = trace_of prints_once (Run 2 ∷ []) ≡ codes "switch a\na Print $00000001\na RemTask $00000000\nidle\n"

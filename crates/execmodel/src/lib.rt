@@ -5,7 +5,7 @@
 pub mod memory_runs;
 pub mod quantum_runs;
 
-ghost use Rattle.execmodel.specs.Runs.{PrintsOnce, StartsWithoutEvents, IdlesWithoutTasks, IdlesOnce, SignalAsksForATask, NothingFollowsAnAlert, WaitAsksForSignalsOfScripts, SignalWakesAHigherTask, EqualPriorityDoesNotPreempt, APreemptedTaskArrivesAnew, AWaitKeepsItsMask, ForbidKeepsOthersOff, AWaitBreaksForbid, TheSamePriorityArrivesAnew, APriorityIsASignedWord, AnEndedTaskIsNotAdded};
+ghost use Rattle.execmodel.specs.Runs.{CalculatesAndJumps, AllocatesSignals, AllocatesTheHighest, PrintsOnce, StartsWithoutEvents, IdlesWithoutTasks, IdlesOnce, SignalAsksForATask, NothingFollowsAnAlert, WaitAsksForSignalsOfScripts, SignalWakesAHigherTask, EqualPriorityDoesNotPreempt, APreemptedTaskArrivesAnew, AWaitKeepsItsMask, ForbidKeepsOthersOff, AWaitBreaksForbid, TheSamePriorityArrivesAnew, APriorityIsASignedWord, AnEndedTaskIsNotAdded};
 
 /// A task that prints once ends at its next step, and the machine is idle.
 pub fn a_task_prints_once_and_ends()
@@ -61,6 +61,24 @@ pub fn a_preempted_task_arrives_anew()
 pub fn a_wait_keeps_its_mask()
     ensures { AWaitKeepsItsMask }
 {}
+
+/// Arithmetic wraps, and a jump goes on at the command of its label.
+pub fn arithmetic_wraps_and_a_jump_goes_on_at_its_label()
+    ensures { CalculatesAndJumps }
+{
+}
+
+/// A signal that is allocated is not given again before it is freed, and those of the system never are.
+pub fn a_signal_is_allocated_once()
+    ensures { AllocatesSignals }
+{
+}
+
+/// Asked for any signal, the highest free one is given.
+pub fn the_highest_free_signal_is_allocated()
+    ensures { AllocatesTheHighest }
+{
+}
 
 /// A task that is signalled under Forbid runs once that is taken back.
 pub fn forbid_keeps_others_off()

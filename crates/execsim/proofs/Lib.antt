@@ -1,6 +1,7 @@
 pub mod Acting
 pub mod Allocating
 pub mod Booting
+pub mod Calculating
 pub mod Calling
 pub mod Endings
 pub mod Following

@@ -78,7 +78,17 @@ impl<S: ListSpace> Kernel<S> {
     {
         match call.word {
             Word::Set => self.set(t, call),
+            Word::Add => self.add_words(t, call),
+            Word::Sub => self.sub_words(t, call),
+            Word::And => self.and_words(t, call),
+            Word::Or => self.or_words(t, call),
+            Word::Jump => self.jump(t, call),
+            Word::JumpZ => self.jump_zero(t, call),
+            Word::JumpNZ => self.jump_not_zero(t, call),
             Word::Print => self.print(t, call, out),
+            Word::AllocSignal => self.alloc_signal(t, call, out),
+            Word::FreeSignal => self.free_signal(t, call, out),
+            Word::SetSignal => self.set_signal(t, call, out),
             Word::Signal => self.signal(t, call, out),
             Word::Wait => self.wait(t, call, out),
             Word::Forbid => self.forbid(t, call, out),

@@ -8,8 +8,28 @@ ghost use Rattle.taskscript.specs.Words.{answers, kinds, word_of, word_text};
 pub enum Word {
     /// Gives its argument to the target. It prints nothing.
     Set,
+    /// Gives the sum of its arguments to the target. It prints nothing.
+    Add,
+    /// Gives their difference. It prints nothing.
+    Sub,
+    /// Gives their bitwise and. It prints nothing.
+    And,
+    /// Gives their bitwise or. It prints nothing.
+    Or,
+    /// Goes on at the label.
+    Jump,
+    /// Goes on at the label if its argument is 0.
+    JumpZ,
+    /// Goes on at the label if its argument is not 0.
+    JumpNZ,
     /// Prints its argument.
     Print,
+    /// Allocates a signal (autodoc exec.library/AllocSignal).
+    AllocSignal,
+    /// Frees a signal (autodoc exec.library/FreeSignal).
+    FreeSignal,
+    /// Sets signals of the caller (autodoc exec.library/SetSignal).
+    SetSignal,
     /// Sends signals to a task (autodoc exec.library/Signal).
     Signal,
     /// Waits for signals (autodoc exec.library/Wait).
@@ -41,12 +61,28 @@ pub enum Word {
 pub enum Kind {
     /// A number or a variable.
     Value,
+    /// A label of the body.
+    Label,
+    /// A name between double quotes.
+    Name,
+    /// A name between double quotes, or `0` alone for none.
+    NameOrNone,
 }
 
 /// All words.
-pub const ALL: [Word; 14] = [
+pub const ALL: [Word; 24] = [
     Word::Set,
+    Word::Add,
+    Word::Sub,
+    Word::And,
+    Word::Or,
+    Word::Jump,
+    Word::JumpZ,
+    Word::JumpNZ,
     Word::Print,
+    Word::AllocSignal,
+    Word::FreeSignal,
+    Word::SetSignal,
     Word::Signal,
     Word::Wait,
     Word::Forbid,
@@ -68,7 +104,17 @@ impl Word {
     {
         match self {
             Word::Set => "Set",
+            Word::Add => "Add",
+            Word::Sub => "Sub",
+            Word::And => "And",
+            Word::Or => "Or",
+            Word::Jump => "Jump",
+            Word::JumpZ => "JumpZ",
+            Word::JumpNZ => "JumpNZ",
             Word::Print => "Print",
+            Word::AllocSignal => "AllocSignal",
+            Word::FreeSignal => "FreeSignal",
+            Word::SetSignal => "SetSignal",
             Word::Signal => "Signal",
             Word::Wait => "Wait",
             Word::Forbid => "Forbid",
@@ -88,15 +134,32 @@ impl Word {
     pub fn answers(self) -> bool
         ensures { result ≡ answers self }
     {
-        matches!(
-            self,
-            Word::Set
-                | Word::Wait
-                | Word::SetTaskPri
-                | Word::AddTask
-                | Word::AllocMem
-                | Word::AvailMem
-        )
+        match self {
+            Word::Set => true,
+            Word::Add => true,
+            Word::Sub => true,
+            Word::And => true,
+            Word::Or => true,
+            Word::Jump => false,
+            Word::JumpZ => false,
+            Word::JumpNZ => false,
+            Word::Print => false,
+            Word::AllocSignal => true,
+            Word::FreeSignal => false,
+            Word::SetSignal => true,
+            Word::Signal => false,
+            Word::Wait => true,
+            Word::Forbid => false,
+            Word::Permit => false,
+            Word::Disable => false,
+            Word::Enable => false,
+            Word::SetTaskPri => true,
+            Word::AddTask => true,
+            Word::RemTask => false,
+            Word::AllocMem => true,
+            Word::FreeMem => false,
+            Word::AvailMem => true,
+        }
     }
 
     /// The kinds of its arguments, from left to right.
@@ -104,16 +167,30 @@ impl Word {
         ensures { result.now ≡ kinds self }
     {
         match self {
-            Word::Forbid | Word::Permit | Word::Disable | Word::Enable => &[],
-            Word::Set
-            | Word::Print
-            | Word::Wait
-            | Word::AddTask
-            | Word::RemTask
-            | Word::AvailMem => &[Kind::Value],
-            Word::Signal | Word::SetTaskPri | Word::AllocMem | Word::FreeMem => {
-                &[Kind::Value, Kind::Value]
-            }
+            Word::Set => &[Kind::Value],
+            Word::Add => &[Kind::Value, Kind::Value],
+            Word::Sub => &[Kind::Value, Kind::Value],
+            Word::And => &[Kind::Value, Kind::Value],
+            Word::Or => &[Kind::Value, Kind::Value],
+            Word::Jump => &[Kind::Label],
+            Word::JumpZ => &[Kind::Value, Kind::Label],
+            Word::JumpNZ => &[Kind::Value, Kind::Label],
+            Word::Print => &[Kind::Value],
+            Word::AllocSignal => &[Kind::Value],
+            Word::FreeSignal => &[Kind::Value],
+            Word::SetSignal => &[Kind::Value, Kind::Value],
+            Word::Signal => &[Kind::Value, Kind::Value],
+            Word::Wait => &[Kind::Value],
+            Word::Forbid => &[],
+            Word::Permit => &[],
+            Word::Disable => &[],
+            Word::Enable => &[],
+            Word::SetTaskPri => &[Kind::Value, Kind::Value],
+            Word::AddTask => &[Kind::Value],
+            Word::RemTask => &[Kind::Value],
+            Word::AllocMem => &[Kind::Value, Kind::Value],
+            Word::FreeMem => &[Kind::Value, Kind::Value],
+            Word::AvailMem => &[Kind::Value],
         }
     }
 }

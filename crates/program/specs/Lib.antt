@@ -1,0 +1,5 @@
+pub mod CommandLine
+pub mod Message
+pub mod Fault
+pub mod Reading
+pub mod Ending

@@ -1,0 +1,282 @@
+//! The program from its words to its status, over files in memory and over the system's.
+mod doubles;
+
+use self::doubles::{Broken, Shelf};
+use crate::ending::{Ending, Status, report};
+use crate::fault::Fault;
+use crate::files::FILE_LIMIT;
+use crate::running::run;
+use execsim::SimFault;
+use std::alloc::Global;
+use std::io::BufWriter;
+use std::process::Abort;
+use std::rt::Files;
+use std::test::Fail;
+use std::{env, fs, process};
+use taskscript::{EventFault, FileFault};
+
+const ONE_TASK: &str = "[[task]]\nname = \"a\"\npri = 0\ncode = [\"Print 1\"]\n";
+
+const ONE_TASK_TRACE: &str = "switch a\na Print $00000001\na RemTask $00000000\nidle\n";
+
+const SAME_NAMES: &str =
+    "[[task]]\nname = \"a\"\npri = 0\ncode = [\"Print 1\"]\n\n[[task]]\nname = \"a\"\npri = 0\ncode = [\"Print 1\"]\n";
+
+const SIGNALS_NO_TASK: &str = "[[task]]\nname = \"a\"\npri = 0\ncode = [\"Signal 3 $1000\"]\n";
+
+const ALERT_TRACE: &str = "switch a\nalert HANDLE a Signal\n";
+
+const ONE_PATH_TEXT: &str =
+    "error: the following required arguments were not provided:\n  <EVENTS>\n\nUsage: execsim <MACHINE> <EVENTS>\n\nFor more information, try '--help'.\n";
+
+/// Runs the program, and compares its status and what stands on its two streams then.
+fn expect_run<R: Files>(
+    rt: &impl Abort,
+    alloc: Global,
+    files: &R,
+    words: &[&str],
+    expected: (u8, &str, &str),
+) {
+    let (status, on_out, on_err) = expected;
+    let mut out = Vec::new(alloc);
+    let mut err = Vec::new(alloc);
+    assert_eq!(rt;
+        run(files, alloc, words, &mut out, &mut err),
+        status,
+        "{words:?}: the status"
+    );
+    assert!(rt;
+        out.as_slice() == on_out.as_bytes(),
+        "{words:?}: standard output"
+    );
+    assert!(rt;
+        err.as_slice() == on_err.as_bytes(),
+        "{words:?}: standard error"
+    );
+}
+
+#[test]
+fn a_run_ends_with_0_and_an_alert_with_3(rt: HostRuntime) {
+    let words = ["machine", "events"];
+    let ran = Shelf::new(ONE_TASK, "run 2\n");
+    expect_run(&rt, rt.alloc(), &ran, &words, (0, ONE_TASK_TRACE, ""));
+    let alerted = Shelf::new(SIGNALS_NO_TASK, "run 1\n");
+    expect_run(&rt, rt.alloc(), &alerted, &words, (3, ALERT_TRACE, ""));
+}
+
+#[test]
+fn a_faulty_text_ends_with_1_and_its_name(rt: HostRuntime) {
+    let cases = [
+        ("?", "run 2\n", "execsim: machine: NotToml\n"),
+        (SAME_NAMES, "run 1\n", "execsim: machine: NameTwice\n"),
+        (ONE_TASK, "# one\n\nrun 0\n", "execsim: events: BadLine 3\n"),
+        (
+            ONE_TASK,
+            "run 1000000\nrun 1\n",
+            "execsim: events: TooMany\n",
+        ),
+    ];
+    for (machine, events, message) in cases {
+        let files = Shelf::new(machine, events);
+        expect_run(
+            &rt,
+            rt.alloc(),
+            &files,
+            &["machine", "events"],
+            (1, "", message),
+        );
+    }
+}
+
+#[test]
+fn a_file_that_is_not_read_ends_with_4(rt: HostRuntime) {
+    let cases = [
+        (["none", "events"], "execsim: cannot read none\n"),
+        (["machine", "none"], "execsim: cannot read none\n"),
+        (["torn", "events"], "execsim: cannot read torn\n"),
+        (["machine", "torn"], "execsim: cannot read torn\n"),
+        (["refused", "none"], "execsim: no memory\n"),
+        (["machine", "refused"], "execsim: no memory\n"),
+    ];
+    for (words, message) in cases {
+        // The machine file is faulty too, and is not judged.
+        let files = Shelf::new("?", "run 2\n");
+        expect_run(&rt, rt.alloc(), &files, &words, (4, "", message));
+    }
+}
+
+/// A path for a file of this process's own.
+fn scratch_path(rt: &HostRuntime, name: &str) -> Result<String, Fail> {
+    let folder = env::temp_dir(rt)?;
+    let id = process::id(rt.process());
+    let folder = folder.as_str();
+    Ok(format!(in rt.alloc(); "{folder}/execsim-{id}-{name}")?)
+}
+
+/// Runs the program with this path as the machine file, and as the event text, where it cannot be read.
+fn expect_unread<R: Abort + Files + AllocGlobal>(
+    rt: &R,
+    machine: &str,
+    unread: &str,
+) -> Result<(), Fail> {
+    let alloc = rt.alloc();
+    let fault = format!(in alloc; "execsim: cannot read {unread}\n")?;
+    expect_run(rt, alloc, rt, &[unread, machine], (4, "", fault.as_str()));
+    expect_run(rt, alloc, rt, &[machine, unread], (4, "", fault.as_str()));
+    Ok(())
+}
+
+#[test]
+fn a_folder_and_a_missing_file_are_not_read(rt: HostRuntime) -> Result<(), Fail> {
+    let machine = scratch_path(&rt, "one-task")?;
+    fs::write(&rt, machine.as_str(), ONE_TASK)?;
+    expect_unread(
+        &rt,
+        machine.as_str(),
+        scratch_path(&rt, "missing")?.as_str(),
+    )?;
+    expect_unread(&rt, machine.as_str(), env::temp_dir(&rt)?.as_str())?;
+    fs::remove_file(&rt, machine.as_str())?;
+    Ok(())
+}
+
+#[test]
+fn a_file_is_read_up_to_its_limit(rt: HostRuntime) -> Result<(), Fail> {
+    let alloc = rt.alloc();
+    let machine = scratch_path(&rt, "limit")?;
+    let long = scratch_path(&rt, "long")?;
+    fs::write(&rt, machine.as_str(), ONE_TASK)?;
+    let mut text = vec![in alloc; b'\n'; FILE_LIMIT]?;
+    fs::write(&rt, long.as_str(), text.as_slice())?;
+    let mut out = Vec::new(alloc);
+    let mut err = Vec::new(alloc);
+    let words = [machine.as_str(), long.as_str()];
+    assert_eq!(rt; run(&rt, alloc, &words, &mut out, &mut err), 0);
+
+    text.push(b'\n')?;
+    fs::write(&rt, long.as_str(), text.as_slice())?;
+    expect_unread(&rt, machine.as_str(), long.as_str())?;
+    fs::remove_file(&rt, machine.as_str())?;
+    fs::remove_file(&rt, long.as_str())?;
+    Ok(())
+}
+
+#[test]
+fn a_refused_command_line_ends_with_2_and_reads_nothing(rt: HostRuntime) {
+    let alloc = rt.alloc();
+    let files = Shelf::new(ONE_TASK, "run 2\n");
+    expect_run(&rt, alloc, &files, &["machine"], (2, "", ONE_PATH_TEXT));
+    let cases: [&[&str]; 4] = [
+        &[],
+        &["machine", "events", "more"],
+        &["--version", "machine", "events"],
+        &["none", "events", "more", "--help"],
+    ];
+    for words in cases {
+        let mut out = Vec::new(alloc);
+        let mut err = Vec::new(alloc);
+        assert_eq!(rt;
+            run(&files, alloc, words, &mut out, &mut err),
+            2,
+            "{words:?}"
+        );
+        assert!(rt; out.is_empty());
+        assert!(rt; err.as_slice().starts_with(b"error: "));
+    }
+    assert_eq!(rt; files.opened(), 0);
+}
+
+#[test]
+fn help_is_printed_on_standard_output(rt: HostRuntime) {
+    let alloc = rt.alloc();
+    let files = Shelf::new(ONE_TASK, "run 2\n");
+    for word in ["--help", "-h"] {
+        let mut out = Vec::new(alloc);
+        let mut err = Vec::new(alloc);
+        assert_eq!(rt; run(&files, alloc, &[word], &mut out, &mut err), 0);
+        assert!(rt; out.as_slice().starts_with(b"Simulates "));
+        assert!(rt; err.is_empty());
+    }
+    assert_eq!(rt; files.opened(), 0);
+}
+
+/// Runs the program over writers that fail at once, after 20 bytes, and as they are flushed.
+fn expect_failed_write<R: Files>(rt: &impl Abort, alloc: Global, files: &R, words: &[&str]) {
+    for mut out in [Broken::after(0), Broken::after(20), Broken::at_flush()] {
+        let mut err = Vec::new(alloc);
+        assert_eq!(rt;
+            run(files, alloc, words, &mut out, &mut err),
+            4,
+            "{words:?}"
+        );
+        assert!(rt;
+            err.as_slice() == b"execsim: write failed\n".as_slice(),
+            "{words:?}"
+        );
+    }
+}
+
+#[test]
+fn a_failed_write_ends_with_4(rt: HostRuntime) {
+    let alloc = rt.alloc();
+    let words = ["machine", "events"];
+    let ran = Shelf::new(ONE_TASK, "run 2\n");
+    expect_failed_write(&rt, alloc, &ran, &words);
+    expect_failed_write(&rt, alloc, &ran, &["--help"]);
+    let alerted = Shelf::new(SIGNALS_NO_TASK, "run 1\n");
+    expect_failed_write(&rt, alloc, &alerted, &words);
+
+    let mut just_enough = Broken::after(ONE_TASK_TRACE.len());
+    let mut err = Vec::new(alloc);
+    assert_eq!(rt; run(&ran, alloc, &words, &mut just_enough, &mut err), 0);
+}
+
+#[test]
+fn a_failed_write_of_a_fault_changes_no_status(rt: HostRuntime) {
+    let alloc = rt.alloc();
+    let files = Shelf::new("?", "run 2\n");
+    let cases: [(&[&str], u8); 3] = [
+        (&["machine", "events"], 1),
+        (&["machine"], 2),
+        (&["none", "events"], 4),
+    ];
+    for (words, status) in cases {
+        for mut err in [Broken::after(0), Broken::after(12), Broken::at_flush()] {
+            let mut out = Vec::new(alloc);
+            assert_eq!(rt;
+                run(&files, alloc, words, &mut out, &mut err),
+                status,
+                "{words:?}"
+            );
+        }
+    }
+}
+
+#[test]
+fn a_buffer_before_the_output_is_flushed(rt: HostRuntime) -> Result<(), Fail> {
+    let alloc = rt.alloc();
+    let files = Shelf::new(SIGNALS_NO_TASK, "run 1\n");
+    let mut out = BufWriter::new(alloc, Vec::new(alloc))?;
+    let mut err = Vec::new(alloc);
+    assert_eq!(rt;
+        run(&files, alloc, &["machine", "events"], &mut out, &mut err),
+        3
+    );
+    assert!(rt; out.get_ref().as_slice() == ALERT_TRACE.as_bytes());
+    Ok(())
+}
+
+#[test]
+fn refused_memory_is_no_fault_of_a_text(rt: HostRuntime) {
+    let faults = [
+        SimFault::File(FileFault::OutOfMemory),
+        SimFault::Events(EventFault::OutOfMemory),
+        SimFault::Memory,
+    ];
+    for fault in faults {
+        let mut err = Vec::new(rt.alloc());
+        let status = report(&Ending::Failed(Fault::from(fault)), &mut err);
+        assert_eq!(rt; status, Status::Failed);
+        assert!(rt; err.as_slice() == b"execsim: no memory\n".as_slice());
+    }
+}
