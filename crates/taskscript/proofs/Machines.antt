@@ -1,5 +1,5 @@
--- What holds of the machine of a tree without faults: few tasks, names that differ, short bodies, variables within the limits.
-use Rattle.std.proofs.Common.{◌≡◌, ◌≢◌, ℕ, ◌≤◌, Bool, true, false, not, if◌then◌else◌, nat_le, List, [], ◌∷◌, ◌++◌, length, All, bytes_eq, codes, pos, negsuc, Option, Some, None, refl, sym, ap, ◌∙◌, arith}
+-- What holds of the machine of a tree without faults: a quantum within its range, few tasks, names that differ, short bodies, variables within the limits.
+use Rattle.std.proofs.Common.{◌≡◌, ◌≢◌, ℕ, ◌≤◌, Bool, true, false, not, if◌then◌else◌, nat_le, List, [], ◌∷◌, ◌++◌, length, All, bytes_eq, codes, pos, negsuc, lit≤, ◌&&◌, Option, Some, None, refl, sym, ap, ◌∙◌, arith}
 use Rattle.std.specs.List.{AllPairs, list_any}
 use Rattle.std.proofs.lemmas.Bool.{or_parts}
 use Rattle.std.proofs.lemmas.Bool.Decides.{nat_tests, not_from_Decides}
@@ -15,11 +15,15 @@ use Rattle.taskscript.specs.Faults.{first, check}
 use Rattle.taskscript.specs.File.{TaskData, top_keys, task_keys, name_of, task_faults, tasks_faults, tasks_in, lines_of, bodies_faults, faults, task_of, tasks_of, machine_of}
 use Rattle.taskscript.specs.Machines.{IsTask, IsMachine, task_names}
 use Rattle.taskscript.specs.Names.{is_name}
-use Rattle.taskscript.specs.Tree.{required, optional, keys_are_among, integer_faults, name_faults, count_items, array_faults, are_strings, code_faults, string_or_nothing, items_or_none}
+use Rattle.taskscript.specs.Tree.{required, optional, keys_are_among, integer_faults, boolean_faults, name_faults, count_items, array_faults, are_strings, code_faults, number_or, string_or_nothing, items_or_none}
 use Rattle.taskscript.proofs.CodeLaws.{commands_fit, length-code_of}
-use Rattle.taskscript.proofs.Firsts.{first_none, first_left, first_right}
+use Rattle.taskscript.proofs.Firsts.{first_left, first_right}
 
 -- ---- one place
+
+passes : (good : Bool) (f : FileFault) → first (check good f) ≡ None → good ≡ true
+passes true f h = refl
+passes false f h = absurd cc
 
 within : (n m : ℕ) (f : FileFault) → first (check (nat_le n m) f) ≡ None → n ≤ m
 within n m f h = by (nat_le n m) refl h
@@ -78,8 +82,9 @@ name_part before ms h = first_left _ _ (first_right (check (keys_are_among task_
 
 code_part : (before : List (List ℕ)) (ms : Members) → first (task_faults before (table ms)) ≡ None → first (required code_faults (get_member (codes "code") ms)) ≡ None
 code_part before ms h =
-    first_right (optional (integer_faults (negsuc 127) (pos 127)) (get_member (codes "pri") ms)) _
-    (first_right (required (name_faults before) (get_member (codes "name") ms)) _ (first_right (check (keys_are_among task_keys ms) UnknownKey) _ h))
+    first_right (optional boolean_faults (get_member (codes "start") ms)) _
+    (first_right (optional (integer_faults (negsuc 127) (pos 127)) (get_member (codes "pri") ms)) _
+    (first_right (required (name_faults before) (get_member (codes "name") ms)) _ (first_right (check (keys_are_among task_keys ms) UnknownKey) _ h)))
 
 is_fresh : (before : List (List ℕ)) (d : Data) → first (task_faults before d) ≡ None → list_any (bytes_eq (name_of d)) before ≡ false
 is_fresh before (table ms) h = (name_passes before (get_member (codes "name") ms) (name_part before ms h)).1
@@ -162,22 +167,65 @@ all_differ before (item d ds) h =
 
 -- ---- the machine
 
-pub machine_holds : (ms : Members) → first (faults ms) ≡ None → IsMachine (machine_of ms)
-machine_holds ms h =
-    let rest = first_right (check (keys_are_among top_keys ms) UnknownKey) _ h in
-    let tree = array_passes 64 (tasks_faults []) (get_member (codes "task") ms) refl (first_left (optional (array_faults 64 (tasks_faults [])) (get_member (codes "task") ms)) _ rest) in
-    let lines = first_right (optional (array_faults 64 (tasks_faults [])) (get_member (codes "task") ms)) (bodies_faults [] (tasks_in ms)) rest in
+quantum_passes : (value : Option Data) → first (optional (integer_faults (pos 1) (pos 255)) value) ≡ None
+    → (1 ≤ number_or 4 value) × (number_or 4 value ≤ 255)
+quantum_passes None h = (lit≤ tt, lit≤ tt)
+quantum_passes (Some (integer (pos n))) h = by (nat_le 1 n) (nat_le n 255) refl refl h
+  where
+    by : (low high : Bool) → nat_le 1 n ≡ low → nat_le n 255 ≡ high → first (check (low && high) BadValue) ≡ None → (1 ≤ n) × (n ≤ 255)
+    by true true e f h = (grind (arith, nat_tests, e), grind (arith, nat_tests, f))
+    by true false e f h = absurd cc
+    by false high e f h = absurd cc
+quantum_passes (Some (integer (negsuc n))) h = absurd cc
+quantum_passes (Some (string s)) h = absurd cc
+quantum_passes (Some (float x)) h = absurd cc
+quantum_passes (Some (boolean b)) h = absurd cc
+quantum_passes (Some (datetime d)) h = absurd cc
+quantum_passes (Some (array ds)) h = absurd cc
+quantum_passes (Some (table ms)) h = absurd cc
+
+-- the faults of a whole tree, part by part
+pub record HasNoFaults (tree : Members) : Type 0 where
+  pub keys : keys_are_among top_keys tree ≡ true
+  pub quantum : first (optional (integer_faults (pos 1) (pos 255)) (get_member (codes "quantum") tree)) ≡ None
+  pub tasks : first (optional (array_faults 64 (tasks_faults [])) (get_member (codes "task") tree)) ≡ None
+  pub bodies : first (bodies_faults [] (tasks_in tree)) ≡ None
+
+has_none : (ms : Members) → first (faults ms) ≡ None → HasNoFaults ms
+has_none ms h =
+    let keys = check (keys_are_among top_keys ms) UnknownKey in
+    let quantum = optional (integer_faults (pos 1) (pos 255)) (get_member (codes "quantum") ms) in
+    let tasks = optional (array_faults 64 (tasks_faults [])) (get_member (codes "task") ms) in
+    let bodies = bodies_faults [] (tasks_in ms) in
+    let values : first (quantum ++ (tasks ++ bodies)) ≡ None = first_right keys (quantum ++ (tasks ++ bodies)) h in
+    let places : first (tasks ++ bodies) ≡ None = first_right quantum (tasks ++ bodies) values in
     record {
+      keys = passes (keys_are_among top_keys ms) UnknownKey (first_left keys (quantum ++ (tasks ++ bodies)) h);
+      quantum = first_left quantum (tasks ++ bodies) values;
+      tasks = first_left tasks bodies places;
+      bodies = first_right tasks bodies places;
+    }
+
+machine_of_parts : (ms : Members) → HasNoFaults ms → IsMachine (machine_of ms)
+machine_of_parts ms h =
+    let tree = array_passes 64 (tasks_faults []) (get_member (codes "task") ms) refl h.tasks in
+    let quantum = quantum_passes (get_member (codes "quantum") ms) h.quantum in
+    record {
+      some_quantum = quantum.0;
+      short_quantum = quantum.1;
       few = omega (arith, length-tasks_of [] (tasks_in ms), tree.0);
-      tasks = tasks_hold [] [] (tasks_in ms) tree.1 lines;
+      tasks = tasks_hold [] [] (tasks_in ms) tree.1 h.bodies;
       names = rw (task_names-tasks_of [] (tasks_in ms)) (all_differ [] (tasks_in ms) tree.1);
     }
 
--- the same of tasks that were read from the tree
-pub read_holds : (ms : Members) (shared : List (List ℕ)) (ds : Items) (ts : List TaskData) → shared ≡ [] → ds ≡ tasks_in ms
-    → keys_are_among top_keys ms ≡ true → first (optional (array_faults 64 (tasks_faults [])) (get_member (codes "task") ms)) ≡ None → first (bodies_faults shared ds) ≡ None
-    → ts ≡ tasks_of shared ds → IsMachine (record { tasks = ts })
-read_holds ms shared ds ts none is keys tree lines same =
+pub machine_holds : (ms : Members) → first (faults ms) ≡ None → IsMachine (machine_of ms)
+machine_holds ms h = machine_of_parts ms (has_none ms h)
+
+-- the same of parts that were read from the tree
+pub read_holds : (ms : Members) (shared : List (List ℕ)) (ds : Items) (quantum : ℕ) (ts : List TaskData) → shared ≡ [] → ds ≡ tasks_in ms
+    → keys_are_among top_keys ms ≡ true → first (optional (integer_faults (pos 1) (pos 255)) (get_member (codes "quantum") ms)) ≡ None
+    → first (optional (array_faults 64 (tasks_faults [])) (get_member (codes "task") ms)) ≡ None → first (bodies_faults shared ds) ≡ None
+    → quantum ≡ number_or 4 (get_member (codes "quantum") ms) → ts ≡ tasks_of shared ds → IsMachine (record { quantum = quantum; tasks = ts })
+read_holds ms shared ds quantum ts none is keys small tree lines found same =
     let body : first (bodies_faults [] (tasks_in ms)) ≡ None = rw (← none, ← is) lines in
-    let top : first (check (keys_are_among top_keys ms) UnknownKey) ≡ None = ap (λ (b : Bool). first (check b UnknownKey)) keys in
-    rw (same, none, is) (machine_holds ms (first_none _ _ top ∙ first_none _ _ tree ∙ body))
+    rw (found, same, none, is) (machine_of_parts ms (record { keys = keys; quantum = small; tasks = tree; bodies = body }))

@@ -15,8 +15,10 @@ pub record IsTask (task : TaskData) : Type 0 where
 abbrev pub task_names : List TaskData → List (List ℕ)
 task_names tasks = map (λ (t : TaskData). t.name) tasks
 
--- a machine of a file: at most 64 tasks, whose names differ
+-- a machine of a file: a quantum of 1 to 255, and at most 64 tasks, whose names differ
 pub record IsMachine (machine : MachineData) : Type 0 where
+  pub some_quantum : 1 ≤ machine.quantum
+  pub short_quantum : machine.quantum ≤ 255
   pub few : length machine.tasks ≤ 64
   pub tasks : All IsTask machine.tasks
   pub names : AllPairs (λ s t. s ≢ t) (task_names machine.tasks)

@@ -1,8 +1,8 @@
 -- The tree that a text states, and the faults of its places. Each place is judged by itself, from the tree alone.
-use Rattle.std.specs.Prelude.{ℕ, ◌+◌, Bool, true, false, not, ◌&&◌, ℤ, int_le, nat_le, bytes_eq, List, [], ◌∷◌, ◌++◌, Option, Some, None, if◌then◌else◌}
+use Rattle.std.specs.Prelude.{ℕ, ◌+◌, Bool, true, false, not, ◌&&◌, ℤ, pos, unsigned_abs, int_le, nat_le, bytes_eq, List, [], ◌∷◌, ◌++◌, Option, Some, None, if◌then◌else◌}
 use Rattle.std.specs.List.{list_any}
 use Rattle.std.specs.Str.{is_utf8}
-use Rattle.toml.specs.Data.{Data, string, integer, array, table, Items, no_items, item, Members, no_members, member}
+use Rattle.toml.specs.Data.{Data, string, integer, boolean, array, table, Items, no_items, item, Members, no_members, member}
 use Rattle.toml.specs.Parse.{parse_document}
 use Rattle.taskscript.specs.declared.fault.FileFault.{FileFault}
 use Rattle.taskscript.specs.declared.fault.FileFault.TheVariants.{MissingKey, BadValue, NameTwice, TooMany}
@@ -37,6 +37,10 @@ abbrev pub integer_faults : ℤ → ℤ → Data → List FileFault
 integer_faults low high (integer z) = check (int_le low z && int_le z high) BadValue
 integer_faults low high _ = BadValue ∷ []
 
+abbrev pub boolean_faults : Data → List FileFault
+boolean_faults (boolean b) = []
+boolean_faults _ = BadValue ∷ []
+
 -- a name that is none of the names before it
 abbrev pub name_faults : List (List ℕ) → Data → List FileFault
 name_faults before (string s) = if is_name s then check (not (list_any (bytes_eq s) before)) NameTwice else BadValue ∷ []
@@ -66,6 +70,13 @@ code_faults _ = BadValue ∷ []
 abbrev pub integer_or : ℤ → Option Data → ℤ
 integer_or otherwise (Some (integer z)) = z
 integer_or otherwise _ = otherwise
+
+abbrev pub number_or : ℕ → Option Data → ℕ
+number_or otherwise value = unsigned_abs (integer_or (pos otherwise) value)
+
+abbrev pub boolean_or : Bool → Option Data → Bool
+boolean_or otherwise (Some (boolean b)) = b
+boolean_or otherwise _ = otherwise
 
 abbrev pub string_or_nothing : Option Data → List ℕ
 string_or_nothing (Some (string s)) = s

@@ -14,6 +14,8 @@ pub struct TaskRecord {
     pub name: Name,
     /// Its priority.
     pub pri: i8,
+    /// Whether it is added when the machine starts.
+    pub start: bool,
     /// Its commands, in the order of its lines: at most 1,024.
     pub code: Vec<Command>,
 }
@@ -23,6 +25,7 @@ pub struct TaskRecord {
 /// `read_machine` alone makes one.
 #[derive(Drop)]
 pub struct MachineFile {
+    quantum: u8,
     tasks: Vec<TaskRecord>,
 }
 
@@ -34,18 +37,26 @@ impl Model for MachineFile {
 
     ghost Value = { MachineData };
 
-    ghost view = { λ m. record { tasks = map task_view m.tasks.items } };
+    ghost view = { λ m. record { quantum = m.quantum; tasks = map task_view m.tasks.items } };
 
-    ghost invariant = { λ m. IsMachine (record { tasks = map task_view m.tasks.items }) };
+    ghost invariant = { λ m. IsMachine (record { quantum = m.quantum; tasks = map task_view m.tasks.items }) };
 }
 
 impl MachineFile {
-    /// The machine of these tasks.
-    pub(crate) fn new(tasks: Vec<TaskRecord>) -> MachineFile
-        requires { IsMachine (record { tasks = map task_view tasks.items }) }
-        ensures { result ≡ record { tasks = map task_view tasks.items } }
+    /// The machine of these parts.
+    pub(crate) fn new(quantum: u8, tasks: Vec<TaskRecord>) -> MachineFile
+        requires { IsMachine (record { quantum = quantum; tasks = map task_view tasks.items }) }
+        ensures { result ≡ record { quantum = quantum; tasks = map task_view tasks.items } }
     {
-        MachineFile { tasks }
+        MachineFile { quantum, tasks }
+    }
+
+    /// The quantum: how many servings of VERTB a task runs before it lets an equal one run, 1 to 255 (RKM Libraries, Exec Tasks: scheduling).
+    pub fn quantum(&self) -> u8
+        ensures quantum { result ≡ self.now.quantum }
+        ensures machine { IsMachine self.now }
+    {
+        self.quantum
     }
 
     /// The tasks, in the order of the file: at most 64. The first one is task 1.

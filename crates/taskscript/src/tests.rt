@@ -21,15 +21,18 @@ fn event_fault(rt: &HostRuntime, text: &[u8]) -> Option<EventFault> {
 #[test]
 fn a_machine_file_gives_its_tasks_in_order(rt: HostRuntime) -> Result<(), Fail> {
     let file =
-        "task = [{ name = \"A.b_c-9\", pri = -128, code = [] }, { code = [\"Print 1\", \"Wait $1000\"], name = \"b\" }]";
+        "quantum = 255\ntask = [{ name = \"A.b_c-9\", pri = -128, start = false, code = [] }, { code = [\"Print 1\", \"Wait $1000\"], name = \"b\" }]";
     let machine = read_machine(rt.alloc(), file.as_bytes())?;
     let tasks = machine.tasks();
+    assert_eq!(rt; machine.quantum(), 255);
     assert_eq!(rt; tasks.len(), 2);
     assert_eq!(rt; tasks[0].name.as_str(), "A.b_c-9");
     assert_eq!(rt; tasks[0].pri, -128);
+    assert!(rt; !tasks[0].start);
     assert_eq!(rt; tasks[0].code.len(), 0);
     assert_eq!(rt; tasks[1].name.as_str(), "b");
     assert_eq!(rt; tasks[1].pri, 0);
+    assert!(rt; tasks[1].start);
     assert_eq!(rt; tasks[1].code.len(), 2);
     assert!(rt; tasks[1].code[1].word == Word::Wait);
     Ok(())
@@ -38,6 +41,7 @@ fn a_machine_file_gives_its_tasks_in_order(rt: HostRuntime) -> Result<(), Fail> 
 #[test]
 fn an_empty_machine_file_has_no_task(rt: HostRuntime) -> Result<(), Fail> {
     let machine = read_machine(rt.alloc(), b"")?;
+    assert_eq!(rt; machine.quantum(), 4);
     assert!(rt; machine.tasks().is_empty());
     Ok(())
 }
@@ -149,17 +153,17 @@ fn a_body_has_at_most_1024_lines(rt: HostRuntime) -> Result<(), Fail> {
 
 #[test]
 fn an_event_text_gives_its_events_in_order(rt: HostRuntime) -> Result<(), Fail> {
-    let events = read_events(rt.alloc(), b"run 2\n\n# \xff\r\nrun 999998")?;
+    let events = read_events(rt.alloc(), b"run 2\n\n# \xff\r\ntick 1000000\nrun 999998")?;
     assert_eq!(rt;
         events.list(),
-        [Event::Run(2), Event::Run(999_998)].as_slice()
+        [Event::Run(2), Event::Tick(1_000_000), Event::Run(999_998)].as_slice()
     );
     Ok(())
 }
 
 #[test]
 fn the_first_faulty_line_of_an_event_text_decides(rt: HostRuntime) {
-    let cases: [(&[u8], EventFault); 13] = [
+    let cases: [(&[u8], EventFault); 16] = [
         (b"run 0", EventFault::BadLine(1)),
         (b"run 01", EventFault::BadLine(1)),
         (b"run  1", EventFault::BadLine(1)),
@@ -172,6 +176,9 @@ fn the_first_faulty_line_of_an_event_text_decides(rt: HostRuntime) {
         (b"run 1\ntic", EventFault::BadLine(2)),
         (b"\n# a\nrun 1\nrun", EventFault::BadLine(4)),
         (b"run 1000000\nrun 1", EventFault::TooMany),
+        (b"tick 1000000\nrun 1\ntick 1", EventFault::TooMany),
+        (b"tick 0", EventFault::BadLine(1)),
+        (b"tick1", EventFault::BadLine(1)),
         (b"run 1000000\nrun 1\ntic", EventFault::TooMany),
     ];
     for (text, fault) in cases {
@@ -182,11 +189,11 @@ fn the_first_faulty_line_of_an_event_text_decides(rt: HostRuntime) {
 #[test]
 fn an_event_text_has_at_most_100000_events(rt: HostRuntime) -> Result<(), Fail> {
     let mut text = Vec::new(rt.alloc());
-    for _ in 0..100_000 {
-        text.extend_from_slice(b"run 1\n")?;
+    for _ in 0..50_000 {
+        text.extend_from_slice(b"run 1\ntick 1\n")?;
     }
     assert!(rt; event_fault(&rt, &text).is_none());
-    text.extend_from_slice(b"run 1")?;
+    text.extend_from_slice(b"tick 1")?;
     assert!(rt; event_fault(&rt, &text) == Some(EventFault::TooMany));
     Ok(())
 }
