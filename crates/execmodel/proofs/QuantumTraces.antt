@@ -1,16 +1,16 @@
 -- The traces of small machines that share the processor are computed.
 use Rattle.std.specs.Prelude.{refl}
-use Rattle.scheduler.specs.Schedule.{begins, leaves, waits_for, takes, ticked}
+use Rattle.scheduler.specs.Schedule.{begins, leaves, waits_for, takes, ticked, found}
 use Rattle.execmodel.specs.State.{andthen, booted}
-use Rattle.execmodel.specs.Scheduling.{arrives, switch_of, rescheduled, added, signalled}
-use Rattle.execmodel.specs.Calls.{call_of, next_call, done, answered, waiting}
+use Rattle.execmodel.specs.Scheduling.{arrives, switch_of, rescheduled, added, reprioritized, signalled}
+use Rattle.execmodel.specs.Calls.{call_of, next_call, done, answered, waiting, alerted}
 use Rattle.execmodel.specs.Plain.{does_print}
 use Rattle.execmodel.specs.Signals.{does_signal, does_wait}
 use Rattle.execmodel.specs.Nesting.{does_forbid, does_permit, does_disable, does_enable}
-use Rattle.execmodel.specs.Tasks.{does_add_task}
+use Rattle.execmodel.specs.Tasks.{does_set_task_pri, does_add_task, does_find_task}
 use Rattle.execmodel.specs.Interrupts.{serves}
 use Rattle.execmodel.specs.Step.{switches, settle, does, ends, acting, acts, step, steps, tick, ticks, all_added, starts, event, events, run}
-use Rattle.execmodel.specs.QuantumRuns.{AnEndedQuantumLetsAnEqualRun, TicksUnderDisableAreServedOnce, AnEndedQuantumWaitsForPermit, ATaskThatDoesNotStartIsAdded}
+use Rattle.execmodel.specs.QuantumRuns.{AnEndedQuantumLetsAnEqualRun, TicksUnderDisableAreServedOnce, AnEndedQuantumWaitsForPermit, ATaskThatDoesNotStartIsAdded, ALiveTaskIsFoundByItsName}
 
 pub an_ended_quantum_lets_an_equal_run-computed : AnEndedQuantumLetsAnEqualRun
 unfolding andthen booted arrives begins switch_of rescheduled added leaves signalled waits_for takes ticked call_of next_call done answered waiting does_print does_signal does_wait does_forbid does_permit does_disable does_enable does_add_task serves switches settle does ends acting acts step steps tick ticks all_added starts event events run
@@ -27,3 +27,7 @@ an_ended_quantum_waits_for_permit-computed = refl
 pub a_task_that_does_not_start_is_added-computed : ATaskThatDoesNotStartIsAdded
 unfolding andthen booted arrives begins switch_of rescheduled added leaves signalled waits_for takes ticked call_of next_call done answered waiting does_print does_signal does_wait does_forbid does_permit does_disable does_enable does_add_task serves switches settle does ends acting acts step steps tick ticks all_added starts event events run
 a_task_that_does_not_start_is_added-computed = refl
+
+pub a_live_task_is_found_by_its_name-computed : ALiveTaskIsFoundByItsName
+unfolding andthen booted arrives begins switch_of rescheduled added reprioritized leaves found call_of next_call done answered alerted does_print does_set_task_pri does_add_task does_find_task switches settle does ends acting acts step steps all_added starts event events run
+a_live_task_is_found_by_its_name-computed = refl

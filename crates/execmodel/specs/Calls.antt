@@ -65,6 +65,15 @@ number_in (Some (Quoted name)) = 0
 abbrev pub argument : ℕ → Call → ℕ
 argument k call = number_in (slice_get call.arguments k)
 
+abbrev pub name_in : Option Argument → Option (List ℕ)
+name_in None = None
+name_in (Some (Value n)) = None
+name_in (Some (Quoted name)) = Some name
+
+-- the name that stands at an argument, counted from 0, if one does
+abbrev pub name_argument : ℕ → Call → Option (List ℕ)
+name_argument k call = name_in (slice_get call.arguments k)
+
 -- ---- how a call ends
 
 -- task t goes on at the command of that place

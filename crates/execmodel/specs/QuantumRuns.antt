@@ -2,10 +2,10 @@
 -- compute them.
 use Rattle.std.specs.Prelude.{◌≡◌, ℕ, false, pos, List, [], ◌∷◌, codes}
 use Rattle.exectrace.specs.Trace.{printed}
-use Rattle.taskscript.specs.declared.word.Word.TheVariants.{Print, Signal, Wait, Forbid, Permit, Disable, Enable, AddTask}
+use Rattle.taskscript.specs.declared.word.Word.TheVariants.{Print, Signal, Wait, Forbid, Permit, Disable, Enable, SetTaskPri, AddTask, FindTask}
 use Rattle.taskscript.specs.declared.event.Event.{Event}
 use Rattle.taskscript.specs.declared.event.Event.TheVariants.{Run, Tick}
-use Rattle.taskscript.specs.Commands.{number}
+use Rattle.taskscript.specs.Commands.{number, quoted}
 use Rattle.taskscript.specs.File.{TaskData}
 use Rattle.execmodel.specs.Step.{run}
 use Rattle.execmodel.specs.Runs.{command, task}
@@ -35,6 +35,14 @@ adds_another =
     task (codes "a") (pos 0) (command AddTask (number 2 ∷ []) ∷ command AddTask (number 2 ∷ []) ∷ [])
     ∷ record (task (codes "b") (pos 0) (command Print (number 7 ∷ []) ∷ [])) { start = false } ∷ []
 
+-- looks for another task before it is added, and after it has ended
+abbrev pub finds_another : List TaskData
+finds_another =
+    task (codes "a") (pos 0)
+      (command FindTask (quoted (codes "b") ∷ []) ∷ command AddTask (number 2 ∷ []) ∷ command AddTask (number 2 ∷ []) ∷ command FindTask (quoted (codes "b") ∷ [])
+      ∷ command SetTaskPri (number 2 ∷ number 1 ∷ []) ∷ command FindTask (number 0 ∷ []) ∷ command AddTask (number 2 ∷ []) ∷ command SetTaskPri (number 2 ∷ number 0 ∷ []) ∷ [])
+    ∷ record (task (codes "b") (pos 0) (command Print (number 7 ∷ []) ∷ [])) { start = false } ∷ []
+
 -- ---- statements
 
 abbrev pub AnEndedQuantumLetsAnEqualRun : Type 0
@@ -52,3 +60,7 @@ AnEndedQuantumWaitsForPermit = trace_by 1 forbids (Run 1 ∷ Tick 1 ∷ Run 3 �
 abbrev pub ATaskThatDoesNotStartIsAdded : Type 0
 ATaskThatDoesNotStartIsAdded = trace_by 4 adds_another (Run 4 ∷ [])
     ≡ codes "switch a\na AddTask $00000002 -> $00000002\na AddTask $00000002 -> $00000000\na RemTask $00000000\nswitch b\nb Print $00000007\n"
+
+abbrev pub ALiveTaskIsFoundByItsName : Type 0
+ALiveTaskIsFoundByItsName = trace_by 4 finds_another (Run 10 ∷ [])
+    ≡ codes "switch a\na FindTask \"b\" -> $00000000\na AddTask $00000002 -> $00000002\na AddTask $00000002 -> $00000000\na FindTask \"b\" -> $00000002\na SetTaskPri $00000002 $00000001 -> $00000000\nswitch b\nb Print $00000007\nb RemTask $00000000\nswitch a\na FindTask $00000000 -> $00000001\na AddTask $00000002 -> $00000000\nalert HANDLE a SetTaskPri\n"

@@ -17,7 +17,7 @@ use Rattle.execmodel.specs.Calls.{next_call}
 use Rattle.execmodel.specs.Plain.{does_set, does_add, does_sub, does_and, does_or, does_jump, does_jump_zero, does_jump_not_zero, does_print}
 use Rattle.execmodel.specs.Signals.{does_alloc_signal, does_free_signal, does_set_signal, does_signal, does_wait}
 use Rattle.execmodel.specs.Nesting.{does_forbid, does_permit, does_disable, does_enable}
-use Rattle.execmodel.specs.Tasks.{does_set_task_pri, does_add_task, does_rem_task}
+use Rattle.execmodel.specs.Tasks.{does_set_task_pri, does_add_task, does_rem_task, does_find_task}
 use Rattle.execmodel.specs.Memory.{does_alloc_mem, does_free_mem, does_avail_mem}
 
 -- ---- settle
@@ -61,6 +61,7 @@ does_word word.Enable t call s = does_enable t call s
 does_word word.SetTaskPri t call s = does_set_task_pri t call s
 does_word word.AddTask t call s = does_add_task t call s
 does_word word.RemTask t call s = does_rem_task t call s
+does_word word.FindTask t call s = does_find_task t call s
 does_word word.AllocMem t call s = does_alloc_mem t call s
 does_word word.FreeMem t call s = does_free_mem t call s
 does_word word.AvailMem t call s = does_avail_mem t call s

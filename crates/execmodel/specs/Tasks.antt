@@ -1,11 +1,11 @@
 -- How tasks are begun and ended, and their priorities (RKM Libraries, Exec Tasks).
-use Rattle.std.specs.Prelude.{ℕ, ◌-◌, ℤ, pos, negsuc, Bool, not, ◌&&◌, ◌||◌, if◌then◌else◌, nat_eq, int_le, codes}
+use Rattle.std.specs.Prelude.{ℕ, ◌+◌, ◌-◌, ℤ, pos, negsuc, Bool, not, ◌&&◌, ◌||◌, if◌then◌else◌, nat_eq, int_le, codes, List, Option, None, Some}
 use Rattle.std.specs.Int.{cast_signed, cast_unsigned, w32}
 use Rattle.taskq.specs.Tasks.{is_live}
-use Rattle.scheduler.specs.Schedule.{Schedule, status_of, priority_of, is_absent, leaves, removed}
+use Rattle.scheduler.specs.Schedule.{Schedule, status_of, priority_of, is_absent, leaves, removed, found}
 use Rattle.execmodel.specs.State.{Call, Scripts, State, Outcome, on_schedule}
 use Rattle.execmodel.specs.Scheduling.{added, reprioritized}
-use Rattle.execmodel.specs.Calls.{argument, done, answered, alerted}
+use Rattle.execmodel.specs.Calls.{argument, name_argument, done, answered, alerted}
 use Rattle.execmodel.specs.Signals.{is_task}
 
 -- there is a live task of that number
@@ -45,3 +45,17 @@ does_rem_task t call s =
     if is_caller t number then done t call (on_schedule (leaves t) s)
     else (if not (is_live_task number s.scripts s.schedule) then alerted (codes "HANDLE") t call s
     else done t call (on_schedule (removed (number - 1)) s))
+
+-- the number of a task, or 0 for none
+abbrev pub number_or_none : Option ℕ → ℕ
+number_or_none None = 0
+number_or_none (Some t) = t + 1
+
+-- the number of the live task of a name, or of the caller where no name stands
+abbrev pub found_number : ℕ → Option (List ℕ) → Schedule → ℕ
+found_number t None s = t + 1
+found_number t (Some name) s = number_or_none (found name s)
+
+-- FindTask name: answers the number of the live task of that name, or 0; for 0 the caller (autodoc exec.library/FindTask)
+unfoldable pub does_find_task : ℕ → Call → State → Outcome
+does_find_task t call s = answered t call (found_number t (name_argument 0 call) s.schedule) s

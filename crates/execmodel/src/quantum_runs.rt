@@ -1,6 +1,6 @@
 //! Whole traces of small machines whose tasks share the processor by their quantum, or do not all start.
 
-ghost use Rattle.execmodel.specs.QuantumRuns.{AnEndedQuantumLetsAnEqualRun, TicksUnderDisableAreServedOnce, AnEndedQuantumWaitsForPermit, ATaskThatDoesNotStartIsAdded};
+ghost use Rattle.execmodel.specs.QuantumRuns.{AnEndedQuantumLetsAnEqualRun, TicksUnderDisableAreServedOnce, AnEndedQuantumWaitsForPermit, ATaskThatDoesNotStartIsAdded, ALiveTaskIsFoundByItsName};
 
 /// A task whose quantum has ended lets a ready one of its priority run, and stands behind it.
 pub fn an_ended_quantum_lets_an_equal_run()
@@ -21,3 +21,9 @@ pub fn an_ended_quantum_waits_for_permit()
 pub fn a_task_that_does_not_start_is_added()
     ensures { ATaskThatDoesNotStartIsAdded }
 {}
+
+/// A task is found by its name while it is live.
+pub fn a_live_task_is_found_by_its_name()
+    ensures { ALiveTaskIsFoundByItsName }
+{
+}

@@ -1,18 +1,18 @@
 -- How the machine follows the words that begin and end tasks, and the one of priorities.
-use Rattle.std.proofs.Common.{◌≡◌, ℕ, ◌-◌, true, false, refl, ap, sym, ◌∙◌, subst}
+use Rattle.std.proofs.Common.{◌≡◌, ℕ, ◌-◌, true, false, List, Option, None, Some, refl, ap, sym, ◌∙◌, subst}
 use Rattle.std.specs.Prelude.{codes, if◌then◌else◌}
 use Rattle.std.specs.Int.{cast_signed, cast_unsigned, w32}
 use Rattle.exectrace.specs.Sink.{Tape}
 use Rattle.execlist.specs.Lists.{times}
 use Rattle.taskq.specs.Tasks.{is_ready}
-use Rattle.scheduler.specs.Schedule.{Schedule, status_of, priority_of, is_absent, leaves, removed}
+use Rattle.scheduler.specs.Schedule.{Schedule, status_of, priority_of, is_absent, leaves, removed, found}
 use Rattle.scheduler.specs.Dispatch as dispatch
 use Rattle.execmodel.specs.State.{Call, State, on_schedule}
 use Rattle.execmodel.specs.Scheduling.{added, reprioritized}
-use Rattle.execmodel.specs.Calls.{argument, done, answered, alerted}
+use Rattle.execmodel.specs.Calls.{argument, name_argument, done, answered, alerted}
 use Rattle.execmodel.specs.Signals.{is_task}
-use Rattle.execmodel.specs.Tasks.{is_live_task, is_priority, is_caller, does_set_task_pri, does_add_task, does_rem_task}
-use Rattle.execsim.specs.Agreement.{Seen, Agrees, Follows}
+use Rattle.execmodel.specs.Tasks.{is_live_task, is_priority, is_caller, does_set_task_pri, does_add_task, does_rem_task, found_number, does_find_task}
+use Rattle.execsim.specs.Agreement.{Seen, Agrees, Follows, in_order}
 use Rattle.execsim.proofs.Following.{reads_schedule, reads_scripts, moves_schedule, moves_schedule_seen, follows_as, follows_change}
 use Rattle.execsim.proofs.Ordering.{added-in_order, leaves-in_order, removed-in_order, reprioritized-in_order}
 
@@ -21,6 +21,11 @@ live_same : {m : Seen} (number : ℕ) (s : State) → Agrees m s → is_live_tas
 live_same {m} number s e =
     ap (λ scripts. is_live_task number scripts s.schedule) (sym e.scripts)
     ∙ reads_schedule (λ y. is_live_task number m.scripts y) (λ y. refl) refl s e
+
+found_number-in_order : (t : ℕ) (name : Option (List ℕ)) (y : Schedule) → found_number t name (in_order y) ≡ found_number t name y
+unfolding found
+found_number-in_order t None y = refl
+found_number-in_order t (Some name) y = refl
 
 module _ {m n : Seen} {a b : Tape} (t : ℕ) (call : Call) where
   pub pri_unknown : is_live_task (argument 0 call) m.scripts m.schedule ≡ false → Follows (alerted (codes "HANDLE") t call) m n a b
@@ -92,3 +97,12 @@ module _ {m n : Seen} {a b : Tape} (t : ℕ) (call : Call) where
       {g = λ s. done t call (on_schedule (removed (argument 0 call - 1)) s)}
       (λ s e. let same : is_live_task (argument 0 call) s.scripts s.schedule ≡ true = live_same (argument 0 call) s e ∙ live in rw (other, same) refl)
       (follows_change (moves_schedule (removed (argument 0 call - 1)) (removed (argument 0 call - 1)) (removed-in_order (argument 0 call - 1)) is) follows)
+
+  pub task_found : (answer : ℕ) → answer ≡ found_number t (name_argument 0 call) m.schedule → Follows (answered t call answer) m n a b
+      → Follows (does_find_task t call) m n a b
+  unfolding does_find_task
+  task_found answer is follows = follows_as {g = answered t call answer}
+      (λ s e.
+      let same : found_number t (name_argument 0 call) s.schedule ≡ answer =
+      reads_schedule (λ y. found_number t (name_argument 0 call) y) (λ y. found_number-in_order t (name_argument 0 call) y) (sym is) s e in
+      rw same refl) follows

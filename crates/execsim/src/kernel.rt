@@ -1,5 +1,5 @@
 //! The machine without its failure to write. The methods here touch its fields, and have one equation each.
-ghost use Rattle.std.specs.Prelude.{◌≡◌, ◌<◌, length, true, false, Some, None, slice_set, map, replicate};
+ghost use Rattle.std.specs.Prelude.{◌≡◌, ◌<◌, ◌≤◌, length, true, false, Some, None, slice_set, map, replicate};
 ghost use Rattle.std.specs.Option.{option_map};
 ghost use Rattle.exectrace.specs.Shown.{shown_argument};
 ghost use Rattle.taskscript.specs.Commands.{argument_view, command_view};
@@ -33,7 +33,7 @@ pub struct Kernel<S: ListSpace> {
 }
 
 impl<S: ListSpace> Model for Kernel<S> {
-    ghost use Rattle.std.specs.Prelude.{◌≡◌, length};
+    ghost use Rattle.std.specs.Prelude.{◌≡◌, ◌≤◌, length};
     ghost use Rattle.execsim.specs.Agreement.{Seen};
 
     ghost Value = { Seen };
@@ -46,13 +46,14 @@ impl<S: ListSpace> Model for Kernel<S> {
       stopped = k.stopped;
     } };
 
-    ghost invariant = { λ k. length k.programs.items ≡ length k.sched.queue.states };
+    ghost invariant = { λ k. (length k.programs.items ≡ length k.sched.queue.states) × (length k.programs.items ≤ 4096) };
 }
 
 impl<S: ListSpace> Kernel<S> {
     /// The machine of these tasks and this memory, with every shared variable 0.
     pub(crate) fn new(sched: Sched<S>, programs: Vec<Program>, memory: MemList) -> Self
-        requires { length programs.items ≡ task_count sched }
+        requires each { length programs.items ≡ task_count sched }
+        requires few { length programs.items ≤ 4096 }
         ensures { result ≡ record {
           schedule = sched;
           scripts = record { programs = programs.items; shared = replicate shared_variables 0 };

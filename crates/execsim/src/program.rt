@@ -3,11 +3,11 @@ ghost use Rattle.std.specs.Prelude.{◌≡◌, ◌<◌, ◌+◌, map, length, So
 ghost use Rattle.std.specs.Option.{option_map};
 ghost use Rattle.exectrace.specs.Shown.{shown_argument};
 ghost use Rattle.taskscript.specs.Commands.{command_view};
-ghost use Rattle.execmodel.specs.Calls.{argument};
+ghost use Rattle.execmodel.specs.Calls.{argument, name_argument};
 ghost use Rattle.execmodel.specs.State.{begun_with};
 ghost use Rattle.execsim.specs.Views.{call_view};
 
-use exectrace::Arg;
+use exectrace::{Arg, Name};
 use std::marker::Model;
 use taskscript::{Command, Variable, Word};
 
@@ -41,6 +41,16 @@ impl Call {
         match self.shown().get(k) {
             Some(Arg::Value(n)) => *n,
             _ => 0,
+        }
+    }
+
+    /// The name that stands at an argument, counted from 0, if one does.
+    pub fn name(&self, k: usize) -> Option<Name>
+        ensures { option_map (λ n. n.bytes) result ≡ name_argument k (call_view self.now) }
+    {
+        match self.shown().get(k) {
+            Some(Arg::Quoted(name)) => Some(*name),
+            _ => None,
         }
     }
 }

@@ -98,6 +98,7 @@ impl<S: ListSpace> Kernel<S> {
             Word::SetTaskPri => self.set_task_pri(t, call, out),
             Word::AddTask => self.add_task(t, call, out),
             Word::RemTask => self.rem_task(t, call, out),
+            Word::FindTask => self.find_task(t, call, out),
             Word::AllocMem => self.alloc_mem(t, call, out),
             Word::FreeMem => self.free_mem(t, call, out),
             Word::AvailMem => self.avail_mem(t, call, out),

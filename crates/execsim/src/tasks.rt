@@ -1,18 +1,19 @@
 //! How tasks are begun and ended, and their priorities.
 ghost use Rattle.std.specs.Prelude.{◌≡◌, ◌≢◌, ◌<◌, ℕ, length, Some, IsTrue, if◌then◌else◌};
 ghost use Rattle.std.specs.Int.{cast_signed, cast_unsigned, w32};
+ghost use Rattle.std.specs.Option.{option_map};
 ghost use Rattle.execlist.specs.Lists.{times};
 ghost use Rattle.taskq.specs.Tasks.{is_live, is_ready};
 ghost use Rattle.scheduler.specs.Dispatch as dispatch;
 ghost use Rattle.scheduler.specs.Schedule.{status_of, priority_of, is_absent, leaves, removed};
-ghost use Rattle.execmodel.specs.Tasks.{is_live_task, is_priority, is_caller, does_set_task_pri, does_add_task, does_rem_task};
+ghost use Rattle.execmodel.specs.Tasks.{is_live_task, is_priority, is_caller, found_number, does_set_task_pri, does_add_task, does_rem_task, does_find_task};
 ghost use Rattle.execsim.specs.Agreement.{Follows};
 ghost use Rattle.execsim.specs.Views.{call_view};
 
 use crate::kernel::Kernel;
 use crate::program::Call;
 use execlist::space::ListSpace;
-use exectrace::Sink;
+use exectrace::{Name, Sink};
 use taskq::TaskId;
 
 /// Whether a task may have the priority that the word is, read as a signed one.
@@ -131,5 +132,28 @@ impl<S: ListSpace> Kernel<S> {
             self.remove(other as usize - 1);
             self.done(t, call, out);
         }
+    }
+
+    /// The number of the live task of that name, or 0; where no name is given, that of task t.
+    fn found_number(&self, t: TaskId, name: Option<Name>) -> u32
+        requires { t < length self.now.scripts.programs }
+        ensures { result ≡ found_number t (option_map (λ n. n.bytes) name) self.now.schedule }
+    {
+        match name {
+            None => t as u32 + 1,
+            Some(name) => match self.sched.find(name.as_str()) {
+                None => 0,
+                Some(other) => other as u32 + 1,
+            },
+        }
+    }
+
+    /// FindTask name (autodoc exec.library/FindTask).
+    pub(crate) fn find_task<W: Sink>(&mut self, t: TaskId, call: &Call, out: &mut W)
+        requires { t < length self.old.scripts.programs }
+        ensures { Follows (does_find_task t (call_view call.now)) self.old self.new (W.tape out.old) (W.tape out.new) }
+    {
+        let answer = self.found_number(t, call.name(0));
+        self.answered(t, call, answer, out);
     }
 }

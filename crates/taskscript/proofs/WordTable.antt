@@ -2,7 +2,7 @@
 use Rattle.std.proofs.Common.{◌≡◌, ◌≤◌, lit≤, false, nat_le, length, Some, refl}
 use Rattle.std.specs.Prelude.{slice_index}
 use Rattle.taskscript.specs.declared.word.Word.{Word}
-use Rattle.taskscript.specs.declared.word.Word.TheVariants.{Set, Add, Sub, And, Or, Jump, JumpZ, JumpNZ, Print, AllocSignal, FreeSignal, SetSignal, Signal, Wait, Forbid, Permit, Disable, Enable, SetTaskPri, AddTask, RemTask, AllocMem, FreeMem, AvailMem}
+use Rattle.taskscript.specs.declared.word.Word.TheVariants.{Set, Add, Sub, And, Or, Jump, JumpZ, JumpNZ, Print, AllocSignal, FreeSignal, SetSignal, Signal, Wait, Forbid, Permit, Disable, Enable, SetTaskPri, AddTask, RemTask, FindTask, AllocMem, FreeMem, AvailMem}
 use Rattle.taskscript.specs.Words.{word_text, word_of, kinds}
 
 -- no word has more than four arguments
@@ -28,6 +28,7 @@ few_kinds Enable = lit≤ tt
 few_kinds SetTaskPri = lit≤ tt
 few_kinds AddTask = lit≤ tt
 few_kinds RemTask = lit≤ tt
+few_kinds FindTask = lit≤ tt
 few_kinds AllocMem = lit≤ tt
 few_kinds FreeMem = lit≤ tt
 few_kinds AvailMem = lit≤ tt
@@ -55,6 +56,7 @@ word_known Enable = refl
 word_known SetTaskPri = refl
 word_known AddTask = refl
 word_known RemTask = refl
+word_known FindTask = refl
 word_known AllocMem = refl
 word_known FreeMem = refl
 word_known AvailMem = refl
@@ -82,6 +84,7 @@ word_is_capital Enable = refl
 word_is_capital SetTaskPri = refl
 word_is_capital AddTask = refl
 word_is_capital RemTask = refl
+word_is_capital FindTask = refl
 word_is_capital AllocMem = refl
 word_is_capital FreeMem = refl
 word_is_capital AvailMem = refl

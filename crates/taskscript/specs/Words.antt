@@ -2,9 +2,9 @@
 -- exec.library stands for that call.
 use Rattle.std.specs.Prelude.{ℕ, Bool, true, false, bytes_eq, codes, find, List, [], ◌∷◌, Option}
 use Rattle.taskscript.specs.declared.word.Word.{Word}
-use Rattle.taskscript.specs.declared.word.Word.TheVariants.{Set, Add, Sub, And, Or, Jump, JumpZ, JumpNZ, Print, AllocSignal, FreeSignal, SetSignal, Signal, Wait, Forbid, Permit, Disable, Enable, SetTaskPri, AddTask, RemTask, AllocMem, FreeMem, AvailMem}
+use Rattle.taskscript.specs.declared.word.Word.TheVariants.{Set, Add, Sub, And, Or, Jump, JumpZ, JumpNZ, Print, AllocSignal, FreeSignal, SetSignal, Signal, Wait, Forbid, Permit, Disable, Enable, SetTaskPri, AddTask, RemTask, FindTask, AllocMem, FreeMem, AvailMem}
 use Rattle.taskscript.specs.declared.word.Kind.{Kind}
-use Rattle.taskscript.specs.declared.word.Kind.TheVariants.{Value, Label}
+use Rattle.taskscript.specs.declared.word.Kind.TheVariants.{Value, Label, NameOrNone}
 
 -- the text of a word, in a line and in the trace
 abbrev pub word_text : Word → List ℕ
@@ -29,6 +29,7 @@ word_text Enable = codes "Enable"
 word_text SetTaskPri = codes "SetTaskPri"
 word_text AddTask = codes "AddTask"
 word_text RemTask = codes "RemTask"
+word_text FindTask = codes "FindTask"
 word_text AllocMem = codes "AllocMem"
 word_text FreeMem = codes "FreeMem"
 word_text AvailMem = codes "AvailMem"
@@ -56,6 +57,7 @@ answers Enable = false
 answers SetTaskPri = true
 answers AddTask = true
 answers RemTask = false
+answers FindTask = true
 answers AllocMem = true
 answers FreeMem = false
 answers AvailMem = true
@@ -83,12 +85,13 @@ kinds Enable = []
 kinds SetTaskPri = Value ∷ Value ∷ []
 kinds AddTask = Value ∷ []
 kinds RemTask = Value ∷ []
+kinds FindTask = NameOrNone ∷ []
 kinds AllocMem = Value ∷ Value ∷ []
 kinds FreeMem = Value ∷ Value ∷ []
 kinds AvailMem = Value ∷ []
 
 abbrev pub all_words : List Word
-all_words = Set ∷ Add ∷ Sub ∷ And ∷ Or ∷ Jump ∷ JumpZ ∷ JumpNZ ∷ Print ∷ AllocSignal ∷ FreeSignal ∷ SetSignal ∷ Signal ∷ Wait ∷ Forbid ∷ Permit ∷ Disable ∷ Enable ∷ SetTaskPri ∷ AddTask ∷ RemTask ∷ AllocMem ∷ FreeMem ∷ AvailMem ∷ []
+all_words = Set ∷ Add ∷ Sub ∷ And ∷ Or ∷ Jump ∷ JumpZ ∷ JumpNZ ∷ Print ∷ AllocSignal ∷ FreeSignal ∷ SetSignal ∷ Signal ∷ Wait ∷ Forbid ∷ Permit ∷ Disable ∷ Enable ∷ SetTaskPri ∷ AddTask ∷ RemTask ∷ FindTask ∷ AllocMem ∷ FreeMem ∷ AvailMem ∷ []
 
 -- the word of a text, if there is one
 abbrev pub word_of : List ℕ → Option Word

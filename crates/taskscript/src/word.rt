@@ -48,6 +48,8 @@ pub enum Word {
     AddTask,
     /// Ends a task (autodoc exec.library/RemTask).
     RemTask,
+    /// Finds a task by its name, or the caller (autodoc exec.library/FindTask).
+    FindTask,
     /// Allocates memory (autodoc exec.library/AllocMem).
     AllocMem,
     /// Frees memory (autodoc exec.library/FreeMem).
@@ -70,7 +72,7 @@ pub enum Kind {
 }
 
 /// All words.
-pub const ALL: [Word; 24] = [
+pub const ALL: [Word; 25] = [
     Word::Set,
     Word::Add,
     Word::Sub,
@@ -92,6 +94,7 @@ pub const ALL: [Word; 24] = [
     Word::SetTaskPri,
     Word::AddTask,
     Word::RemTask,
+    Word::FindTask,
     Word::AllocMem,
     Word::FreeMem,
     Word::AvailMem,
@@ -124,6 +127,7 @@ impl Word {
             Word::SetTaskPri => "SetTaskPri",
             Word::AddTask => "AddTask",
             Word::RemTask => "RemTask",
+            Word::FindTask => "FindTask",
             Word::AllocMem => "AllocMem",
             Word::FreeMem => "FreeMem",
             Word::AvailMem => "AvailMem",
@@ -156,6 +160,7 @@ impl Word {
             Word::SetTaskPri => true,
             Word::AddTask => true,
             Word::RemTask => false,
+            Word::FindTask => true,
             Word::AllocMem => true,
             Word::FreeMem => false,
             Word::AvailMem => true,
@@ -188,6 +193,7 @@ impl Word {
             Word::SetTaskPri => &[Kind::Value, Kind::Value],
             Word::AddTask => &[Kind::Value],
             Word::RemTask => &[Kind::Value],
+            Word::FindTask => &[Kind::NameOrNone],
             Word::AllocMem => &[Kind::Value, Kind::Value],
             Word::FreeMem => &[Kind::Value, Kind::Value],
             Word::AvailMem => &[Kind::Value],
