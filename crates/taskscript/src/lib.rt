@@ -14,6 +14,7 @@ mod name;
 mod number;
 mod numbering;
 mod reading;
+mod regions;
 mod tasks;
 #[cfg(test)]
 mod tests;
