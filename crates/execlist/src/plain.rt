@@ -19,7 +19,8 @@ pub struct PlainSpace {
     homes: Vec<Option<HeaderId>>,
     keys: Vec<NodeKey>,
     ghost kept: { IsSpace headers order.items homes.items },
-    ghost stands: { (h n : ℕ) → times n (sequence (sequences_of headers order.items homes.items) h) ≡ (if is_at (home homes.items n) h then 1 else 0) },
+    ghost stands: { (h n : ℕ) → times n (sequence (sequences_of headers order.items homes.items) h)
+        ≡ (if is_at (home homes.items n) h then 1 else 0) },
     ghost keyed: { vec_len keys ≡ vec_len homes },
     ghost room: { vec_len homes ≤ vec_capacity order },
 }
@@ -113,7 +114,8 @@ fn first_named(
 ) -> Option<NodeId>
     requires known { All (λ m. m < length homes.now) all.now }
     requires keyed { length keys.now ≡ length homes.now }
-    ensures value { result ≡ find (is_named (keys_of keys.now) name.now) (nodes_of homes.now h (drop from all.now)) }
+    ensures value { result
+        ≡ find (is_named (keys_of keys.now) name.now) (nodes_of homes.now h (drop from all.now)) }
     ensures home { IfSome result (λ n. home homes.now n ≡ Some h) }
 {
     for i in from..all.len() {

@@ -62,14 +62,16 @@ pub trait ListSpace: Drop {
     /// RKM Libraries, Exec Lists and Queues: `ln_Succ`.
     fn succ(&self, n: NodeId) -> Option<NodeId>
         requires { IsSome (home (homes self.now) n) }
-        ensures value { ForSome (home (homes self.now) n) (λ h. result ≡ first (part_after n (sequence (sequences self.now) h))) }
+        ensures value { ForSome (home (homes self.now) n) (λ h. result
+            ≡ first (part_after n (sequence (sequences self.now) h))) }
         ensures home { IfSome result (λ m. home (homes self.now) m ≡ home (homes self.now) n) };
 
     /// Answers the node before `n` in its sequence, or none where `n` is the first. `n` is linked.
     /// RKM Libraries, Exec Lists and Queues: `ln_Pred`.
     fn pred(&self, n: NodeId) -> Option<NodeId>
         requires { IsSome (home (homes self.now) n) }
-        ensures value { ForSome (home (homes self.now) n) (λ h. result ≡ last (part_before n (sequence (sequences self.now) h))) }
+        ensures value { ForSome (home (homes self.now) n) (λ h. result
+            ≡ last (part_before n (sequence (sequences self.now) h))) }
         ensures home { IfSome result (λ m. home (homes self.now) m ≡ home (homes self.now) n) };
 
     /// Puts the unlinked node `n` after a node of the header, or first for none.
@@ -79,7 +81,8 @@ pub trait ListSpace: Drop {
         requires node { n < length (homes self.old) }
         requires unlinked { home (homes self.old) n ≡ None }
         requires pred_in { ForSome pred (λ p. home (homes self.old) p ≡ Some h) }
-        ensures placed { sequences self.new ≡ slice_set (sequences self.old) h (put_after pred n (sequence (sequences self.old) h)) }
+        ensures placed { sequences self.new
+            ≡ slice_set (sequences self.old) h (put_after pred n (sequence (sequences self.old) h)) }
         ensures homes { homes self.new ≡ slice_set (homes self.old) n (Some h) }
         ensures keys { keys self.new ≡ keys self.old };
 
@@ -87,7 +90,8 @@ pub trait ListSpace: Drop {
     /// Autodoc exec.library/Remove.
     fn remove(&mut self, n: NodeId)
         requires { IsSome (home (homes self.old) n) }
-        ensures taken { IfSome (home (homes self.old) n) (λ h. sequences self.new ≡ slice_set (sequences self.old) h (without n (sequence (sequences self.old) h))) }
+        ensures taken { IfSome (home (homes self.old) n) (λ h. sequences self.new
+            ≡ slice_set (sequences self.old) h (without n (sequence (sequences self.old) h))) }
         ensures headers { length (sequences self.new) ≡ length (sequences self.old) }
         ensures homes { homes self.new ≡ slice_set (homes self.old) n None }
         ensures keys { keys self.new ≡ keys self.old };
@@ -97,7 +101,8 @@ pub trait ListSpace: Drop {
         requires { n < length (homes self.now) }
         ensures { result ≡ pri_of (keys self.now) n };
 
-    /// Answers whether the node has a name and it is `name`, byte for byte. Own choice: Exec has no such call.
+    /// Answers whether the node has a name and it is `name`, byte for byte. Own choice: Exec has no
+    /// such call.
     fn has_name(&self, n: NodeId, name: &str) -> bool
         requires { n < length (homes self.now) }
         ensures { result ≡ is_named (keys self.now) name.now n };
@@ -107,7 +112,8 @@ pub trait ListSpace: Drop {
     fn set_key(&mut self, n: NodeId, pri: i8, name: Option<Name>)
         requires node { n < length (homes self.old) }
         requires unlinked { home (homes self.old) n ≡ None }
-        ensures keys { keys self.new ≡ slice_set (keys self.old) n (record { pri = pri; name = option_map (λ t. t.bytes) name }) }
+        ensures keys { keys self.new
+            ≡ slice_set (keys self.old) n (record { pri = pri; name = option_map (λ t. t.bytes) name }) }
         ensures sequences { sequences self.new ≡ sequences self.old }
         ensures homes { homes self.new ≡ homes self.old };
 
@@ -116,7 +122,8 @@ pub trait ListSpace: Drop {
         requires header { h < length (sequences self.old) }
         requires node { n < length (homes self.old) }
         requires unlinked { home (homes self.old) n ≡ None }
-        ensures placed { sequences self.new ≡ slice_set (sequences self.old) h (n ∷ sequence (sequences self.old) h) }
+        ensures placed { sequences self.new
+            ≡ slice_set (sequences self.old) h (n ∷ sequence (sequences self.old) h) }
         ensures homes { homes self.new ≡ slice_set (homes self.old) n (Some h) }
         ensures keys { keys self.new ≡ keys self.old }
     {
@@ -128,7 +135,8 @@ pub trait ListSpace: Drop {
         requires header { h < length (sequences self.old) }
         requires node { n < length (homes self.old) }
         requires unlinked { home (homes self.old) n ≡ None }
-        ensures placed { sequences self.new ≡ slice_set (sequences self.old) h (sequence (sequences self.old) h ++ n ∷ []) }
+        ensures placed { sequences self.new
+            ≡ slice_set (sequences self.old) h (sequence (sequences self.old) h ++ n ∷ []) }
         ensures homes { homes self.new ≡ slice_set (homes self.old) n (Some h) }
         ensures keys { keys self.new ≡ keys self.old }
     {
@@ -142,7 +150,8 @@ pub trait ListSpace: Drop {
         requires header { h < length (sequences self.old) }
         requires node { n < length (homes self.old) }
         requires unlinked { home (homes self.old) n ≡ None }
-        ensures placed { sequences self.new ≡ slice_set (sequences self.old) h (enqueue (pri_of (keys self.old)) (sequence (sequences self.old) h) n) }
+        ensures placed { sequences self.new
+            ≡ slice_set (sequences self.old) h (enqueue (pri_of (keys self.old)) (sequence (sequences self.old) h) n) }
         ensures homes { homes self.new ≡ slice_set (homes self.old) n (Some h) }
         ensures keys { keys self.new ≡ keys self.old }
     {
@@ -164,8 +173,10 @@ pub trait ListSpace: Drop {
     fn rem_head(&mut self, h: HeaderId) -> Option<NodeId>
         requires { h < length (sequences self.old) }
         ensures value { result ≡ first (sequence (sequences self.old) h) }
-        ensures taken { sequences self.new ≡ slice_set (sequences self.old) h (drop 1 (sequence (sequences self.old) h)) }
-        ensures homes { MatchOption result (homes self.new ≡ homes self.old) (λ n. homes self.new ≡ slice_set (homes self.old) n None) }
+        ensures taken { sequences self.new
+            ≡ slice_set (sequences self.old) h (drop 1 (sequence (sequences self.old) h)) }
+        ensures homes { MatchOption result (homes self.new ≡ homes self.old)
+            (λ n. homes self.new ≡ slice_set (homes self.old) n None) }
         ensures was_home { IfSome result (λ n. home (homes self.old) n ≡ Some h) }
         ensures keys { keys self.new ≡ keys self.old }
     {
@@ -179,8 +190,11 @@ pub trait ListSpace: Drop {
     fn rem_tail(&mut self, h: HeaderId) -> Option<NodeId>
         requires { h < length (sequences self.old) }
         ensures value { result ≡ last (sequence (sequences self.old) h) }
-        ensures taken { sequences self.new ≡ slice_set (sequences self.old) h (take (length (sequence (sequences self.old) h) - 1) (sequence (sequences self.old) h)) }
-        ensures homes { MatchOption result (homes self.new ≡ homes self.old) (λ n. homes self.new ≡ slice_set (homes self.old) n None) }
+        ensures taken { sequences self.new
+            ≡ slice_set (sequences self.old) h
+            (take (length (sequence (sequences self.old) h) - 1) (sequence (sequences self.old) h)) }
+        ensures homes { MatchOption result (homes self.new ≡ homes self.old)
+            (λ n. homes self.new ≡ slice_set (homes self.old) n None) }
         ensures was_home { IfSome result (λ n. home (homes self.old) n ≡ Some h) }
         ensures keys { keys self.new ≡ keys self.old }
     {
@@ -194,7 +208,8 @@ pub trait ListSpace: Drop {
     fn find_name(&self, h: HeaderId, after: Option<NodeId>, name: &str) -> Option<NodeId>
         requires header { h < length (sequences self.now) }
         requires after_in { ForSome after (λ n. home (homes self.now) n ≡ Some h) }
-        ensures value { result ≡ find (is_named (keys self.now) name.now) (part_from after (sequence (sequences self.now) h)) }
+        ensures value { result
+            ≡ find (is_named (keys self.now) name.now) (part_from after (sequence (sequences self.now) h)) }
         ensures home { IfSome result (λ n. home (homes self.now) n ≡ Some h) }
     {
         let mut next = match after {
@@ -211,7 +226,8 @@ pub trait ListSpace: Drop {
     }
 
     /// A node stands once in the sequence of its header, and in no other.
-    ghost stands: { (s : Self) (h n : ℕ) → times n (sequence (sequences s) h) ≡ (if is_at (home (homes s) n) h then 1 else 0) };
+    ghost stands: { (s : Self) (h n : ℕ) → times n (sequence (sequences s) h)
+        ≡ (if is_at (home (homes s) n) h then 1 else 0) };
 
     /// Each node has a key.
     ghost keyed: { (s : Self) → length (keys s) ≡ length (homes s) };

@@ -1,1 +1,2 @@
+pub mod MemoryTraces
 pub mod Traces

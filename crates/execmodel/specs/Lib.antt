@@ -3,5 +3,9 @@ pub mod Scheduling
 pub mod Calls
 pub mod Plain
 pub mod Signals
+pub mod Nesting
+pub mod Tasks
+pub mod Memory
 pub mod Step
 pub mod Runs
+pub mod MemoryRuns

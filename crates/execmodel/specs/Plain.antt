@@ -1,7 +1,7 @@
--- Plain words: they set variables and print values, and ask nothing of Exec (own choice).
-use Rattle.std.specs.Prelude.{ℕ}
-use Rattle.execmodel.specs.State.{Call, State, Outcome}
-use Rattle.execmodel.specs.Calls.{argument, done, silent}
+-- Plain words: they set variables, calculate, jump and print, and ask nothing of Exec (own choice).
+use Rattle.std.specs.Prelude.{ℕ, ◌+◌, ◌-◌, ◌%◌, ◌^◌, if◌then◌else◌, nat_eq, bit_and, bit_or}
+use Rattle.execmodel.specs.State.{Call, State, Outcome, quiet, on_scripts}
+use Rattle.execmodel.specs.Calls.{argument, done, silent, goes_on}
 
 -- Set a: answers a
 unfoldable pub does_set : ℕ → Call → State → Outcome
@@ -10,3 +10,39 @@ does_set t call s = silent t call (argument 0 call) s
 -- Print a: its line shows the value
 unfoldable pub does_print : ℕ → Call → State → Outcome
 does_print t call s = done t call s
+
+-- ---- arithmetic: words of 32 bits, which wrap
+
+-- Add a b: answers the sum
+unfoldable pub does_add : ℕ → Call → State → Outcome
+does_add t call s = silent t call ((argument 0 call + argument 1 call) % 2 ^ 32) s
+
+-- Sub a b: answers the difference
+unfoldable pub does_sub : ℕ → Call → State → Outcome
+does_sub t call s = silent t call ((argument 0 call + (2 ^ 32 - argument 1 call)) % 2 ^ 32) s
+
+-- And a b: answers the bits that both have
+unfoldable pub does_and : ℕ → Call → State → Outcome
+does_and t call s = silent t call (bit_and (argument 0 call) (argument 1 call)) s
+
+-- Or a b: answers the bits that either has
+unfoldable pub does_or : ℕ → Call → State → Outcome
+does_or t call s = silent t call (bit_or (argument 0 call) (argument 1 call)) s
+
+-- ---- jumps: a label stands for the place of the command after it
+
+-- task t goes on at that place
+unfoldable pub jumps : ℕ → ℕ → State → Outcome
+jumps t place s = quiet (on_scripts (goes_on t place) s)
+
+-- Jump l: goes on at l
+unfoldable pub does_jump : ℕ → Call → State → Outcome
+does_jump t call s = jumps t (argument 0 call) s
+
+-- JumpZ a l: goes on at l if a is 0
+unfoldable pub does_jump_zero : ℕ → Call → State → Outcome
+does_jump_zero t call s = jumps t (if nat_eq (argument 0 call) 0 then argument 1 call else call.next) s
+
+-- JumpNZ a l: goes on at l if a is not 0
+unfoldable pub does_jump_not_zero : ℕ → Call → State → Outcome
+does_jump_not_zero t call s = jumps t (if nat_eq (argument 0 call) 0 then call.next else argument 1 call) s

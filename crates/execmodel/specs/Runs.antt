@@ -2,11 +2,11 @@
 use Rattle.std.specs.Prelude.{◌≡◌, ℕ, ℤ, pos, negsuc, List, [], ◌∷◌, None, Some, codes}
 use Rattle.exectrace.specs.Trace.{printed}
 use Rattle.taskscript.specs.declared.word.Word.{Word}
-use Rattle.taskscript.specs.declared.word.Word.TheVariants.{Set, Print, Signal, Wait}
+use Rattle.taskscript.specs.declared.word.Word.TheVariants.{Set, Add, Sub, And, Jump, JumpZ, Print, AllocSignal, FreeSignal, Signal, Wait, Forbid, Permit, SetTaskPri, AddTask, RemTask}
 use Rattle.taskscript.specs.declared.variable.Variable.TheVariants.{Private, Shared}
 use Rattle.taskscript.specs.declared.event.Event.{Event}
 use Rattle.taskscript.specs.declared.event.Event.TheVariants.{Run}
-use Rattle.taskscript.specs.Commands.{ArgumentData, number, variable, CommandData}
+use Rattle.taskscript.specs.Commands.{ArgumentData, number, variable, place, CommandData}
 use Rattle.taskscript.specs.File.{MachineData, TaskData}
 use Rattle.execmodel.specs.Step.{run}
 
@@ -64,7 +64,73 @@ waits_for_what_was_asked =
       (record { word = Set; target = Some (Shared 0); arguments = number 0x2000 ∷ [] }
       ∷ command Signal (number 1 ∷ number 0x1000 ∷ []) ∷ []) ∷ []
 
+-- a command whose answer goes into a variable of its task
+abbrev pub into : ℕ → Word → List ArgumentData → CommandData
+into k word arguments = record { word = word; target = Some (Private k); arguments = arguments }
+
+-- 0 less 1, and 1 more, is 0 again, so the jump is made, past a command; then the lower bits are masked
+abbrev pub calculates_and_jumps : List TaskData
+calculates_and_jumps = task (codes "a") (pos 0)
+    (into 0 Sub (number 0 ∷ number 1 ∷ [])
+    ∷ into 1 Add (variable (Private 0) ∷ number 1 ∷ [])
+    ∷ command JumpZ (variable (Private 1) ∷ place 4 ∷ [])
+    ∷ command Print (variable (Private 0) ∷ [])
+    ∷ into 2 And (variable (Private 0) ∷ number 0xf0 ∷ [])
+    ∷ command Print (variable (Private 2) ∷ []) ∷ []) ∷ []
+
+abbrev pub allocates_signals : List TaskData
+allocates_signals = task (codes "a") (pos 0)
+    (command AllocSignal (number 16 ∷ []) ∷ command AllocSignal (number 16 ∷ []) ∷ command AllocSignal (number 3 ∷ [])
+    ∷ command FreeSignal (number 16 ∷ []) ∷ command AllocSignal (number 16 ∷ [])
+    ∷ command FreeSignal (number 0xffffffff ∷ []) ∷ command FreeSignal (number 15 ∷ []) ∷ []) ∷ []
+
+-- a loop
+abbrev pub allocates_the_highest : List TaskData
+allocates_the_highest = task (codes "a") (pos 0)
+    (command AllocSignal (number 0xffffffff ∷ []) ∷ command Jump (place 0 ∷ []) ∷ []) ∷ []
+
+-- the higher task is signalled under Forbid
+abbrev pub signals_under_forbid : List TaskData
+signals_under_forbid =
+    task (codes "a") (pos 0)
+      (command Forbid [] ∷ command Signal (number 2 ∷ number 0x1000 ∷ []) ∷ command Print (number 1 ∷ []) ∷ command Permit [] ∷ [])
+    ∷ task (codes "b") (pos 5) (command Wait (number 0x1000 ∷ []) ∷ []) ∷ []
+
+abbrev pub waits_under_forbid : List TaskData
+waits_under_forbid =
+    task (codes "a") (pos 1) (command Forbid [] ∷ command Wait (number 0x1000 ∷ []) ∷ command Permit [] ∷ command Permit [] ∷ [])
+    ∷ task (codes "b") (pos 0) (command Signal (number 1 ∷ number 0x1000 ∷ []) ∷ command Print (number 1 ∷ []) ∷ []) ∷ []
+
+-- a ready task is given the priority that it has
+abbrev pub gives_the_same_priority : List TaskData
+gives_the_same_priority =
+    task (codes "a") (pos 1) (command SetTaskPri (number 2 ∷ number 0 ∷ []) ∷ command RemTask (number 1 ∷ []) ∷ [])
+    ∷ task (codes "b") (pos 0) (command Print (number 2 ∷ []) ∷ [])
+    ∷ task (codes "c") (pos 0) (command Print (number 3 ∷ []) ∷ []) ∷ []
+
+-- -5 is the word $FFFFFFFB
+abbrev pub gives_itself_priorities : List TaskData
+gives_itself_priorities =
+    task (codes "a") (pos 0)
+      (command SetTaskPri (number 1 ∷ number 0xfffffffb ∷ []) ∷ command SetTaskPri (number 1 ∷ number 0 ∷ []) ∷ command SetTaskPri (number 1 ∷ number 128 ∷ []) ∷ []) ∷ []
+
+abbrev pub adds_an_ended_one : List TaskData
+adds_an_ended_one =
+    task (codes "a") (pos 0) (command RemTask (number 2 ∷ []) ∷ command AddTask (number 2 ∷ []) ∷ command RemTask (number 2 ∷ []) ∷ [])
+    ∷ task (codes "b") (pos 0) (command Print (number 7 ∷ []) ∷ []) ∷ []
+
 -- ---- statements
+
+abbrev pub CalculatesAndJumps : Type 0
+CalculatesAndJumps = trace_of calculates_and_jumps (Run 6 ∷ []) ≡ codes "switch a\na Print $000000F0\na RemTask $00000000\nidle\n"
+
+abbrev pub AllocatesSignals : Type 0
+AllocatesSignals = trace_of allocates_signals (Run 7 ∷ [])
+    ≡ codes "switch a\na AllocSignal $00000010 -> $00000010\na AllocSignal $00000010 -> $FFFFFFFF\na AllocSignal $00000003 -> $FFFFFFFF\na FreeSignal $00000010\na AllocSignal $00000010 -> $00000010\na FreeSignal $FFFFFFFF\nalert MASK a FreeSignal\n"
+
+abbrev pub AllocatesTheHighest : Type 0
+AllocatesTheHighest = trace_of allocates_the_highest (Run 3 ∷ [])
+    ≡ codes "switch a\na AllocSignal $FFFFFFFF -> $0000001F\na AllocSignal $FFFFFFFF -> $0000001E\n"
 
 abbrev pub PrintsOnce : Type 0
 PrintsOnce = trace_of prints_once (Run 2 ∷ []) ≡ codes "switch a\na Print $00000001\na RemTask $00000000\nidle\n"
@@ -102,3 +168,23 @@ APreemptedTaskArrivesAnew = trace_of is_preempted_among_equals (Run 5 ∷ [])
 abbrev pub AWaitKeepsItsMask : Type 0
 AWaitKeepsItsMask = trace_of waits_for_what_was_asked (Run 7 ∷ [])
     ≡ codes "switch a\na Wait $00001000 waits\nswitch b\nb Signal $00000001 $00001000\nswitch a\na Wait $00001000 -> $00001000\na Print $00001000\na RemTask $00000000\nswitch b\n"
+
+abbrev pub ForbidKeepsOthersOff : Type 0
+ForbidKeepsOthersOff = trace_of signals_under_forbid (Run 6 ∷ [])
+    ≡ codes "switch b\nb Wait $00001000 waits\nswitch a\na Forbid\na Signal $00000002 $00001000\na Print $00000001\na Permit\nswitch b\nb Wait $00001000 -> $00001000\n"
+
+abbrev pub AWaitBreaksForbid : Type 0
+AWaitBreaksForbid = trace_of waits_under_forbid (Run 6 ∷ [])
+    ≡ codes "switch a\na Forbid\na Wait $00001000 waits\nswitch b\nb Signal $00000001 $00001000\nswitch a\na Wait $00001000 -> $00001000\na Permit\nalert NEST a Permit\n"
+
+abbrev pub TheSamePriorityArrivesAnew : Type 0
+TheSamePriorityArrivesAnew = trace_of gives_the_same_priority (Run 2 ∷ [])
+    ≡ codes "switch a\na SetTaskPri $00000002 $00000000 -> $00000000\na RemTask $00000001\nswitch c\n"
+
+abbrev pub APriorityIsASignedWord : Type 0
+APriorityIsASignedWord = trace_of gives_itself_priorities (Run 3 ∷ [])
+    ≡ codes "switch a\na SetTaskPri $00000001 $FFFFFFFB -> $00000000\na SetTaskPri $00000001 $00000000 -> $FFFFFFFB\nalert VALUE a SetTaskPri\n"
+
+abbrev pub AnEndedTaskIsNotAdded : Type 0
+AnEndedTaskIsNotAdded = trace_of adds_an_ended_one (Run 3 ∷ [])
+    ≡ codes "switch a\na RemTask $00000002\na AddTask $00000002 -> $00000000\nalert HANDLE a RemTask\n"

@@ -1,6 +1,8 @@
 -- Signals of tasks (RKM Libraries, Exec Signals).
 use Rattle.std.specs.Prelude.{ℕ, ◌-◌, Bool, not, ◌&&◌, if◌then◌else◌, nat_eq, nat_lt, nat_le, bit_and, length, codes, Option, None, Some}
-use Rattle.scheduler.specs.Schedule.{signals_of, come_for, after_wait}
+use Rattle.std.specs.Int.{cast_signed, cast_unsigned, w32}
+use Rattle.signals.specs.Signals.{grant, grant_number, is_own_signal}
+use Rattle.scheduler.specs.Schedule.{signals_of, come_for, after_wait, allocates, frees, sets_signals}
 use Rattle.execmodel.specs.State.{Call, Scripts, State, Outcome, on_schedule}
 use Rattle.execmodel.specs.Scheduling.{signalled}
 use Rattle.execmodel.specs.Calls.{argument, done, answered, waiting, alerted}
@@ -12,6 +14,33 @@ is_task number scripts = nat_lt 0 number && nat_le number (length scripts.progra
 -- a mask of signals that scripts may name: 12 to 31, and not those that Exec itself uses (own choice)
 abbrev pub is_mask : ℕ → Bool
 is_mask mask = nat_eq (bit_and mask 0xfff) 0
+
+-- ---- allocating signals
+
+-- AllocSignal a: a signal from 16 to 31, or for -1 the highest free one, is allocated and cleared, and its number answered; -1 where it
+-- is not to be had (autodoc exec.library/AllocSignal; the highest one, and -1 for other numbers: own choice)
+unfoldable pub does_alloc_signal : ℕ → Call → State → Outcome
+does_alloc_signal t call s =
+    let n = cast_signed w32 (argument 0 call) in
+    answered t call (cast_unsigned w32 (grant_number (grant n (signals_of s.schedule t)))) (on_schedule (allocates t n) s)
+
+-- FreeSignal a: the signal is not allocated any more; -1 does nothing (autodoc exec.library/FreeSignal)
+unfoldable pub does_free_signal : ℕ → Call → State → Outcome
+does_free_signal t call s =
+    let n = argument 0 call in
+    if nat_eq n 0xffffffff then done t call s
+    else (if not (is_own_signal n) then alerted (codes "MASK") t call s
+    else done t call (on_schedule (frees t n) s))
+
+-- SetSignal new mask: answers the received signals; those of the mask become as in new (autodoc exec.library/SetSignal)
+unfoldable pub does_set_signal : ℕ → Call → State → Outcome
+does_set_signal t call s =
+    let new = argument 0 call in
+    let mask = argument 1 call in
+    if not (is_mask mask) then alerted (codes "MASK") t call s
+    else answered t call (signals_of s.schedule t).received (on_schedule (sets_signals t new mask) s)
+
+-- ---- signalling and waiting
 
 -- Signal t mask (autodoc exec.library/Signal)
 unfoldable pub does_signal : ℕ → Call → State → Outcome

@@ -7,6 +7,7 @@ use Rattle.taskscript.specs.declared.variable.Variable.{Variable}
 use Rattle.taskscript.specs.Commands.{CommandData}
 use Rattle.taskscript.specs.File.{MachineData, TaskData}
 use Rattle.scheduler.specs.Schedule.{Schedule, unstarted}
+use Rattle.memlist.specs.declared.region.Region.{Region}
 
 -- a command of a task with the values that its arguments had when it was first tried, and the place of the command after it
 pub record Call : Type 0 where
@@ -27,11 +28,32 @@ pub record Scripts : Type 0 where
   pub programs : List Program
   pub shared : List ℕ
 
+-- what a block of memory holds
+pub data Object : Type 0 where
+  -- nothing that Exec knows of: AllocMem gave the block
+  Plain : Object
+
+-- a block of memory, and what begins there
+pub record Block : Type 0 where
+  pub size : ℕ
+  pub object : Object
+
+-- the blocks by address, in order of address
+abbrev pub Heap : Type 0
+Heap = List (ℕ × Block)
+
+-- the regions of memory in the order of the file, and the blocks that are allocated in them
+pub record Memory : Type 0 where
+  pub regions : List Region
+  pub heap : Heap
+
 pub record State : Type 0 where
   -- the tasks' names, priorities, states and signals, the ready sequence, and the running task
   pub schedule : Schedule
   -- what the tasks execute, and the variables
   pub scripts : Scripts
+  -- the regions, and the blocks and objects that lie in them
+  pub memory : Memory
   -- an alert has stopped the machine
   pub stopped : Bool
 
@@ -79,12 +101,15 @@ program_of scripts t = slice_index_or scripts.programs t no_program
 abbrev pub with_program : ℕ → Program → Scripts → Scripts
 with_program t program scripts = record scripts { programs = slice_set scripts.programs t program }
 
--- an action on the schedule alone, or on the scripts alone
+-- an action on the schedule alone, on the scripts alone, or on the memory alone
 abbrev pub on_schedule : (Schedule → Schedule) → State → State
 on_schedule f s = record s { schedule = f s.schedule }
 
 abbrev pub on_scripts : (Scripts → Scripts) → State → State
 on_scripts f s = record s { scripts = f s.scripts }
+
+abbrev pub on_memory : (Memory → Memory) → State → State
+on_memory f s = record s { memory = f s.memory }
 
 -- ---- the first state
 
@@ -103,9 +128,10 @@ abbrev pub begun : TaskData → Program
 begun task = begun_with task.code
 
 -- The machine of a file before its start: no task was added, nothing runs, and it was not yet told to be idle. A full quantum is 4
--- servings of VERTB (own choice).
+-- servings of VERTB (own choice). No memory is allocated.
 unfoldable pub booted : MachineData → State
 booted machine = record {
   schedule = unstarted (length machine.tasks) (map (λ (task : TaskData). task.pri) machine.tasks) (map (λ (task : TaskData). task.name) machine.tasks) 4;
   scripts = record { programs = map begun machine.tasks; shared = replicate shared_variables 0 };
+  memory = record { regions = []; heap = [] };
   stopped = false }

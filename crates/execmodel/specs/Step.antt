@@ -13,8 +13,11 @@ use Rattle.scheduler.specs.declared.Switch.TheVariants as switch
 use Rattle.execmodel.specs.State.{Call, State, Outcome, quiet, says, andthen, on_schedule, booted}
 use Rattle.execmodel.specs.Scheduling.{switch_of, rescheduled, added}
 use Rattle.execmodel.specs.Calls.{next_call}
-use Rattle.execmodel.specs.Plain.{does_set, does_print}
-use Rattle.execmodel.specs.Signals.{does_signal, does_wait}
+use Rattle.execmodel.specs.Plain.{does_set, does_add, does_sub, does_and, does_or, does_jump, does_jump_zero, does_jump_not_zero, does_print}
+use Rattle.execmodel.specs.Signals.{does_alloc_signal, does_free_signal, does_set_signal, does_signal, does_wait}
+use Rattle.execmodel.specs.Nesting.{does_forbid, does_permit, does_disable, does_enable}
+use Rattle.execmodel.specs.Tasks.{does_set_task_pri, does_add_task, does_rem_task}
+use Rattle.execmodel.specs.Memory.{does_alloc_mem, does_free_mem, does_avail_mem}
 
 -- ---- settle
 
@@ -37,9 +40,29 @@ settle s = if s.stopped then quiet s else switches s
 -- a call of task t, by its word
 abbrev pub does_word : Word → ℕ → Call → State → Outcome
 does_word word.Set t call s = does_set t call s
+does_word word.Add t call s = does_add t call s
+does_word word.Sub t call s = does_sub t call s
+does_word word.And t call s = does_and t call s
+does_word word.Or t call s = does_or t call s
+does_word word.Jump t call s = does_jump t call s
+does_word word.JumpZ t call s = does_jump_zero t call s
+does_word word.JumpNZ t call s = does_jump_not_zero t call s
 does_word word.Print t call s = does_print t call s
+does_word word.AllocSignal t call s = does_alloc_signal t call s
+does_word word.FreeSignal t call s = does_free_signal t call s
+does_word word.SetSignal t call s = does_set_signal t call s
 does_word word.Signal t call s = does_signal t call s
 does_word word.Wait t call s = does_wait t call s
+does_word word.Forbid t call s = does_forbid t call s
+does_word word.Permit t call s = does_permit t call s
+does_word word.Disable t call s = does_disable t call s
+does_word word.Enable t call s = does_enable t call s
+does_word word.SetTaskPri t call s = does_set_task_pri t call s
+does_word word.AddTask t call s = does_add_task t call s
+does_word word.RemTask t call s = does_rem_task t call s
+does_word word.AllocMem t call s = does_alloc_mem t call s
+does_word word.FreeMem t call s = does_free_mem t call s
+does_word word.AvailMem t call s = does_avail_mem t call s
 
 unfoldable pub does : ℕ → Call → State → Outcome
 does t call s = does_word call.word t call s

@@ -2,7 +2,9 @@
 //! The functions here have no effect. Their contracts are whole traces of small machines, as the definitions compute them.
 #![tactic(auto)]
 
-ghost use Rattle.execmodel.specs.Runs.{PrintsOnce, StartsWithoutEvents, IdlesWithoutTasks, IdlesOnce, SignalAsksForATask, NothingFollowsAnAlert, WaitAsksForSignalsOfScripts, SignalWakesAHigherTask, EqualPriorityDoesNotPreempt, APreemptedTaskArrivesAnew, AWaitKeepsItsMask};
+pub mod memory_runs;
+
+ghost use Rattle.execmodel.specs.Runs.{CalculatesAndJumps, AllocatesSignals, AllocatesTheHighest, PrintsOnce, StartsWithoutEvents, IdlesWithoutTasks, IdlesOnce, SignalAsksForATask, NothingFollowsAnAlert, WaitAsksForSignalsOfScripts, SignalWakesAHigherTask, EqualPriorityDoesNotPreempt, APreemptedTaskArrivesAnew, AWaitKeepsItsMask, ForbidKeepsOthersOff, AWaitBreaksForbid, TheSamePriorityArrivesAnew, APriorityIsASignedWord, AnEndedTaskIsNotAdded};
 
 /// A task that prints once ends at its next step, and the machine is idle.
 pub fn a_task_prints_once_and_ends()
@@ -67,5 +69,53 @@ pub fn a_preempted_task_arrives_anew()
 /// A call that waits keeps the values that its arguments had.
 pub fn a_wait_keeps_its_mask()
     ensures { AWaitKeepsItsMask }
+{
+}
+
+/// Arithmetic wraps, and a jump goes on at the command of its label.
+pub fn arithmetic_wraps_and_a_jump_goes_on_at_its_label()
+    ensures { CalculatesAndJumps }
+{
+}
+
+/// A signal that is allocated is not given again before it is freed, and those of the system never are.
+pub fn a_signal_is_allocated_once()
+    ensures { AllocatesSignals }
+{
+}
+
+/// Asked for any signal, the highest free one is given.
+pub fn the_highest_free_signal_is_allocated()
+    ensures { AllocatesTheHighest }
+{
+}
+
+/// A task that is signalled under Forbid runs once that is taken back.
+pub fn forbid_keeps_others_off()
+    ensures { ForbidKeepsOthersOff }
+{
+}
+
+/// A wait under Forbid lets other tasks run, and the Forbid holds again when its task runs again.
+pub fn a_wait_breaks_forbid()
+    ensures { AWaitBreaksForbid }
+{
+}
+
+/// A ready task whose priority is set stands behind those of that priority.
+pub fn the_same_priority_arrives_anew()
+    ensures { TheSamePriorityArrivesAnew }
+{
+}
+
+/// A priority is read and answered as a signed word; one outside its range is the alert VALUE.
+pub fn a_priority_is_a_signed_word()
+    ensures { APriorityIsASignedWord }
+{
+}
+
+/// A task that has ended is not begun again, and is not live.
+pub fn an_ended_task_is_not_added()
+    ensures { AnEndedTaskIsNotAdded }
 {
 }

@@ -1,12 +1,13 @@
 -- Actions that follow one another, and the actions of one layer.
-use Rattle.std.proofs.Common.{◌≡◌, List, [], ◌∷◌, ◌++◌, Bool, refl, ap, sym, ◌∙◌, subst, append-nil}
+use Rattle.std.proofs.Common.{◌≡◌, Bool, ap, sym, ◌∙◌, subst, append-nil}
 use Rattle.std.proofs.lemmas.Grind.{flat_map-append}
 use Rattle.exectrace.specs.Sink.{Tape, Puts}
-use Rattle.exectrace.specs.Trace.{TraceLine, printed, printed_line}
+use Rattle.exectrace.specs.Trace.{TraceLine, printed_line}
 use Rattle.exectrace.proofs.Pieces.{puts_none, puts_then, put_same}
 use Rattle.scheduler.specs.Schedule.{Schedule}
-use Rattle.execmodel.specs.State.{State, Scripts, Outcome, quiet, says, andthen, on_schedule, on_scripts}
-use Rattle.execsim.specs.Agreement.{Seen, Agrees, Follows, Moves, in_order}
+use Rattle.memlist.specs.Memory as table
+use Rattle.execmodel.specs.State.{State, Scripts, Memory, Outcome, quiet, says, andthen, on_schedule, on_scripts, on_memory}
+use Rattle.execsim.specs.Agreement.{Seen, Agrees, Holds, Follows, Moves, in_order}
 
 -- What the state that is agreed with holds, by what the machine shows.
 
@@ -24,21 +25,44 @@ reads_stopped is s a = sym a.stopped ∙ is
 
 -- Changes of one layer.
 
-pub moves_schedule : {m n : Seen} (next seen : Schedule → Schedule) → ((y : Schedule) → seen (in_order y) ≡ in_order (next y))
+-- a memory that stays shows what it did
+stays : {m n : table.Memory} {memory : Memory} → n ≡ m → Holds m memory → Holds n memory
+stays is h = rw is h
+
+-- a change that goes the same way in the schedule that is agreed with
+pub moves_schedule_seen : {m n : Seen} (next seen : Schedule → Schedule) → ((y : Schedule) → m.schedule ≡ in_order y → seen (in_order y) ≡ in_order (next y))
     → n ≡ record m { schedule = seen m.schedule } → Moves (on_schedule next) m n
-moves_schedule next seen commutes is = record {
+moves_schedule_seen next seen commutes is = record {
   agrees = λ s a. record {
-    schedule = ap (λ (x : Seen). x.schedule) is ∙ ap seen a.schedule ∙ commutes s.schedule;
+    schedule = ap (λ (x : Seen). x.schedule) is ∙ ap seen a.schedule ∙ commutes s.schedule a.schedule;
     scripts = ap (λ (x : Seen). x.scripts) is ∙ a.scripts;
+    memory = stays (ap (λ (x : Seen). x.memory) is) a.memory;
     stopped = ap (λ (x : Seen). x.stopped) is ∙ a.stopped;
   };
 }
+
+-- a change that goes the same way in every schedule
+pub moves_schedule : {m n : Seen} (next seen : Schedule → Schedule) → ((y : Schedule) → seen (in_order y) ≡ in_order (next y))
+    → n ≡ record m { schedule = seen m.schedule } → Moves (on_schedule next) m n
+moves_schedule next seen commutes is = moves_schedule_seen next seen (λ y e. commutes y) is
 
 pub moves_scripts : {m n : Seen} (next : Scripts → Scripts) → n ≡ record m { scripts = next m.scripts } → Moves (on_scripts next) m n
 moves_scripts next is = record {
   agrees = λ s a. record {
     schedule = ap (λ (x : Seen). x.schedule) is ∙ a.schedule;
     scripts = ap (λ (x : Seen). x.scripts) is ∙ ap next a.scripts;
+    memory = stays (ap (λ (x : Seen). x.memory) is) a.memory;
+    stopped = ap (λ (x : Seen). x.stopped) is ∙ a.stopped;
+  };
+}
+
+pub moves_memory : {m n : Seen} (next : Memory → Memory) (seen : table.Memory) → ((memory : Memory) → Holds m.memory memory → Holds seen (next memory))
+    → n ≡ record m { memory = seen } → Moves (on_memory next) m n
+moves_memory next seen shows is = record {
+  agrees = λ s a. record {
+    schedule = ap (λ (x : Seen). x.schedule) is ∙ a.schedule;
+    scripts = ap (λ (x : Seen). x.scripts) is ∙ a.scripts;
+    memory = stays (ap (λ (x : Seen). x.memory) is) (shows s.memory a.memory);
     stopped = ap (λ (x : Seen). x.stopped) is ∙ a.stopped;
   };
 }
@@ -48,6 +72,7 @@ moves_stopped stopped is = record {
   agrees = λ s a. record {
     schedule = ap (λ (x : Seen). x.schedule) is ∙ a.schedule;
     scripts = ap (λ (x : Seen). x.scripts) is ∙ a.scripts;
+    memory = stays (ap (λ (x : Seen). x.memory) is) a.memory;
     stopped = ap (λ (x : Seen). x.stopped) is;
   };
 }

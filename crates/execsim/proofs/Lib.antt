@@ -1,8 +1,13 @@
 pub mod Acting
+pub mod Allocating
 pub mod Booting
+pub mod Calculating
 pub mod Calling
 pub mod Endings
 pub mod Following
+pub mod Forbidding
+pub mod Heaps
 pub mod Ordering
 pub mod Signalling
 pub mod Stepping
+pub mod Tasking

@@ -1,13 +1,15 @@
 -- The scheduler keeps its ready tasks in the order in which they are to run, the abstract machine in order of arrival: each change
 -- of a schedule goes the same way in both.
-use Rattle.std.proofs.Common.{◌≡◌, ℕ, ℤ, List, [], ◌∷◌, ◌++◌, Bool, true, false, Option, None, Some, refl, ap, sym, ◌∙◌}
-use Rattle.std.specs.Prelude.{not, if◌then◌else◌, ◌==◌}
-use Rattle.execlist.specs.Order.{order, first, chosen, without, enqueue}
-use Rattle.execlist.proofs.OrderLaws.{order_takes, order_leaves_out, first_of_order}
-use Rattle.taskq.specs.Tasks.{pri_at, is_live}
-use Rattle.taskq.specs.declared.TaskState.TheVariants.{Ready}
+use Rattle.std.proofs.Common.{◌≡◌, ◌≢◌, ℕ, zero, suc, ◌+◌, ◌<◌, ℤ, List, [], ◌∷◌, length, get_or, slice_set, Bool, true, false, cond, Option, None, Some, refl, ap, sym, ◌∙◌, subst, arith}
+use Rattle.std.specs.Prelude.{pos, not, if◌then◌else◌, ◌==◌, fold}
+use Rattle.std.proofs.lemmas.Bool.{cond-true, eq-eqb}
+use Rattle.std.proofs.lemmas.List.{get_or-set_other}
+use Rattle.execlist.specs.Lists.{times}
+use Rattle.execlist.specs.Order.{order, first, enqueue, is_lower}
+use Rattle.execlist.proofs.OrderLaws.{order_takes, order_leaves_out, first_of_order, order_reads_keys, order_rekeyed}
+use Rattle.taskq.specs.Tasks.{pri_at, is_ready, is_live}
 use Rattle.signals.specs.Signals.{after_post}
-use Rattle.scheduler.specs.Schedule.{Schedule, status_of, signals_of, with_signals, switch_for, renewed, begins, is_absent, awaits, is_switching_allowed, is_quantum_over}
+use Rattle.scheduler.specs.Schedule.{Schedule, status_of, signals_of, with_priority, with_signals, switch_for, renewed, begins, is_absent, leaves, departs, removed, awaits}
 use Rattle.scheduler.specs.Dispatch as dispatch
 use Rattle.scheduler.specs.declared.Switch.{Switch}
 use Rattle.scheduler.specs.declared.Switch.TheVariants.{To, Idle}
@@ -73,3 +75,71 @@ signalled-in_order t mask y =
     let got = with_signals t (after_post mask (signals_of y t)) y in
     by_test (not (is_live (status_of y t))) y (if awaits (status_of y t) (signals_of got t).received then model.arrives t got else got) _ _ refl
     (by_test (awaits (status_of y t) (signals_of got t).received) (model.arrives t got) got _ _ (arrives-in_order t got) refl)
+
+-- An end, and another priority.
+
+pub leaves-in_order : (t : ℕ) (y : Schedule) → leaves t (in_order y) ≡ in_order (leaves t y)
+unfolding leaves
+leaves-in_order t y = refl
+
+pub removed-in_order : (t : ℕ) (y : Schedule) → removed t (in_order y) ≡ in_order (removed t y)
+unfolding removed
+removed-in_order t y = ap (λ ready. with_ready ready (removed t y)) (sym (order_leaves_out ℕ (pri_at y.queue.pris) (λ x. not (x == t)) y.queue.ready))
+
+times_put : (key : ℕ → ℤ) (n : ℕ) (ys : List ℕ) (x : ℕ) → times n (enqueue key ys x) ≡ times n (x ∷ ys)
+times_put key n [] x = refl
+times_put key n (y ∷ ys) x = split (times_put key n ys x) (is_lower key y x) where
+  swap : (at_y at_x : Bool) (k r : ℕ) → r ≡ cond at_x (suc k) k → cond at_y (suc r) r ≡ cond at_x (suc (cond at_y (suc k) k)) (cond at_y (suc k) k)
+  swap true true k r e = ap suc e
+  swap true false k r e = ap suc e
+  swap false true k r e = e
+  swap false false k r e = e
+
+  split : times n (enqueue key ys x) ≡ times n (x ∷ ys) → (lower : Bool) → times n (cond lower (x ∷ y ∷ ys) (y ∷ enqueue key ys x)) ≡ times n (x ∷ y ∷ ys)
+  split before true = refl
+  split before false = swap (y == n) (x == n) (times n ys) (times n (enqueue key ys x)) before
+
+times_all_put : (key : ℕ → ℤ) (n : ℕ) (s xs : List ℕ) → times n (fold (enqueue key) s xs) ≡ times n s + times n xs
+times_all_put key n s [] = omega arith
+times_all_put key n s (x ∷ xs) =
+    times_all_put key n (enqueue key s x) xs ∙ ap (λ k. k + times n xs) (times_put key n s x) ∙ moved (x == n) (times n s) (times n xs)
+  where
+    moved : (b : Bool) (a c : ℕ) → cond b (suc a) a + c ≡ a + cond b (suc c) c
+    moved true a c = omega arith
+    moved false a c = omega arith
+
+-- what the order leaves out was not there
+none_in_order : (key : ℕ → ℤ) (n : ℕ) (xs : List ℕ) → times n (order key xs) ≡ 0 → times n xs ≡ 0
+unfolding order
+none_in_order key n xs none = let all = times_all_put key n [] xs in omega (arith, all, none)
+
+stands : (xs : List ℕ) (k d : ℕ) → k < length xs → 0 < times (get_or xs k d) xs
+stands [] k d within = absurd (omega arith)
+stands (x ∷ xs) zero d within = rw (cond-true _ _ _ (eq-eqb x x refl)) (omega arith)
+stands (x ∷ xs) (suc k) d within = by_case (x == get_or xs k d) (stands xs k d (omega arith)) where
+  by_case : (b : Bool) → 0 < times (get_or xs k d) xs → 0 < cond b (suc (times (get_or xs k d) xs)) (times (get_or xs k d) xs)
+  by_case true ih = omega arith
+  by_case false ih = ih
+
+not_there : (n : ℕ) (xs : List ℕ) → times n xs ≡ 0 → (k d : ℕ) → k < length xs → get_or xs k d ≢ n
+not_there n xs none k d within e =
+    let one : 0 < times n xs = subst (λ x. 0 < times x xs) e (stands xs k d within) in
+    absurd (omega (arith, one, none))
+
+-- a priority of a task that is not there changes no order
+same_order : (pris : List ℤ) (n : ℕ) (pri : ℤ) (xs : List ℕ) → times n xs ≡ 0 → order (pri_at (slice_set pris n pri)) xs ≡ order (pri_at pris) xs
+same_order pris n pri xs none = order_reads_keys ℕ (pri_at pris) (pri_at (slice_set pris n pri)) xs
+    (λ k d within. get_or-set_other pris n (get_or xs k d) pri (pos 0) (not_there n xs none k d within))
+
+pub reprioritized-in_order : (t : ℕ) (pri : ℤ) (y : Schedule)
+    → ((n : ℕ) → times n (in_order y).queue.ready ≡ (if is_ready (status_of y n) then 1 else 0))
+    → dispatch.reprioritized t pri (in_order y) ≡ in_order (model.reprioritized t pri y)
+unfolding dispatch.reprioritized model.reprioritized dispatch.arrives model.arrives
+reprioritized-in_order t pri y stand = by_case (is_ready (status_of y t)) (stand t) where
+  by_case : (ready : Bool) → times t (in_order y).queue.ready ≡ cond ready 1 0
+      → cond ready (dispatch.arrives t (departs t (with_priority t pri (in_order y)))) (with_priority t pri (in_order y))
+      ≡ in_order (cond ready (model.arrives t (departs t (with_priority t pri y))) (with_priority t pri y))
+  by_case true there = ap (λ ready. with_ready ready (model.arrives t (departs t (with_priority t pri y))))
+      (sym (order_rekeyed (pri_at y.queue.pris) (pri_at (slice_set y.queue.pris t pri)) t y.queue.ready
+      (λ m other. get_or-set_other y.queue.pris t m pri (pos 0) other)))
+  by_case false there = ap (λ ready. with_ready ready (with_priority t pri y)) (sym (same_order y.queue.pris t pri y.queue.ready (none_in_order (pri_at y.queue.pris) t y.queue.ready there)))

@@ -1,17 +1,75 @@
 -- How the machine follows the words of signals.
-use Rattle.std.proofs.Common.{◌≡◌, ℕ, ◌-◌, true, false, Option, None, Some, refl, ap, sym, ◌∙◌}
+use Rattle.std.proofs.Common.{◌≡◌, ℕ, ℤ, ◌-◌, true, false, Option, None, Some, refl, ap, sym, ◌∙◌}
 use Rattle.std.specs.Prelude.{codes, nat_eq}
 use Rattle.exectrace.specs.Sink.{Tape}
-use Rattle.signals.specs.Signals.{taken_signals}
-use Rattle.scheduler.specs.Schedule.{Schedule, signals_of, come_for, after_wait, waits_for, takes}
+use Rattle.std.specs.Int.{cast_signed, cast_unsigned, w32}
+use Rattle.signals.specs.Signals.{taken_signals, grant, grant_number, is_own_signal, after_free}
+use Rattle.taskq.specs.Tasks.{is_live}
+use Rattle.scheduler.specs.Schedule.{Schedule, signals_of, come_for, after_wait, waits_for, takes, allocates, frees, sets_signals, status_of, with_signals}
 use Rattle.scheduler.specs.Dispatch as dispatch
 use Rattle.execmodel.specs.State.{Call, State, on_schedule}
 use Rattle.execmodel.specs.Scheduling.{signalled}
-use Rattle.execmodel.specs.Calls.{argument, done, alerted}
-use Rattle.execmodel.specs.Signals.{is_task, is_mask, does_signal, waited, does_wait}
+use Rattle.execmodel.specs.Calls.{argument, done, answered, alerted}
+use Rattle.execmodel.specs.Signals.{is_task, is_mask, does_alloc_signal, does_free_signal, does_set_signal, does_signal, waited, does_wait}
 use Rattle.execsim.specs.Agreement.{Seen, Agrees, Follows, in_order}
 use Rattle.execsim.proofs.Following.{reads_schedule, reads_scripts, moves_schedule, follows_as, follows_change}
 use Rattle.execsim.proofs.Ordering.{by_test, signalled-in_order}
+
+allocates-in_order : (t : ℕ) (n : ℤ) (y : Schedule) → allocates t n (in_order y) ≡ in_order (allocates t n y)
+unfolding allocates
+allocates-in_order t n y = refl
+
+sets_signals-in_order : (t new mask : ℕ) (y : Schedule) → sets_signals t new mask (in_order y) ≡ in_order (sets_signals t new mask y)
+unfolding sets_signals
+sets_signals-in_order t new mask y = refl
+
+frees-in_order : (t n : ℕ) (y : Schedule) → frees t n (in_order y) ≡ in_order (frees t n y)
+unfolding frees
+frees-in_order t n y = by_test (is_live (status_of y t)) (with_signals t (after_free n (signals_of y t)) y) y _ _ refl refl
+
+pub allocated : {m n o : Seen} {a b : Tape} (t : ℕ) (call : Call) (signal : ℕ)
+    → signal ≡ cast_unsigned w32 (grant_number (grant (cast_signed w32 (argument 0 call)) (signals_of m.schedule t)))
+    → n ≡ record m { schedule = allocates t (cast_signed w32 (argument 0 call)) m.schedule }
+    → Follows (answered t call signal) n o a b → Follows (does_alloc_signal t call) m o a b
+unfolding does_alloc_signal
+allocated {m} t call signal given is follows =
+    let change = allocates t (cast_signed w32 (argument 0 call)) in
+    follows_as {g = λ s. answered t call signal (on_schedule change s)}
+      (λ s e. ap (λ value. answered t call value (on_schedule change s))
+        (reads_schedule (λ y. cast_unsigned w32 (grant_number (grant (cast_signed w32 (argument 0 call)) (signals_of y t)))) (λ y. refl) (sym given) s e))
+      (follows_change (moves_schedule change change (allocates-in_order t (cast_signed w32 (argument 0 call))) is) follows)
+
+module _ {m n : Seen} {a b : Tape} (t : ℕ) (call : Call) where
+  pub free_none : nat_eq (argument 0 call) 0xffffffff ≡ true → Follows (done t call) m n a b → Follows (does_free_signal t call) m n a b
+  unfolding does_free_signal
+  free_none none follows = follows_as (λ s e. rw none refl) follows
+
+  pub free_other : nat_eq (argument 0 call) 0xffffffff ≡ false → is_own_signal (argument 0 call) ≡ false
+      → Follows (alerted (codes "MASK") t call) m n a b → Follows (does_free_signal t call) m n a b
+  unfolding does_free_signal
+  free_other some other follows = follows_as (λ s e. rw (some, other) refl) follows
+
+  pub free_own : {o : Seen} → nat_eq (argument 0 call) 0xffffffff ≡ false → is_own_signal (argument 0 call) ≡ true
+      → n ≡ record m { schedule = frees t (argument 0 call) m.schedule } → Follows (done t call) n o a b → Follows (does_free_signal t call) m o a b
+  unfolding does_free_signal
+  free_own some own is follows = follows_as {g = λ s. done t call (on_schedule (frees t (argument 0 call)) s)} (λ s e. rw (some, own) refl)
+      (follows_change (moves_schedule (frees t (argument 0 call)) (frees t (argument 0 call)) (frees-in_order t (argument 0 call)) is) follows)
+
+  pub set_unmasked : is_mask (argument 1 call) ≡ false → Follows (alerted (codes "MASK") t call) m n a b → Follows (does_set_signal t call) m n a b
+  unfolding does_set_signal
+  set_unmasked unmasked follows = follows_as (λ s e. rw unmasked refl) follows
+
+  pub set_masked : {o : Seen} (received : ℕ) → is_mask (argument 1 call) ≡ true → received ≡ (signals_of m.schedule t).received
+      → n ≡ record m { schedule = sets_signals t (argument 0 call) (argument 1 call) m.schedule }
+      → Follows (answered t call received) n o a b → Follows (does_set_signal t call) m o a b
+  unfolding does_set_signal
+  set_masked received masked was is follows =
+      let change = sets_signals t (argument 0 call) (argument 1 call) in
+      follows_as {g = λ s. answered t call received (on_schedule change s)}
+        (λ s e.
+          let same : (signals_of s.schedule t).received ≡ received = reads_schedule (λ y. (signals_of y t).received) (λ y. refl) (sym was) s e in
+          rw (masked, same) refl)
+        (follows_change (moves_schedule change change (sets_signals-in_order t (argument 0 call) (argument 1 call)) is) follows)
 
 module _ {m n : Seen} {a b : Tape} (t : ℕ) (call : Call) where
   pub signal_unknown : is_task (argument 0 call) m.scripts ≡ false → Follows (alerted (codes "HANDLE") t call) m n a b → Follows (does_signal t call) m n a b

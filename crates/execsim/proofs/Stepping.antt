@@ -1,5 +1,5 @@
 -- How the machine follows settling, steps and events.
-use Rattle.std.proofs.Common.{◌≡◌, ℕ, zero, suc, ◌+◌, ◌<◌, List, [], ◌∷◌, ◌++◌, length, take, get_or, true, false, Option, None, Some, refl, ap, sym, ◌∙◌, append-nil, append_assoc, add-one}
+use Rattle.std.proofs.Common.{◌≡◌, ℕ, suc, ◌+◌, ◌<◌, List, [], ◌∷◌, ◌++◌, length, take, get_or, true, false, Option, None, Some, refl, ap, sym, ◌∙◌, append-nil, append_assoc, add-one}
 use Rattle.std.proofs.lemmas.List.{take_more}
 use Rattle.std.specs.Prelude.{codes}
 use Rattle.exectrace.specs.Sink.{Tape, Puts}
@@ -8,17 +8,17 @@ use Rattle.exectrace.specs.Trace as trace
 use Rattle.taskscript.specs.declared.event.Event.{Event}
 use Rattle.taskscript.specs.declared.word.Word.{Word}
 use Rattle.taskscript.specs.declared.event.Event.TheVariants.{Run}
-use Rattle.scheduler.specs.Schedule.{Schedule, name_of, leaves}
+use Rattle.scheduler.specs.Schedule.{name_of, leaves}
 use Rattle.scheduler.specs.Dispatch as dispatch
 use Rattle.scheduler.specs.declared.Switch.{Switch as Choice}
 use Rattle.scheduler.specs.declared.Switch.TheVariants as switch
 use Rattle.execmodel.specs.State.{Call, State, Outcome, Mark, quiet, andthen, on_schedule}
-use Rattle.execmodel.specs.Scheduling.{switch_of, rescheduled, added}
+use Rattle.execmodel.specs.Scheduling.{rescheduled, added}
 use Rattle.execmodel.specs.Calls.{next_call}
 use Rattle.execmodel.specs.Step.{announced, switches, settle, does_word, does, ends, call_step, task_step, acting, acts, step, steps, all_added, starts, event, events}
-use Rattle.execsim.specs.Agreement.{Seen, Agrees, Follows, Moves, in_order}
-use Rattle.execsim.proofs.Following.{reads_schedule, reads_scripts, reads_stopped, moves_schedule, moves_nowhere, moves_then, moves_as, follows_as, follows_nothing, follows_saying, follows_change, follows_then}
-use Rattle.execsim.proofs.Ordering.{switch_of-in_order, rescheduled-in_order, added-in_order}
+use Rattle.execsim.specs.Agreement.{Seen, Follows, Moves}
+use Rattle.execsim.proofs.Following.{reads_schedule, reads_scripts, reads_stopped, moves_schedule, moves_nowhere, moves_then, follows_as, follows_nothing, follows_saying, follows_change, follows_then}
+use Rattle.execsim.proofs.Ordering.{switch_of-in_order, rescheduled-in_order, added-in_order, leaves-in_order}
 
 -- Settle
 
@@ -52,10 +52,6 @@ settle_going going follows = follows_as {g = switches}
     (λ s e. let same : s.stopped ≡ false = reads_stopped going s e in rw same refl) follows
 
 -- Step
-
-leaves-in_order : (t : ℕ) (y : Schedule) → leaves t (in_order y) ≡ in_order (leaves t y)
-unfolding leaves
-leaves-in_order t y = refl
 
 pub ends_as : {m n : Seen} {a b : Tape} (t : ℕ) → n ≡ record m { schedule = leaves t m.schedule }
     → Puts a b (printed_line (trace.Call (name_of m.schedule t) (codes "RemTask") (Value 0 ∷ []) Done)) → Follows (ends t) m n a b

@@ -12,6 +12,7 @@ ghost use Rattle.execsim.specs.Views.{call_view};
 use crate::program::{Call, Program};
 use execlist::space::ListSpace;
 use exectrace::{Arg, Name};
+use memlist::MemList;
 use scheduler::Sched;
 use std::marker::Model;
 use taskq::TaskId;
@@ -20,12 +21,13 @@ use taskscript::{Argument, Command, Variable};
 /// How many variables all tasks share.
 const SHARED_VARIABLES: usize = 64;
 
-/// The tasks, what they execute, and whether an alert has stopped them.
+/// The tasks, what they execute, the memory, and whether an alert has stopped them.
 #[derive(Drop)]
 pub struct Kernel<S: ListSpace> {
     pub(crate) sched: Sched<S>,
     pub(crate) programs: Vec<Program>,
     pub(crate) shared: [u32; SHARED_VARIABLES],
+    pub(crate) memory: MemList,
     pub(crate) stopped: bool,
 }
 
@@ -38,6 +40,7 @@ impl<S: ListSpace> Model for Kernel<S> {
     ghost view = { λ k. record {
       schedule = k.sched;
       scripts = record { programs = k.programs.items; shared = k.shared };
+      memory = k.memory;
       stopped = k.stopped;
     } };
 
@@ -45,12 +48,13 @@ impl<S: ListSpace> Model for Kernel<S> {
 }
 
 impl<S: ListSpace> Kernel<S> {
-    /// The machine of these tasks, with every shared variable 0.
-    pub(crate) fn new(sched: Sched<S>, programs: Vec<Program>) -> Self
+    /// The machine of these tasks and this memory, with every shared variable 0.
+    pub(crate) fn new(sched: Sched<S>, programs: Vec<Program>, memory: MemList) -> Self
         requires { length programs.items ≡ task_count sched }
         ensures { result ≡ record {
           schedule = sched;
           scripts = record { programs = programs.items; shared = replicate shared_variables 0 };
+          memory = memory;
           stopped = false;
         } }
     {
@@ -58,6 +62,7 @@ impl<S: ListSpace> Kernel<S> {
             sched,
             programs,
             shared: [0; SHARED_VARIABLES],
+            memory,
             stopped: false,
         }
     }

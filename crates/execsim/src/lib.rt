@@ -6,11 +6,14 @@
 mod calls;
 mod kernel;
 mod machine;
+mod nesting;
+mod memory;
 mod plain;
 mod program;
 mod signals;
 mod simulation;
 mod step;
+mod tasks;
 
 pub use machine::{Flow, Machine};
 pub use simulation::{End, SimFault, simulate};

@@ -7,6 +7,7 @@ ghost use Rattle.taskscript.specs.Commands.{command_view};
 ghost use Rattle.taskscript.specs.Records.{task_view};
 ghost use Rattle.execmodel.specs.State.{State, booted, begun, andthen};
 ghost use Rattle.execmodel.specs.Step.{starts, event, events};
+ghost use Rattle.memlist.specs.Memory.{untouched};
 ghost use Rattle.execsim.specs.Agreement.{Agrees};
 ghost use Rattle.execsim.specs.Headline.{Acts, StaysFailed, Finishes, flow_of};
 
@@ -15,6 +16,7 @@ use crate::program::Program;
 use execlist::space::ListSpace;
 use exectrace::sinks::written;
 use exectrace::{Sink, WriteFault};
+use memlist::{MemList, Region};
 use scheduler::Sched;
 use std::alloc::{AllocError, Global};
 use std::marker::Model;
@@ -85,6 +87,16 @@ fn programs_of(alloc: Global, tasks: &[TaskRecord]) -> Result<Vec<Program>, Allo
     Ok(programs)
 }
 
+/// The memory of these regions, which were checked, with nothing allocated.
+fn memory_of(alloc: Global, regions: &[Region]) -> Result<MemList, AllocError>
+    ensures { IfOk result (λ m. m ≡ untouched regions.now) }
+{
+    match MemList::new(alloc, regions) {
+        Ok(memory) => Ok(memory),
+        Err(_) => Err(AllocError),
+    }
+}
+
 impl<S: ListSpace> Machine<S> {
     /// Makes the machine that a file states, before its start.
     ///
@@ -101,8 +113,9 @@ impl<S: ListSpace> Machine<S> {
         let inits = inits_of(alloc, tasks)?;
         let sched = Sched::new(alloc, &inits, QUANTUM)?;
         let programs = programs_of(alloc, tasks)?;
+        let memory = memory_of(alloc, &[])?;
         Ok(Machine {
-            kernel: Kernel::new(sched, programs),
+            kernel: Kernel::new(sched, programs, memory),
             failed: false,
         })
     }

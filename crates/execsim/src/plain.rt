@@ -1,7 +1,7 @@
 //! Plain words: they set variables and print values, and ask nothing of Exec.
-ghost use Rattle.std.specs.Prelude.{◌≡◌, ◌<◌, length};
+ghost use Rattle.std.specs.Prelude.{◌≡◌, ◌<◌, length, if◌then◌else◌};
 ghost use Rattle.exectrace.specs.Sink.{Tape};
-ghost use Rattle.execmodel.specs.Plain.{does_set, does_print};
+ghost use Rattle.execmodel.specs.Plain.{does_set, does_add, does_sub, does_and, does_or, jumps, does_jump, does_jump_zero, does_jump_not_zero, does_print};
 ghost use Rattle.execsim.specs.Agreement.{Follows};
 ghost use Rattle.execsim.specs.Views.{call_view};
 
@@ -11,14 +11,86 @@ use execlist::space::ListSpace;
 use exectrace::Sink;
 use taskq::TaskId;
 
+/// One of two places, by a test.
+fn place_if(test: bool, there: usize, here: usize) -> usize
+    ensures { result ≡ (if test then there else here) }
+{
+    if test { there } else { here }
+}
+
 impl<S: ListSpace> Kernel<S> {
     /// Set a: answers a.
-    #[tactic(auto, unfolding(execmodel::specs::Plain::does_set))]
     pub(crate) fn set(&mut self, t: TaskId, call: &Call)
         requires { t < length self.old.scripts.programs }
         ensures { (tape : Tape) → Follows (does_set t (call_view call.now)) self.old self.new tape tape }
     {
         self.silent(t, call, call.number(0));
+    }
+
+    /// Add a b: answers the sum.
+    pub(crate) fn add_words(&mut self, t: TaskId, call: &Call)
+        requires { t < length self.old.scripts.programs }
+        ensures { (tape : Tape) → Follows (does_add t (call_view call.now)) self.old self.new tape tape }
+    {
+        self.silent(t, call, call.number(0).wrapping_add(call.number(1)));
+    }
+
+    /// Sub a b: answers the difference.
+    pub(crate) fn sub_words(&mut self, t: TaskId, call: &Call)
+        requires { t < length self.old.scripts.programs }
+        ensures { (tape : Tape) → Follows (does_sub t (call_view call.now)) self.old self.new tape tape }
+    {
+        self.silent(t, call, call.number(0).wrapping_sub(call.number(1)));
+    }
+
+    /// And a b: answers the bits that both have.
+    pub(crate) fn and_words(&mut self, t: TaskId, call: &Call)
+        requires { t < length self.old.scripts.programs }
+        ensures { (tape : Tape) → Follows (does_and t (call_view call.now)) self.old self.new tape tape }
+    {
+        self.silent(t, call, call.number(0) & call.number(1));
+    }
+
+    /// Or a b: answers the bits that either has.
+    pub(crate) fn or_words(&mut self, t: TaskId, call: &Call)
+        requires { t < length self.old.scripts.programs }
+        ensures { (tape : Tape) → Follows (does_or t (call_view call.now)) self.old self.new tape tape }
+    {
+        self.silent(t, call, call.number(0) | call.number(1));
+    }
+
+    /// Task t goes on at that place.
+    fn jump_to(&mut self, t: TaskId, place: usize)
+        requires { t < length self.old.scripts.programs }
+        ensures { (tape : Tape) → Follows (jumps t place) self.old self.new tape tape }
+    {
+        self.go_on(t, place);
+    }
+
+    /// Jump l: goes on at l.
+    pub(crate) fn jump(&mut self, t: TaskId, call: &Call)
+        requires { t < length self.old.scripts.programs }
+        ensures { (tape : Tape) → Follows (does_jump t (call_view call.now)) self.old self.new tape tape }
+    {
+        self.jump_to(t, call.number(0) as usize);
+    }
+
+    /// JumpZ a l: goes on at l if a is 0.
+    pub(crate) fn jump_zero(&mut self, t: TaskId, call: &Call)
+        requires { t < length self.old.scripts.programs }
+        ensures { (tape : Tape) → Follows (does_jump_zero t (call_view call.now)) self.old self.new tape tape }
+    {
+        let place = place_if(call.number(0) == 0, call.number(1) as usize, call.next);
+        self.jump_to(t, place);
+    }
+
+    /// JumpNZ a l: goes on at l if a is not 0.
+    pub(crate) fn jump_not_zero(&mut self, t: TaskId, call: &Call)
+        requires { t < length self.old.scripts.programs }
+        ensures { (tape : Tape) → Follows (does_jump_not_zero t (call_view call.now)) self.old self.new tape tape }
+    {
+        let place = place_if(call.number(0) == 0, call.next, call.number(1) as usize);
+        self.jump_to(t, place);
     }
 
     /// Print a: its line shows the value.

@@ -1,8 +1,10 @@
 //! Signals of tasks.
-ghost use Rattle.std.specs.Prelude.{◌≡◌, ◌<◌, ◌-◌, length, Some};
+ghost use Rattle.std.specs.Prelude.{◌≡◌, ◌<◌, ◌-◌, length, Some, true, nat_eq};
+ghost use Rattle.std.specs.Int.{cast_signed, cast_unsigned, w32};
 ghost use Rattle.scheduler.specs.Dispatch.{signalled as signalled_in_order};
-ghost use Rattle.scheduler.specs.Schedule.{signals_of, come_for, after_wait};
-ghost use Rattle.execmodel.specs.Signals.{is_mask, does_signal, does_wait};
+ghost use Rattle.scheduler.specs.Schedule.{signals_of, come_for, after_wait, allocates, frees, sets_signals};
+ghost use Rattle.signals.specs.Signals.{grant, grant_number, is_own_signal};
+ghost use Rattle.execmodel.specs.Signals.{is_mask, does_alloc_signal, does_free_signal, does_set_signal, does_signal, does_wait};
 ghost use Rattle.execsim.specs.Agreement.{Follows};
 ghost use Rattle.execsim.specs.Views.{call_view};
 
@@ -19,7 +21,90 @@ fn is_mask(mask: u32) -> bool
     mask & 0xfff == 0
 }
 
+/// Whether a number stands for no signal: -1.
+fn is_no_signal(n: u32) -> bool
+    ensures { result ≡ nat_eq n 0xffffffff }
+{
+    n == 0xffff_ffff
+}
+
+/// Whether a signal is one of those that a task may allocate: 16 to 31.
+fn is_own_signal(n: u32) -> bool
+    ensures { result ≡ is_own_signal n }
+{
+    16 <= n && n < 32
+}
+
 impl<S: ListSpace> Kernel<S> {
+    /// The running task allocates a signal; its number, or the word of -1 for none. The word of -1 asks for the highest free one.
+    fn allocate_signal(&mut self, t: TaskId, asked: u32) -> u32
+        requires { self.old.schedule.running ≡ Some t }
+        ensures answer { result ≡ cast_unsigned w32 (grant_number (grant (cast_signed w32 asked) (signals_of self.old.schedule t))) }
+        ensures next { self.new ≡ record self.old { schedule = allocates t (cast_signed w32 asked) self.old.schedule } }
+    {
+        self.sched.alloc_signal(asked.cast_signed()).cast_unsigned()
+    }
+
+    /// A signal of task t is not allocated any more.
+    fn deallocate_signal(&mut self, t: TaskId, n: u32)
+        requires known { t < length self.old.scripts.programs }
+        requires own { is_own_signal n ≡ true }
+        ensures { self.new ≡ record self.old { schedule = frees t n self.old.schedule } }
+    {
+        self.sched.free_signal(t, n);
+    }
+
+    /// The received signals of the mask become those of `new`, for the running task; its received signals before.
+    fn change_signals(&mut self, t: TaskId, new: u32, mask: u32) -> u32
+        requires { self.old.schedule.running ≡ Some t }
+        ensures answer { result ≡ (signals_of self.old.schedule t).received }
+        ensures next { self.new ≡ record self.old { schedule = sets_signals t new mask self.old.schedule } }
+    {
+        self.sched.set_signal(new, mask)
+    }
+
+    /// AllocSignal a (autodoc exec.library/AllocSignal).
+    pub(crate) fn alloc_signal<W: Sink>(&mut self, t: TaskId, call: &Call, out: &mut W)
+        requires known { t < length self.old.scripts.programs }
+        requires runs { self.old.schedule.running ≡ Some t }
+        ensures { Follows (does_alloc_signal t (call_view call.now)) self.old self.new (W.tape out.old) (W.tape out.new) }
+    {
+        let signal = self.allocate_signal(t, call.number(0));
+        self.answered(t, call, signal, out);
+    }
+
+    /// FreeSignal a (autodoc exec.library/FreeSignal).
+    pub(crate) fn free_signal<W: Sink>(&mut self, t: TaskId, call: &Call, out: &mut W)
+        requires { t < length self.old.scripts.programs }
+        ensures { Follows (does_free_signal t (call_view call.now)) self.old self.new (W.tape out.old) (W.tape out.new) }
+    {
+        let n = call.number(0);
+        if is_no_signal(n) {
+            self.done(t, call, out);
+        } else if !is_own_signal(n) {
+            self.alerted("MASK", t, call, out);
+        } else {
+            self.deallocate_signal(t, n);
+            self.done(t, call, out);
+        }
+    }
+
+    /// SetSignal new mask (autodoc exec.library/SetSignal).
+    pub(crate) fn set_signal<W: Sink>(&mut self, t: TaskId, call: &Call, out: &mut W)
+        requires known { t < length self.old.scripts.programs }
+        requires runs { self.old.schedule.running ≡ Some t }
+        ensures { Follows (does_set_signal t (call_view call.now)) self.old self.new (W.tape out.old) (W.tape out.new) }
+    {
+        let new = call.number(0);
+        let mask = call.number(1);
+        if !is_mask(mask) {
+            self.alerted("MASK", t, call, out);
+        } else {
+            let received = self.change_signals(t, new, mask);
+            self.answered(t, call, received, out);
+        }
+    }
+
     /// Task t of the file, if it is live, receives the signals.
     fn signal_task(&mut self, t: TaskId, mask: u32)
         requires { t < length self.old.scripts.programs }

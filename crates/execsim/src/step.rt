@@ -3,7 +3,7 @@ ghost use Rattle.std.specs.Prelude.{◌≡◌, ◌<◌, length, Some, IfSome};
 ghost use Rattle.exectrace.specs.Sink.{Puts};
 ghost use Rattle.exectrace.specs.Trace.{printed_line};
 ghost use Rattle.scheduler.specs.Dispatch as dispatch;
-ghost use Rattle.scheduler.specs.Schedule.{leaves, IsToOneOf};
+ghost use Rattle.scheduler.specs.Schedule.{IsToOneOf};
 ghost use Rattle.execmodel.specs.State.{on_schedule};
 ghost use Rattle.execmodel.specs.Step.{announced, switches, settle, does, ends, acts, acting, step, steps, starts, all_added, event, events};
 ghost use Rattle.execsim.specs.Agreement.{Follows, Moves};
@@ -70,9 +70,29 @@ impl<S: ListSpace> Kernel<S> {
     {
         match call.word {
             Word::Set => self.set(t, call),
+            Word::Add => self.add_words(t, call),
+            Word::Sub => self.sub_words(t, call),
+            Word::And => self.and_words(t, call),
+            Word::Or => self.or_words(t, call),
+            Word::Jump => self.jump(t, call),
+            Word::JumpZ => self.jump_zero(t, call),
+            Word::JumpNZ => self.jump_not_zero(t, call),
             Word::Print => self.print(t, call, out),
+            Word::AllocSignal => self.alloc_signal(t, call, out),
+            Word::FreeSignal => self.free_signal(t, call, out),
+            Word::SetSignal => self.set_signal(t, call, out),
             Word::Signal => self.signal(t, call, out),
             Word::Wait => self.wait(t, call, out),
+            Word::Forbid => self.forbid(t, call, out),
+            Word::Permit => self.permit(t, call, out),
+            Word::Disable => self.disable(t, call, out),
+            Word::Enable => self.enable(t, call, out),
+            Word::SetTaskPri => self.set_task_pri(t, call, out),
+            Word::AddTask => self.add_task(t, call, out),
+            Word::RemTask => self.rem_task(t, call, out),
+            Word::AllocMem => self.alloc_mem(t, call, out),
+            Word::FreeMem => self.free_mem(t, call, out),
+            Word::AvailMem => self.avail_mem(t, call, out),
         }
     }
 
@@ -85,13 +105,6 @@ impl<S: ListSpace> Kernel<S> {
         let name = self.name(t);
         put_call(&name, "RemTask", &[Arg::Value(0)], CallOutcome::Done, out);
         self.leave(t);
-    }
-
-    fn leave(&mut self, t: TaskId)
-        requires { self.old.schedule.running ≡ Some t }
-        ensures { self.new ≡ record self.old { schedule = leaves t self.old.schedule } }
-    {
-        self.sched.leave();
     }
 
     /// The running task does one command; where none runs, the step is used up.
@@ -149,13 +162,6 @@ impl<S: ListSpace> Kernel<S> {
         for t in 0..self.programs.len() {
             self.add(t);
         }
-    }
-
-    fn add(&mut self, t: TaskId)
-        requires { t < length self.old.scripts.programs }
-        ensures { self.new ≡ record self.old { schedule = dispatch.added t self.old.schedule } }
-    {
-        self.sched.add(t);
     }
 
     /// The start of the machine.

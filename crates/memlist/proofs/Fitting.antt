@@ -136,13 +136,13 @@ filtered p (y ∷ ys) k x at =
     (λ f. member_later p y ys x (filtered p ys k x (ap (λ b. slice_get (cond b (y ∷ filter p ys) (filter p ys)) k) (sym f) ∙ at)))
 
 -- the lowest large enough gap, with the gaps before and after it
-record IsSplit (size : ℕ) (free : List Gap) (gap : Gap) : Type 0 where
-  before : List Gap
-  after : List Gap
-  is : free ≡ before ++ gap ∷ after
-  fits : size ≤ gap.size
+pub record IsSplit (size : ℕ) (free : List Gap) (gap : Gap) : Type 0 where
+  pub before : List Gap
+  pub after : List Gap
+  pub is : free ≡ before ++ gap ∷ after
+  pub fits : size ≤ gap.size
 
-split_lowest : (size : ℕ) (free : List Gap) (gap : Gap) → lowest_gap size free ≡ Some gap → IsSplit size free gap
+pub split_lowest : (size : ℕ) (free : List Gap) (gap : Gap) → lowest_gap size free ≡ Some gap → IsSplit size free gap
 split_lowest size [] gap e = cc
 split_lowest size (x ∷ rest) gap e =
     cases_bool (nat_le size x.size)
@@ -151,19 +151,19 @@ split_lowest size (x ∷ rest) gap e =
     (λ f. let later = split_lowest size rest gap (ap (λ b. cond b (Some x) (lowest_gap size rest)) (sym f) ∙ e) in
     record { before = x ∷ later.before; after = later.after; is = ap (λ gs. x ∷ gs) later.is; fits = later.fits })
 
-within_split : (from to : ℕ) (before : List Gap) (gap : Gap) (after : List Gap) → AllByRecursion (IsGapWithin from to) (before ++ gap ∷ after) → IsGapWithin from to gap
+pub within_split : (from to : ℕ) (before : List Gap) (gap : Gap) (after : List Gap) → AllByRecursion (IsGapWithin from to) (before ++ gap ∷ after) → IsGapWithin from to gap
 within_split from to [] gap after all = all.0
 within_split from to (x ∷ xs) gap after all = within_split from to xs gap after all.1
 
 -- where a fit lies
-record IsFit (regions : List Region) (blocks : Blocks) (size reqs address : ℕ) : Type 0 where
-  some : size ≢ 0
-  region : Region
-  place : ℕ
-  at : slice_get regions place ≡ Some region
-  gap : Gap
-  lowest : lowest_gap (round size) (gaps region blocks) ≡ Some gap
-  front : gap.address ≡ address
+pub record IsFit (regions : List Region) (blocks : Blocks) (size reqs address : ℕ) : Type 0 where
+  pub some : size ≢ 0
+  pub region : Region
+  pub place : ℕ
+  pub at : slice_get regions place ≡ Some region
+  pub gap : Gap
+  pub lowest : lowest_gap (round size) (gaps region blocks) ≡ Some gap
+  pub front : gap.address ≡ address
 
 fit_gap : (regions : List Region) (blocks : Blocks) (size reqs address : ℕ) (region : Region) (o : Option Gap) → size ≢ 0 → IsMember (has_room (round size) reqs blocks) regions region
     → lowest_gap (round size) (gaps region blocks) ≡ o → option_map (λ (gap : Gap). gap.address) o ≡ Some address → IsFit regions blocks size reqs address
@@ -178,7 +178,7 @@ fit_region regions blocks size reqs address (Some region) some is e =
     fit_gap regions blocks size reqs address region (lowest_gap (round size) (gaps region blocks)) some
     (filtered (has_room (round size) reqs blocks) regions g.place region g.at) refl e
 
-fit_parts : (regions : List Region) (blocks : Blocks) (size reqs address : ℕ) → fit regions blocks size reqs ≡ Some address → IsFit regions blocks size reqs address
+pub fit_parts : (regions : List Region) (blocks : Blocks) (size reqs address : ℕ) → fit regions blocks size reqs ≡ Some address → IsFit regions blocks size reqs address
 unfolding fit
 fit_parts regions blocks size reqs address e =
     let inner = option_and_then (front (round size) blocks) (chosen (filter (has_room (round size) reqs blocks) regions)) in
@@ -214,13 +214,13 @@ fitted_well_formed regions blocks size reqs tag address w e =
 
 -- Blocks that do not meet
 
-record IsHomed (regions : List Region) (address : ℕ) : Type 0 where
-  region : Region
-  place : ℕ
-  at : slice_get regions place ≡ Some region
-  inside : is_in region address ≡ true
+pub record IsHomed (regions : List Region) (address : ℕ) : Type 0 where
+  pub region : Region
+  pub place : ℕ
+  pub at : slice_get regions place ≡ Some region
+  pub inside : is_in region address ≡ true
 
-homed : (regions : List Region) (address : ℕ) → in_some regions address ≡ true → IsHomed regions address
+pub homed : (regions : List Region) (address : ℕ) → in_some regions address ≡ true → IsHomed regions address
 homed [] address e = let bad : false ≡ true = e in cc
 homed (x ∷ rest) address e =
     cases_bool (is_in x address)

@@ -39,7 +39,7 @@ spread_gaps from [] to h = stretch_cases (λ gap. IsSpread from gap) from to (λ
 spread_gaps from (block ∷ rest) to h =
     spread_stretch from from block.0 (block.0 + block.1.0) (gaps_between (block.0 + block.1.0) rest to) (omega arith) (omega arith) (omega arith) (spread_gaps (block.0 + block.1.0) rest to h.4)
 
-spread_at : (low : ℕ) (xs : List Gap) (gap : Gap) (ys : List Gap) → IsSpread low (xs ++ gap ∷ ys) → low ≤ gap.address
+pub spread_at : (low : ℕ) (xs : List Gap) (gap : Gap) (ys : List Gap) → IsSpread low (xs ++ gap ∷ ys) → low ≤ gap.address
 spread_at low [] gap ys s = s.0
 spread_at low (x ∷ xs) gap ys s = let rest = spread_at (x.address + x.size + 1) xs gap ys s.2 in omega (arith, s.0, rest)
 

@@ -10,3 +10,5 @@ pub mod Memories
 pub mod Tiling
 pub mod Keeping
 pub mod Fitting
+pub mod Worked
+pub mod Addresses

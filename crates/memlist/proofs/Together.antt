@@ -33,7 +33,7 @@ keys_laid region from (block ∷ rest) h laid =
 pub keys_in : (area : Area) → IsLaidArea area → AllAnswer (is_in area.region) true area.blocks
 keys_in area laid = keys_laid area.region area.region.base area.blocks (omega arith) laid
 
-from_laid : (low from : ℕ) (blocks : Blocks) (to : ℕ) → low ≤ from → IsLaid from blocks to → AllFrom low blocks
+pub from_laid : (low from : ℕ) (blocks : Blocks) (to : ℕ) → low ≤ from → IsLaid from blocks to → AllFrom low blocks
 from_laid low from [] to h laid = tt
 from_laid low from (block ∷ rest) to h laid = (omega (arith, laid.0), from_laid low (block.0 + block.1.0) rest to (omega (arith, laid.0)) laid.4)
 

@@ -48,3 +48,11 @@ pub record IsEarliestGreatest (regions : List Region) (region : Region) : Type 0
   pub at : slice_get regions place ≡ Some region
   pub greatest : (k : ℕ) (other : Region) → slice_get regions k ≡ Some other → other.pri ≤ℤ region.pri
   pub earliest : (k : ℕ) (other : Region) → k < place → slice_get regions k ≡ Some other → other.pri <ℤ region.pri
+
+-- A stretch lies on whole units above the lowest page and below 2 GB, and is not empty.
+pub record IsPlaced (address size : ℕ) : Type 0 where
+  pub low : 4096 ≤ address
+  pub high : address + size ≤ 2147483648
+  pub some : 0 < size
+  pub place : address % 8 ≡ 0
+  pub whole : size % 8 ≡ 0

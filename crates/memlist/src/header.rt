@@ -116,9 +116,10 @@ impl MemHeader {
     {
         let gap = self.gaps[place];
         let size = size as u32;
-        self.slots[place_of(self.region, gap.address)] = Slot { size, tag };
+        let address = gap.address;
+        self.slots[place_of(self.region, address)] = Slot { size, tag };
         shorten(&mut self.gaps, place, gap, size);
-        gap.address
+        address
     }
 
     /// Frees the block that begins at an address.

@@ -1,10 +1,10 @@
 //! Laws of memory: functions without effect whose contracts say what the definitions amount to.
 ghost use Rattle.std.specs.Prelude.{◌≡◌, ◌+◌, ◌%◌, ◌<◌, ◌≤◌, ℕ, List, [], None, Some, slice_get};
 ghost use Rattle.memlist.specs.Regions.{regions_fault};
-ghost use Rattle.memlist.specs.Blocks.{Blocks, freed, with_block};
+ghost use Rattle.memlist.specs.Blocks.{Blocks, block_at, freed, with_block};
 ghost use Rattle.memlist.specs.Fit.{chosen, fit, round};
 ghost use Rattle.memlist.specs.Memory.{IsWellFormed};
-ghost use Rattle.memlist.specs.Pieces.{AreDisjoint, IsEarliestGreatest, IsTiled};
+ghost use Rattle.memlist.specs.Pieces.{AreDisjoint, IsEarliestGreatest, IsPlaced, IsTiled};
 ghost use Rattle.memlist.specs.declared.region.Region.{Region};
 
 /// A rounded size is the least multiple of 8 that is at least the size.
@@ -28,6 +28,14 @@ pub fn regions_are_tiled()
 /// The blocks of a well-formed memory lie in its regions and do not meet.
 pub fn blocks_are_disjoint()
     ensures { (regions : List Region) (blocks : Blocks) → IsWellFormed regions blocks → AreDisjoint regions blocks }
+{}
+
+/// Where a block fits, no block begins, and there it lies on whole units; so does each block of a well-formed memory. An
+/// address is never 0.
+pub fn blocks_are_placed()
+    ensures fresh { (regions : List Region) (blocks : Blocks) (size reqs address : ℕ) → IsWellFormed regions blocks → fit regions blocks size reqs ≡ Some address → block_at address blocks ≡ None }
+    ensures fitted { (regions : List Region) (blocks : Blocks) (size reqs address : ℕ) → IsWellFormed regions blocks → fit regions blocks size reqs ≡ Some address → IsPlaced address (round size) }
+    ensures live { (regions : List Region) (blocks : Blocks) (address size tag : ℕ) → IsWellFormed regions blocks → block_at address blocks ≡ Some (size, tag) → IsPlaced address size }
 {}
 
 /// A memory in which nothing is allocated is well formed, and it stays so when a block is put where it fits and when one

@@ -21,7 +21,7 @@ const LOWEST_BASE: u32 = 4096;
 pub const UNIT: u32 = 8;
 
 /// A stretch of the machine's memory, as a MemHeader names it.
-#[derive(Clone, Copy, Debug)]
+#[derive(Clone, Copy, Debug, PartialEq, Eq)]
 pub struct Region {
     /// The address of its first byte.
     pub base: u32,

@@ -1,5 +1,5 @@
 -- What follows from a schedule's being sound, and the schedules that calls on the tasks lead to.
-use Rattle.std.proofs.Common.{◌≡◌, ℕ, ◌<◌, ◌+◌, zero, suc, Bool, true, false, cond, not, eqb, List, [], ◌∷◌, Option, Some, None, IfSome, length, slice_set, slice_index_or, refl, sym, ap, ◌∙◌, arith}
+use Rattle.std.proofs.Common.{◌≡◌, ℕ, ◌<◌, zero, suc, Bool, true, false, cond, not, eqb, List, [], ◌∷◌, Option, Some, None, IfSome, length, slice_set, refl, sym, ap, ◌∙◌, arith}
 use Rattle.std.specs.Prelude.{ℤ, ◌&&◌}
 use Rattle.std.proofs.lemmas.Bool.{eq-eqb}
 use Rattle.std.proofs.lemmas.List.{set-get_or}

@@ -1,6 +1,6 @@
 -- How tasks come to run, with the ready ones kept in the order in which they are to run: an arriving task stands behind those of
 -- its priority, and the first one is the next to run (RKM Libraries, Exec Tasks: task scheduling).
-use Rattle.std.specs.Prelude.{ℕ, ℤ, true, not, if◌then◌else◌, List, Option, None, Some}
+use Rattle.std.specs.Prelude.{ℕ, ℤ, true, not, if◌then◌else◌, Option, None, Some}
 use Rattle.execlist.specs.Order.{enqueue, first}
 use Rattle.taskq.specs.Tasks.{pri_at, is_ready, is_live}
 use Rattle.taskq.specs.declared.TaskState.TheVariants.{Ready}

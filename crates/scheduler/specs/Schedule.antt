@@ -1,6 +1,6 @@
 -- What is known of the tasks as they are scheduled: lists by task number, the ready sequence, and the running task. The functions
 -- here leave open how the ready sequence is kept: none of them puts a task into it.
-use Rattle.std.specs.Prelude.{◌≡◌, ℕ, ◌-◌, ◌<◌, ℤ, Bool, true, false, not, ◌&&◌, ◌||◌, if◌then◌else◌, nat_eq, int_lt, int_le, bit_and, List, [], length, find, replicate, Option, None, Some, Result, Ok, Err, slice_index_or, slice_set}
+use Rattle.std.specs.Prelude.{ℕ, ◌-◌, ◌<◌, ℤ, Bool, true, false, not, ◌&&◌, ◌||◌, if◌then◌else◌, nat_eq, int_lt, int_le, bit_and, List, [], length, find, replicate, Option, None, Some, Result, Ok, Err, slice_index_or, slice_set}
 use Rattle.std.specs.List.{range_with_len}
 use Rattle.execlist.specs.Order.{without}
 use Rattle.taskq.specs.Tasks.{Tasks, state_at, pri_at, name_at, is_live, is_live_named}

@@ -2,14 +2,17 @@
 //! A `Sched` decides which task runs; what a task does while it runs is not kept here.
 #![tactic(auto)]
 
-ghost use Rattle.std.specs.Prelude.{◌≡◌, ◌<◌, ◌≤◌, ℕ, length, map, Option, Some, None, IfOk, IfSome, IsSome, IsTrue, ◌≢◌, not, nat_eq, if◌then◌else◌};
-ghost use Rattle.taskq.specs.Tasks.{state_at, is_live};
+ghost use Rattle.std.specs.Prelude.{◌≡◌, ◌≢◌, ℕ, ◌<◌, ◌≤◌, length, map, not, nat_eq, if◌then◌else◌, Some, None, IsTrue, IsSome, IfSome, IfOk};
+ghost use Rattle.std.specs.Borrow.{sem};
+ghost use Rattle.execlist.specs.Lists.{times};
+ghost use Rattle.taskq.specs.Tasks.{is_live, is_ready};
 ghost use Rattle.signals.specs.Signals.{taken_signals, after_post, grant, grant_number};
 ghost use Rattle.forbid.specs.Nesting.{may_switch, may_interrupt, after_forbid, after_permit, after_disable, after_enable};
-ghost use Rattle.scheduler.specs.Schedule.{Schedule, task_count, unstarted, name_of, priority_of, status_of, signals_of, nesting_of, is_absent, is_switching_allowed, switch_for, IsToOneOf, takes_over, renewed, begins, awaits, come_for, after_wait, takes, waits_for, leaves, removed, found, ticked, is_interrupting_allowed, nested, nest_answer, allocates, sets_signals, frees, with_signals};
+ghost use Rattle.scheduler.specs.Schedule.{task_count, name_of, priority_of, status_of, signals_of, nesting_of, unstarted, is_absent, leaves, removed, found};
+ghost use Rattle.scheduler.specs.Schedule.{is_switching_allowed, is_interrupting_allowed, switch_for, IsToOneOf, takes_over, begins, renewed, ticked, nested, nest_answer};
+ghost use Rattle.scheduler.specs.Schedule.{awaits, come_for, after_wait, takes, waits_for, allocates, sets_signals, frees, with_signals};
 ghost use Rattle.scheduler.specs.Dispatch.{arrives, displaced, switch_of, after_switch, rescheduled, added, signalled, reprioritized};
 ghost use Rattle.scheduler.specs.Sound.{is_stopped, IsToReady};
-ghost use Rattle.std.specs.Borrow.{sem};
 ghost use Rattle.scheduler.specs.Lending.{lends_signals, lends_nesting};
 
 use execlist::key::Name;
@@ -97,6 +100,7 @@ impl<S: ListSpace> Sched<S> {
         ensures known { IfSome result (λ t. t < task_count self.now) }
         ensures runs { IfSome result (λ t. status_of self.now t ≡ TaskState.Running) }
     {
+        // While it runs it does not stand among the ready ones.
         self.running
     }
 
@@ -121,6 +125,14 @@ impl<S: ListSpace> Sched<S> {
         ensures { result ≡ is_live (status_of self.now t) }
     {
         self.queue.is_live(t)
+    }
+
+    /// Does nothing: its clause is what always holds of the ready sequence. A ready task stands once in it, and
+    /// any other not at all.
+    pub fn facts(&self)
+        ensures { (t : ℕ) → times t self.now.queue.ready ≡ (if is_ready (status_of self.now t) then 1 else 0) }
+    {
+        self.queue.facts();
     }
 
     /// Answers the name of a task.

@@ -62,9 +62,15 @@ impl<S: ListSpace> Model for TaskQ<S> {
 
     ghost Value = { Tasks };
 
-    ghost view = { λ q. record { ready = sequence (S.sequences q.space) 0; states = q.states.items; pris = pris_of (S.keys q.space); names = map (λ n. n.bytes) q.names.items } };
+    ghost view = { λ q. record {
+      ready = sequence (S.sequences q.space) 0;
+      states = q.states.items;
+      pris = pris_of (S.keys q.space);
+      names = map (λ n. n.bytes) q.names.items;
+    } };
 
-    ghost invariant = { λ q. IsSound (length (S.sequences q.space)) (S.homes q.space) q.states.items (length q.names.items) };
+    ghost invariant = { λ q. IsSound
+        (length (S.sequences q.space)) (S.homes q.space) q.states.items (length q.names.items) };
 }
 
 #[tactic(auto, using(crate::proofs::TaskLemmas::changes))]
@@ -182,7 +188,8 @@ impl<S: ListSpace> TaskQ<S> {
     /// have the name, the first in the order of their numbers is answered.
     /// Autodoc exec.library/FindTask.
     pub fn find(&self, name: &str) -> Option<TaskId>
-        ensures value { result ≡ find (is_live_named self.now name.now) (range_with_len 0 (length self.now.states)) }
+        ensures value { result
+            ≡ find (is_live_named self.now name.now) (range_with_len 0 (length self.now.states)) }
         ensures known { IfSome result (λ t. t < length self.now.states) }
         ensures live { IfSome result (λ t. IsTrue (is_live (state_at self.now.states t))) }
     {
@@ -208,7 +215,8 @@ impl<S: ListSpace> TaskQ<S> {
     /// Does nothing: its clauses are what always holds of the tasks. A ready task stands once among the
     /// ready ones and any other not at all; each task has one state, one priority and one name.
     pub fn facts(&self)
-        ensures ready { (t : ℕ) → times t self.now.ready ≡ (if is_ready (state_at self.now.states t) then 1 else 0) }
+        ensures ready { (t : ℕ) → times t self.now.ready
+            ≡ (if is_ready (state_at self.now.states t) then 1 else 0) }
         ensures pris { length self.now.pris ≡ length self.now.states }
         ensures names { length self.now.names ≡ length self.now.states }
     {

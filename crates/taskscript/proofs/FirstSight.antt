@@ -1,15 +1,12 @@
 -- A number, once given, stays: later names stand behind the earlier ones.
-use Rattle.std.proofs.Common.{◌≡◌, ℕ, ◌+◌, Bool, true, false, not, ◌&&◌, ◌||◌, cond, List, [], ◌∷◌, ◌++◌, map, bytes_eq, Option, Some, None, inl, inr, refl, sym, ap, ◌∙◌}
+use Rattle.std.proofs.Common.{◌≡◌, ℕ, ◌+◌, Bool, true, false, not, ◌&&◌, ◌||◌, cond, List, [], ◌∷◌, ◌++◌, bytes_eq, inl, inr, refl, sym, ap, ◌∙◌}
 use Rattle.std.specs.List.{list_any, list_all}
 use Rattle.std.proofs.lemmas.Bool.{cases_Bool}
 use Rattle.std.proofs.lemmas.Slice.Eq.{bytes_eq-Decides}
 use Rattle.taskscript.specs.declared.variable.Variable.{Variable}
 use Rattle.taskscript.specs.declared.variable.Variable.TheVariants.{Private, Shared}
-use Rattle.taskscript.specs.declared.word.Word.{Word}
-use Rattle.taskscript.specs.Commands.{ArgumentData, CommandData}
-use Rattle.taskscript.specs.Commands as numbered
-use Rattle.taskscript.specs.Lines.{NamedVariableData, NamedArgumentData, number, variable, NamedCommandData}
-use Rattle.taskscript.specs.Numbering.{seen_after, number_in, Names, names_with, names_after, variable_in, argument_in, command_in, is_within, variables_of_arguments, variables_of, have_room, arguments_in_turn, command_in_turn}
+use Rattle.taskscript.specs.Lines.{NamedVariableData}
+use Rattle.taskscript.specs.Numbering.{seen_after, number_in, Names, names_with, names_after, variable_in, is_within, have_room}
 
 -- a name among those seen
 abbrev pub is_among : List (List ℕ) → List ℕ → Bool
@@ -104,7 +101,7 @@ variable_after names v (w ∷ later) h =
 variable_first : (names : Names) (v : NamedVariableData) (later : List NamedVariableData) → variable_in (names_after names (v ∷ later)) v ≡ variable_in names v
 variable_first names v later = variable_after (names_with names v) v later (seen_here v.is_shared names v.name) ∙ variable_here v.is_shared names v.name
 
--- ---- a command in turn, and in the whole
+-- ---- variables in turn, and in the whole
 
 abbrev pub all_within : Names → List NamedVariableData → Bool
 all_within names vs = list_all (λ v. is_within (variable_in names v)) vs
@@ -114,27 +111,3 @@ room_whole names [] later = refl
 room_whole names (v ∷ vs) later =
     ap (λ (n : Variable). is_within n && have_room (names_with names v) vs) (sym (variable_first names v (vs ++ later)))
     ∙ ap (λ (b : Bool). is_within (variable_in (names_after names (v ∷ (vs ++ later))) v) && b) (room_whole (names_with names v) vs later)
-
-arguments_whole : (names : Names) (found : List NamedArgumentData) (later : List NamedVariableData)
-    → arguments_in_turn names found ≡ map (argument_in (names_after names (variables_of_arguments found ++ later))) found
-arguments_whole names [] later = refl
-arguments_whole names (number n ∷ found) later = ap (λ (others : List ArgumentData). numbered.number n ∷ others) (arguments_whole names found later)
-arguments_whole names (variable v ∷ found) later =
-    ap (λ (n : Variable). numbered.variable n ∷ arguments_in_turn (names_with names v) found) (sym (variable_first names v (variables_of_arguments found ++ later)))
-    ∙ ap (λ (others : List ArgumentData). numbered.variable (variable_in (names_after names (v ∷ (variables_of_arguments found ++ later))) v) ∷ others) (arguments_whole (names_with names v) found later)
-
-abbrev command : Word → Option Variable → List ArgumentData → CommandData
-command w t found = record { word = w; target = t; arguments = found }
-
-abbrev named_command : Word → Option NamedVariableData → List NamedArgumentData → NamedCommandData
-named_command w t found = record { word = w; target = t; arguments = found }
-
-command_from : (names : Names) (w : Word) (t : Option NamedVariableData) (found : List NamedArgumentData) (later : List NamedVariableData)
-    → command_in_turn names (named_command w t found) ≡ command_in (names_after names (variables_of (named_command w t found) ++ later)) (named_command w t found)
-command_from names w None found later = ap (command w None) (arguments_whole names found later)
-command_from names w (Some v) found later =
-    ap (λ (n : Variable). command w (Some n) (arguments_in_turn (names_with names v) found)) (sym (variable_first names v (variables_of_arguments found ++ later)))
-    ∙ ap (command w (Some (variable_in (names_after names (v ∷ (variables_of_arguments found ++ later))) v))) (arguments_whole (names_with names v) found later)
-
-pub command_whole : (names : Names) (c : NamedCommandData) (later : List NamedVariableData) → command_in_turn names c ≡ command_in (names_after names (variables_of c ++ later)) c
-command_whole names c later = command_from names c.word c.target c.arguments later

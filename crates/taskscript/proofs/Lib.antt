@@ -1,7 +1,7 @@
 pub mod AcceptedTexts
 pub mod Arguments
 pub mod Below
-pub mod BodyTurns
+pub mod BodyReading
 pub mod CodeLaws
 pub mod Documents
 pub mod EventTurns
@@ -9,11 +9,16 @@ pub mod FirstSight
 pub mod Firsts
 pub mod ItemTurns
 pub mod Keys
+pub mod LabelPlaces
 pub mod Machines
+pub mod Meaning
 pub mod Names
 pub mod OneCommand
+pub mod Quotes
+pub mod Resolved
 pub mod Sound
 pub mod TaskTurns
 pub mod Turns
 pub mod Whole
+pub mod WordTable
 pub mod Worked

@@ -1,36 +1,62 @@
 -- A line has at most one command.
-use Rattle.std.proofs.Common.{◌≡◌, ℕ, ◌≤◌, Bool, true, false, ◌||◌, cond, bytes_eq, codes, List, [], ◌∷◌, ◌++◌, Option, Some, None, refl, sym, ap, subst, ◌∙◌, arith, inl, inr, nat_le, nat_lt, length, ◌==◌}
+use Rattle.std.proofs.Common.{◌≡◌, ℕ, ◌≤◌, Bool, true, false, ◌&&◌, ◌||◌, cond, bytes_eq, codes, List, [], ◌∷◌, ◌++◌, Option, Some, None, refl, sym, ap, ◌∙◌, arith, inl, inr, nat_le, nat_lt, length, get_or, option_map, ◌==◌}
+use Rattle.std.specs.List.{list_all}
 use Rattle.std.proofs.lemmas.Bool.{cases_Bool, and_parts}
 use Rattle.std.proofs.lemmas.Bool.Decides.{nat_tests}
 use Rattle.std.proofs.lemmas.Option.{same_Some}
 use Rattle.std.proofs.lemmas.Slice.Eq.{bytes_eq-Decides}
 use Rattle.taskscript.specs.declared.word.Word.{Word}
-use Rattle.taskscript.specs.declared.word.Word.TheVariants.{Set, Print, Signal, Wait}
 use Rattle.taskscript.specs.declared.word.Kind.{Kind}
-use Rattle.taskscript.specs.declared.word.Kind.TheVariants.{Value}
+use Rattle.taskscript.specs.declared.word.Kind.TheVariants.{Value, Label, Name, NameOrNone}
+use Rattle.taskscript.specs.Identifiers.{is_identifier, is_identifier_byte}
 use Rattle.taskscript.specs.Numbers.{is_digit, decimal_of, number_of}
-use Rattle.taskscript.specs.Words.{word_text, word_of, answers, kinds}
-use Rattle.taskscript.specs.Lines.{is_variable_name, NamedVariableData, variable_of, NamedArgumentData, variable, number, argument_of, arguments_of, target_of, with_word, cut_target, NamedCommandData, command_of}
-use Rattle.taskscript.specs.Law.{IsArgument, AreArguments, IsTarget, IsLine}
+use Rattle.taskscript.specs.Words.{word_text, answers, kinds}
+use Rattle.taskscript.specs.Lines.{NamedVariableData, variable_of, NamedArgumentData, variable, number, label, quoted, argument_of, arguments_of, target_of, with_word, cut_target, NamedCommandData, command_of}
+use Rattle.taskscript.proofs.Quotes.{quoted_from}
+use Rattle.taskscript.proofs.WordTable.{word_known}
+use Rattle.taskscript.specs.Law.{quote, IsArgument, AreArguments, IsTarget, IsLine}
 
 same_bytes : (x y : List ℕ) → bytes_eq x y ≡ true → x ≡ y
 same_bytes x y h = (bytes_eq-Decides x y).0 h
 
-pub word_known : (w : Word) → word_of (word_text w) ≡ Some w
-word_known Set = refl
-word_known Print = refl
-word_known Signal = refl
-word_known Wait = refl
+no_sign : (n : List ℕ) → codes "=" ≡ n → is_identifier n ≡ true → ⊥
+no_sign n same h = let none : is_identifier (codes "=") ≡ true = ap is_identifier same ∙ h in cc
+
+no_quote : (f n : List ℕ) → f ≡ codes "=" → f ≡ quote ++ n ++ quote → ⊥
+no_quote f n sign same = let first : 61 ≡ 34 = ap (λ (g : List ℕ). get_or g 0 0) (sym sign ∙ same) in absurd (omega (arith, first))
+
+no_variable : (f : List ℕ) (v : NamedVariableData) → f ≡ codes "=" → variable_of f ≡ Some v → ⊥
+no_variable f v sign h = let none : variable_of (codes "=") ≡ Some v = ap variable_of (sym sign) ∙ h in cc
+
+no_value : (f : List ℕ) (n : ℕ) → f ≡ codes "=" → number_of f ≡ Some n → ⊥
+no_value f n sign h = let none : number_of (codes "=") ≡ Some n = ap number_of (sym sign) ∙ h in cc
+
+no_zero : (f : List ℕ) → f ≡ codes "=" → f ≡ codes "0" → ⊥
+no_zero f sign h = let same : codes "=" ≡ codes "0" = sym sign ∙ h in cc
 
 -- no argument is `=`
-not_equals_sign : (k : Kind) (a : NamedArgumentData) → IsArgument k (codes "=") a → ⊥
-not_equals_sign Value (variable v) h = cc
-not_equals_sign Value (number n) h = cc
+not_equals_sign : (k : Kind) (f : List ℕ) (a : NamedArgumentData) → f ≡ codes "=" → IsArgument k f a → ⊥
+not_equals_sign Value f (variable v) sign h = no_variable f v sign h
+not_equals_sign Value f (number n) sign h = no_value f n sign h
+not_equals_sign Value f (label n) sign h = h
+not_equals_sign Value f (quoted n) sign h = h
+not_equals_sign Label f (variable v) sign h = h
+not_equals_sign Label f (number n) sign h = h
+not_equals_sign Label f (label n) sign h = no_sign n (sym sign ∙ h.0) h.1
+not_equals_sign Label f (quoted n) sign h = h
+not_equals_sign Name f (variable v) sign h = h
+not_equals_sign Name f (number n) sign h = h
+not_equals_sign Name f (label n) sign h = h
+not_equals_sign Name f (quoted n) sign h = no_quote f n sign h.0
+not_equals_sign NameOrNone f (variable v) sign h = h
+not_equals_sign NameOrNone f (number n) sign h = no_zero f sign h.0
+not_equals_sign NameOrNone f (label n) sign h = h
+not_equals_sign NameOrNone f (quoted n) sign h = no_quote f n sign h.0
 
 arg_is_other : (k : Kind) (f : List ℕ) (a : NamedArgumentData) → IsArgument k f a → bytes_eq f (codes "=") ≡ false
 arg_is_other k f a h =
     elim (cases_Bool (bytes_eq f (codes "="))) [
-      | inl same ↦ absurd (not_equals_sign k a (subst (λ (g : List ℕ). IsArgument k g a) (same_bytes f (codes "=") same) h))
+      | inl same ↦ absurd (not_equals_sign k f a (same_bytes f (codes "=") same) h)
       | inr other ↦ other
     ]
 
@@ -49,16 +75,16 @@ no_number b bs h =
     let d : is_digit b ≡ false = grind (arith, nat_tests) in
     rw (a, c) (no_digit b bs d)
 
-begins_above : (b : ℕ) (bs : List ℕ) → is_variable_name (b ∷ bs) ≡ true → 58 ≤ b
+begins_above : (b : ℕ) (bs : List ℕ) → is_identifier (b ∷ bs) ≡ true → 58 ≤ b
 begins_above b bs h =
-    let front = (and_parts _ _ h).0 in
-    let low : nat_le 97 b ≡ true = (and_parts (nat_le 97 b) (nat_le b 122) (and_parts _ _ front).1).0 in
+    let front : ((nat_le 1 (length (b ∷ bs)) && nat_le (length (b ∷ bs)) 16) && (nat_le 97 b && nat_le b 122)) ≡ true = (and_parts _ (list_all is_identifier_byte (b ∷ bs)) h).0 in
+    let low : nat_le 97 b ≡ true = (and_parts (nat_le 97 b) (nat_le b 122) (and_parts (nat_le 1 (length (b ∷ bs)) && nat_le (length (b ∷ bs)) 16) (nat_le 97 b && nat_le b 122) front).1).0 in
     grind (arith, nat_tests)
 
 is_sign : (b : ℕ) → (b == 64) ≡ true → 58 ≤ b
 is_sign b h = grind (arith, nat_tests)
 
-no_name : (b : ℕ) (bs : List ℕ) → (b == 64) ≡ false → is_variable_name (b ∷ bs) ≡ false → variable_of (b ∷ bs) ≡ None
+no_name : (b : ℕ) (bs : List ℕ) → (b == 64) ≡ false → is_identifier (b ∷ bs) ≡ false → variable_of (b ∷ bs) ≡ None
 no_name b bs h g = rw (h, g)
 
 clash : {A : Type 0} (b n : ℕ) (bs : List ℕ) → 58 ≤ b → number_of (b ∷ bs) ≡ Some n → A
@@ -69,7 +95,7 @@ number_is_other : (b n : ℕ) (bs : List ℕ) → number_of (b ∷ bs) ≡ Some 
 number_is_other b n bs h =
     elim (cases_Bool (b == 64)) [
       | inl sign ↦ clash b n bs (is_sign b sign) h
-      | inr other ↦ elim (cases_Bool (is_variable_name (b ∷ bs))) [
+      | inr other ↦ elim (cases_Bool (is_identifier (b ∷ bs))) [
         | inl name ↦ clash b n bs (begins_above b bs name) h
         | inr none ↦ no_name b bs other none
       ]
@@ -79,6 +105,20 @@ arg_from : (k : Kind) (f : List ℕ) (a : NamedArgumentData) → IsArgument k f 
 arg_from Value f (variable v) h = rw h
 arg_from Value [] (number n) h = absurd cc
 arg_from Value (b ∷ bs) (number n) h = rw (number_is_other b n bs h, h)
+arg_from Value f (label n) h = absurd h
+arg_from Value f (quoted n) h = absurd h
+arg_from Label f (variable v) h = absurd h
+arg_from Label f (number n) h = absurd h
+arg_from Label f (label n) h = rw (h.0, h.1)
+arg_from Label f (quoted n) h = absurd h
+arg_from Name f (variable v) h = absurd h
+arg_from Name f (number n) h = absurd h
+arg_from Name f (label n) h = absurd h
+arg_from Name f (quoted n) h = rw h.0 (ap (λ (o : Option (List ℕ)). option_map quoted o) (quoted_from n h.1))
+arg_from NameOrNone f (variable v) h = absurd h
+arg_from NameOrNone f (number n) h = rw (h.0, h.1)
+arg_from NameOrNone f (label n) h = absurd h
+arg_from NameOrNone f (quoted n) h = rw h.0 (ap (λ (o : Option (List ℕ)). option_map quoted o) (quoted_from n h.1))
 
 args_from : (ks : List Kind) (fs : List (List ℕ)) (found : List NamedArgumentData) → AreArguments ks fs found → arguments_of ks fs ≡ Some found
 unfolding arguments_of
@@ -125,7 +165,3 @@ line_has_command fs c l = ap command_of l.parts ∙ from_parts (answers c.word) 
 -- a line has at most one command
 pub one_command : (fs : List (List ℕ)) (c d : NamedCommandData) → IsLine fs c → IsLine fs d → c ≡ d
 one_command fs c d p q = same_Some _ _ (sym (line_has_command fs c p) ∙ line_has_command fs d q)
-
--- where none is read, the line says none
-pub refused_line_has_none : (fs : List (List ℕ)) (c : NamedCommandData) → command_of fs ≡ None → ¬ IsLine fs c
-refused_line_has_none fs c none l = let some = line_has_command fs c l in cc

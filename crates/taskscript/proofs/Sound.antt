@@ -1,14 +1,16 @@
 -- What is read from the fields of a line is what the line says.
-use Rattle.std.proofs.Common.{◌≡◌, ℕ, suc, Bool, true, false, cond, bytes_eq, codes, find, List, [], ◌∷◌, length, Option, Some, None, option_map, refl, sym, ap, subst}
+use Rattle.std.proofs.Common.{◌≡◌, ℕ, Bool, true, false, cond, bytes_eq, codes, find, List, [], ◌∷◌, Option, Some, None, option_map, refl, sym, ap, subst}
 use Rattle.std.specs.Option.{option_or}
 use Rattle.std.proofs.lemmas.Option.{same_Some}
 use Rattle.std.proofs.lemmas.Slice.Eq.{bytes_eq-Decides}
 use Rattle.taskscript.specs.declared.word.Word.{Word}
 use Rattle.taskscript.specs.declared.word.Kind.{Kind}
-use Rattle.taskscript.specs.declared.word.Kind.TheVariants.{Value}
+use Rattle.taskscript.specs.declared.word.Kind.TheVariants.{Value, Label, Name, NameOrNone}
+use Rattle.taskscript.specs.Identifiers.{is_identifier}
 use Rattle.taskscript.specs.Numbers.{number_of}
 use Rattle.taskscript.specs.Words.{word_text, word_of, all_words, answers, kinds}
-use Rattle.taskscript.specs.Lines.{◌>>=◌, NamedVariableData, variable_of, NamedArgumentData, variable, number, argument_of, arguments_of, target_of, with_word, NamedCommandData, command_of}
+use Rattle.taskscript.specs.Lines.{◌>>=◌, NamedVariableData, variable_of, NamedArgumentData, variable, number, label, quoted, quoted_in, argument_of, arguments_of, target_of, with_word, NamedCommandData, command_of}
+use Rattle.taskscript.proofs.Quotes.{quoted_back}
 use Rattle.taskscript.specs.Law.{IsArgument, AreArguments, IsTarget, IsLine}
 
 pub bind_ok : {A B : Type 0} (o : Option A) (f : A → Option B) (y : B) → (o >>= f) ≡ Some y → (x : A) × (o ≡ Some x) × (f x ≡ Some y)
@@ -31,8 +33,27 @@ arg_is_value (Some v) p f a e g h = subst (λ (x : NamedArgumentData). IsArgumen
 arg_is_value None (Some n) f a e g h = subst (λ (x : NamedArgumentData). IsArgument Value f x) (same_Some _ _ h) g
 arg_is_value None None f a e g h = absurd cc
 
+arg_is_label : (b : Bool) (f : List ℕ) (a : NamedArgumentData) → is_identifier f ≡ b → option_map label (cond b (Some f) None) ≡ Some a → IsArgument Label f a
+arg_is_label true f a e h = subst (λ (x : NamedArgumentData). IsArgument Label f x) (same_Some _ _ h) (refl, e)
+arg_is_label false f a e h = absurd cc
+
+arg_is_name : (o : Option (List ℕ)) (f : List ℕ) (a : NamedArgumentData) → quoted_in f ≡ o → option_map quoted o ≡ Some a → IsArgument Name f a
+arg_is_name (Some n) f a e h = subst (λ (x : NamedArgumentData). IsArgument Name f x) (same_Some _ _ h) (quoted_back f n e)
+arg_is_name None f a e h = absurd cc
+
+or_none : (o : Option (List ℕ)) (f : List ℕ) (a : NamedArgumentData) → quoted_in f ≡ o → option_map quoted o ≡ Some a → IsArgument NameOrNone f a
+or_none (Some n) f a e h = subst (λ (x : NamedArgumentData). IsArgument NameOrNone f x) (same_Some _ _ h) (quoted_back f n e)
+or_none None f a e h = absurd cc
+
+arg_is_name_or_none : (b : Bool) (f : List ℕ) (a : NamedArgumentData) → bytes_eq f (codes "0") ≡ b → cond b (Some (number 0)) (option_map quoted (quoted_in f)) ≡ Some a → IsArgument NameOrNone f a
+arg_is_name_or_none true f a e h = subst (λ (x : NamedArgumentData). IsArgument NameOrNone f x) (same_Some _ _ h) ((bytes_eq-Decides f (codes "0")).0 e, refl)
+arg_is_name_or_none false f a e h = or_none (quoted_in f) f a refl h
+
 arg_is : (k : Kind) (f : List ℕ) (a : NamedArgumentData) → argument_of k f ≡ Some a → IsArgument k f a
 arg_is Value f a h = arg_is_value (variable_of f) (number_of f) f a refl refl h
+arg_is Label f a h = arg_is_label (is_identifier f) f a refl h
+arg_is Name f a h = arg_is_name (quoted_in f) f a refl h
+arg_is NameOrNone f a h = arg_is_name_or_none (bytes_eq f (codes "0")) f a refl h
 
 pub args_are : (ks : List Kind) (fs : List (List ℕ)) (found : List NamedArgumentData) → arguments_of ks fs ≡ Some found → AreArguments ks fs found
 unfolding arguments_of
@@ -51,7 +72,7 @@ with_parts t w rest c h =
     let p = bind_ok (word_of w) (λ word. target_of (answers word) t >>= λ target. arguments_of (kinds word) rest >>= λ found. Some (record { word = word; target = target; arguments = found })) c h in
     let q = bind_ok (target_of (answers p.0) t) (λ target. arguments_of (kinds p.0) rest >>= λ found. Some (record { word = p.0; target = target; arguments = found })) c p.2 in
     let r = bind_ok (arguments_of (kinds p.0) rest) (λ found. Some (record { word = p.0; target = q.0; arguments = found })) c q.2 in
-    subst (λ (d : NamedCommandData). (w ≡ word_text d.word) × (target_of (answers d.word) t ≡ Some d.target) × AreArguments (kinds d.word) rest d.arguments) (same_Some _ _ r.2) (word_is w p.0 p.1, q.1, args_are (kinds p.0) rest r.0 r.1)
+    subst (λ (d : NamedCommandData). (w ≡ word_text d.word) × (target_of (answers d.word) t ≡ Some d.target) × AreArguments (kinds d.word) rest d.arguments) (same_Some (record { word = p.0; target = q.0; arguments = r.0 }) c r.2) (word_is w p.0 p.1, q.1, args_are (kinds p.0) rest r.0 r.1)
 
 no_target : (may : Bool) (o : Option NamedVariableData) → target_of may None ≡ Some o → IsTarget may [] o
 no_target may o h = subst (λ (x : Option NamedVariableData). IsTarget may [] x) (same_Some _ _ h) tt
@@ -89,15 +110,3 @@ unfolding with_word
 command_is_line [] c h = absurd cc
 command_is_line (w ∷ []) c h = plain_line w [] c h
 command_is_line (t ∷ e ∷ rest) c h = cut_line (bytes_eq e (codes "=")) t e rest c refl h
-
-pub counted : (ks : List Kind) (fs : List (List ℕ)) (found : List NamedArgumentData) → AreArguments ks fs found → length found ≡ length ks
-counted [] [] [] h = refl
-counted [] [] (a ∷ found) h = absurd h
-counted [] (f ∷ fs) found h = absurd h
-counted (k ∷ ks) [] found h = absurd h
-counted (k ∷ ks) (f ∷ fs) [] h = absurd h
-counted (k ∷ ks) (f ∷ fs) (a ∷ found) h = ap suc (counted ks fs found h.1)
-
--- a command has one argument of each kind
-pub arguments_counted : (fs : List (List ℕ)) (c : NamedCommandData) → command_of fs ≡ Some c → length c.arguments ≡ length (kinds c.word)
-arguments_counted fs c h = let l = command_is_line fs c h in counted (kinds c.word) l.after c.arguments l.arguments

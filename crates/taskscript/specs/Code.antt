@@ -1,17 +1,18 @@
 -- The code of one body: the commands of its lines, or all their faults in order.
-use Rattle.std.specs.Prelude.{ℕ, List, [], ◌∷◌, map, Option, Some, None}
-use Rattle.std.specs.List.{list_all, filter_map, flat_map}
+use Rattle.std.specs.Prelude.{ℕ, Bool, false, not, nat_le, bytes_eq, List, [], ◌∷◌, ◌++◌, length, map, Option, Some, None}
+use Rattle.std.specs.List.{list_all, list_any, filter_map, flat_map, before_first}
+use Rattle.std.specs.Option.{option_map_or}
 use Rattle.toml.specs.Data.{Data, string, Items, no_items, item}
 use Rattle.taskscript.specs.declared.fault.FileFault.{FileFault}
-use Rattle.taskscript.specs.declared.fault.FileFault.TheVariants.{BadCommand, TooMany}
+use Rattle.taskscript.specs.declared.fault.FileFault.TheVariants.{BadCommand, BadLabel, TooMany}
 use Rattle.taskscript.specs.Commands.{CommandData}
 use Rattle.taskscript.specs.Faults.{check}
-use Rattle.taskscript.specs.Lines.{fields, NamedCommandData, command_of}
-use Rattle.taskscript.specs.Numbering.{Names, names_after, variable_in, command_in, is_within, variables_of}
+use Rattle.taskscript.specs.Lines.{fields, NamedCommandData, LineData, label_line, command_line, line_of}
+use Rattle.taskscript.specs.Numbering.{Names, names_after, variable_in, command_in, is_within, variables_of, labels_of_arguments}
 
 -- ---- lines
 
--- the text of an item; one that is no string is read as the empty text, which is no command
+-- the text of an item; one that is no string is read as the empty text, which says nothing
 abbrev pub line_in : Data → List ℕ
 line_in (string text) = text
 line_in _ = []
@@ -20,32 +21,67 @@ abbrev pub lines_in : Items → List (List ℕ)
 lines_in no_items = []
 lines_in (item d ds) = line_in d ∷ lines_in ds
 
-abbrev pub command_of_line : List ℕ → Option NamedCommandData
-command_of_line line = command_of (fields line)
+abbrev pub command_said : Option LineData → Option NamedCommandData
+command_said (Some (command_line c)) = Some c
+command_said _ = None
+
+abbrev pub label_said : Option LineData → Option (List ℕ)
+label_said (Some (label_line name)) = Some name
+label_said _ = None
+
+abbrev pub says : List ℕ → Option LineData
+says line = line_of (fields line)
 
 -- ---- a body, after the shared names of the bodies before it
 
 -- the commands of those lines that are commands
 abbrev pub commands_of : List (List ℕ) → List NamedCommandData
-commands_of lines = filter_map command_of_line lines
+commands_of lines = filter_map (λ line. command_said (says line)) lines
 
--- all names in the order of first sight; a line that is no command names nothing
+-- the labels of those lines that are labels
+abbrev pub labels_of : List (List ℕ) → List (List ℕ)
+labels_of lines = filter_map (λ line. label_said (says line)) lines
+
+abbrev pub is_label_of : List ℕ → List ℕ → Bool
+is_label_of name line = option_map_or (bytes_eq name) (label_said (says line)) false
+
+-- the place that a label names: as many commands stand before it
+abbrev pub place_of : List (List ℕ) → List ℕ → ℕ
+place_of lines name = length (commands_of (before_first (is_label_of name) lines))
+
+-- all names of variables in the order of first sight; a line that is no command names none
 abbrev pub names_of : List (List ℕ) → List (List ℕ) → Names
 names_of shared lines = names_after (record { private = []; shared = shared }) (flat_map variables_of (commands_of lines))
 
-abbrev pub command_faults : Names → Option NamedCommandData → List FileFault
-command_faults names None = BadCommand ∷ []
-command_faults names (Some c) = check (list_all (λ v. is_within (variable_in names v)) (variables_of c)) TooMany
+-- ---- faults
 
--- BadCommand where a line is no command, TooMany where it has a variable past its limit
-abbrev pub line_faults : Names → List ℕ → List FileFault
-line_faults names line = command_faults names (command_of_line line)
+-- what a line says, after the labels before it: BadCommand where it says nothing, BadLabel where it is a label that
+-- stood before, TooMany where it has a variable past its limit
+abbrev pub line_faults : Names → List (List ℕ) → Option LineData → List FileFault
+line_faults names before None = BadCommand ∷ []
+line_faults names before (Some (label_line name)) = check (not (list_any (bytes_eq name) before)) BadLabel
+line_faults names before (Some (command_line c)) = check (list_all (λ v. is_within (variable_in names v)) (variables_of c)) TooMany
 
+-- the lines in their order, each after the labels before it
+abbrev pub lines_faults : Names → List (List ℕ) → List (List ℕ) → List FileFault
+lines_faults names before [] = []
+lines_faults names before (line ∷ others) = line_faults names before (says line) ++ lines_faults names (before ++ labels_of (line ∷ [])) others
+
+-- a jump to a label that is not among these
+abbrev pub jump_faults : List (List ℕ) → NamedCommandData → List FileFault
+jump_faults labels c = check (list_all (λ name. list_any (bytes_eq name) labels) (labels_of_arguments c.arguments)) BadLabel
+
+-- a body has at most 1,024 lines; then its lines in their order, and then its jumps in theirs
 unfoldable pub body_faults : List (List ℕ) → List (List ℕ) → List FileFault
-body_faults shared lines = flat_map (line_faults (names_of shared lines)) lines
+body_faults shared lines =
+    check (nat_le (length lines) 1024) TooMany
+    ++ (lines_faults (names_of shared lines) [] lines
+    ++ flat_map (jump_faults (labels_of lines)) (commands_of lines))
+
+-- ---- the code
 
 unfoldable pub code_of : List (List ℕ) → List (List ℕ) → List CommandData
-code_of shared lines = map (command_in (names_of shared lines)) (commands_of lines)
+code_of shared lines = map (command_in (names_of shared lines) (place_of lines)) (commands_of lines)
 
 -- the shared names, as the bodies after it find them
 unfoldable pub shared_after : List (List ℕ) → List (List ℕ) → List (List ℕ)

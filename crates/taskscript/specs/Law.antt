@@ -1,15 +1,27 @@
 -- What a line says, as a relation between its fields and a command.
 use Rattle.std.specs.Prelude.{◌≡◌, ℕ, Bool, true, codes, List, [], ◌∷◌, ◌++◌, Option, Some, None}
 use Rattle.taskscript.specs.declared.word.Kind.{Kind}
-use Rattle.taskscript.specs.declared.word.Kind.TheVariants.{Value}
+use Rattle.taskscript.specs.declared.word.Kind.TheVariants.{Value, Label, Name, NameOrNone}
+use Rattle.taskscript.specs.Identifiers.{is_identifier}
+use Rattle.taskscript.specs.Names.{is_name}
 use Rattle.taskscript.specs.Numbers.{number_of}
 use Rattle.taskscript.specs.Words.{word_text, answers, kinds}
-use Rattle.taskscript.specs.Lines.{NamedVariableData, variable_of, NamedArgumentData, variable, number, NamedCommandData}
+use Rattle.taskscript.specs.Lines.{NamedVariableData, variable_of, NamedArgumentData, variable, number, label, quoted, NamedCommandData, LineData, label_line, command_line}
 
--- a value is a variable or a number
+-- `"`
+abbrev pub quote : List ℕ
+quote = 34 ∷ []
+
+-- a value is a variable or a number, a label stands as it is, a name between double quotes, and `0` alone may stand
+-- for no name
 abbrev pub IsArgument : Kind → List ℕ → NamedArgumentData → Type 0
 IsArgument Value field (variable v) = variable_of field ≡ Some v
 IsArgument Value field (number n) = number_of field ≡ Some n
+IsArgument Label field (label n) = (field ≡ n) × (is_identifier n ≡ true)
+IsArgument Name field (quoted n) = (field ≡ quote ++ n ++ quote) × (is_name n ≡ true)
+IsArgument NameOrNone field (quoted n) = (field ≡ quote ++ n ++ quote) × (is_name n ≡ true)
+IsArgument NameOrNone field (number n) = (field ≡ codes "0") × (n ≡ 0)
+IsArgument _ _ _ = ⊥
 
 -- one field of each kind
 abbrev pub AreArguments : List Kind → List (List ℕ) → List NamedArgumentData → Type 0
@@ -30,3 +42,13 @@ pub record IsLine (fields : List (List ℕ)) (c : NamedCommandData) : Type 0 whe
   pub parts : fields ≡ before ++ word_text c.word ∷ after
   pub target : IsTarget (answers c.word) before c.target
   pub arguments : AreArguments (kinds c.word) after c.arguments
+
+-- the one field is a name and `:`
+pub record IsLabel (fields : List (List ℕ)) (name : List ℕ) : Type 0 where
+  pub one : fields ≡ (name ++ codes ":") ∷ []
+  pub named : is_identifier name ≡ true
+
+-- a line is a label or a command
+abbrev pub Says : List (List ℕ) → LineData → Type 0
+Says fields (label_line name) = IsLabel fields name
+Says fields (command_line c) = IsLine fields c

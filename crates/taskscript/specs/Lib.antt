@@ -1,8 +1,11 @@
+pub mod Bodies
 pub mod Code
 pub mod Commands
 pub mod Events
 pub mod Faults
 pub mod File
+pub mod Identifiers
+pub mod Labels
 pub mod Law
 pub mod Lines
 pub mod Machines

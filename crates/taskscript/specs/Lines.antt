@@ -1,16 +1,20 @@
--- One line of a body: its fields, and the command that they say, with names for variables.
-use Rattle.std.specs.Prelude.{◌≡◌, ℕ, Bool, true, false, ◌&&◌, ◌||◌, nat_le, ◌==◌, bytes_eq, codes, List, [], ◌∷◌, length, map, slice_index, Option, Some, None, option_map, Result, Ok, Err, if◌then◌else◌}
-use Rattle.std.specs.List.{list_all, slice_split}
+-- One line of a body: its fields, and the label or command that they say, with names for variables and labels.
+use Rattle.std.specs.Prelude.{◌≡◌, ℕ, ◌-◌, Bool, true, false, ◌&&◌, nat_le, ◌==◌, bytes_eq, codes, List, [], ◌∷◌, length, map, take, drop, slice_index, Option, Some, None, option_map, Result, Ok, Err, if◌then◌else◌}
+use Rattle.std.specs.List.{slice_split}
 use Rattle.std.specs.Option.{option_or}
 use Rattle.taskscript.specs.declared.fault.FileFault.{FileFault}
 use Rattle.taskscript.specs.declared.fault.FileFault.TheVariants.{BadCommand, OutOfMemory}
 use Rattle.taskscript.specs.declared.word.Word.{Word}
 use Rattle.taskscript.specs.declared.word.Kind.{Kind}
-use Rattle.taskscript.specs.declared.word.Kind.TheVariants.{Value}
+use Rattle.taskscript.specs.declared.word.Kind.TheVariants.{Value, Label, Name, NameOrNone}
 use Rattle.taskscript.specs.declared.variable.NamedVariable.{NamedVariable}
-use Rattle.taskscript.specs.declared.line.NamedArgument.{NamedArgument}
-use Rattle.taskscript.specs.declared.line.NamedArgument.TheVariants as argument
-use Rattle.taskscript.specs.declared.line.NamedCommand.{NamedCommand}
+use Rattle.taskscript.specs.declared.named.NamedArgument.{NamedArgument}
+use Rattle.taskscript.specs.declared.named.NamedArgument.TheVariants as argument
+use Rattle.taskscript.specs.declared.named.NamedCommand.{NamedCommand}
+use Rattle.taskscript.specs.declared.named.Line.{Line}
+use Rattle.taskscript.specs.declared.named.Line.TheVariants as said
+use Rattle.taskscript.specs.Identifiers.{identifier_in}
+use Rattle.taskscript.specs.Names.{is_name}
 use Rattle.taskscript.specs.Numbers.{number_of}
 use Rattle.taskscript.specs.Words.{word_of, answers, kinds}
 
@@ -20,21 +24,13 @@ fields line = slice_split (λ b. b == 32) line
 
 -- ---- variables
 
--- `a` to `z`, `0` to `9`, `_`
-abbrev pub is_variable_byte : ℕ → Bool
-is_variable_byte b = (nat_le 97 b && nat_le b 122) || ((nat_le 48 b && nat_le b 57) || b == 95)
-
--- a letter, and then letters, digits and `_`, 1 to 16 together
-abbrev pub is_variable_name : List ℕ → Bool
-is_variable_name n = ((nat_le 1 (length n) && nat_le (length n) 16) && (nat_le 97 (slice_index n 0) && nat_le (slice_index n 0) 122)) && list_all is_variable_byte n
-
 -- a variable by its name, the `@` of a shared one left out
 pub record NamedVariableData : Type 0 where
   pub is_shared : Bool
   pub name : List ℕ
 
 abbrev pub named : Bool → List ℕ → Option NamedVariableData
-named is_shared n = if is_variable_name n then Some (record { is_shared = is_shared; name = n }) else None
+named is_shared text = option_map (λ name. record { is_shared = is_shared; name = name }) (identifier_in text)
 
 -- `name` is private to its body, `@name` is shared
 abbrev pub variable_of : List ℕ → Option NamedVariableData
@@ -46,10 +42,25 @@ variable_of (b ∷ bs) = if b == 64 then named true bs else named false (b ∷ b
 pub data NamedArgumentData : Type 0 where
   number : ℕ → NamedArgumentData
   variable : NamedVariableData → NamedArgumentData
+  label : List ℕ → NamedArgumentData
+  quoted : List ℕ → NamedArgumentData
+
+-- what stands between the first and the last byte
+abbrev pub inside : List ℕ → List ℕ
+inside field = take (length field - 2) (drop 1 field)
+
+-- the name between double quotes
+abbrev pub quoted_in : List ℕ → Option (List ℕ)
+quoted_in field =
+    if nat_le 2 (length field) && ((slice_index field 0 == 34) && (slice_index field (length field - 1) == 34)) then (if is_name (inside field) then Some (inside field) else None)
+    else None
 
 -- the argument of a kind that a field is, if it is one
 abbrev pub argument_of : Kind → List ℕ → Option NamedArgumentData
 argument_of Value field = option_or (option_map variable (variable_of field)) (option_map number (number_of field))
+argument_of Label field = option_map label (identifier_in field)
+argument_of Name field = option_map quoted (quoted_in field)
+argument_of NameOrNone field = if bytes_eq field (codes "0") then Some (number 0) else option_map quoted (quoted_in field)
 
 infixl 10 ◌>>=◌
 abbrev pub ◌>>=◌ : {A B : Type 0} → Option A → (A → Option B) → Option B
@@ -94,6 +105,27 @@ cut_target whole = (None, whole)
 abbrev pub command_of : List (List ℕ) → Option NamedCommandData
 command_of fields = with_word (cut_target fields).0 (cut_target fields).1
 
+-- ---- labels
+
+-- the name before `:`, where the field is a label's
+abbrev pub label_in : List ℕ → Option (List ℕ)
+label_in field = if nat_le 1 (length field) && (slice_index field (length field - 1) == 58) then identifier_in (take (length field - 1) field) else None
+
+-- a label line has one field
+abbrev pub label_of : List (List ℕ) → Option (List ℕ)
+label_of (field ∷ []) = label_in field
+label_of _ = None
+
+-- ---- lines
+
+-- what a line says: it is a label, or a command
+pub data LineData : Type 0 where
+  label_line : List ℕ → LineData
+  command_line : NamedCommandData → LineData
+
+abbrev pub line_of : List (List ℕ) → Option LineData
+line_of fields = option_or (option_map label_line (label_of fields)) (option_map command_line (command_of fields))
+
 -- ---- what the code holds
 
 abbrev pub named_variable_view : NamedVariable → NamedVariableData
@@ -102,9 +134,15 @@ named_variable_view v = record { is_shared = v.is_shared; name = v.name.bytes }
 abbrev pub named_argument_view : NamedArgument → NamedArgumentData
 named_argument_view (argument.Number n) = number n
 named_argument_view (argument.Variable v) = variable (named_variable_view v)
+named_argument_view (argument.Label n) = label n.bytes
+named_argument_view (argument.Quoted n) = quoted n.bytes
 
 abbrev pub named_command_view : NamedCommand → NamedCommandData
 named_command_view c = record { word = c.word; target = option_map named_variable_view c.target; arguments = map named_argument_view c.arguments.items }
+
+abbrev pub line_view : Line → LineData
+line_view (said.Label n) = label_line n.bytes
+line_view (said.Command c) = command_line (named_command_view c)
 
 -- what is read is the answer, or there is none and the line is refused; want of memory may come at any growth
 abbrev pub Reads : {X Y : Type 0} → Result X FileFault → (X → Y) → Option Y → Type 0

@@ -1,4 +1,4 @@
--- Variables by number: a name's number is its place in the order of first sight.
+-- Variables by number: a name's number is its place in the order of first sight. Jumps by place.
 use Rattle.std.specs.Prelude.{◌≡◌, ℕ, Bool, true, false, ◌&&◌, nat_lt, bytes_eq, List, [], ◌∷◌, ◌++◌, map, Option, Some, None, option_map, Result, Ok, Err, if◌then◌else◌}
 use Rattle.std.specs.List.{fold, list_any, position_or_len}
 use Rattle.arrayvec.specs.ArrayString.{ArrayString}
@@ -8,7 +8,7 @@ use Rattle.taskscript.specs.declared.variable.Variable.{Variable}
 use Rattle.taskscript.specs.declared.variable.Variable.TheVariants.{Private, Shared}
 use Rattle.taskscript.specs.Commands as numbered
 use Rattle.taskscript.specs.Commands.{ArgumentData, CommandData}
-use Rattle.taskscript.specs.Lines.{NamedVariableData, NamedArgumentData, number, variable, NamedCommandData}
+use Rattle.taskscript.specs.Lines.{NamedVariableData, NamedArgumentData, number, variable, label, quoted, NamedCommandData}
 
 -- ---- names in the order of first sight
 
@@ -38,20 +38,24 @@ names_after names variables = fold names_with names variables
 abbrev pub variable_in : Names → NamedVariableData → Variable
 variable_in names v = if v.is_shared then Shared (number_in names.shared v.name) else Private (number_in names.private v.name)
 
-abbrev pub argument_in : Names → NamedArgumentData → ArgumentData
-argument_in names (number n) = numbered.number n
-argument_in names (variable v) = numbered.variable (variable_in names v)
+-- an argument with the number of its variable, or the place that its label has
+abbrev pub argument_in : Names → (List ℕ → ℕ) → NamedArgumentData → ArgumentData
+argument_in names places (number n) = numbered.number n
+argument_in names places (variable v) = numbered.variable (variable_in names v)
+argument_in names places (label n) = numbered.place (places n)
+argument_in names places (quoted n) = numbered.quoted n
 
--- a command with numbers for its names
-abbrev pub command_in : Names → NamedCommandData → CommandData
-command_in names c = record { word = c.word; target = option_map (variable_in names) c.target; arguments = map (argument_in names) c.arguments }
+-- a command with numbers and places for its names
+abbrev pub command_in : Names → (List ℕ → ℕ) → NamedCommandData → CommandData
+command_in names places c =
+    record { word = c.word; target = option_map (variable_in names) c.target; arguments = map (argument_in names places) c.arguments }
 
 -- 32 private variables a body, 64 shared ones
 abbrev pub is_within : Variable → Bool
 is_within (Private n) = nat_lt n 32
 is_within (Shared n) = nat_lt n 64
 
--- ---- the variables of a command, in the order in which they are seen
+-- ---- the names of a command, in the order in which they are seen
 
 abbrev pub variables_of_target : Option NamedVariableData → List NamedVariableData
 variables_of_target None = []
@@ -61,35 +65,32 @@ abbrev pub variables_of_arguments : List NamedArgumentData → List NamedVariabl
 variables_of_arguments [] = []
 variables_of_arguments (number n ∷ others) = variables_of_arguments others
 variables_of_arguments (variable v ∷ others) = v ∷ variables_of_arguments others
+variables_of_arguments (label n ∷ others) = variables_of_arguments others
+variables_of_arguments (quoted n ∷ others) = variables_of_arguments others
 
 -- the target, and then the arguments from left to right
 abbrev pub variables_of : NamedCommandData → List NamedVariableData
 variables_of c = variables_of_target c.target ++ variables_of_arguments c.arguments
 
--- ---- one name after another: what the code does at one command
+-- the labels that it jumps to
+abbrev pub labels_of_arguments : List NamedArgumentData → List (List ℕ)
+labels_of_arguments [] = []
+labels_of_arguments (number n ∷ others) = labels_of_arguments others
+labels_of_arguments (variable v ∷ others) = labels_of_arguments others
+labels_of_arguments (label n ∷ others) = n ∷ labels_of_arguments others
+labels_of_arguments (quoted n ∷ others) = labels_of_arguments others
+
+-- ---- one variable after another
 
 -- whether all these have room, if they come in turn
 abbrev pub have_room : Names → List NamedVariableData → Bool
 have_room names [] = true
 have_room names (v ∷ others) = is_within (variable_in names v) && have_room (names_with names v) others
 
-abbrev pub arguments_in_turn : Names → List NamedArgumentData → List ArgumentData
-arguments_in_turn names [] = []
-arguments_in_turn names (number n ∷ others) = numbered.number n ∷ arguments_in_turn names others
-arguments_in_turn names (variable v ∷ others) = numbered.variable (variable_in names v) ∷ arguments_in_turn (names_with names v) others
-
-abbrev pub command_in_turn : Names → NamedCommandData → CommandData
-command_in_turn names c =
-    record {
-      word = c.word;
-      target = option_map (variable_in names) c.target;
-      arguments = arguments_in_turn (names_after names (variables_of_target c.target)) c.arguments;
-    }
-
--- there is room, and the value is right; or there is none
-abbrev pub Numbers : {X : Type 0} → Result X FileFault → Bool → (X → Type 0) → Type 0
-Numbers (Ok x) room right = (room ≡ true) × right x
-Numbers (Err fault) room right = ¬ (fault ≡ OutOfMemory) → (fault ≡ TooMany) × (room ≡ false)
+-- there is room, or there is none
+abbrev pub Sees : {X : Type 0} → Result X FileFault → Bool → Type 0
+Sees (Ok x) room = room ≡ true
+Sees (Err fault) room = ¬ (fault ≡ OutOfMemory) → (fault ≡ TooMany) × (room ≡ false)
 
 -- ---- what the code holds
 

@@ -1,24 +1,33 @@
-//! The code of one body: its lines, read one after another.
-ghost use Rattle.std.specs.Prelude.{◌≡◌, map, OnOk};
+//! The code of one body: its lines are read one after another, and then its jumps and variables get their numbers.
+ghost use Rattle.std.specs.Prelude.{◌≡◌, ◌<◌, ◌≤◌, ◌^◌, ◌+◌, map, length, OnOk, Some};
 ghost use Rattle.toml.specs.View.{view, items_view};
-ghost use Rattle.taskscript.specs.Code.{line_in, lines_in, body_faults, code_of, shared_after};
+ghost use Rattle.taskscript.specs.Bodies.{nothing_read, reading_view, reading_with, reading_after, said_faults, faults_after};
+ghost use Rattle.taskscript.specs.Code.{line_in, lines_in, says, body_faults, code_of, shared_after};
 ghost use Rattle.taskscript.specs.Commands.{command_view};
 ghost use Rattle.taskscript.specs.Faults.{Judges};
+ghost use Rattle.taskscript.specs.Lines.{label_line, command_line, named_command_view};
 ghost use Rattle.taskscript.specs.Numbering.{texts};
 
 #[cfg(test)]
 mod tests;
 
+use crate::body::Body;
 use crate::command::Command;
 use crate::fault::FileFault;
+use crate::label::LabelName;
 use crate::line::read_line;
-use crate::numbering::{number_arguments, number_target};
+use crate::named::{Line, NamedCommand};
+use crate::numbering::see_command;
+use crate::resolving::commands_in;
 use crate::variable::VariableName;
-use indexmap::IndexSet;
+use indexmap::{IndexMap, IndexSet};
 use std::alloc::Global;
 use toml::Value;
 
-// The text of an item; one that is no string is read as the empty text, which is no command.
+/// The greatest number of lines of a body.
+pub const LINE_LIMIT: usize = 1024;
+
+// The text of an item; one that is no string is read as the empty text, which says nothing.
 fn line_in(item: &Value) -> &str
     ensures { result.now ≡ line_in (view item.now) }
 {
@@ -28,11 +37,80 @@ fn line_in(item: &Value) -> &str
     }
 }
 
+// A label is read; BadLabel where it stood before.
+fn add_label(
+    body: &mut Body,
+    name: LabelName,
+    shared: &IndexSet<VariableName>,
+) -> Result<(), FileFault>
+    requires { length body.old.commands.items < 2 ^ 32 }
+    ensures judged { Judges result (said_faults (reading_view body.old shared.now.keys) (Some (label_line name.bytes))) (λ _. reading_view body.new shared.now.keys ≡ reading_with (reading_view body.old shared.now.keys) (Some (label_line name.bytes))) }
+    ensures commands { OnOk result (body.new.commands.items ≡ body.old.commands.items) }
+{
+    let place = body.commands.len() as u32;
+    match body.labels.insert(name, place)? {
+        None => Ok(()),
+        Some(_) => Err(FileFault::BadLabel),
+    }
+}
+
+// A command is read; TooMany where it has a variable past its limit.
+fn add_command(
+    body: &mut Body,
+    command: NamedCommand,
+    shared: &mut IndexSet<VariableName>,
+) -> Result<(), FileFault>
+    ensures judged { Judges result (said_faults (reading_view body.old shared.old.keys) (Some (command_line (named_command_view command)))) (λ _. reading_view body.new shared.new.keys ≡ reading_with (reading_view body.old shared.old.keys) (Some (command_line (named_command_view command)))) }
+    ensures commands { OnOk result (length body.new.commands.items ≡ length body.old.commands.items + 1) }
+{
+    see_command(&command, &mut body.private, shared)?;
+    body.commands.push(command)?;
+    Ok(())
+}
+
+// One more line of the body is read.
+fn add_line(
+    alloc: Global,
+    body: &mut Body,
+    line: &str,
+    shared: &mut IndexSet<VariableName>,
+) -> Result<(), FileFault>
+    requires { length body.old.commands.items < 2 ^ 32 }
+    ensures judged { Judges result (said_faults (reading_view body.old shared.old.keys) (says line.now)) (λ _. reading_view body.new shared.new.keys ≡ reading_with (reading_view body.old shared.old.keys) (says line.now)) }
+    ensures commands { OnOk result (length body.new.commands.items ≤ length body.old.commands.items + 1) }
+{
+    match read_line(alloc, line)? {
+        Line::Label(name) => add_label(body, name, shared),
+        Line::Command(command) => add_command(body, command, shared),
+    }
+}
+
+fn body_of(
+    alloc: Global,
+    lines: &[Value],
+    shared: &mut IndexSet<VariableName>,
+) -> Result<Body, FileFault>
+    requires { length lines.now ≤ 1024 }
+    ensures { let start = nothing_read (texts shared.old.keys) in let all = lines_in (items_view lines.now) in Judges result (faults_after start all) (λ body. reading_view body shared.new.keys ≡ reading_after start all) }
+{
+    let mut body = Body {
+        commands: Vec::new(alloc),
+        private: IndexSet::new(alloc),
+        labels: IndexMap::new(alloc),
+    };
+    for item in lines {
+        add_line(alloc, &mut body, line_in(item), shared)?;
+    }
+    Ok(body)
+}
+
 /// The commands of a body, whose lines are these items.
 ///
 /// `shared` has the names of shared variables that the bodies before it named, in the order of first sight, and gets
-/// those of this one. BadCommand where a line is no command, TooMany where it has the 33rd private variable of the body
-/// or the 65th shared one of the file; the first such line decides. After an `Err` nothing is said of `shared`.
+/// those of this one. The first faulty line decides: BadCommand where it says nothing, BadLabel where it is a label that
+/// stood before, TooMany where it has the 33rd private variable of the body or the 65th shared one of the file. If no
+/// line is faulty, a jump to a label that is not in the body is BadLabel. A body of more than 1,024 lines is TooMany
+/// before all this. After an `Err` nothing is said of `shared`.
 pub fn read_code(
     alloc: Global,
     lines: &[Value],
@@ -41,17 +119,9 @@ pub fn read_code(
     ensures judged { Judges result (body_faults (texts shared.old.keys) (lines_in (items_view lines.now))) (λ code. map command_view code.items ≡ code_of (texts shared.old.keys) (lines_in (items_view lines.now))) }
     ensures shared { OnOk result (texts shared.new.keys ≡ shared_after (texts shared.old.keys) (lines_in (items_view lines.now))) }
 {
-    let mut private = IndexSet::new(alloc);
-    let mut code = Vec::new(alloc);
-    for item in lines {
-        let named = read_line(alloc, line_in(item))?;
-        let target = number_target(named.target, &mut private, shared)?;
-        let arguments = number_arguments(named.arguments.as_slice(), &mut private, shared)?;
-        code.push(Command {
-            word: named.word,
-            target,
-            arguments,
-        })?;
+    if lines.len() > LINE_LIMIT {
+        return Err(FileFault::TooMany);
     }
-    Ok(code)
+    let body = body_of(alloc, lines, shared)?;
+    commands_in(alloc, &body.commands, &body.private, shared, &body.labels)
 }

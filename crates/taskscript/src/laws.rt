@@ -1,25 +1,30 @@
-//! Laws of lines: a line has at most one command, which is what is read from it. The functions do nothing; their
+//! Laws of lines: what a line says is one thing, and it is what is read from it. The functions do nothing; their
 //! contracts are the laws.
 ghost use Rattle.std.specs.Prelude.{◌≡◌, ℕ, List, Some, None};
-ghost use Rattle.taskscript.specs.Lines.{NamedCommandData, command_of};
-ghost use Rattle.taskscript.specs.Law.{IsLine};
+ghost use Rattle.taskscript.specs.Lines.{LineData, NamedCommandData, line_of};
+ghost use Rattle.taskscript.specs.Law.{IsLine, Says};
 
 /// A line has at most one command.
 pub fn one_command()
     ensures { (fields : List (List ℕ)) (c d : NamedCommandData) → IsLine fields c → IsLine fields d → c ≡ d }
 {}
 
-/// The command that a line says is read from it.
-pub fn line_has_command()
-    ensures { (fields : List (List ℕ)) (c : NamedCommandData) → IsLine fields c → command_of fields ≡ Some c }
+/// A line is one label or one command, and not both.
+pub fn one_meaning()
+    ensures { (fields : List (List ℕ)) (x y : LineData) → Says fields x → Says fields y → x ≡ y }
+{}
+
+/// What a line says is read from it.
+pub fn said_line_is_read()
+    ensures { (fields : List (List ℕ)) (x : LineData) → Says fields x → line_of fields ≡ Some x }
 {}
 
 /// What is read from a line is what it says.
-pub fn command_is_line()
-    ensures { (fields : List (List ℕ)) (c : NamedCommandData) → command_of fields ≡ Some c → IsLine fields c }
+pub fn read_line_is_said()
+    ensures { (fields : List (List ℕ)) (x : LineData) → line_of fields ≡ Some x → Says fields x }
 {}
 
-/// A line that is refused says no command.
-pub fn refused_line_has_none()
-    ensures { (fields : List (List ℕ)) (c : NamedCommandData) → command_of fields ≡ None → ¬ IsLine fields c }
+/// A line that is refused says nothing.
+pub fn refused_line_says_nothing()
+    ensures { (fields : List (List ℕ)) (x : LineData) → line_of fields ≡ None → ¬ Says fields x }
 {}

@@ -2,19 +2,25 @@
 #![tactic(auto)]
 
 mod accepted;
+mod body;
 mod code;
 mod command;
 mod event;
 mod events;
 mod fault;
 mod file;
+mod identifier;
+mod label;
 mod laws;
 mod line;
 mod name;
+mod named;
 mod number;
 mod numbering;
+mod quoted;
 mod reading;
 mod regions;
+mod resolving;
 mod tasks;
 #[cfg(test)]
 mod tests;
@@ -28,7 +34,9 @@ pub use event::{Event, Events};
 pub use events::read_events;
 pub use fault::{EventFault, FileFault};
 pub use file::{MachineFile, TaskRecord};
-pub use laws::{command_is_line, line_has_command, one_command, refused_line_has_none};
+pub use laws::{
+    one_command, one_meaning, read_line_is_said, refused_line_says_nothing, said_line_is_read,
+};
 pub use name::Name;
 pub use reading::read_machine;
 pub use variable::{Variable, VariableName};

@@ -1,34 +1,31 @@
-//! One line of a body: from its text to a command with names for variables.
-ghost use Rattle.std.specs.Prelude.{◌≡◌, map, IfOk, option_map};
-ghost use Rattle.taskscript.specs.Lines.{fields, argument_of, arguments_of, with_word, command_of, target_of, Reads, named_argument_view, named_command_view, named_variable_view};
+//! One line of a body: from its text to a label, or to a command with names for variables and labels.
+ghost use Rattle.std.specs.Prelude.{◌≡◌, length, map, IfOk, option_map};
+ghost use Rattle.taskscript.specs.Lines.{fields, argument_of, arguments_of, with_word, command_of, label_of, quoted, quoted_in, line_of, target_of, Reads, line_view, named_argument_view, named_command_view, named_variable_view};
 
 use crate::fault::FileFault;
+use crate::identifier::identifier_of;
+use crate::label::{LabelName, label_in};
+use crate::named::{Line, NamedArgument, NamedCommand};
 use crate::number::number_of;
+use crate::quoted::quoted_in;
 use crate::variable::{NamedVariable, variable_of};
-use crate::word::{Kind, Word, word_of};
+use crate::word::{Kind, word_of};
 use std::alloc::{AllocError, Global};
-
-/// An argument, as a line names it.
-#[derive(Clone, Copy)]
-pub enum NamedArgument {
-    Number(u32),
-    Variable(NamedVariable),
-}
-
-/// What one line says.
-#[derive(Drop)]
-pub struct NamedCommand {
-    pub word: Word,
-    pub target: Option<NamedVariable>,
-    /// One of each kind that the word has.
-    pub arguments: Vec<NamedArgument>,
-}
 
 // The parts of a line between single spaces. Two spaces in a row, or one at an end, make an empty part.
 fn fields_of(alloc: Global, line: &str) -> Result<Vec<&str>, AllocError>
     ensures { IfOk result (λ v. map (λ f. f.now) v.items ≡ fields line.now) }
 {
     line.split(' ').collect(alloc)
+}
+
+fn quoted_argument(field: &str) -> Option<NamedArgument>
+    ensures { option_map named_argument_view result ≡ option_map quoted (quoted_in field.now) }
+{
+    match quoted_in(field) {
+        Some(name) => Some(NamedArgument::Quoted(name)),
+        None => None,
+    }
 }
 
 fn argument_of(kind: Kind, field: &str) -> Option<NamedArgument>
@@ -42,6 +39,18 @@ fn argument_of(kind: Kind, field: &str) -> Option<NamedArgument>
                 None => None,
             },
         },
+        Kind::Label => match identifier_of(field) {
+            Some(name) => Some(NamedArgument::Label(name)),
+            None => None,
+        },
+        Kind::Name => quoted_argument(field),
+        Kind::NameOrNone => {
+            if field == "0" {
+                Some(NamedArgument::Number(0))
+            } else {
+                quoted_argument(field)
+            }
+        }
     }
 }
 
@@ -51,7 +60,8 @@ fn arguments_of(
     kinds: &[Kind],
     fields: &[&str],
 ) -> Result<Vec<NamedArgument>, FileFault>
-    ensures { Reads result (λ v. map named_argument_view v.items) (arguments_of kinds.now (map (λ f. f.now) fields.now)) }
+    ensures read { Reads result (λ v. map named_argument_view v.items) (arguments_of kinds.now (map (λ f. f.now) fields.now)) }
+    ensures counted { IfOk result (λ v. length v.items ≡ length kinds.now) }
 {
     if kinds.len() != fields.len() {
         return Err(FileFault::BadCommand);
@@ -112,15 +122,84 @@ fn with_word(
     })
 }
 
-/// The command that a line says, or BadCommand where it says none.
-///
-/// `[TARGET = ]WORD{ ARGUMENT}` with single spaces (own choice).
-pub fn read_line(alloc: Global, line: &str) -> Result<NamedCommand, FileFault>
-    ensures { Reads result named_command_view (command_of (fields line.now)) }
+// The command of the fields of a line, `[TARGET = ]WORD{ ARGUMENT}`.
+fn read_command(alloc: Global, fields: &[&str]) -> Result<NamedCommand, FileFault>
+    ensures { Reads result named_command_view (command_of (map (λ f. f.now) fields.now)) }
 {
-    let all = fields_of(alloc, line)?;
-    match all.as_slice() {
+    match fields {
         [target, equals, after @ ..] if *equals == "=" => with_word(alloc, Some(*target), after),
         whole => with_word(alloc, None, whole),
+    }
+}
+
+fn label_of(fields: &[&str]) -> Option<LabelName>
+    ensures { option_map (λ n. n.bytes) result ≡ label_of (map (λ f. f.now) fields.now) }
+{
+    match fields {
+        [field] => label_in(*field),
+        _ => None,
+    }
+}
+
+/// What a line says, or BadCommand where it says nothing.
+///
+/// `LABEL:` or `[TARGET = ]WORD{ ARGUMENT}` with single spaces (own choice).
+pub fn read_line(alloc: Global, line: &str) -> Result<Line, FileFault>
+    ensures { Reads result line_view (line_of (fields line.now)) }
+{
+    let all = fields_of(alloc, line)?;
+    match label_of(&all) {
+        Some(name) => Ok(Line::Label(name)),
+        None => {
+            let command = read_command(alloc, &all)?;
+            Ok(Line::Command(command))
+        }
+    }
+}
+
+#[cfg(test)]
+mod tests {
+    use super::*;
+    use std::test::*;
+
+    /// Whether a field is an argument of a kind.
+    fn is_argument(kind: Kind, field: &str) -> bool {
+        argument_of(kind, field).is_some()
+    }
+
+    #[test]
+    fn a_name_stands_between_double_quotes(rt: HostRuntime) {
+        match argument_of(Kind::Name, "\"x.Y_9-\"") {
+            Some(NamedArgument::Quoted(name)) => assert_eq!(rt; name.as_str(), "x.Y_9-"),
+            _ => assert!(rt; false),
+        }
+        let fields = [
+            "",
+            "\"",
+            "\"\"",
+            "a",
+            "\"a",
+            "a\"",
+            "\"a b\"",
+            "\"a\"b\"",
+            "'a'",
+            "0",
+            "\"a2345678901234567890123456789012\"",
+        ];
+        for field in fields {
+            assert!(rt; !is_argument(Kind::Name, field), "at {field}");
+        }
+    }
+
+    #[test]
+    fn only_0_alone_stands_for_no_name(rt: HostRuntime) {
+        match argument_of(Kind::NameOrNone, "0") {
+            Some(NamedArgument::Number(n)) => assert_eq!(rt; n, 0),
+            _ => assert!(rt; false),
+        }
+        assert!(rt; is_argument(Kind::NameOrNone, "\"0\""));
+        for field in ["00", "-0", "$0", "v", "1", "\"\""] {
+            assert!(rt; !is_argument(Kind::NameOrNone, field), "at {field}");
+        }
     }
 }

@@ -1,13 +1,10 @@
-//! Numbers for the names of variables, in the order of first sight.
-ghost use Rattle.std.specs.Prelude.{◌≡◌, ◌≤◌, ◌++◌, [], ◌∷◌, nat_lt, length, map, take, option_map, OnOk};
-ghost use Rattle.taskscript.specs.Commands.{argument_view, command_view};
+//! Numbers for the names of variables, in the order of first sight: each name is seen once, and then it has a number.
+ghost use Rattle.std.specs.Prelude.{◌≡◌, [], ◌∷◌, nat_lt, map, option_map, OnOk};
 ghost use Rattle.taskscript.specs.Lines.{named_variable_view, named_argument_view, named_command_view};
-ghost use Rattle.taskscript.specs.Numbering.{seen_after, number_in, names_with, names_after, variable_in, is_within, variables_of_target, variables_of_arguments, variables_of, have_room, arguments_in_turn, command_in_turn, texts, names_view, Numbers};
-ghost use Rattle.taskscript.specs.Words.{kinds};
+ghost use Rattle.taskscript.specs.Numbering.{seen_after, number_in, names_with, names_after, variable_in, is_within, variables_of_target, variables_of_arguments, variables_of, have_room, texts, names_view, Sees};
 
-use crate::command::{Argument, Command};
 use crate::fault::FileFault;
-use crate::line::{NamedArgument, NamedCommand};
+use crate::named::{NamedArgument, NamedCommand};
 use crate::variable::{NamedVariable, Variable, VariableName};
 use indexmap::IndexSet;
 
@@ -17,84 +14,130 @@ pub const PRIVATE_LIMIT: usize = 32;
 /// The greatest number of shared variables of a file.
 pub const SHARED_LIMIT: usize = 64;
 
-// The place of a name in the order of first sight; TooMany where that is past the limit.
-fn number(
+// A name is seen; TooMany where its place in the order of first sight is past the limit.
+fn see(
     names: &mut IndexSet<VariableName>,
     name: VariableName,
     limit: usize,
-) -> Result<usize, FileFault>
-    ensures number { Numbers result (nat_lt (number_in (texts names.old.keys) name.bytes) limit) (λ n. n ≡ number_in (texts names.old.keys) name.bytes) }
+) -> Result<(), FileFault>
+    ensures room { Sees result (nat_lt (number_in (texts names.old.keys) name.bytes) limit) }
     ensures seen { OnOk result (texts names.new.keys ≡ seen_after (texts names.old.keys) name.bytes) }
 {
     let (index, _is_new) = names.insert_full(name)?;
     if index < limit {
-        Ok(index)
+        Ok(())
     } else {
         Err(FileFault::TooMany)
     }
 }
 
-fn number_variable(
+fn see_variable(
     variable: NamedVariable,
     private: &mut IndexSet<VariableName>,
     shared: &mut IndexSet<VariableName>,
-) -> Result<Variable, FileFault>
-    ensures number { let names = names_view private.old.keys shared.old.keys in let named = named_variable_view variable in Numbers result (is_within (variable_in names named)) (λ v. v ≡ variable_in names named) }
+) -> Result<(), FileFault>
+    ensures room { Sees result (is_within (variable_in (names_view private.old.keys shared.old.keys) (named_variable_view variable))) }
     ensures seen { OnOk result (names_view private.new.keys shared.new.keys ≡ names_with (names_view private.old.keys shared.old.keys) (named_variable_view variable)) }
 {
     if variable.is_shared {
-        Ok(Variable::Shared(number(shared, variable.name, SHARED_LIMIT)?))
+        see(shared, variable.name, SHARED_LIMIT)
     } else {
-        Ok(Variable::Private(number(private, variable.name, PRIVATE_LIMIT)?))
+        see(private, variable.name, PRIVATE_LIMIT)
     }
 }
 
-/// The target with its number, if there is one. `private` has the names of the body, and `shared` those of the file, as
-/// far as they were seen. TooMany where the number is past its limit.
-pub fn number_target(
+fn see_target(
     target: Option<NamedVariable>,
     private: &mut IndexSet<VariableName>,
     shared: &mut IndexSet<VariableName>,
-) -> Result<Option<Variable>, FileFault>
-    ensures number { let names = names_view private.old.keys shared.old.keys in let named = option_map named_variable_view target in Numbers result (have_room names (variables_of_target named)) (λ v. v ≡ option_map (variable_in names) named) }
+) -> Result<(), FileFault>
+    ensures room { Sees result (have_room (names_view private.old.keys shared.old.keys) (variables_of_target (option_map named_variable_view target))) }
     ensures seen { OnOk result (names_view private.new.keys shared.new.keys ≡ names_after (names_view private.old.keys shared.old.keys) (variables_of_target (option_map named_variable_view target))) }
 {
     match target {
-        None => Ok(None),
-        Some(variable) => Ok(Some(number_variable(variable, private, shared)?)),
+        None => Ok(()),
+        Some(variable) => see_variable(variable, private, shared),
     }
 }
 
-fn number_argument(
+fn see_argument(
     argument: NamedArgument,
     private: &mut IndexSet<VariableName>,
     shared: &mut IndexSet<VariableName>,
-) -> Result<Argument, FileFault>
-    ensures number { let names = names_view private.old.keys shared.old.keys in let named = named_argument_view argument ∷ [] in Numbers result (have_room names (variables_of_arguments named)) (λ a. argument_view a ∷ [] ≡ arguments_in_turn names named) }
+) -> Result<(), FileFault>
+    ensures room { Sees result (have_room (names_view private.old.keys shared.old.keys) (variables_of_arguments (named_argument_view argument ∷ []))) }
     ensures seen { OnOk result (names_view private.new.keys shared.new.keys ≡ names_after (names_view private.old.keys shared.old.keys) (variables_of_arguments (named_argument_view argument ∷ []))) }
 {
     match argument {
-        NamedArgument::Number(n) => Ok(Argument::Number(n)),
-        NamedArgument::Variable(variable) => {
-            Ok(Argument::Variable(number_variable(variable, private, shared)?))
-        }
+        NamedArgument::Number(_) | NamedArgument::Label(_) | NamedArgument::Quoted(_) => Ok(()),
+        NamedArgument::Variable(variable) => see_variable(variable, private, shared),
     }
 }
 
-/// The arguments with their numbers, from left to right; what stands past them is unused. TooMany where a number is past
-/// its limit.
-pub fn number_arguments(
-    named: &[NamedArgument],
+fn see_arguments(
+    arguments: &[NamedArgument],
     private: &mut IndexSet<VariableName>,
     shared: &mut IndexSet<VariableName>,
-) -> Result<[Argument; 4], FileFault>
-    requires { length named.now ≤ 4 }
-    ensures number { let names = names_view private.old.keys shared.old.keys in let arguments = map named_argument_view named.now in Numbers result (have_room names (variables_of_arguments arguments)) (λ a. map argument_view (take (length named.now) a) ≡ arguments_in_turn names arguments) }
-    ensures seen { OnOk result (names_view private.new.keys shared.new.keys ≡ names_after (names_view private.old.keys shared.old.keys) (variables_of_arguments (map named_argument_view named.now))) }
+) -> Result<(), FileFault>
+    ensures room { Sees result (have_room (names_view private.old.keys shared.old.keys) (variables_of_arguments (map named_argument_view arguments.now))) }
+    ensures seen { OnOk result (names_view private.new.keys shared.new.keys ≡ names_after (names_view private.old.keys shared.old.keys) (variables_of_arguments (map named_argument_view arguments.now))) }
 {
-    let mut arguments = [Argument::Number(0); 4];
-    for (i, argument) in named.iter().enumerate() {
-        arguments[i] = number_argument(*argument, private, shared)?;
+    for argument in arguments {
+        see_argument(*argument, private, shared)?;
     }
-    Ok(arguments)
+    Ok(())
+}
+
+/// The names of a command are seen, the target's first, and then those of the arguments from left to right.
+///
+/// `private` has the names of the body, and `shared` those of the file. TooMany where a number is past its limit.
+pub fn see_command(
+    command: &NamedCommand,
+    private: &mut IndexSet<VariableName>,
+    shared: &mut IndexSet<VariableName>,
+) -> Result<(), FileFault>
+    ensures room { Sees result (have_room (names_view private.old.keys shared.old.keys) (variables_of (named_command_view command.now))) }
+    ensures seen { OnOk result (names_view private.new.keys shared.new.keys ≡ names_after (names_view private.old.keys shared.old.keys) (variables_of (named_command_view command.now))) }
+{
+    see_target(command.target, private, shared)?;
+    see_arguments(command.arguments.as_slice(), private, shared)
+}
+
+// The place of a name in the order of first sight; behind the others, if it was not seen.
+fn number_in(names: &IndexSet<VariableName>, name: VariableName) -> usize
+    ensures { result ≡ number_in (texts names.now.keys) name.bytes }
+{
+    match names.get_index_of(&name) {
+        Some(index) => index,
+        None => names.len(),
+    }
+}
+
+/// A variable by its number.
+pub fn variable_in(
+    variable: NamedVariable,
+    private: &IndexSet<VariableName>,
+    shared: &IndexSet<VariableName>,
+) -> Variable
+    ensures { result ≡ variable_in (names_view private.now.keys shared.now.keys) (named_variable_view variable) }
+{
+    if variable.is_shared {
+        Variable::Shared(number_in(shared, variable.name))
+    } else {
+        Variable::Private(number_in(private, variable.name))
+    }
+}
+
+/// A target by its number, if there is one.
+pub fn target_in(
+    target: Option<NamedVariable>,
+    private: &IndexSet<VariableName>,
+    shared: &IndexSet<VariableName>,
+) -> Option<Variable>
+    ensures { result ≡ option_map (variable_in (names_view private.now.keys shared.now.keys)) (option_map named_variable_view target) }
+{
+    match target {
+        None => None,
+        Some(variable) => Some(variable_in(variable, private, shared)),
+    }
 }

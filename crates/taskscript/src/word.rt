@@ -8,12 +8,52 @@ ghost use Rattle.taskscript.specs.Words.{answers, kinds, word_of, word_text};
 pub enum Word {
     /// Gives its argument to the target. It prints nothing.
     Set,
+    /// Gives the sum of its arguments to the target. It prints nothing.
+    Add,
+    /// Gives their difference. It prints nothing.
+    Sub,
+    /// Gives their bitwise and. It prints nothing.
+    And,
+    /// Gives their bitwise or. It prints nothing.
+    Or,
+    /// Goes on at the label.
+    Jump,
+    /// Goes on at the label if its argument is 0.
+    JumpZ,
+    /// Goes on at the label if its argument is not 0.
+    JumpNZ,
     /// Prints its argument.
     Print,
+    /// Allocates a signal (autodoc exec.library/AllocSignal).
+    AllocSignal,
+    /// Frees a signal (autodoc exec.library/FreeSignal).
+    FreeSignal,
+    /// Sets signals of the caller (autodoc exec.library/SetSignal).
+    SetSignal,
     /// Sends signals to a task (autodoc exec.library/Signal).
     Signal,
     /// Waits for signals (autodoc exec.library/Wait).
     Wait,
+    /// Keeps other tasks from running (autodoc exec.library/Forbid).
+    Forbid,
+    /// Takes back one Forbid (autodoc exec.library/Permit).
+    Permit,
+    /// Keeps interrupts and other tasks from running (autodoc exec.library/Disable).
+    Disable,
+    /// Takes back one Disable (autodoc exec.library/Enable).
+    Enable,
+    /// Gives a task another priority (autodoc exec.library/SetTaskPri).
+    SetTaskPri,
+    /// Starts a task that never was added (autodoc exec.library/AddTask).
+    AddTask,
+    /// Ends a task (autodoc exec.library/RemTask).
+    RemTask,
+    /// Allocates memory (autodoc exec.library/AllocMem).
+    AllocMem,
+    /// Frees memory (autodoc exec.library/FreeMem).
+    FreeMem,
+    /// Asks how much memory there is (autodoc exec.library/AvailMem).
+    AvailMem,
 }
 
 /// What may stand at one place after a word.
@@ -21,10 +61,41 @@ pub enum Word {
 pub enum Kind {
     /// A number or a variable.
     Value,
+    /// A label of the body.
+    Label,
+    /// A name between double quotes.
+    Name,
+    /// A name between double quotes, or `0` alone for none.
+    NameOrNone,
 }
 
 /// All words.
-pub const ALL: [Word; 4] = [Word::Set, Word::Print, Word::Signal, Word::Wait];
+pub const ALL: [Word; 24] = [
+    Word::Set,
+    Word::Add,
+    Word::Sub,
+    Word::And,
+    Word::Or,
+    Word::Jump,
+    Word::JumpZ,
+    Word::JumpNZ,
+    Word::Print,
+    Word::AllocSignal,
+    Word::FreeSignal,
+    Word::SetSignal,
+    Word::Signal,
+    Word::Wait,
+    Word::Forbid,
+    Word::Permit,
+    Word::Disable,
+    Word::Enable,
+    Word::SetTaskPri,
+    Word::AddTask,
+    Word::RemTask,
+    Word::AllocMem,
+    Word::FreeMem,
+    Word::AvailMem,
+];
 
 impl Word {
     /// The text of the word, as it stands in a line and in the trace.
@@ -33,9 +104,29 @@ impl Word {
     {
         match self {
             Word::Set => "Set",
+            Word::Add => "Add",
+            Word::Sub => "Sub",
+            Word::And => "And",
+            Word::Or => "Or",
+            Word::Jump => "Jump",
+            Word::JumpZ => "JumpZ",
+            Word::JumpNZ => "JumpNZ",
             Word::Print => "Print",
+            Word::AllocSignal => "AllocSignal",
+            Word::FreeSignal => "FreeSignal",
+            Word::SetSignal => "SetSignal",
             Word::Signal => "Signal",
             Word::Wait => "Wait",
+            Word::Forbid => "Forbid",
+            Word::Permit => "Permit",
+            Word::Disable => "Disable",
+            Word::Enable => "Enable",
+            Word::SetTaskPri => "SetTaskPri",
+            Word::AddTask => "AddTask",
+            Word::RemTask => "RemTask",
+            Word::AllocMem => "AllocMem",
+            Word::FreeMem => "FreeMem",
+            Word::AvailMem => "AvailMem",
         }
     }
 
@@ -43,7 +134,32 @@ impl Word {
     pub fn answers(self) -> bool
         ensures { result ≡ answers self }
     {
-        matches!(self, Word::Set | Word::Wait)
+        match self {
+            Word::Set => true,
+            Word::Add => true,
+            Word::Sub => true,
+            Word::And => true,
+            Word::Or => true,
+            Word::Jump => false,
+            Word::JumpZ => false,
+            Word::JumpNZ => false,
+            Word::Print => false,
+            Word::AllocSignal => true,
+            Word::FreeSignal => false,
+            Word::SetSignal => true,
+            Word::Signal => false,
+            Word::Wait => true,
+            Word::Forbid => false,
+            Word::Permit => false,
+            Word::Disable => false,
+            Word::Enable => false,
+            Word::SetTaskPri => true,
+            Word::AddTask => true,
+            Word::RemTask => false,
+            Word::AllocMem => true,
+            Word::FreeMem => false,
+            Word::AvailMem => true,
+        }
     }
 
     /// The kinds of its arguments, from left to right.
@@ -51,8 +167,30 @@ impl Word {
         ensures { result.now ≡ kinds self }
     {
         match self {
-            Word::Set | Word::Print | Word::Wait => &[Kind::Value],
+            Word::Set => &[Kind::Value],
+            Word::Add => &[Kind::Value, Kind::Value],
+            Word::Sub => &[Kind::Value, Kind::Value],
+            Word::And => &[Kind::Value, Kind::Value],
+            Word::Or => &[Kind::Value, Kind::Value],
+            Word::Jump => &[Kind::Label],
+            Word::JumpZ => &[Kind::Value, Kind::Label],
+            Word::JumpNZ => &[Kind::Value, Kind::Label],
+            Word::Print => &[Kind::Value],
+            Word::AllocSignal => &[Kind::Value],
+            Word::FreeSignal => &[Kind::Value],
+            Word::SetSignal => &[Kind::Value, Kind::Value],
             Word::Signal => &[Kind::Value, Kind::Value],
+            Word::Wait => &[Kind::Value],
+            Word::Forbid => &[],
+            Word::Permit => &[],
+            Word::Disable => &[],
+            Word::Enable => &[],
+            Word::SetTaskPri => &[Kind::Value, Kind::Value],
+            Word::AddTask => &[Kind::Value],
+            Word::RemTask => &[Kind::Value],
+            Word::AllocMem => &[Kind::Value, Kind::Value],
+            Word::FreeMem => &[Kind::Value, Kind::Value],
+            Word::AvailMem => &[Kind::Value],
         }
     }
 }

@@ -64,7 +64,19 @@ fn a_line_of_another_form_is_no_command(rt: HostRuntime) {
         "Print 1 1",
         "Signal 1",
         "Signal 1 1 1",
-        "Jumps 1",
+        "Jumps l",
+        "Jump",
+        "Jump l 1",
+        "JumpZ l",
+        "JumpZ l 1",
+        "Jump @l",
+        "Jump 1",
+        "v = Jump l",
+        "v = FreeSignal 16",
+        "AllocSignal",
+        "SetSignal 1",
+        "Add 1",
+        "Print \"a\"",
         "v = Print 1",
         "v = Signal 1 1",
         "v =Wait 1",
@@ -81,6 +93,32 @@ fn a_line_of_another_form_is_no_command(rt: HostRuntime) {
             line_fault(&rt, line) == Some(FileFault::BadCommand),
             "at {line}"
         );
+    }
+}
+
+#[test]
+fn a_label_of_another_form_is_no_command(rt: HostRuntime) {
+    let lines = [
+        ":",
+        "l :",
+        " l:",
+        "l: ",
+        "l: Print 1",
+        "l::",
+        "L:",
+        "1:",
+        "_:",
+        "@l:",
+        "abcdefghijklmnopq:",
+    ];
+    for line in lines {
+        assert!(rt;
+            line_fault(&rt, line) == Some(FileFault::BadCommand),
+            "at {line}"
+        );
+    }
+    for line in ["l:", "l_9:", "abcdefghijklmnop:"] {
+        assert!(rt; line_fault(&rt, line).is_none(), "at {line}");
     }
 }
 
@@ -190,6 +228,63 @@ fn bodies_share_only_their_shared_names(rt: HostRuntime) -> Result<(), Fail> {
     assert!(rt; variable_at(&second, 0, 1) == Some(Variable::Shared(1)));
     assert!(rt; variable_at(&second, 1, 1) == Some(Variable::Shared(2)));
     Ok(())
+}
+
+/// The place that an argument in a code is.
+fn place_at(code: &[Command], command: usize, argument: usize) -> Option<u32> {
+    match argument_at(code, command, argument) {
+        Some(Argument::Place(place)) => Some(place),
+        _ => None,
+    }
+}
+
+#[test]
+fn a_label_names_the_command_after_it(rt: HostRuntime) -> Result<(), Fail> {
+    let lines = [
+        "a:",
+        "b:",
+        "v = Set 1",
+        "Jump c",
+        "JumpZ v a",
+        "c:",
+        "JumpNZ v v",
+        "Jump b",
+        "v:",
+    ];
+    let code = code_of(&rt, &lines, &mut IndexSet::new(rt.alloc()))?;
+    assert_eq!(rt; code.len(), 5);
+    assert_eq!(rt; place_at(&code, 1, 0), Some(3));
+    assert_eq!(rt; place_at(&code, 2, 1), Some(0));
+    assert_eq!(rt; place_at(&code, 3, 1), Some(5));
+    assert_eq!(rt; place_at(&code, 4, 0), Some(0));
+    assert!(rt; variable_at(&code, 3, 0) == Some(Variable::Private(0)));
+    Ok(())
+}
+
+#[test]
+fn a_body_of_labels_has_no_command(rt: HostRuntime) -> Result<(), Fail> {
+    let code = code_of(&rt, &["a:", "b:"], &mut IndexSet::new(rt.alloc()))?;
+    assert!(rt; code.is_empty());
+    Ok(())
+}
+
+#[test]
+fn a_label_stands_once_and_a_jump_finds_its_label(rt: HostRuntime) {
+    let cases = [
+        (["l:", "Print 1", "l:"], FileFault::BadLabel),
+        (["l:", "l:", "Print 01"], FileFault::BadLabel),
+        (["l:", "Print 01", "l:"], FileFault::BadCommand),
+        (["Jump l", "Print 1", "k:"], FileFault::BadLabel),
+        (["Jump l", "Print 1", "Print 01"], FileFault::BadCommand),
+        (["JumpZ l l", "k:", "Set l"], FileFault::BadLabel),
+        (["Jump l", "k:", "k:"], FileFault::BadLabel),
+    ];
+    for (lines, fault) in cases {
+        match code_of(&rt, &lines, &mut IndexSet::new(rt.alloc())) {
+            Ok(_) => assert!(rt; false),
+            Err(found) => assert!(rt; found == fault),
+        }
+    }
 }
 
 /// A body of so many lines, each of which names one variable of its own.

@@ -1,5 +1,5 @@
 -- The running task is one of the file, and the switch rests on what its nesting and the priorities say.
-use Rattle.scheduler.proofs.ScheduleLemmas.{runner_known, switch_for-is}
+use Rattle.scheduler.proofs.ScheduleLemmas.{runner_known}
 use Rattle.scheduler.proofs.Sched.gives_way.Goals as goal
 
 pub allows_switch-requires : goal.allows_switch-requires

@@ -1,6 +1,4 @@
 -- The running task is one of the file.
-use Rattle.std.proofs.Common.{ap, sym, ◌∙◌}
-use Rattle.scheduler.specs.Schedule.{is_switching_allowed}
 use Rattle.scheduler.proofs.ScheduleLemmas.{runner_known}
 use Rattle.scheduler.proofs.Sched.may_switch.Goals as goal
 

@@ -1,5 +1,4 @@
 -- The running task is one of the file, and it is in the state of running.
-use Rattle.std.proofs.Common.{rules}
 use Rattle.scheduler.proofs.ScheduleLemmas.{runner_known, runner_runs}
 use Rattle.scheduler.proofs.Sched.runner.Goals as goal
 

@@ -8,6 +8,6 @@ loop-t-init g c = record { moves = none_added _; count = refl }
 
 pub loop-t-preserved : goal.loop-t-preserved
 loop-t-preserved g c = record {
-  moves = more_added _ c.loop-t.invariant.moves c.add.ensures;
-  count = ap (λ (m : Seen). length m.scripts.programs) c.add.ensures ∙ c.loop-t.invariant.count;
+  moves = more_added _ c.loop-t.invariant.moves c.add.ensures.next;
+  count = ap (λ (m : Seen). length m.scripts.programs) c.add.ensures.next ∙ c.loop-t.invariant.count;
 }

@@ -1,0 +1,32 @@
+-- Forbid and Disable (RKM Libraries, Exec Tasks: forbidding task switching). Each task has two counts of its own, which hold again
+-- when it runs again. A count out of its range is the alert NEST (own choice).
+use Rattle.std.specs.Prelude.{ℕ, Bool, if◌then◌else◌, Option, codes}
+use Rattle.std.specs.Option.{is_some}
+use Rattle.forbid.specs.Nesting.{Nesting, after_forbid, after_permit, after_disable, after_enable}
+use Rattle.scheduler.specs.Schedule.{nesting_of, nested}
+use Rattle.execmodel.specs.State.{Call, State, Outcome, on_schedule}
+use Rattle.execmodel.specs.Calls.{done, alerted}
+
+-- such a call is done, or refused
+abbrev pub done_or_nest : Bool → ℕ → Call → State → Outcome
+done_or_nest fits t call s = if fits then done t call s else alerted (codes "NEST") t call s
+
+-- a call that gives task t this nesting, or none
+abbrev pub counted : ℕ → Call → Option Nesting → State → Outcome
+counted t call nesting s = done_or_nest (is_some nesting) t call (on_schedule (nested t nesting) s)
+
+-- Forbid: no other task runs until the counterpart (autodoc exec.library/Forbid)
+unfoldable pub does_forbid : ℕ → Call → State → Outcome
+does_forbid t call s = counted t call (after_forbid (nesting_of s.schedule t)) s
+
+-- Permit: takes back one Forbid (autodoc exec.library/Permit)
+unfoldable pub does_permit : ℕ → Call → State → Outcome
+does_permit t call s = counted t call (after_permit (nesting_of s.schedule t)) s
+
+-- Disable: no other task runs and no interrupt is served until the counterpart (autodoc exec.library/Disable)
+unfoldable pub does_disable : ℕ → Call → State → Outcome
+does_disable t call s = counted t call (after_disable (nesting_of s.schedule t)) s
+
+-- Enable: takes back one Disable (autodoc exec.library/Enable)
+unfoldable pub does_enable : ℕ → Call → State → Outcome
+does_enable t call s = counted t call (after_enable (nesting_of s.schedule t)) s

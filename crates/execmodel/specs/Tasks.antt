@@ -1,0 +1,47 @@
+-- How tasks are begun and ended, and their priorities (RKM Libraries, Exec Tasks).
+use Rattle.std.specs.Prelude.{ℕ, ◌-◌, ℤ, pos, negsuc, Bool, not, ◌&&◌, ◌||◌, if◌then◌else◌, nat_eq, int_le, codes}
+use Rattle.std.specs.Int.{cast_signed, cast_unsigned, w32}
+use Rattle.taskq.specs.Tasks.{is_live}
+use Rattle.scheduler.specs.Schedule.{Schedule, status_of, priority_of, is_absent, leaves, removed}
+use Rattle.execmodel.specs.State.{Call, Scripts, State, Outcome, on_schedule}
+use Rattle.execmodel.specs.Scheduling.{added, reprioritized}
+use Rattle.execmodel.specs.Calls.{argument, done, answered, alerted}
+use Rattle.execmodel.specs.Signals.{is_task}
+
+-- there is a live task of that number
+abbrev pub is_live_task : ℕ → Scripts → Schedule → Bool
+is_live_task number scripts schedule = is_task number scripts && is_live (status_of schedule (number - 1))
+
+-- a priority that a task may have
+abbrev pub is_priority : ℤ → Bool
+is_priority pri = int_le (negsuc 127) pri && int_le pri (pos 127)
+
+-- SetTaskPri task pri: answers the old priority; a ready task arrives anew. The priority is read as a signed word, and answered as
+-- one (autodoc exec.library/SetTaskPri).
+unfoldable pub does_set_task_pri : ℕ → Call → State → Outcome
+does_set_task_pri t call s =
+    let number = argument 0 call in
+    let pri = cast_signed w32 (argument 1 call) in
+    if not (is_live_task number s.scripts s.schedule) then alerted (codes "HANDLE") t call s
+    else (if not (is_priority pri) then alerted (codes "VALUE") t call s
+    else answered t call (cast_unsigned w32 (priority_of s.schedule (number - 1))) (on_schedule (reprioritized (number - 1) pri) s))
+
+-- AddTask task: begins a task that never was added, and answers its number; 0 for any other (autodoc exec.library/AddTask; that an
+-- ended task is not begun again: own choice)
+unfoldable pub does_add_task : ℕ → Call → State → Outcome
+does_add_task t call s =
+    let number = argument 0 call in
+    if not (is_task number s.scripts) then alerted (codes "HANDLE") t call s
+    else answered t call (if is_absent (status_of s.schedule (number - 1)) then number else 0) (on_schedule (added (number - 1)) s)
+
+-- the number names the caller: 0, or its own
+abbrev pub is_caller : ℕ → ℕ → Bool
+is_caller t number = nat_eq number 0 || nat_eq (number - 1) t
+
+-- RemTask task: ends the caller, or another live task, which is ready or waits (autodoc exec.library/RemTask)
+unfoldable pub does_rem_task : ℕ → Call → State → Outcome
+does_rem_task t call s =
+    let number = argument 0 call in
+    if is_caller t number then done t call (on_schedule (leaves t) s)
+    else (if not (is_live_task number s.scripts s.schedule) then alerted (codes "HANDLE") t call s
+    else done t call (on_schedule (removed (number - 1)) s))

@@ -1,0 +1,13 @@
+//! Worked runs of whole machines, from both texts to the trace: tests that cross crates, and no code.
+#![tactic(auto)]
+
+#[cfg(test)]
+mod arithmetic;
+#[cfg(test)]
+mod running;
+#[cfg(test)]
+mod signals;
+#[cfg(test)]
+mod texts;
+#[cfg(test)]
+mod writers;

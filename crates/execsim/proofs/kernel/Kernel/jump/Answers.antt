@@ -1,0 +1,5 @@
+use Rattle.execsim.proofs.Calculating.{follows_jump}
+use Rattle.execsim.proofs.kernel.Kernel.jump.Goals as goal
+
+pub returns : goal.returns
+returns g c tape = follows_jump _ _ _ c.number.ensures (c.jump_to.ensures tape)

@@ -1,0 +1,5 @@
+use Rattle.execsim.proofs.Calculating.{follows_jumps}
+use Rattle.execsim.proofs.kernel.Kernel.jump_to.Goals as goal
+
+pub returns : goal.returns
+returns g c tape = follows_jumps tape _ _ c.go_on.ensures

@@ -1,0 +1,108 @@
+//! Memory: blocks that AllocMem gives and FreeMem takes back.
+ghost use Rattle.std.specs.Prelude.{◌≡◌, ◌<◌, length, true, false};
+ghost use Rattle.memlist.specs.Fit.{fit, avail};
+ghost use Rattle.memlist.specs.Memory.{allocated, can_free, without_block};
+ghost use Rattle.execmodel.specs.Memory.{has_only, can_be_asked, does_alloc_mem, does_free_mem, does_avail_mem};
+ghost use Rattle.execsim.specs.Agreement.{Follows};
+ghost use Rattle.execsim.specs.Views.{call_view};
+
+use crate::kernel::Kernel;
+use crate::program::Call;
+use execlist::space::ListSpace;
+use exectrace::Sink;
+use taskq::TaskId;
+
+/// MEMF_PUBLIC, MEMF_CHIP, MEMF_FAST and MEMF_CLEAR.
+const ALLOC_BITS: u32 = 0x1_0007;
+
+/// Those of `ALLOC_BITS`, MEMF_LARGEST and MEMF_TOTAL.
+const AVAIL_BITS: u32 = 0xb_0007;
+
+/// MEMF_LARGEST and MEMF_TOTAL.
+const MEMF_LARGEST: u32 = 0x2_0000;
+
+const MEMF_TOTAL: u32 = 0x8_0000;
+
+/// Whether requirements have no other bits than these.
+fn has_only(bits: u32, reqs: u32) -> bool
+    ensures { result ≡ has_only bits reqs }
+{
+    reqs & bits == reqs
+}
+
+/// Whether AvailMem may be asked for this: not for the greatest gap and the installed size at once.
+fn can_be_asked(reqs: u32) -> bool
+    ensures { result ≡ can_be_asked reqs }
+{
+    has_only(AVAIL_BITS, reqs) && !(reqs & MEMF_LARGEST != 0 && reqs & MEMF_TOTAL != 0)
+}
+
+impl<S: ListSpace> Kernel<S> {
+    /// A plain block of so many bytes, if one fits.
+    fn allocate(&mut self, size: u32, reqs: u32) -> Option<u32>
+        ensures answer { result ≡ fit self.old.memory.regions self.old.memory.blocks size reqs }
+        ensures next { self.new ≡ record self.old { memory = allocated size 0 result self.old.memory } }
+    {
+        self.memory.alloc_mem(size, reqs, 0)
+    }
+
+    /// Frees the plain block that begins at an address, if the size names it.
+    fn free(&mut self, address: u32, size: u32) -> bool
+        ensures answer { result ≡ can_free address size self.old.memory.blocks }
+        ensures freed { result ≡ true → self.new ≡ record self.old { memory = without_block address self.old.memory } }
+        ensures kept { result ≡ false → self.new ≡ self.old }
+    {
+        self.memory.free_mem(address, size).is_ok()
+    }
+
+    /// How much memory there is.
+    fn available(&self, reqs: u32) -> u32
+        requires { can_be_asked reqs ≡ true }
+        ensures { result ≡ avail self.now.memory.regions self.now.memory.blocks reqs }
+    {
+        self.memory.avail(reqs)
+    }
+
+    /// AllocMem size reqs (autodoc exec.library/AllocMem).
+    pub(crate) fn alloc_mem<W: Sink>(&mut self, t: TaskId, call: &Call, out: &mut W)
+        requires { t < length self.old.scripts.programs }
+        ensures { Follows (does_alloc_mem t (call_view call.now)) self.old self.new (W.tape out.old) (W.tape out.new) }
+    {
+        let size = call.number(0);
+        let reqs = call.number(1);
+        if !has_only(ALLOC_BITS, reqs) {
+            self.alerted("VALUE", t, call, out);
+        } else {
+            let place = self.allocate(size, reqs);
+            self.answered(t, call, place.unwrap_or(0), out);
+        }
+    }
+
+    /// FreeMem addr size (autodoc exec.library/FreeMem).
+    pub(crate) fn free_mem<W: Sink>(&mut self, t: TaskId, call: &Call, out: &mut W)
+        requires { t < length self.old.scripts.programs }
+        ensures { Follows (does_free_mem t (call_view call.now)) self.old self.new (W.tape out.old) (W.tape out.new) }
+    {
+        let address = call.number(0);
+        let size = call.number(1);
+        if self.free(address, size) {
+            self.done(t, call, out);
+        } else {
+            self.alerted("MEM", t, call, out);
+        }
+    }
+
+    /// AvailMem reqs (autodoc exec.library/AvailMem).
+    pub(crate) fn avail_mem<W: Sink>(&mut self, t: TaskId, call: &Call, out: &mut W)
+        requires { t < length self.old.scripts.programs }
+        ensures { Follows (does_avail_mem t (call_view call.now)) self.old self.new (W.tape out.old) (W.tape out.new) }
+    {
+        let reqs = call.number(0);
+        if !can_be_asked(reqs) {
+            self.alerted("VALUE", t, call, out);
+        } else {
+            let answer = self.available(reqs);
+            self.answered(t, call, answer, out);
+        }
+    }
+}

@@ -1,0 +1,104 @@
+//! Forbid and Disable of the running task.
+ghost use Rattle.std.specs.Prelude.{◌≡◌, ◌<◌, length, Some};
+ghost use Rattle.std.specs.Option.{is_some};
+ghost use Rattle.forbid.specs.Nesting.{after_forbid, after_permit, after_disable, after_enable};
+ghost use Rattle.scheduler.specs.Schedule.{nesting_of, nested};
+ghost use Rattle.execmodel.specs.Nesting.{done_or_nest, does_forbid, does_permit, does_disable, does_enable};
+ghost use Rattle.execsim.specs.Agreement.{Follows};
+ghost use Rattle.execsim.specs.Views.{call_view};
+
+use crate::kernel::Kernel;
+use crate::program::Call;
+use execlist::space::ListSpace;
+use exectrace::Sink;
+use taskq::TaskId;
+
+impl<S: ListSpace> Kernel<S> {
+    /// Counts one more Forbid of the running task, and answers whether its count has room for it.
+    fn count_forbid(&mut self, t: TaskId) -> bool
+        requires { self.old.schedule.running ≡ Some t }
+        ensures answer { result ≡ is_some (after_forbid (nesting_of self.old.schedule t)) }
+        ensures next { self.new ≡ record self.old { schedule = nested t (after_forbid (nesting_of self.old.schedule t)) self.old.schedule } }
+    {
+        self.sched.forbid().is_ok()
+    }
+
+    /// Takes back one Forbid of the running task, and answers whether there was one.
+    fn count_permit(&mut self, t: TaskId) -> bool
+        requires { self.old.schedule.running ≡ Some t }
+        ensures answer { result ≡ is_some (after_permit (nesting_of self.old.schedule t)) }
+        ensures next { self.new ≡ record self.old { schedule = nested t (after_permit (nesting_of self.old.schedule t)) self.old.schedule } }
+    {
+        self.sched.permit().is_ok()
+    }
+
+    /// Counts one more Disable of the running task, and answers whether its count has room for it.
+    fn count_disable(&mut self, t: TaskId) -> bool
+        requires { self.old.schedule.running ≡ Some t }
+        ensures answer { result ≡ is_some (after_disable (nesting_of self.old.schedule t)) }
+        ensures next { self.new ≡ record self.old { schedule = nested t (after_disable (nesting_of self.old.schedule t)) self.old.schedule } }
+    {
+        self.sched.disable().is_ok()
+    }
+
+    /// Takes back one Disable of the running task, and answers whether there was one.
+    fn count_enable(&mut self, t: TaskId) -> bool
+        requires { self.old.schedule.running ≡ Some t }
+        ensures answer { result ≡ is_some (after_enable (nesting_of self.old.schedule t)) }
+        ensures next { self.new ≡ record self.old { schedule = nested t (after_enable (nesting_of self.old.schedule t)) self.old.schedule } }
+    {
+        self.sched.enable().is_ok()
+    }
+
+    /// A call that has counted is done; one that could not is refused.
+    fn counted<W: Sink>(&mut self, fits: bool, t: TaskId, call: &Call, out: &mut W)
+        requires { t < length self.old.scripts.programs }
+        ensures { Follows (done_or_nest fits t (call_view call.now)) self.old self.new (W.tape out.old) (W.tape out.new) }
+    {
+        if fits {
+            self.done(t, call, out);
+        } else {
+            self.alerted("NEST", t, call, out);
+        }
+    }
+
+    /// Forbid (autodoc exec.library/Forbid).
+    pub(crate) fn forbid<W: Sink>(&mut self, t: TaskId, call: &Call, out: &mut W)
+        requires known { t < length self.old.scripts.programs }
+        requires runs { self.old.schedule.running ≡ Some t }
+        ensures { Follows (does_forbid t (call_view call.now)) self.old self.new (W.tape out.old) (W.tape out.new) }
+    {
+        let fits = self.count_forbid(t);
+        self.counted(fits, t, call, out);
+    }
+
+    /// Permit (autodoc exec.library/Permit).
+    pub(crate) fn permit<W: Sink>(&mut self, t: TaskId, call: &Call, out: &mut W)
+        requires known { t < length self.old.scripts.programs }
+        requires runs { self.old.schedule.running ≡ Some t }
+        ensures { Follows (does_permit t (call_view call.now)) self.old self.new (W.tape out.old) (W.tape out.new) }
+    {
+        let fits = self.count_permit(t);
+        self.counted(fits, t, call, out);
+    }
+
+    /// Disable (autodoc exec.library/Disable).
+    pub(crate) fn disable<W: Sink>(&mut self, t: TaskId, call: &Call, out: &mut W)
+        requires known { t < length self.old.scripts.programs }
+        requires runs { self.old.schedule.running ≡ Some t }
+        ensures { Follows (does_disable t (call_view call.now)) self.old self.new (W.tape out.old) (W.tape out.new) }
+    {
+        let fits = self.count_disable(t);
+        self.counted(fits, t, call, out);
+    }
+
+    /// Enable (autodoc exec.library/Enable).
+    pub(crate) fn enable<W: Sink>(&mut self, t: TaskId, call: &Call, out: &mut W)
+        requires known { t < length self.old.scripts.programs }
+        requires runs { self.old.schedule.running ≡ Some t }
+        ensures { Follows (does_enable t (call_view call.now)) self.old self.new (W.tape out.old) (W.tape out.new) }
+    {
+        let fits = self.count_enable(t);
+        self.counted(fits, t, call, out);
+    }
+}

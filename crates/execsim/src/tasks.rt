@@ -1,0 +1,135 @@
+//! How tasks are begun and ended, and their priorities.
+ghost use Rattle.std.specs.Prelude.{◌≡◌, ◌≢◌, ◌<◌, ℕ, length, Some, IsTrue, if◌then◌else◌};
+ghost use Rattle.std.specs.Int.{cast_signed, cast_unsigned, w32};
+ghost use Rattle.execlist.specs.Lists.{times};
+ghost use Rattle.taskq.specs.Tasks.{is_live, is_ready};
+ghost use Rattle.scheduler.specs.Dispatch as dispatch;
+ghost use Rattle.scheduler.specs.Schedule.{status_of, priority_of, is_absent, leaves, removed};
+ghost use Rattle.execmodel.specs.Tasks.{is_live_task, is_priority, is_caller, does_set_task_pri, does_add_task, does_rem_task};
+ghost use Rattle.execsim.specs.Agreement.{Follows};
+ghost use Rattle.execsim.specs.Views.{call_view};
+
+use crate::kernel::Kernel;
+use crate::program::Call;
+use execlist::space::ListSpace;
+use exectrace::Sink;
+use taskq::TaskId;
+
+/// Whether a task may have the priority that the word is, read as a signed one.
+fn is_priority(word: u32) -> bool
+    ensures { result ≡ is_priority (cast_signed w32 word) }
+{
+    let pri = word.cast_signed();
+    -128 <= pri && pri <= 127
+}
+
+/// Whether the number names task t itself: 0, or its own.
+fn is_caller(t: TaskId, number: u32) -> bool
+    ensures { result ≡ is_caller t number }
+{
+    number == 0 || number as usize - 1 == t
+}
+
+/// What AddTask answers: the number of a task that begins, and else 0.
+fn begun(begins: bool, number: u32) -> u32
+    ensures { result ≡ (if begins then number else 0) }
+{
+    if begins { number } else { 0 }
+}
+
+impl<S: ListSpace> Kernel<S> {
+    /// Whether there is a live task of that number.
+    fn is_live_task(&self, number: u32) -> bool
+        ensures { result ≡ is_live_task number self.now.scripts self.now.schedule }
+    {
+        self.is_task(number) && self.sched.is_live(number as usize - 1)
+    }
+
+    /// Gives a task the priority that the word is, read as a signed one, and answers the old one as a word.
+    fn set_pri(&mut self, t: TaskId, word: u32) -> u32
+        requires known { t < length self.old.scripts.programs }
+        requires inside { IsTrue (is_priority (cast_signed w32 word)) }
+        ensures answer { result ≡ cast_unsigned w32 (priority_of self.old.schedule t) }
+        ensures next { self.new ≡ record self.old { schedule = dispatch.reprioritized t (cast_signed w32 word) self.old.schedule } }
+        ensures ready { (n : ℕ) → times n self.old.schedule.queue.ready ≡ (if is_ready (status_of self.old.schedule n) then 1 else 0) }
+    {
+        self.sched.facts();
+        let pri = word.cast_signed() as i8;
+        i32::from(self.sched.set_pri(t, pri)).cast_unsigned()
+    }
+
+    /// Begins a task that never was added, and answers whether it is one.
+    pub(crate) fn add(&mut self, t: TaskId) -> bool
+        requires { t < length self.old.scripts.programs }
+        ensures answer { result ≡ is_absent (status_of self.old.schedule t) }
+        ensures next { self.new ≡ record self.old { schedule = dispatch.added t self.old.schedule } }
+    {
+        self.sched.add(t)
+    }
+
+    /// Ends the running task.
+    pub(crate) fn leave(&mut self, t: TaskId)
+        requires { self.old.schedule.running ≡ Some t }
+        ensures { self.new ≡ record self.old { schedule = leaves t self.old.schedule } }
+    {
+        self.sched.leave();
+    }
+
+    /// Ends a live task that does not run.
+    fn remove(&mut self, t: TaskId)
+        requires live { IsTrue (is_live (status_of self.old.schedule t)) }
+        requires stopped { self.old.schedule.running ≢ Some t }
+        ensures { self.new ≡ record self.old { schedule = removed t self.old.schedule } }
+    {
+        self.sched.remove(t);
+    }
+
+    /// SetTaskPri task pri (autodoc exec.library/SetTaskPri).
+    pub(crate) fn set_task_pri<W: Sink>(&mut self, t: TaskId, call: &Call, out: &mut W)
+        requires { t < length self.old.scripts.programs }
+        ensures { Follows (does_set_task_pri t (call_view call.now)) self.old self.new (W.tape out.old) (W.tape out.new) }
+    {
+        let other = call.number(0);
+        let pri = call.number(1);
+        if !self.is_live_task(other) {
+            self.alerted("HANDLE", t, call, out);
+        } else if !is_priority(pri) {
+            self.alerted("VALUE", t, call, out);
+        } else {
+            let old = self.set_pri(other as usize - 1, pri);
+            self.answered(t, call, old, out);
+        }
+    }
+
+    /// AddTask task (autodoc exec.library/AddTask).
+    pub(crate) fn add_task<W: Sink>(&mut self, t: TaskId, call: &Call, out: &mut W)
+        requires { t < length self.old.scripts.programs }
+        ensures { Follows (does_add_task t (call_view call.now)) self.old self.new (W.tape out.old) (W.tape out.new) }
+    {
+        let other = call.number(0);
+        if !self.is_task(other) {
+            self.alerted("HANDLE", t, call, out);
+        } else {
+            let begins = self.add(other as usize - 1);
+            self.answered(t, call, begun(begins, other), out);
+        }
+    }
+
+    /// RemTask task (autodoc exec.library/RemTask).
+    pub(crate) fn rem_task<W: Sink>(&mut self, t: TaskId, call: &Call, out: &mut W)
+        requires known { t < length self.old.scripts.programs }
+        requires runs { self.old.schedule.running ≡ Some t }
+        ensures { Follows (does_rem_task t (call_view call.now)) self.old self.new (W.tape out.old) (W.tape out.new) }
+    {
+        let other = call.number(0);
+        if is_caller(t, other) {
+            self.leave(t);
+            self.done(t, call, out);
+        } else if !self.is_live_task(other) {
+            self.alerted("HANDLE", t, call, out);
+        } else {
+            self.remove(other as usize - 1);
+            self.done(t, call, out);
+        }
+    }
+}

@@ -1,0 +1,11 @@
+use Rattle.memlist.proofs.Addresses.{fitted_fresh, fitted_placed, live_placed}
+use Rattle.memlist.proofs.laws.blocks_are_placed.Goals as goal
+
+pub returns-clause-fresh : goal.returns-clause-fresh
+returns-clause-fresh c = fitted_fresh
+
+pub returns-clause-fitted : goal.returns-clause-fitted
+returns-clause-fitted c = fitted_placed
+
+pub returns-clause-live : goal.returns-clause-live
+returns-clause-live c = live_placed

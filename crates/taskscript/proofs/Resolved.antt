@@ -1,0 +1,73 @@
+-- Labels and numbers of a command, one argument and one command after another.
+use Rattle.std.proofs.Common.{◌≡◌, ℕ, ◌+◌, ◌<◌, Bool, true, false, ◌&&◌, List, [], ◌∷◌, ◌++◌, length, map, drop, take, get_or, Option, Some, refl, ap, sym, ◌∙◌, append_assoc}
+use Rattle.std.specs.Prelude.{is_some}
+use Rattle.std.specs.List.{flat_map}
+use Rattle.std.proofs.lemmas.List.{drop_more, take_more_set, map_push}
+use Rattle.std.proofs.Math.ListN.{set}
+use Rattle.taskscript.specs.declared.command.Argument.{Argument}
+use Rattle.taskscript.specs.declared.fault.FileFault.{FileFault}
+use Rattle.taskscript.specs.declared.fault.FileFault.TheVariants.{BadLabel}
+use Rattle.taskscript.specs.declared.named.NamedCommand.{NamedCommand}
+use Rattle.taskscript.specs.declared.variable.Variable.{Variable}
+use Rattle.taskscript.specs.declared.word.Word.{Word}
+use Rattle.taskscript.specs.Commands.{ArgumentData, CommandData, argument_view}
+use Rattle.taskscript.specs.Faults.{first, check}
+use Rattle.taskscript.specs.Labels.{Mark, place_in, are_marked, jump_faults_in}
+use Rattle.taskscript.specs.Lines.{NamedArgumentData, number, variable, label, quoted, NamedCommandData, named_command_view}
+use Rattle.taskscript.specs.Numbering.{labels_of_arguments}
+use Rattle.taskscript.specs.Words.{kinds}
+use Rattle.taskscript.proofs.Firsts.{first_none, first_some}
+
+and_true : (a b : Bool) → (a && b) ≡ ((a && true) && b)
+and_true true b = refl
+and_true false b = refl
+
+marked_split : (marks : List Mark) (a : NamedArgumentData) (others : List NamedArgumentData)
+    → are_marked marks (labels_of_arguments (a ∷ others)) ≡ (are_marked marks (labels_of_arguments (a ∷ [])) && are_marked marks (labels_of_arguments others))
+marked_split marks (number n) others = refl
+marked_split marks (variable v) others = refl
+marked_split marks (quoted n) others = refl
+marked_split marks (label n) others = and_true (is_some (place_in marks n)) (are_marked marks (labels_of_arguments others))
+
+pub marked_more : (marks : List Mark) (a : NamedArgumentData) (left others : List NamedArgumentData) (b : Bool) → left ≡ a ∷ others → are_marked marks (labels_of_arguments (a ∷ [])) ≡ b
+    → are_marked marks (labels_of_arguments left) ≡ (b && are_marked marks (labels_of_arguments others))
+marked_more marks a left others b is h =
+    ap (λ (found : List NamedArgumentData). are_marked marks (labels_of_arguments found)) is ∙ marked_split marks a others
+    ∙ ap (λ (c : Bool). c && are_marked marks (labels_of_arguments others)) h
+
+pub front_grown : (xs : List Argument) (i : ℕ) (a : Argument) → i < length xs → map argument_view (take (i + 1) (set xs i a)) ≡ map argument_view (take i xs) ++ argument_view a ∷ []
+front_grown xs i a lt = ap (map argument_view) (take_more_set xs i a lt) ∙ map_push argument_view (take i xs) a
+
+-- one more of what is made of a list by a function
+pub made_more : {X Y : Type 0} (f : X → Y) (front grown : List Y) (y : Y) (x : X) (left others : List X) → left ≡ x ∷ others → y ≡ f x → grown ≡ front ++ y ∷ []
+    → grown ++ map f others ≡ front ++ map f left
+made_more f front grown y x left others is made h =
+    ap (λ ys. ys ++ map f others) h ∙ append_assoc front (y ∷ []) (map f others) ∙ ap (λ z. front ++ (z ∷ map f others)) made ∙ ap (λ xs. front ++ map f xs) (sym is)
+
+pub next_command : (xs : List NamedCommand) (i : ℕ) (c : NamedCommand) → i < length xs → c ≡ get_or xs i c
+    → map named_command_view (drop i xs) ≡ named_command_view c ∷ map named_command_view (drop (i + 1) xs)
+next_command xs i c lt is = ap (map named_command_view) (drop_more xs i c lt) ∙ ap (λ (d : NamedCommand). named_command_view d ∷ map named_command_view (drop (i + 1) xs)) (sym is)
+
+abbrev command : Word → Option Variable → List ArgumentData → CommandData
+command w t found = record { word = w; target = t; arguments = found }
+
+-- a command made of its parts
+pub command_made : (w : Word) (t u : Option Variable) (xs : List Argument) (n : ℕ) (found : List ArgumentData) → n ≡ length (kinds w) → t ≡ u → map argument_view (take n xs) ≡ found
+    → command w t (map argument_view (take (length (kinds w)) xs)) ≡ command w u found
+command_made w t u xs n found count target made =
+    ap (λ (o : Option Variable). command w o (map argument_view (take (length (kinds w)) xs))) target ∙ ap (command w u) (ap (λ (k : ℕ). map argument_view (take k xs)) (sym count) ∙ made)
+
+abbrev jumps_left : List Mark → List NamedCommandData → List FileFault
+jumps_left marks cs = flat_map (jump_faults_in marks) cs
+
+pub jump_stops : (marks : List Mark) (c : NamedCommandData) (left others : List NamedCommandData) (o : Option FileFault) → left ≡ c ∷ others → are_marked marks (labels_of_arguments c.arguments) ≡ false
+    → first (jumps_left marks left) ≡ o → o ≡ Some BadLabel
+jump_stops marks c left others o is h so_far =
+    sym so_far ∙ ap (λ (cs : List NamedCommandData). first (jumps_left marks cs)) is
+    ∙ first_some (jump_faults_in marks c) (jumps_left marks others) BadLabel (ap (λ (b : Bool). first (check b BadLabel)) h)
+
+pub jump_goes_on : (marks : List Mark) (c : NamedCommandData) (left others : List NamedCommandData) → left ≡ c ∷ others → are_marked marks (labels_of_arguments c.arguments) ≡ true
+    → first (jumps_left marks others) ≡ first (jumps_left marks left)
+jump_goes_on marks c left others is h =
+    sym (ap (λ (cs : List NamedCommandData). first (jumps_left marks cs)) is
+    ∙ first_none (jump_faults_in marks c) (jumps_left marks others) (ap (λ (b : Bool). first (check b BadLabel)) h))

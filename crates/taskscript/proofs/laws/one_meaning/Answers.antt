@@ -1,0 +1,5 @@
+use Rattle.taskscript.proofs.Meaning.{one_meaning}
+use Rattle.taskscript.proofs.laws.one_meaning.Goals as goal
+
+pub returns : goal.returns
+returns c = one_meaning

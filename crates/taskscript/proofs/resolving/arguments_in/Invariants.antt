@@ -1,0 +1,18 @@
+use Rattle.std.proofs.Common.{◌≡◌, ◌++◌, drop, take, map, length}
+use Rattle.taskscript.specs.Commands.{argument_view}
+use Rattle.taskscript.specs.Labels.{are_marked, marks_view, place_at}
+use Rattle.taskscript.specs.Lines.{named_argument_view}
+use Rattle.taskscript.specs.Numbering.{names_view, argument_in, labels_of_arguments}
+use Rattle.taskscript.proofs.resolving.arguments_in.Given as goal
+
+abbrev pub invariant-loop-i : goal.invariant-loop-i
+invariant-loop-i l =
+    let marks = marks_view l.labels.entries in
+    let numbered = argument_in (names_view l.private.keys l.shared.keys) (place_at marks) in
+    let all = map named_argument_view l.named in
+    let left = map named_argument_view (drop l.i l.named) in
+    record {
+      four : length l.arguments ≡ 4;
+      known : are_marked marks (labels_of_arguments left) ≡ are_marked marks (labels_of_arguments all);
+      found : map argument_view (take l.i l.arguments) ++ map numbered left ≡ map numbered all;
+    }

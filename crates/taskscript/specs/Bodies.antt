@@ -1,0 +1,47 @@
+-- A body as it is read: line after line, with what was read so far.
+use Rattle.std.specs.Prelude.{ℕ, not, is_some, List, [], ◌∷◌, ◌++◌, length, map, Option, Some, None}
+use Rattle.std.specs.List.{fold}
+use Rattle.arrayvec.specs.ArrayString.{ArrayString}
+use Rattle.taskscript.specs.declared.body.Body.{Body}
+use Rattle.taskscript.specs.declared.fault.FileFault.{FileFault}
+use Rattle.taskscript.specs.declared.fault.FileFault.TheVariants.{BadCommand, BadLabel, TooMany}
+use Rattle.taskscript.specs.Code.{says}
+use Rattle.taskscript.specs.Faults.{check}
+use Rattle.taskscript.specs.Labels.{Mark, place_in, marks_view}
+use Rattle.taskscript.specs.Lines.{NamedCommandData, LineData, label_line, command_line, named_command_view}
+use Rattle.taskscript.specs.Numbering.{Names, names_after, variables_of, have_room, names_view}
+
+-- the commands, the names of variables and the labels so far
+pub record Reading : Type 0 where
+  pub commands : List NamedCommandData
+  pub names : Names
+  pub marks : List Mark
+
+-- nothing yet, after the shared names of the bodies before
+abbrev pub nothing_read : List (List ℕ) → Reading
+nothing_read shared = record { commands = []; names = record { private = []; shared = shared }; marks = [] }
+
+-- after what one line says
+abbrev pub reading_with : Reading → Option LineData → Reading
+reading_with r None = r
+reading_with r (Some (label_line name)) = record r { marks = r.marks ++ record { name = name; place = length r.commands } ∷ [] }
+reading_with r (Some (command_line c)) = record r { commands = r.commands ++ c ∷ []; names = names_after r.names (variables_of c) }
+
+abbrev pub reading_after : Reading → List (List ℕ) → Reading
+reading_after r lines = fold (λ before line. reading_with before (says line)) r lines
+
+-- the faults of what one line says
+abbrev pub said_faults : Reading → Option LineData → List FileFault
+said_faults r None = BadCommand ∷ []
+said_faults r (Some (label_line name)) = check (not (is_some (place_in r.marks name))) BadLabel
+said_faults r (Some (command_line c)) = check (have_room r.names (variables_of c)) TooMany
+
+abbrev pub faults_after : Reading → List (List ℕ) → List FileFault
+faults_after r [] = []
+faults_after r (line ∷ others) = said_faults r (says line) ++ faults_after (reading_with r (says line)) others
+
+-- ---- what the code holds
+
+abbrev pub reading_view : Body → List ArrayString → Reading
+reading_view body shared =
+    record { commands = map named_command_view body.commands.items; names = names_view body.private.keys shared; marks = marks_view body.labels.entries }
