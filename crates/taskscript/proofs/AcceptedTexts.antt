@@ -40,7 +40,7 @@ right [] b h = h
 right (f ∷ a) b h = absurd cc
 
 tells : (events : List Event) (within : Bool) → is_within events ≡ within → first_line (if within then [] else TooMany ∷ []) ≡ None → AreWithin events
-tells events true is h = record { steps = grind (arith, nat_tests, is); count = grind (arith, nat_tests, is) }
+tells events true is h = record { steps = grind (arith, nat_tests, is); ticks = grind (arith, nat_tests, is); count = grind (arith, nat_tests, is) }
 tells events false is h = absurd cc
 
 with_event : (event : Option Event) (number : ℕ) (events : List Event) → first_line (fault_by event number events) ≡ None → AreWithin events
@@ -60,7 +60,7 @@ after_lines before (line ∷ lines) so_far h =
 of_lines : (lines : List (List ℕ)) (events : List Event) (fault : Option EventFault) → first_line (line_by_line [] lines) ≡ fault → judged_lines (events_of lines) fault ≡ Ok events → AreWithin events
 of_lines lines events None none is =
     let same : events_of lines ≡ events = cc in
-    let nothing : AreWithin [] = record { steps = omega arith; count = omega arith } in
+    let nothing : AreWithin [] = record { steps = omega arith; ticks = omega arith; count = omega arith } in
     subst (λ (es : List Event). AreWithin es) same (after_lines [] lines nothing none)
 of_lines lines events (Some f) some is = absurd cc
 

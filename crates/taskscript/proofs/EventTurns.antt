@@ -8,7 +8,7 @@ use Rattle.std.proofs.Math.ListN.{get_or-map as default_map}
 use Rattle.taskscript.specs.declared.event.Event.{Event}
 use Rattle.taskscript.specs.declared.fault.EventFault.{EventFault}
 use Rattle.taskscript.specs.declared.fault.EventFault.TheVariants.{BadLine, TooMany, OutOfMemory}
-use Rattle.taskscript.specs.Events.{event_of, is_skipped, events_on, events_of, steps, are_within, is_within, line_faults, faults, first, lines_of, script_of, JudgesLines, AreWithin}
+use Rattle.taskscript.specs.Events.{event_of, is_skipped, events_on, events_of, steps, ticks, are_within, is_within, line_faults, faults, first, lines_of, script_of, JudgesLines, AreWithin}
 
 abbrev pub nowhere : Bor (List ℕ)
 nowhere = record { ref_ptr = (0, 0); now = [] }
@@ -62,8 +62,8 @@ pub more_found : (ls : List (Bor (List ℕ))) (i : ℕ) (e : Event) (es : List E
 more_found ls i e es lt h some so_far = ap (λ (xs : List Event). xs ++ e ∷ []) so_far ∙ sym (event_found ls i e lt h some) ∙ sym (ap events_of (next_take ls i lt))
 
 -- the counters are the sums
-pub counted : (es : List Event) (e : Event) (s : ℕ) → s ≡ sum_by steps es → are_within (s + steps e) (length es + 1) ≡ is_within (es ++ e ∷ [])
-counted es e s p = rw (sum_by_push steps es e, length_push es e, ← p)
+pub counted : (es : List Event) (e : Event) (s t : ℕ) → s ≡ sum_by steps es → t ≡ sum_by ticks es → are_within (s + steps e) (t + ticks e) (length es + 1) ≡ is_within (es ++ e ∷ [])
+counted es e s t p q = rw (sum_by_push steps es e, sum_by_push ticks es e, length_push es e, ← p, ← q)
 
 judged_here : (ls : List (Bor (List ℕ))) (i : ℕ) (e : Event) (es : List Event) (b : Bool) → i < length ls → is_skipped (text_at ls i) ≡ false → Some e ≡ event_of (text_at ls i) → es ≡ events_of (take i (texts ls)) → is_within (es ++ e ∷ []) ≡ b
     → line_faults (take i (texts ls)) (text_at ls i) ≡ (if b then [] else TooMany ∷ [])
@@ -78,12 +78,12 @@ pub goes_on : (ls : List (Bor (List ℕ))) (i : ℕ) (e : Event) (es : List Even
     → first (faults (take i (texts ls)) (drop i (texts ls))) ≡ first (faults (take (i + 1) (texts ls)) (drop (i + 1) (texts ls)))
 goes_on ls i e es lt h some so_far within = ap first (here ls i lt) ∙ first_none _ _ (judged_here ls i e es true lt h some so_far within)
 
-pub limits : (s n : ℕ) → are_within s n ≡ true → (s ≤ 1000000) × (n ≤ 100000)
-limits s n h = (grind (arith, nat_tests), grind (arith, nat_tests))
+pub limits : (s t n : ℕ) → are_within s t n ≡ true → (s ≤ 1000000) × (t ≤ 1000000) × (n ≤ 100000)
+limits s t n h = (grind (arith, nat_tests), grind (arith, nat_tests), grind (arith, nat_tests))
 
 -- the events are within the limits where the counters are
-pub all_within : (es : List Event) (s : ℕ) → s ≡ sum_by steps es → s ≤ 1000000 → length es ≤ 100000 → AreWithin es
-all_within es s p few short = record { steps = omega arith; count = short }
+pub all_within : (es : List Event) (s t : ℕ) → s ≡ sum_by steps es → t ≡ sum_by ticks es → s ≤ 1000000 → t ≤ 1000000 → length es ≤ 100000 → AreWithin es
+all_within es s t p q few short count = record { steps = omega arith; ticks = omega arith; count = count }
 
 pub decided : (text : List ℕ) (ls : List (List ℕ)) (r : Result (List Event) EventFault) → ls ≡ lines_of text → JudgesLines r (faults [] ls) (λ v. v ≡ events_of ls)
     → MatchResult r (λ v. script_of text ≡ Ok v) (λ f. ¬ (f ≡ OutOfMemory) → script_of text ≡ Err f)

@@ -1,7 +1,7 @@
 -- The first of the faults of two places, one after the other.
-use Rattle.std.proofs.Common.{◌≡◌, List, [], ◌∷◌, ◌++◌, Some, None, refl}
+use Rattle.std.proofs.Common.{◌≡◌, List, [], ◌∷◌, ◌++◌, Some, None, refl, ◌∙◌}
 use Rattle.taskscript.specs.declared.fault.FileFault.{FileFault}
-use Rattle.taskscript.specs.Faults.{first}
+use Rattle.taskscript.specs.Faults.{first, IsFirst}
 
 pub first_none : (a b : List FileFault) → first a ≡ None → first (a ++ b) ≡ first b
 first_none [] b h = refl
@@ -18,3 +18,11 @@ first_left (f ∷ a) b h = absurd cc
 pub first_right : (a b : List FileFault) → first (a ++ b) ≡ None → first b ≡ None
 first_right [] b h = h
 first_right (f ∷ a) b h = absurd cc
+
+-- the first fault of what follows a place without faults
+pub skip : (a b : List FileFault) (f : FileFault) → first a ≡ None → IsFirst f b → IsFirst f (a ++ b)
+skip a b f none is ne = first_none a b none ∙ is ne
+
+-- two places without faults
+pub both : (a b : List FileFault) → first a ≡ None → first b ≡ None → first (a ++ b) ≡ None
+both a b none last = first_none a b none ∙ last

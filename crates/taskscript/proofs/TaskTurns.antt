@@ -1,5 +1,5 @@
 -- One turn of the loops over the tasks: the first pass, which keeps heads, and the second one, which reads bodies.
-use Rattle.std.proofs.Common.{◌≡◌, ℕ, ℤ, ◌+◌, ◌<◌, List, [], ◌∷◌, ◌++◌, map, length, get_or, drop, None, refl, sym, ap, ◌∙◌, append_assoc, arith, suc, zero}
+use Rattle.std.proofs.Common.{◌≡◌, ℕ, ◌+◌, ◌<◌, List, [], ◌∷◌, ◌++◌, map, length, get_or, drop, None, refl, sym, ap, ◌∙◌, append_assoc, arith, suc, zero}
 use Rattle.std.proofs.lemmas.List.{map_push, length-map}
 use Rattle.toml.specs.declared.value.Value.{Value}
 use Rattle.toml.specs.View.{view, items_view}
@@ -11,7 +11,7 @@ use Rattle.taskscript.specs.declared.tasks.Head.{Head}
 use Rattle.taskscript.specs.Code.{body_faults, shared_after}
 use Rattle.taskscript.specs.Faults.{first, IsFirst}
 use Rattle.taskscript.specs.File.{name_of, task_faults, tasks_faults, lines_of, bodies_faults, shared_after_bodies, task_of, tasks_of, TaskData}
-use Rattle.taskscript.specs.Records.{head_names, head_view, head_of, heads_of, task_view}
+use Rattle.taskscript.specs.Records.{HeadData, head_names, head_view, head_of, heads_of, task_view}
 use Rattle.taskscript.proofs.Firsts.{first_none, first_some}
 
 -- ---- the first pass
@@ -28,7 +28,7 @@ pub heads_go_on : (hs : List Head) (h : Head) (vs : List Value) (i : ℕ) (v : V
     → first (task_faults (head_names hs) (view v)) ≡ None → head_view h ≡ head_of (view v)
     → first (tasks_faults (head_names hs) (items_view (drop i vs))) ≡ first (tasks_faults (head_names (hs ++ h ∷ [])) (items_view (drop (i + 1) vs)))
 heads_go_on hs h vs i v lt is good same =
-    let pushed : head_names hs ++ name_of (view v) ∷ [] ≡ head_names (hs ++ h ∷ []) = ap (λ (p : List ℕ × ℤ). head_names hs ++ p.0 ∷ []) (sym same) ∙ sym (map_push (λ (x : Head). x.name.bytes) hs h) in
+    let pushed : head_names hs ++ name_of (view v) ∷ [] ≡ head_names (hs ++ h ∷ []) = ap (λ (p : HeadData). head_names hs ++ p.name ∷ []) (sym same) ∙ sym (map_push (λ (x : Head). x.name.bytes) hs h) in
     ap first (heads_here (head_names hs) vs i v lt is) ∙ first_none _ _ good ∙ ap (λ (ns : List (List ℕ)). first (tasks_faults ns (items_view (drop (i + 1) vs)))) pushed
 
 pub heads_found : (hs : List Head) (h : Head) (vs : List Value) (i : ℕ) (v : Value) → i < length vs → v ≡ get_or vs i v → head_view h ≡ head_of (view v)
@@ -36,7 +36,7 @@ pub heads_found : (hs : List Head) (h : Head) (vs : List Value) (i : ℕ) (v : V
 heads_found hs h vs i v lt is same =
     let rest = heads_of (items_view (drop (i + 1) vs)) in
     ap (λ ds. map head_view hs ++ heads_of ds) (items_view-drop vs i v lt) ∙ ap (λ (w : Value). map head_view hs ++ (head_of (view w) ∷ rest)) (sym is)
-    ∙ ap (λ (p : List ℕ × ℤ). map head_view hs ++ (p ∷ rest)) (sym same) ∙ sym (append_assoc (map head_view hs) (head_view h ∷ []) rest) ∙ ap (λ (ps : List (List ℕ × ℤ)). ps ++ rest) (sym (map_push head_view hs h))
+    ∙ ap (λ (p : HeadData). map head_view hs ++ (p ∷ rest)) (sym same) ∙ sym (append_assoc (map head_view hs) (head_view h ∷ []) rest) ∙ ap (λ (ps : List HeadData). ps ++ rest) (sym (map_push head_view hs h))
 
 -- ---- heads and items side by side
 
@@ -50,7 +50,7 @@ heads_fill hs vs e = sym (length-map hs head_view) ∙ ap length e ∙ count_hea
 pub heads_at : (hs : List Head) (vs : List Value) (i : ℕ) (h : Head) (v : Value) → map head_view hs ≡ heads_of (items_view vs) → i < length vs → h ≡ get_or hs i h → v ≡ get_or vs i v → head_view h ≡ head_of (view v)
 heads_at hs [] i h v e lt p q = absurd (omega arith)
 heads_at [] (w ∷ vs) i h v e lt p q = absurd (omega (arith, ap length e))
-heads_at (x ∷ hs) (w ∷ vs) zero h v e lt p q = ap head_view p ∙ ap (λ (ps : List (List ℕ × ℤ)). get_or ps 0 (head_view h)) e ∙ ap (λ (z : Value). head_of (view z)) (sym q)
+heads_at (x ∷ hs) (w ∷ vs) zero h v e lt p q = ap head_view p ∙ ap (λ (ps : List HeadData). get_or ps 0 (head_view h)) e ∙ ap (λ (z : Value). head_of (view z)) (sym q)
 heads_at (x ∷ hs) (w ∷ vs) (suc i) h v e lt p q = heads_at hs vs i h v (ap (drop 1) e) (omega arith) p q
 
 -- ---- the second pass

@@ -3,7 +3,7 @@ use Rattle.std.specs.Prelude.{◌≡◌, ℕ, ◌+◌, ◌≤◌, Bool, true, �
 use Rattle.std.specs.List.{slice_split}
 use Rattle.taskscript.specs.Numbers.{decimal_of}
 use Rattle.taskscript.specs.declared.event.Event.{Event}
-use Rattle.taskscript.specs.declared.event.Event.TheVariants.{Run}
+use Rattle.taskscript.specs.declared.event.Event.TheVariants.{Run, Tick}
 use Rattle.taskscript.specs.declared.fault.EventFault.{EventFault}
 use Rattle.taskscript.specs.declared.fault.EventFault.TheVariants.{BadLine, TooMany, OutOfMemory}
 
@@ -23,6 +23,7 @@ begins_with front line = bytes_eq (take (length front) line) front
 unfoldable pub event_of : List ℕ → Option Event
 event_of line =
     if begins_with (codes "run ") line then option_map Run (turns_of (drop 4 line))
+    else if begins_with (codes "tick ") line then option_map Tick (turns_of (drop 5 line))
     else None
 
 -- an empty line, and one that begins with #, is skipped
@@ -35,13 +36,19 @@ is_skipped (b ∷ bs) = b == 35
 -- the steps that an event asks for
 abbrev pub steps : Event → ℕ
 steps (Run n) = n
+steps _ = 0
 
-abbrev pub are_within : ℕ → ℕ → Bool
-are_within run count = nat_le run 1000000 && nat_le count 100000
+-- the ticks that the event asks for
+abbrev pub ticks : Event → ℕ
+ticks (Tick n) = n
+ticks _ = 0
 
--- the sum of the steps is at most 1,000,000, and there are at most 100,000 events
+abbrev pub are_within : ℕ → ℕ → ℕ → Bool
+are_within run tick count = (nat_le run 1000000 && nat_le tick 1000000) && nat_le count 100000
+
+-- the sum of the steps and that of the ticks are at most 1,000,000, and there are at most 100,000 events
 abbrev pub is_within : List Event → Bool
-is_within events = are_within (sum_by steps events) (length events)
+is_within events = are_within (sum_by steps events) (sum_by ticks events) (length events)
 
 -- ---- a text
 
@@ -95,4 +102,5 @@ JudgesLines (Err f) fs right = ¬ (f ≡ OutOfMemory) → first fs ≡ Some f
 -- what holds of the events of every text that is accepted
 pub record AreWithin (events : List Event) : Type 0 where
   pub steps : sum_by steps events ≤ 1000000
+  pub ticks : sum_by ticks events ≤ 1000000
   pub count : length events ≤ 100000

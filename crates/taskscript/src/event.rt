@@ -1,6 +1,6 @@
 //! Events: what an event text asks the machine to do.
 ghost use Rattle.std.specs.Prelude.{◌≡◌};
-ghost use Rattle.taskscript.specs.Events.{steps, AreWithin};
+ghost use Rattle.taskscript.specs.Events.{steps, ticks, AreWithin};
 
 use std::marker::Model;
 
@@ -9,6 +9,8 @@ use std::marker::Model;
 pub enum Event {
     /// So many steps, each followed by a settle: 1 to 1,000,000.
     Run(u32),
+    /// So many ticks of the vertical blank, each followed by a settle: 1 to 1,000,000.
+    Tick(u32),
 }
 
 impl Event {
@@ -18,13 +20,24 @@ impl Event {
     {
         match self {
             Event::Run(n) => n,
+            Event::Tick(_) => 0,
+        }
+    }
+
+    /// The ticks that the event asks for.
+    pub(crate) fn ticks(self) -> u32
+        ensures { result ≡ ticks self }
+    {
+        match self {
+            Event::Run(_) => 0,
+            Event::Tick(n) => n,
         }
     }
 }
 
 /// The events of a text, in their order.
 ///
-/// `read_events` alone makes them: there are at most 100,000, and their steps sum to at most 1,000,000.
+/// `read_events` alone makes them: there are at most 100,000, and their steps and their ticks sum to at most 1,000,000 each.
 #[derive(Debug, Drop)]
 pub struct Events {
     list: Vec<Event>,

@@ -32,6 +32,11 @@ fn event_of(line: &[u8]) -> Option<Event>
             None => None,
             Some(n) => Some(Event::Run(n)),
         }
+    } else if let Some(digits) = line.strip_prefix(b"tick ") {
+        match turns_of(digits) {
+            None => None,
+            Some(n) => Some(Event::Tick(n)),
+        }
     } else {
         None
     }
@@ -52,10 +57,10 @@ fn lines_of(alloc: Global, text: &[u8]) -> Result<Vec<&[u8]>, AllocError>
     text.split(|b| *b == 10).collect(alloc)
 }
 
-fn are_within(steps: u64, count: usize) -> bool
-    ensures { result ≡ are_within steps count }
+fn are_within(steps: u64, ticks: u64, count: usize) -> bool
+    ensures { result ≡ are_within steps ticks count }
 {
-    steps <= 1_000_000 && count <= 100_000
+    steps <= 1_000_000 && ticks <= 1_000_000 && count <= 100_000
 }
 
 fn events_of(alloc: Global, lines: &[&[u8]]) -> Result<Events, EventFault>
@@ -63,6 +68,7 @@ fn events_of(alloc: Global, lines: &[&[u8]]) -> Result<Events, EventFault>
 {
     let mut events = Vec::new(alloc);
     let mut steps = 0u64;
+    let mut ticks = 0u64;
     for (i, line) in lines.iter().enumerate() {
         if is_skipped(line) {
             continue;
@@ -72,7 +78,8 @@ fn events_of(alloc: Global, lines: &[&[u8]]) -> Result<Events, EventFault>
             Some(event) => event,
         };
         steps += u64::from(event.steps());
-        if !are_within(steps, events.len() + 1) {
+        ticks += u64::from(event.ticks());
+        if !are_within(steps, ticks, events.len() + 1) {
             return Err(EventFault::TooMany);
         }
         events.push(event)?;
@@ -83,12 +90,12 @@ fn events_of(alloc: Global, lines: &[&[u8]]) -> Result<Events, EventFault>
 /// Reads an event text.
 ///
 /// Lines end with a line feed; the last one may lack it. An empty line and a line that begins with `#` are skipped, whatever bytes follow.
-/// Every other line is `run N`, with one space and N in decimal without leading zeros from 1 to 1000000.
+/// Every other line is `run N` or `tick N`, with one space and N in decimal without leading zeros from 1 to 1000000.
 ///
 /// # Errors
 ///
-/// The first faulty line decides: `BadLine` where it is no event, `TooMany` where it takes the sum of the steps past 1,000,000 or the events
-/// past 100,000. `OutOfMemory` may come wherever memory is refused.
+/// The first faulty line decides: `BadLine` where it is no event, `TooMany` where it takes the sum of the steps or that of the
+/// ticks past 1,000,000 or the events past 100,000. `OutOfMemory` may come wherever memory is refused.
 ///
 /// The format is this project's own choice.
 pub fn read_events(alloc: Global, text: &[u8]) -> Result<Events, EventFault>

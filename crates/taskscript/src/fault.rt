@@ -70,8 +70,8 @@ pub enum EventFault {
     /// The line of this number, counted from 1 with the lines that are skipped, is no event.
     #[error("line {0} is no event")]
     BadLine(usize),
-    /// A line takes the sum of the steps past 1,000,000, or the number of the events past 100,000.
-    #[error("there are too many events or steps")]
+    /// A line takes the sum of the steps or that of the ticks past 1,000,000, or the number of the events past 100,000.
+    #[error("there are too many events, steps or ticks")]
     TooMany,
     /// Memory was refused while the text was read.
     #[error("out of memory")]

@@ -5,6 +5,7 @@ ghost use Rattle.taskscript.specs.Records.{task_view};
 
 use crate::command::Command;
 use crate::name::Name;
+use memlist::Region;
 use std::marker::Model;
 
 /// A task of the machine.
@@ -14,6 +15,8 @@ pub struct TaskRecord {
     pub name: Name,
     /// Its priority.
     pub pri: i8,
+    /// Whether it is added when the machine starts.
+    pub start: bool,
     /// Its commands, in the order of its lines: at most 1,024.
     pub code: Vec<Command>,
 }
@@ -23,7 +26,10 @@ pub struct TaskRecord {
 /// `read_machine` alone makes one.
 #[derive(Drop)]
 pub struct MachineFile {
-    tasks: Vec<TaskRecord>,
+    pub(crate) quantum: u8,
+    pub(crate) pool: u32,
+    pub(crate) regions: Vec<Region>,
+    pub(crate) tasks: Vec<TaskRecord>,
 }
 
 impl Model for MachineFile {
@@ -34,18 +40,34 @@ impl Model for MachineFile {
 
     ghost Value = { MachineData };
 
-    ghost view = { λ m. record { tasks = map task_view m.tasks.items } };
+    ghost view = { λ m. record { quantum = m.quantum; pool = m.pool; regions = m.regions.items; tasks = map task_view m.tasks.items } };
 
-    ghost invariant = { λ m. IsMachine (record { tasks = map task_view m.tasks.items }) };
+    ghost invariant = { λ m. IsMachine (record { quantum = m.quantum; pool = m.pool; regions = m.regions.items; tasks = map task_view m.tasks.items }) };
 }
 
 impl MachineFile {
-    /// The machine of these tasks.
-    pub(crate) fn new(tasks: Vec<TaskRecord>) -> MachineFile
-        requires { IsMachine (record { tasks = map task_view tasks.items }) }
-        ensures { result ≡ record { tasks = map task_view tasks.items } }
+    /// The quantum: how many servings of VERTB a task runs before it lets an equal one run, 1 to 255 (RKM Libraries, Exec Tasks: scheduling).
+    pub fn quantum(&self) -> u8
+        ensures quantum { result ≡ self.now.quantum }
+        ensures machine { IsMachine self.now }
     {
-        MachineFile { tasks }
+        self.quantum
+    }
+
+    /// How many live objects there may be of each of the six kinds: 1 to 1,024 (own choice).
+    pub fn pool(&self) -> u32
+        ensures pool { result ≡ self.now.pool }
+        ensures machine { IsMachine self.now }
+    {
+        self.pool
+    }
+
+    /// The regions of memory, in the order of the file (RKM Libraries, Exec Memory Allocation). `check_regions` accepts them.
+    pub fn regions(&self) -> &[Region]
+        ensures regions { result.now ≡ self.now.regions }
+        ensures machine { IsMachine self.now }
+    {
+        &self.regions
     }
 
     /// The tasks, in the order of the file: at most 64. The first one is task 1.

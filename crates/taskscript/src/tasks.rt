@@ -1,11 +1,11 @@
 //! The tasks of a machine file. The first pass judges the tree and keeps the heads; the second one reads the bodies.
 ghost use Rattle.std.specs.Prelude.{◌≡◌, Some, None, codes, map, bytes_eq, [], OnOk};
 ghost use Rattle.std.specs.List.{list_any};
-ghost use Rattle.toml.specs.Data.{get_member};
+ghost use Rattle.toml.specs.Data.{table as a_table, get_member};
 ghost use Rattle.toml.specs.View.{table_view, view, items_view};
 ghost use Rattle.taskscript.specs.Code.{lines_in, body_faults, shared_after};
 ghost use Rattle.taskscript.specs.Faults.{Judges};
-ghost use Rattle.taskscript.specs.File.{task_faults, tasks_faults, lines_of, bodies_faults, shared_after_bodies, tasks_of, tasks_in};
+ghost use Rattle.taskscript.specs.File.{task_table_faults, task_faults, tasks_faults, lines_of, bodies_faults, both_passes_faults, shared_after_bodies, tasks_of, tasks_in};
 ghost use Rattle.taskscript.specs.Numbering.{texts};
 ghost use Rattle.taskscript.specs.Records.{head_view, head_names, head_of, heads_of, task_view, task_with};
 ghost use Rattle.taskscript.specs.Tree.{required, optional, name_faults, string_or_nothing, code_faults, array_faults};
@@ -14,7 +14,7 @@ use crate::code::read_code;
 use crate::fault::FileFault;
 use crate::file::TaskRecord;
 use crate::name::{Name, is_name};
-use crate::tree::{are_strings, has_only, items_at, member, optional_integer};
+use crate::tree::{are_strings, has_only, items_at, member, optional_boolean, optional_pri};
 use crate::variable::VariableName;
 use indexmap::IndexSet;
 use std::alloc::Global;
@@ -25,6 +25,7 @@ use toml::{Table, Value};
 pub struct Head {
     pub name: Name,
     pub pri: i8,
+    pub start: bool,
 }
 
 fn any_named(before: &[Head], name: &str) -> bool
@@ -86,23 +87,27 @@ fn check_code(table: &Table) -> Result<(), FileFault>
     Ok(())
 }
 
-fn head_of(value: &Value, before: &[Head]) -> Result<Head, FileFault>
-    ensures { Judges result (task_faults (head_names before.now) (view value.now)) (λ h. head_view h ≡ head_of (view value.now)) }
+/// The head of a task, whose keys and values are judged in their order.
+fn head_in(table: &Table, before: &[Head]) -> Result<Head, FileFault>
+    ensures { Judges result (task_table_faults (head_names before.now) (table_view table.now)) (λ h. head_view h ≡ head_of (a_table (table_view table.now))) }
 {
-    let table = match value.as_table() {
-        None => return Err(FileFault::BadValue),
-        Some(table) => table,
-    };
-    if !has_only(table, &["name", "pri", "code"]) {
+    if !has_only(table, &["name", "pri", "start", "code"]) {
         return Err(FileFault::UnknownKey);
     }
     let name = name_at(table, before)?;
-    let pri = optional_integer(table, "pri", -128, 127, 0)?;
+    let pri = optional_pri(table)?;
+    let start = optional_boolean(table, "start", true)?;
     check_code(table)?;
-    Ok(Head {
-        name,
-        pri: pri as i8,
-    })
+    Ok(Head { name, pri, start })
+}
+
+fn head_of(value: &Value, before: &[Head]) -> Result<Head, FileFault>
+    ensures { Judges result (task_faults (head_names before.now) (view value.now)) (λ h. head_view h ≡ head_of (view value.now)) }
+{
+    match value.as_table() {
+        None => Err(FileFault::BadValue),
+        Some(table) => head_in(table, before),
+    }
 }
 
 fn heads_of(alloc: Global, items: &[Value]) -> Result<Vec<Head>, FileFault>
@@ -118,7 +123,7 @@ fn heads_of(alloc: Global, items: &[Value]) -> Result<Vec<Head>, FileFault>
 
 /// The first pass over the tasks.
 #[tactic(auto, using(crate::proofs::Keys::count_items_view))]
-pub fn task_heads(alloc: Global, table: &Table) -> Result<Vec<Head>, FileFault>
+fn task_heads(alloc: Global, table: &Table) -> Result<Vec<Head>, FileFault>
     ensures { Judges result (optional (array_faults 64 (tasks_faults [])) (get_member (codes "task") (table_view table.now))) (λ hs. map head_view hs.items ≡ heads_of (tasks_in (table_view table.now))) }
 {
     let value = match member(table, "task") {
@@ -158,12 +163,13 @@ fn task_of(
     Ok(TaskRecord {
         name: head.name,
         pri: head.pri,
+        start: head.start,
         code,
     })
 }
 
 /// The second pass over the tasks.
-pub fn tasks_of(
+fn tasks_of(
     alloc: Global,
     heads: &[Head],
     items: &[Value],
@@ -179,4 +185,13 @@ pub fn tasks_of(
         tasks.push(task)?;
     }
     Ok(tasks)
+}
+
+/// The tasks of a file, by both passes.
+pub fn tasks_at(alloc: Global, table: &Table) -> Result<Vec<TaskRecord>, FileFault>
+    ensures { Judges result (both_passes_faults (table_view table.now)) (λ ts. map task_view ts.items ≡ tasks_of [] (tasks_in (table_view table.now))) }
+{
+    let heads = task_heads(alloc, table)?;
+    let mut shared = IndexSet::new(alloc);
+    tasks_of(alloc, &heads, items_at(table, "task"), &mut shared)
 }

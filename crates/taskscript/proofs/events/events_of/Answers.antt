@@ -1,7 +1,7 @@
 use Rattle.std.proofs.Common.{◌≡◌, sym, ◌∙◌, arith, true, false, ◌++◌, ◌∷◌, [], ◌+◌, length}
 use Rattle.std.proofs.lemmas.List.{length_push}
 use Rattle.std.proofs.lemmas.List.Sums.{sum_by_push}
-use Rattle.taskscript.specs.Events.{is_skipped, is_within, steps}
+use Rattle.taskscript.specs.Events.{is_skipped, is_within, steps, ticks}
 use Rattle.taskscript.proofs.EventTurns.{text_at, skip_found, skip_judged, bad_line, more_found, counted, too_many, goes_on, limits, all_within}
 use Rattle.taskscript.proofs.events.events_of.Goals as goal
 
@@ -11,7 +11,9 @@ loop-i-preserved-then-is_skipped c =
     record {
       found = c.loop-i.invariant.found ∙ skip_found c.args.lines.now c.loop-i.i c.loop-i-test.true skipped;
       steps_sum = c.loop-i.invariant.steps_sum;
+      ticks_sum = c.loop-i.invariant.ticks_sum;
       steps_limit = c.loop-i.invariant.steps_limit;
+      ticks_limit = c.loop-i.invariant.ticks_limit;
       count_limit = c.loop-i.invariant.count_limit;
       judged = sym (skip_judged c.args.lines.now c.loop-i.i c.loop-i-test.true skipped) ∙ c.loop-i.invariant.judged;
     }
@@ -24,9 +26,10 @@ returns-then-not-are_within c = λ _.
     let es = c.loop-i.events.items in
     let e = c.in-Some.event in
     let fs : c.from-steps.result ≡ steps e = cc in
+    let ft : c.from-ticks.result ≡ ticks e = cc in
     let ln : c.len.result ≡ length es = omega arith in
-    let sums = counted es e c.loop-i.steps c.loop-i.invariant.steps_sum in
-    let within : is_within (es ++ e ∷ []) ≡ false = sym (c.if-not-are_within.ensures ∙ rw (fs, ln) sums) in
+    let sums = counted es e c.loop-i.steps c.loop-i.ticks c.loop-i.invariant.steps_sum c.loop-i.invariant.ticks_sum in
+    let within : is_within (es ++ e ∷ []) ≡ false = sym (c.if-not-are_within.ensures ∙ rw (fs, ft, ln) sums) in
     sym c.loop-i.invariant.judged ∙ too_many c.args.lines.now c.loop-i.i c.in-Some.event c.loop-i.events.items c.loop-i-test.true (sym c.is_skipped.ensures ∙ c.if-is_skipped.false) c.in-Some.ensures c.loop-i.invariant.found within
 
 pub loop-i-preserved : goal.loop-i-preserved
@@ -34,18 +37,21 @@ loop-i-preserved c =
     let es = c.loop-i.events.items in
     let e = c.in-Some.event in
     let fs : c.from-steps.result ≡ steps e = cc in
+    let ft : c.from-ticks.result ≡ ticks e = cc in
     let ln : c.len.result ≡ length es = omega arith in
-    let sums = counted es e c.loop-i.steps c.loop-i.invariant.steps_sum in
-    let within : is_within (es ++ e ∷ []) ≡ true = sym (c.if-not-are_within.ensures ∙ rw (fs, ln) sums) in
-    let small = limits (c.loop-i.steps + c.from-steps.result) (c.len.result + 1) (sym c.if-not-are_within.ensures) in
+    let sums = counted es e c.loop-i.steps c.loop-i.ticks c.loop-i.invariant.steps_sum c.loop-i.invariant.ticks_sum in
+    let within : is_within (es ++ e ∷ []) ≡ true = sym (c.if-not-are_within.ensures ∙ rw (fs, ft, ln) sums) in
+    let small = limits (c.loop-i.steps + c.from-steps.result) (c.loop-i.ticks + c.from-ticks.result) (c.len.result + 1) (sym c.if-not-are_within.ensures) in
     let fine = sym c.is_skipped.ensures ∙ c.if-is_skipped.false in
     rw c.in_ok-push.ensures.items (record {
       found = more_found c.args.lines.now c.loop-i.i c.in-Some.event c.loop-i.events.items c.loop-i-test.true fine c.in-Some.ensures c.loop-i.invariant.found;
       steps_sum = omega (arith, sum_by_push steps es e, fs);
+      ticks_sum = omega (arith, sum_by_push ticks es e, ft);
       steps_limit = small.0;
-      count_limit = omega (arith, length_push es e, ln, small.1);
+      ticks_limit = small.1;
+      count_limit = omega (arith, length_push es e, ln, small.2);
       judged = sym (goes_on c.args.lines.now c.loop-i.i c.in-Some.event c.loop-i.events.items c.loop-i-test.true fine c.in-Some.ensures c.loop-i.invariant.found within) ∙ c.loop-i.invariant.judged;
     })
 
 pub new-requires : goal.new-requires
-new-requires c = all_within c.loop-i.events.items c.loop-i.steps c.loop-i.invariant.steps_sum c.loop-i.invariant.steps_limit c.loop-i.invariant.count_limit
+new-requires c = all_within c.loop-i.events.items c.loop-i.steps c.loop-i.ticks c.loop-i.invariant.steps_sum c.loop-i.invariant.ticks_sum c.loop-i.invariant.steps_limit c.loop-i.invariant.ticks_limit c.loop-i.invariant.count_limit
