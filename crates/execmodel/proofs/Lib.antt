@@ -1,2 +1,3 @@
 pub mod MemoryTraces
+pub mod QuantumTraces
 pub mod Traces

@@ -39,7 +39,8 @@ call_of t next command scripts = record {
   word = command.word;
   target = command.target;
   arguments = map (evaluated t scripts) command.arguments;
-  next = next }
+  next = next;
+}
 
 -- the call of the next command, if any is left
 abbrev pub call_at : ℕ → Option CommandData → Scripts → Option Call

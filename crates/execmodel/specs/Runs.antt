@@ -1,5 +1,5 @@
 -- Small machines and their whole traces, as the definitions compute them.
-use Rattle.std.specs.Prelude.{◌≡◌, ℕ, ℤ, pos, negsuc, List, [], ◌∷◌, None, Some, codes}
+use Rattle.std.specs.Prelude.{◌≡◌, ℕ, ℤ, true, pos, negsuc, List, [], ◌∷◌, None, Some, codes}
 use Rattle.exectrace.specs.Trace.{printed}
 use Rattle.taskscript.specs.declared.word.Word.{Word}
 use Rattle.taskscript.specs.declared.word.Word.TheVariants.{Set, Add, Sub, And, Jump, JumpZ, Print, AllocSignal, FreeSignal, Signal, Wait, Forbid, Permit, SetTaskPri, AddTask, RemTask}
@@ -15,10 +15,10 @@ abbrev pub command : Word → List ArgumentData → CommandData
 command word arguments = record { word = word; target = None; arguments = arguments }
 
 abbrev pub task : List ℕ → ℤ → List CommandData → TaskData
-task name pri code = record { name = name; pri = pri; code = code }
+task name pri code = record { name = name; pri = pri; start = true; code = code }
 
 abbrev pub machine : List TaskData → MachineData
-machine tasks = record { tasks = tasks }
+machine tasks = record { quantum = 4; tasks = tasks }
 
 -- the bytes that a machine writes over these events
 abbrev pub trace_of : List TaskData → List Event → List ℕ
@@ -57,12 +57,12 @@ is_preempted_among_equals =
 abbrev pub waits_for_what_was_asked : List TaskData
 waits_for_what_was_asked =
     task (codes "a") (pos 1)
-      (record { word = Set; target = Some (Shared 0); arguments = number 0x1000 ∷ [] }
-      ∷ record { word = Wait; target = Some (Private 0); arguments = variable (Shared 0) ∷ [] }
-      ∷ command Print (variable (Private 0) ∷ []) ∷ [])
+    (record { word = Set; target = Some (Shared 0); arguments = number 0x1000 ∷ [] }
+    ∷ record { word = Wait; target = Some (Private 0); arguments = variable (Shared 0) ∷ [] }
+    ∷ command Print (variable (Private 0) ∷ []) ∷ [])
     ∷ task (codes "b") (pos 0)
-      (record { word = Set; target = Some (Shared 0); arguments = number 0x2000 ∷ [] }
-      ∷ command Signal (number 1 ∷ number 0x1000 ∷ []) ∷ []) ∷ []
+    (record { word = Set; target = Some (Shared 0); arguments = number 0x2000 ∷ [] }
+    ∷ command Signal (number 1 ∷ number 0x1000 ∷ []) ∷ []) ∷ []
 
 -- a command whose answer goes into a variable of its task
 abbrev pub into : ℕ → Word → List ArgumentData → CommandData
@@ -93,7 +93,7 @@ allocates_the_highest = task (codes "a") (pos 0)
 abbrev pub signals_under_forbid : List TaskData
 signals_under_forbid =
     task (codes "a") (pos 0)
-      (command Forbid [] ∷ command Signal (number 2 ∷ number 0x1000 ∷ []) ∷ command Print (number 1 ∷ []) ∷ command Permit [] ∷ [])
+    (command Forbid [] ∷ command Signal (number 2 ∷ number 0x1000 ∷ []) ∷ command Print (number 1 ∷ []) ∷ command Permit [] ∷ [])
     ∷ task (codes "b") (pos 5) (command Wait (number 0x1000 ∷ []) ∷ []) ∷ []
 
 abbrev pub waits_under_forbid : List TaskData
@@ -112,7 +112,7 @@ gives_the_same_priority =
 abbrev pub gives_itself_priorities : List TaskData
 gives_itself_priorities =
     task (codes "a") (pos 0)
-      (command SetTaskPri (number 1 ∷ number 0xfffffffb ∷ []) ∷ command SetTaskPri (number 1 ∷ number 0 ∷ []) ∷ command SetTaskPri (number 1 ∷ number 128 ∷ []) ∷ []) ∷ []
+    (command SetTaskPri (number 1 ∷ number 0xfffffffb ∷ []) ∷ command SetTaskPri (number 1 ∷ number 0 ∷ []) ∷ command SetTaskPri (number 1 ∷ number 128 ∷ []) ∷ []) ∷ []
 
 abbrev pub adds_an_ended_one : List TaskData
 adds_an_ended_one =

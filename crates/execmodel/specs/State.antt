@@ -16,12 +16,14 @@ pub record Call : Type 0 where
   pub arguments : List Argument
   pub next : ℕ
 
--- what a task executes: its commands, the place of the next one, its own variables, and the call that it waits in, if any
+-- what a task executes: its commands, the place of the next one, its own variables, and the call that it waits in, if any; and
+-- whether it is added when the machine starts
 pub record Program : Type 0 where
   pub code : List CommandData
   pub place : ℕ
   pub variables : List ℕ
   pub kept : Option Call
+  pub starts : Bool
 
 -- the programs by task number, and the variables that all bodies share
 pub record Scripts : Type 0 where
@@ -54,6 +56,8 @@ pub record State : Type 0 where
   pub scripts : Scripts
   -- the regions, and the blocks and objects that lie in them
   pub memory : Memory
+  -- VERTB was requested, and is not served yet
+  pub latched : Bool
   -- an alert has stopped the machine
   pub stopped : Bool
 
@@ -92,7 +96,7 @@ andthen first next s =
 -- ---- parts of a state
 
 abbrev pub no_program : Program
-no_program = record { code = []; place = 0; variables = []; kept = None }
+no_program = record { code = []; place = 0; variables = []; kept = None; starts = false }
 
 -- the program of task t
 abbrev pub program_of : Scripts → ℕ → Program
@@ -121,17 +125,19 @@ abbrev pub shared_variables : ℕ
 shared_variables = 64
 
 -- a program at its first command; every variable begins at 0
-abbrev pub begun_with : List CommandData → Program
-begun_with code = record { code = code; place = 0; variables = replicate private_variables 0; kept = None }
+abbrev pub begun_with : List CommandData → Bool → Program
+begun_with code starts = record { code = code; place = 0; variables = replicate private_variables 0; kept = None; starts = starts }
 
 abbrev pub begun : TaskData → Program
-begun task = begun_with task.code
+begun task = begun_with task.code task.start
 
--- The machine of a file before its start: no task was added, nothing runs, and it was not yet told to be idle. A full quantum is 4
--- servings of VERTB (own choice). No memory is allocated.
+-- The machine of a file before its start: no task was added, nothing runs, it was not yet told to be idle, and no interrupt was
+-- requested. No memory is allocated.
 unfoldable pub booted : MachineData → State
 booted machine = record {
-  schedule = unstarted (length machine.tasks) (map (λ (task : TaskData). task.pri) machine.tasks) (map (λ (task : TaskData). task.name) machine.tasks) 4;
+  schedule = unstarted (length machine.tasks) (map (λ (task : TaskData). task.pri) machine.tasks) (map (λ (task : TaskData). task.name) machine.tasks) machine.quantum;
   scripts = record { programs = map begun machine.tasks; shared = replicate shared_variables 0 };
   memory = record { regions = []; heap = [] };
-  stopped = false }
+  latched = false;
+  stopped = false;
+}

@@ -1,17 +1,18 @@
 -- Steps, settling and whole runs: all interleaving comes from the list of events.
-use Rattle.std.specs.Prelude.{ℕ, zero, suc, ◌+◌, Bool, if◌then◌else◌, List, [], ◌∷◌, Option, None, Some, codes, length}
+use Rattle.std.specs.Prelude.{ℕ, zero, suc, ◌+◌, Bool, true, if◌then◌else◌, List, [], ◌∷◌, Option, None, Some, codes, length}
 use Rattle.exectrace.specs.Trace.{Value, Done, Switch, Idle}
 use Rattle.exectrace.specs.Trace as trace
 use Rattle.taskscript.specs.declared.word.Word.{Word}
 use Rattle.taskscript.specs.declared.word.Word.TheVariants as word
 use Rattle.taskscript.specs.declared.event.Event.{Event}
-use Rattle.taskscript.specs.declared.event.Event.TheVariants.{Run}
+use Rattle.taskscript.specs.declared.event.Event.TheVariants.{Run, Tick}
 use Rattle.taskscript.specs.File.{MachineData}
 use Rattle.scheduler.specs.Schedule.{Schedule, name_of, leaves}
 use Rattle.scheduler.specs.declared.Switch.{Switch as Choice}
 use Rattle.scheduler.specs.declared.Switch.TheVariants as switch
-use Rattle.execmodel.specs.State.{Call, State, Outcome, quiet, says, andthen, on_schedule, booted}
+use Rattle.execmodel.specs.State.{Call, Scripts, State, Outcome, quiet, says, andthen, program_of, on_schedule, booted}
 use Rattle.execmodel.specs.Scheduling.{switch_of, rescheduled, added}
+use Rattle.execmodel.specs.Interrupts.{on_latch, interrupts}
 use Rattle.execmodel.specs.Calls.{next_call}
 use Rattle.execmodel.specs.Plain.{does_set, does_add, does_sub, does_and, does_or, does_jump, does_jump_zero, does_jump_not_zero, does_print}
 use Rattle.execmodel.specs.Signals.{does_alloc_signal, does_free_signal, does_set_signal, does_signal, does_wait}
@@ -31,9 +32,9 @@ announced (Some switch.Idle) s = says Idle s
 unfoldable pub switches : State → Outcome
 switches s = announced (switch_of s.schedule) (on_schedule rescheduled s)
 
--- what follows each action: at most one switch; a stopped machine stays as it is
+-- what follows each action: what is requested is served, and then there is at most one switch; a stopped machine stays as it is
 unfoldable pub settle : State → Outcome
-settle s = if s.stopped then quiet s else switches s
+settle s = if s.stopped then quiet s else andthen interrupts switches s
 
 -- ---- step
 
@@ -98,17 +99,31 @@ steps (suc n) s = andthen (steps n) step s
 
 -- ---- run
 
+-- one tick: VERTB is requested, and the machine settles; a stopped machine does nothing
+unfoldable pub tick : State → Outcome
+tick s = if s.stopped then quiet s else settle (on_latch true s)
+
+-- so many ticks
+unfoldable pub ticks : ℕ → State → Outcome
+ticks zero s = quiet s
+ticks (suc n) s = andthen (ticks n) tick s
+
+-- task t is added, if it is to start with the machine
+abbrev pub started : Scripts → ℕ → Schedule → Schedule
+started scripts t s = if (program_of scripts t).starts then added t s else s
+
 -- so many tasks are added, in the order of the file
-unfoldable pub all_added : ℕ → Schedule → Schedule
-all_added zero s = s
-all_added (suc n) s = added n (all_added n s)
+unfoldable pub all_added : Scripts → ℕ → Schedule → Schedule
+all_added scripts zero s = s
+all_added scripts (suc n) s = started scripts n (all_added scripts n s)
 
 -- the start: the tasks are added in the order of the file, and then the machine settles once
 unfoldable pub starts : State → Outcome
-starts s = settle (on_schedule (all_added (length s.scripts.programs)) s)
+starts s = settle (on_schedule (all_added s.scripts (length s.scripts.programs)) s)
 
 unfoldable pub event : Event → State → Outcome
 event (Run n) s = steps n s
+event (Tick n) s = ticks n s
 
 -- one event after another
 unfoldable pub events : List Event → State → Outcome

@@ -7,6 +7,7 @@ use Rattle.exectrace.proofs.Pieces.{puts_none, puts_then, put_same}
 use Rattle.scheduler.specs.Schedule.{Schedule}
 use Rattle.memlist.specs.Memory as table
 use Rattle.execmodel.specs.State.{State, Scripts, Memory, Outcome, quiet, says, andthen, on_schedule, on_scripts, on_memory}
+use Rattle.execmodel.specs.Interrupts.{on_latch}
 use Rattle.execsim.specs.Agreement.{Seen, Agrees, Holds, Follows, Moves, in_order}
 
 -- What the state that is agreed with holds, by what the machine shows.
@@ -19,6 +20,9 @@ module _ {m : Seen} {X : Type 0} where
 
   pub reads_scripts : (read : Scripts → X) {x : X} → read m.scripts ≡ x → (s : State) → Agrees m s → read s.scripts ≡ x
   reads_scripts read is s a = ap read (sym a.scripts) ∙ is
+
+pub reads_latch : {m : Seen} {b : Bool} → m.latched ≡ b → (s : State) → Agrees m s → s.latched ≡ b
+reads_latch is s a = sym a.latched ∙ is
 
 pub reads_stopped : {m : Seen} {b : Bool} → m.stopped ≡ b → (s : State) → Agrees m s → s.stopped ≡ b
 reads_stopped is s a = sym a.stopped ∙ is
@@ -37,6 +41,7 @@ moves_schedule_seen next seen commutes is = record {
     schedule = ap (λ (x : Seen). x.schedule) is ∙ ap seen a.schedule ∙ commutes s.schedule a.schedule;
     scripts = ap (λ (x : Seen). x.scripts) is ∙ a.scripts;
     memory = stays (ap (λ (x : Seen). x.memory) is) a.memory;
+    latched = ap (λ (x : Seen). x.latched) is ∙ a.latched;
     stopped = ap (λ (x : Seen). x.stopped) is ∙ a.stopped;
   };
 }
@@ -52,6 +57,7 @@ moves_scripts next is = record {
     schedule = ap (λ (x : Seen). x.schedule) is ∙ a.schedule;
     scripts = ap (λ (x : Seen). x.scripts) is ∙ ap next a.scripts;
     memory = stays (ap (λ (x : Seen). x.memory) is) a.memory;
+    latched = ap (λ (x : Seen). x.latched) is ∙ a.latched;
     stopped = ap (λ (x : Seen). x.stopped) is ∙ a.stopped;
   };
 }
@@ -63,6 +69,7 @@ moves_memory next seen shows is = record {
     schedule = ap (λ (x : Seen). x.schedule) is ∙ a.schedule;
     scripts = ap (λ (x : Seen). x.scripts) is ∙ a.scripts;
     memory = stays (ap (λ (x : Seen). x.memory) is) (shows s.memory a.memory);
+    latched = ap (λ (x : Seen). x.latched) is ∙ a.latched;
     stopped = ap (λ (x : Seen). x.stopped) is ∙ a.stopped;
   };
 }
@@ -73,7 +80,19 @@ moves_stopped stopped is = record {
     schedule = ap (λ (x : Seen). x.schedule) is ∙ a.schedule;
     scripts = ap (λ (x : Seen). x.scripts) is ∙ a.scripts;
     memory = stays (ap (λ (x : Seen). x.memory) is) a.memory;
+    latched = ap (λ (x : Seen). x.latched) is ∙ a.latched;
     stopped = ap (λ (x : Seen). x.stopped) is;
+  };
+}
+
+pub moves_latch : {m n : Seen} (latched : Bool) → n ≡ record m { latched = latched } → Moves (on_latch latched) m n
+moves_latch latched is = record {
+  agrees = λ s a. record {
+    schedule = ap (λ (x : Seen). x.schedule) is ∙ a.schedule;
+    scripts = ap (λ (x : Seen). x.scripts) is ∙ a.scripts;
+    memory = stays (ap (λ (x : Seen). x.memory) is) a.memory;
+    latched = ap (λ (x : Seen). x.latched) is;
+    stopped = ap (λ (x : Seen). x.stopped) is ∙ a.stopped;
   };
 }
 

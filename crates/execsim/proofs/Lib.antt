@@ -8,6 +8,7 @@ pub mod Following
 pub mod Forbidding
 pub mod Heaps
 pub mod Ordering
+pub mod Serving
 pub mod Signalling
 pub mod Stepping
 pub mod Tasking

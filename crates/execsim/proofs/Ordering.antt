@@ -9,7 +9,7 @@ use Rattle.execlist.specs.Order.{order, first, enqueue, is_lower}
 use Rattle.execlist.proofs.OrderLaws.{order_takes, order_leaves_out, first_of_order, order_reads_keys, order_rekeyed}
 use Rattle.taskq.specs.Tasks.{pri_at, is_ready, is_live}
 use Rattle.signals.specs.Signals.{after_post}
-use Rattle.scheduler.specs.Schedule.{Schedule, status_of, signals_of, with_priority, with_signals, switch_for, renewed, begins, is_absent, leaves, departs, removed, awaits}
+use Rattle.scheduler.specs.Schedule.{Schedule, status_of, signals_of, with_priority, with_signals, switch_for, renewed, begins, is_absent, leaves, departs, removed, awaits, is_interrupting_allowed, ticked_for, ticked}
 use Rattle.scheduler.specs.Dispatch as dispatch
 use Rattle.scheduler.specs.declared.Switch.{Switch}
 use Rattle.scheduler.specs.declared.Switch.TheVariants.{To, Idle}
@@ -143,3 +143,17 @@ reprioritized-in_order t pri y stand = by_case (is_ready (status_of y t)) (stand
       (sym (order_rekeyed (pri_at y.queue.pris) (pri_at (slice_set y.queue.pris t pri)) t y.queue.ready
       (λ m other. get_or-set_other y.queue.pris t m pri (pos 0) other)))
   by_case false there = ap (λ ready. with_ready ready (with_priority t pri y)) (sym (same_order y.queue.pris t pri y.queue.ready (none_in_order (pri_at y.queue.pris) t y.queue.ready there)))
+
+-- Interrupts, and the start.
+
+pub allowed-in_order : (running : Option ℕ) (y : Schedule) → is_interrupting_allowed running (in_order y) ≡ is_interrupting_allowed running y
+allowed-in_order None y = refl
+allowed-in_order (Some r) y = refl
+
+ticked_for-in_order : (running : Option ℕ) (y : Schedule) → ticked_for running (in_order y) ≡ in_order (ticked_for running y)
+ticked_for-in_order None y = refl
+ticked_for-in_order (Some r) y = refl
+
+pub ticked-in_order : (y : Schedule) → ticked (in_order y) ≡ in_order (ticked y)
+unfolding ticked
+ticked-in_order y = ticked_for-in_order y.running y

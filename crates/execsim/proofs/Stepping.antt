@@ -1,24 +1,25 @@
 -- How the machine follows settling, steps and events.
 use Rattle.std.proofs.Common.{◌≡◌, ℕ, suc, ◌+◌, ◌<◌, List, [], ◌∷◌, ◌++◌, length, take, get_or, true, false, Option, None, Some, refl, ap, sym, ◌∙◌, append-nil, append_assoc, add-one}
 use Rattle.std.proofs.lemmas.List.{take_more}
-use Rattle.std.specs.Prelude.{codes}
+use Rattle.std.specs.Prelude.{codes, if◌then◌else◌}
 use Rattle.exectrace.specs.Sink.{Tape, Puts}
 use Rattle.exectrace.specs.Trace.{TraceLine, printed_line, Switch, Idle, Value, Done}
 use Rattle.exectrace.specs.Trace as trace
 use Rattle.taskscript.specs.declared.event.Event.{Event}
 use Rattle.taskscript.specs.declared.word.Word.{Word}
-use Rattle.taskscript.specs.declared.event.Event.TheVariants.{Run}
+use Rattle.taskscript.specs.declared.event.Event.TheVariants.{Run, Tick}
 use Rattle.scheduler.specs.Schedule.{name_of, leaves}
 use Rattle.scheduler.specs.Dispatch as dispatch
 use Rattle.scheduler.specs.declared.Switch.{Switch as Choice}
 use Rattle.scheduler.specs.declared.Switch.TheVariants as switch
-use Rattle.execmodel.specs.State.{Call, State, Outcome, Mark, quiet, andthen, on_schedule}
+use Rattle.execmodel.specs.State.{Call, Scripts, State, Outcome, Mark, quiet, andthen, program_of, on_schedule}
 use Rattle.execmodel.specs.Scheduling.{rescheduled, added}
 use Rattle.execmodel.specs.Calls.{next_call}
-use Rattle.execmodel.specs.Step.{announced, switches, settle, does_word, does, ends, call_step, task_step, acting, acts, step, steps, all_added, starts, event, events}
+use Rattle.execmodel.specs.Interrupts.{on_latch, interrupts}
+use Rattle.execmodel.specs.Step.{announced, switches, settle, does_word, does, ends, call_step, task_step, acting, acts, step, steps, tick, ticks, started, all_added, starts, event, events}
 use Rattle.execsim.specs.Agreement.{Seen, Follows, Moves}
-use Rattle.execsim.proofs.Following.{reads_schedule, reads_scripts, reads_stopped, moves_schedule, moves_nowhere, moves_then, follows_as, follows_nothing, follows_saying, follows_change, follows_then}
-use Rattle.execsim.proofs.Ordering.{switch_of-in_order, rescheduled-in_order, added-in_order, leaves-in_order}
+use Rattle.execsim.proofs.Following.{reads_schedule, reads_scripts, reads_stopped, moves_schedule, moves_latch, moves_nowhere, moves_then, follows_as, follows_nothing, follows_saying, follows_change, follows_then}
+use Rattle.execsim.proofs.Ordering.{by_test, switch_of-in_order, rescheduled-in_order, added-in_order, leaves-in_order}
 
 -- Settle
 
@@ -46,9 +47,9 @@ unfolding settle
 settle_stopped {m} t stopped = follows_as {g = quiet}
     (λ s e. let same : s.stopped ≡ true = reads_stopped stopped s e in rw same refl) (follows_nothing m t)
 
-pub settle_going : {m n : Seen} {a b : Tape} → m.stopped ≡ false → Follows switches m n a b → Follows settle m n a b
+pub settle_going : {m n : Seen} {a b : Tape} → m.stopped ≡ false → Follows (andthen interrupts switches) m n a b → Follows settle m n a b
 unfolding settle
-settle_going going follows = follows_as {g = switches}
+settle_going going follows = follows_as {g = andthen interrupts switches}
     (λ s e. let same : s.stopped ≡ false = reads_stopped going s e in rw same refl) follows
 
 -- Step
@@ -106,24 +107,54 @@ more_steps i before last = rw add-one (suc_steps i before last)
 
 -- Run
 
-pub none_added : (m : Seen) → Moves (on_schedule (all_added 0)) m m
+pub tick_stopped : {m : Seen} (t : Tape) → m.stopped ≡ true → Follows tick m m t t
+unfolding tick
+tick_stopped {m} t stopped = follows_as {g = quiet}
+    (λ s e. let same : s.stopped ≡ true = reads_stopped stopped s e in rw same refl) (follows_nothing m t)
+
+pub tick_going : {m n o : Seen} {a b : Tape} → m.stopped ≡ false → n ≡ record m { latched = true } → Follows settle n o a b → Follows tick m o a b
+unfolding tick
+tick_going going is follows = follows_as {g = λ s. settle (on_latch true s)}
+    (λ s e. let same : s.stopped ≡ false = reads_stopped going s e in rw same refl) (follows_change (moves_latch true is) follows)
+
+pub no_ticks : (m : Seen) (t : Tape) → Follows (ticks 0) m m t t
+unfolding ticks
+no_ticks m t = follows_nothing m t
+
+suc_ticks : {m n o : Seen} {a b c : Tape} (i : ℕ) → Follows (ticks i) m n a b → Follows tick n o b c → Follows (ticks (suc i)) m o a c
+unfolding ticks
+suc_ticks i before last = follows_then before last
+
+pub more_ticks : {m n o : Seen} {a b c : Tape} (i : ℕ) → Follows (ticks i) m n a b → Follows tick n o b c → Follows (ticks (i + 1)) m o a c
+more_ticks i before last = rw add-one (suc_ticks i before last)
+
+pub none_added : (scripts : Scripts) (m : Seen) → Moves (on_schedule (all_added scripts 0)) m m
 unfolding all_added
-none_added m = moves_nowhere m
+none_added scripts m = moves_nowhere m
 
-suc_added : {m n o : Seen} (i : ℕ) → Moves (on_schedule (all_added i)) m n → Moves (on_schedule (added i)) n o → Moves (on_schedule (all_added (suc i))) m o
+suc_added : {m n o : Seen} (scripts : Scripts) (i : ℕ) → Moves (on_schedule (all_added scripts i)) m n → Moves (on_schedule (started scripts i)) n o
+    → Moves (on_schedule (all_added scripts (suc i))) m o
 unfolding all_added
-suc_added i before last = moves_then before last
+suc_added scripts i before last = moves_then before last
 
-pub more_added : {m n o : Seen} (i : ℕ) → Moves (on_schedule (all_added i)) m n → o ≡ record n { schedule = dispatch.added i n.schedule }
-    → Moves (on_schedule (all_added (i + 1))) m o
-more_added i before is = rw add-one (suc_added i before (moves_schedule (added i) (dispatch.added i) (added-in_order i) is))
+pub more_added : {m n o : Seen} (scripts : Scripts) (i : ℕ) → Moves (on_schedule (all_added scripts i)) m n → n.scripts ≡ scripts
+    → o ≡ record n { schedule = (if (program_of n.scripts i).starts then dispatch.added i n.schedule else n.schedule) }
+    → Moves (on_schedule (all_added scripts (i + 1))) m o
+more_added {n = n} scripts i before same is = rw add-one (suc_added scripts i before
+    (moves_schedule (started scripts i) (λ y. if (program_of scripts i).starts then dispatch.added i y else y)
+    (λ y. by_test (program_of scripts i).starts (added i y) y _ _ (added-in_order i y) refl)
+    (is ∙ ap (λ (x : Scripts). record n { schedule = (if (program_of x i).starts then dispatch.added i n.schedule else n.schedule) }) same)))
 
-pub starts_as : {m n o : Seen} {a b : Tape} → Moves (on_schedule (all_added (length m.scripts.programs))) m n → Follows settle n o a b → Follows starts m o a b
+pub starts_as : {m n o : Seen} {a b : Tape} → Moves (on_schedule (all_added m.scripts (length m.scripts.programs))) m n → Follows settle n o a b → Follows starts m o a b
 unfolding starts
 starts_as {m} moves follows = follows_as
-    {g = λ s. settle (on_schedule (all_added (length m.scripts.programs)) s)}
-    (λ s e. ap (λ scripts. settle (on_schedule (all_added (length scripts.programs)) s)) (sym e.scripts))
+    {g = λ s. settle (on_schedule (all_added m.scripts (length m.scripts.programs)) s)}
+    (λ s e. ap (λ (scripts : Scripts). settle (on_schedule (all_added scripts (length scripts.programs)) s)) (sym e.scripts))
     (follows_change moves follows)
+
+pub event_tick : {m o : Seen} {a b : Tape} (n : ℕ) → Follows (ticks n) m o a b → Follows (event (Tick n)) m o a b
+unfolding event
+event_tick n follows = follows
 
 pub event_run : {m o : Seen} {a b : Tape} (n : ℕ) → Follows (steps n) m o a b → Follows (event (Run n)) m o a b
 unfolding event

@@ -17,6 +17,7 @@ pub record Seen : Type 0 where
   pub schedule : Schedule
   pub scripts : Scripts
   pub memory : table.Memory
+  pub latched : Bool
   pub stopped : Bool
 
 -- the schedule with its ready tasks in the order in which they are to run
@@ -45,6 +46,7 @@ pub record Agrees (seen : Seen) (s : State) : Type 0 where
   pub schedule : seen.schedule ≡ in_order s.schedule
   pub scripts : seen.scripts ≡ s.scripts
   pub memory : Holds seen.memory s.memory
+  pub latched : seen.latched ≡ s.latched
   pub stopped : seen.stopped ≡ s.stopped
 
 -- the line of a call of task t, by what the machine shows

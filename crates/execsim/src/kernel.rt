@@ -21,13 +21,14 @@ use taskscript::{Argument, Command, Variable};
 /// How many variables all tasks share.
 const SHARED_VARIABLES: usize = 64;
 
-/// The tasks, what they execute, the memory, and whether an alert has stopped them.
+/// The tasks, what they execute, the memory, whether VERTB is requested, and whether an alert has stopped them.
 #[derive(Drop)]
 pub struct Kernel<S: ListSpace> {
     pub(crate) sched: Sched<S>,
     pub(crate) programs: Vec<Program>,
     pub(crate) shared: [u32; SHARED_VARIABLES],
     pub(crate) memory: MemList,
+    pub(crate) latched: bool,
     pub(crate) stopped: bool,
 }
 
@@ -41,6 +42,7 @@ impl<S: ListSpace> Model for Kernel<S> {
       schedule = k.sched;
       scripts = record { programs = k.programs.items; shared = k.shared };
       memory = k.memory;
+      latched = k.latched;
       stopped = k.stopped;
     } };
 
@@ -55,6 +57,7 @@ impl<S: ListSpace> Kernel<S> {
           schedule = sched;
           scripts = record { programs = programs.items; shared = replicate shared_variables 0 };
           memory = memory;
+          latched = false;
           stopped = false;
         } }
     {
@@ -63,6 +66,7 @@ impl<S: ListSpace> Kernel<S> {
             programs,
             shared: [0; SHARED_VARIABLES],
             memory,
+            latched: false,
             stopped: false,
         }
     }

@@ -4,10 +4,11 @@
 #![tactic(auto)]
 
 mod calls;
+mod interrupts;
 mod kernel;
 mod machine;
-mod nesting;
 mod memory;
+mod nesting;
 mod plain;
 mod program;
 mod signals;

@@ -23,9 +23,6 @@ use std::marker::Model;
 use taskq::TaskInit;
 use taskscript::{Command, Event, MachineFile, TaskRecord};
 
-/// The servings of VERTB in a full quantum.
-const QUANTUM: u8 = 4;
-
 /// Whether a machine goes on.
 #[derive(Clone, Copy, Debug, PartialEq, Eq)]
 pub enum Flow {
@@ -82,7 +79,7 @@ fn programs_of(alloc: Global, tasks: &[TaskRecord]) -> Result<Vec<Program>, Allo
     let mut programs = Vec::new(alloc);
     for task in tasks {
         let code = code_of(alloc, &task.code)?;
-        programs.push(Program::new(code))?;
+        programs.push(Program::new(code, task.start))?;
     }
     Ok(programs)
 }
@@ -111,7 +108,7 @@ impl<S: ListSpace> Machine<S> {
     {
         let tasks = file.tasks();
         let inits = inits_of(alloc, tasks)?;
-        let sched = Sched::new(alloc, &inits, QUANTUM)?;
+        let sched = Sched::new(alloc, &inits, file.quantum())?;
         let programs = programs_of(alloc, tasks)?;
         let memory = memory_of(alloc, &[])?;
         Ok(Machine {
@@ -166,7 +163,7 @@ impl<S: ListSpace> Machine<S> {
         self.finish(out)
     }
 
-    /// Does one event: so many steps, each followed by a settle. After an alert nothing happens, and the answer is `Alerted`.
+    /// Does one event: so many steps or ticks, each followed by a settle. After an alert nothing happens, and the answer is `Alerted`.
     ///
     /// The lines that the event prints are written to `out`, which is good unless the machine has failed.
     ///

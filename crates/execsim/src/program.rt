@@ -52,6 +52,7 @@ pub struct Program {
     place: usize,
     variables: [u32; PRIVATE_VARIABLES],
     kept: Option<Call>,
+    starts: bool,
 }
 
 impl Model for Program {
@@ -68,20 +69,29 @@ impl Model for Program {
       place = p.place;
       variables = p.variables;
       kept = option_map call_view p.kept;
+      starts = p.starts;
     } };
 }
 
 impl Program {
-    /// The program of these commands, at its first one, with every variable 0.
-    pub fn new(code: Vec<Command>) -> Self
-        ensures { result ≡ begun_with (map command_view code.items) }
+    /// The program of these commands, at its first one, with every variable 0, of a task that starts with the machine or not.
+    pub fn new(code: Vec<Command>, starts: bool) -> Self
+        ensures { result ≡ begun_with (map command_view code.items) starts }
     {
         Program {
             code,
             place: 0,
             variables: [0; PRIVATE_VARIABLES],
             kept: None,
+            starts,
         }
+    }
+
+    /// Whether the task starts with the machine.
+    pub fn starts(&self) -> bool
+        ensures { result ≡ self.now.starts }
+    {
+        self.starts
     }
 
     /// The call that the task waits in, if any.

@@ -1,11 +1,12 @@
 //! Steps and settling: all interleaving comes from the list of events.
-ghost use Rattle.std.specs.Prelude.{◌≡◌, ◌<◌, length, Some, IfSome};
+ghost use Rattle.std.specs.Prelude.{◌≡◌, ◌<◌, length, Some, IfSome, if◌then◌else◌};
 ghost use Rattle.exectrace.specs.Sink.{Puts};
 ghost use Rattle.exectrace.specs.Trace.{printed_line};
 ghost use Rattle.scheduler.specs.Dispatch as dispatch;
 ghost use Rattle.scheduler.specs.Schedule.{IsToOneOf};
-ghost use Rattle.execmodel.specs.State.{on_schedule};
-ghost use Rattle.execmodel.specs.Step.{announced, switches, settle, does, ends, acts, acting, step, steps, starts, all_added, event, events};
+ghost use Rattle.execmodel.specs.State.{andthen, on_schedule, program_of};
+ghost use Rattle.execmodel.specs.Step.{announced, switches, settle, does, ends, acts, acting, step, steps, tick, ticks, starts, all_added, event, events};
+ghost use Rattle.execmodel.specs.Interrupts.{interrupts};
 ghost use Rattle.execsim.specs.Agreement.{Follows, Moves};
 ghost use Rattle.execsim.specs.Views.{call_view};
 
@@ -50,12 +51,19 @@ impl<S: ListSpace> Kernel<S> {
         }
     }
 
+    fn serve_and_switch<W: Sink>(&mut self, out: &mut W)
+        ensures { Follows (andthen interrupts switches) self.old self.new (W.tape out.old) (W.tape out.new) }
+    {
+        self.interrupt(out);
+        self.switch(out);
+    }
+
     /// What follows each action; a stopped machine stays as it is.
     pub(crate) fn settle<W: Sink>(&mut self, out: &mut W)
         ensures { Follows settle self.old self.new (W.tape out.old) (W.tape out.new) }
     {
         if !self.stopped {
-            self.switch(out);
+            self.serve_and_switch(out);
         }
     }
 
@@ -155,11 +163,43 @@ impl<S: ListSpace> Kernel<S> {
 
     // ---- run
 
-    /// The tasks are added in the order of the file.
+    /// One tick of the vertical blank; a stopped machine does nothing.
+    fn tick<W: Sink>(&mut self, out: &mut W)
+        ensures { Follows tick self.old self.new (W.tape out.old) (W.tape out.new) }
+    {
+        if !self.stopped {
+            self.latch();
+            self.settle(out);
+        }
+    }
+
+    /// So many ticks.
+    fn ticks<W: Sink>(&mut self, n: u32, out: &mut W)
+        ensures { Follows (ticks n) self.old self.new (W.tape out.old) (W.tape out.new) }
+    {
+        for _tick in 0..n {
+            self.tick(out);
+        }
+    }
+
+    /// The tasks that start with the machine are added in the order of the file.
     fn add_all(&mut self)
-        ensures { Moves (on_schedule (all_added (length self.old.scripts.programs))) self.old self.new }
+        ensures { Moves (on_schedule (all_added self.old.scripts (length self.old.scripts.programs))) self.old self.new }
     {
         for t in 0..self.programs.len() {
+            self.start_task(t);
+        }
+    }
+
+    /// Task t is added, if it starts with the machine.
+    fn start_task(&mut self, t: TaskId)
+        requires { t < length self.old.scripts.programs }
+        ensures { self.new ≡ record self.old {
+          schedule =
+              (if (program_of self.old.scripts t).starts then dispatch.added t self.old.schedule else self.old.schedule);
+        } }
+    {
+        if self.programs[t].starts() {
             self.add(t);
         }
     }
@@ -179,6 +219,7 @@ impl<S: ListSpace> Kernel<S> {
     {
         match one {
             Event::Run(n) => self.steps(n, out),
+            Event::Tick(n) => self.ticks(n, out),
         }
     }
 

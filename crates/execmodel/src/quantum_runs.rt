@@ -1,0 +1,23 @@
+//! Whole traces of small machines whose tasks share the processor by their quantum, or do not all start.
+
+ghost use Rattle.execmodel.specs.QuantumRuns.{AnEndedQuantumLetsAnEqualRun, TicksUnderDisableAreServedOnce, AnEndedQuantumWaitsForPermit, ATaskThatDoesNotStartIsAdded};
+
+/// A task whose quantum has ended lets a ready one of its priority run, and stands behind it.
+pub fn an_ended_quantum_lets_an_equal_run()
+    ensures { AnEndedQuantumLetsAnEqualRun }
+{}
+
+/// What is requested under Disable is served once, when interrupts are allowed again.
+pub fn ticks_under_disable_are_served_once()
+    ensures { TicksUnderDisableAreServedOnce }
+{}
+
+/// A quantum that ends under Forbid stays ended until that is taken back.
+pub fn an_ended_quantum_waits_for_permit()
+    ensures { AnEndedQuantumWaitsForPermit }
+{}
+
+/// A task that does not start with the machine is added once.
+pub fn a_task_that_does_not_start_is_added()
+    ensures { ATaskThatDoesNotStartIsAdded }
+{}
