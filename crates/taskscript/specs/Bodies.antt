@@ -1,12 +1,12 @@
 -- A body as it is read: line after line, with what was read so far.
-use Rattle.std.specs.Prelude.{ℕ, not, is_some, List, [], ◌∷◌, ◌++◌, length, map, Option, Some, None}
+use Rattle.std.specs.Prelude.{◌≡◌, ℕ, not, is_some, List, [], ◌∷◌, ◌++◌, length, map, Option, Some, None, Result}
 use Rattle.std.specs.List.{fold}
 use Rattle.arrayvec.specs.ArrayString.{ArrayString}
 use Rattle.taskscript.specs.declared.body.Body.{Body}
 use Rattle.taskscript.specs.declared.fault.FileFault.{FileFault}
 use Rattle.taskscript.specs.declared.fault.FileFault.TheVariants.{BadCommand, BadLabel, TooMany}
 use Rattle.taskscript.specs.Code.{says}
-use Rattle.taskscript.specs.Faults.{check}
+use Rattle.taskscript.specs.Faults.{check, Judges}
 use Rattle.taskscript.specs.Labels.{Mark, place_in, marks_view}
 use Rattle.taskscript.specs.Lines.{NamedCommandData, LineData, label_line, command_line, named_command_view}
 use Rattle.taskscript.specs.Numbering.{Names, names_after, variables_of, have_room, names_view}
@@ -24,8 +24,10 @@ nothing_read shared = record { commands = []; names = record { private = []; sha
 -- after what one line says
 abbrev pub reading_with : Reading → Option LineData → Reading
 reading_with r None = r
-reading_with r (Some (label_line name)) = record r { marks = r.marks ++ record { name = name; place = length r.commands } ∷ [] }
-reading_with r (Some (command_line c)) = record r { commands = r.commands ++ c ∷ []; names = names_after r.names (variables_of c) }
+reading_with r (Some (label_line name)) =
+    record r { marks = r.marks ++ record { name = name; place = length r.commands } ∷ [] }
+reading_with r (Some (command_line c)) =
+    record r { commands = r.commands ++ c ∷ []; names = names_after r.names (variables_of c) }
 
 abbrev pub reading_after : Reading → List (List ℕ) → Reading
 reading_after r lines = fold (λ before line. reading_with before (says line)) r lines
@@ -38,10 +40,19 @@ said_faults r (Some (command_line c)) = check (have_room r.names (variables_of c
 
 abbrev pub faults_after : Reading → List (List ℕ) → List FileFault
 faults_after r [] = []
-faults_after r (line ∷ others) = said_faults r (says line) ++ faults_after (reading_with r (says line)) others
+faults_after r (line ∷ others) =
+    said_faults r (says line) ++ faults_after (reading_with r (says line)) others
+
+-- the body is read by what one line says, or the line has a fault
+abbrev pub ReadsOn : {X : Type 0} → Result X FileFault → Reading → Reading → Option LineData → Type 0
+ReadsOn result before after said = Judges result (said_faults before said) (λ _. after ≡ reading_with before said)
 
 -- ---- what the code holds
 
 abbrev pub reading_view : Body → List ArrayString → Reading
 reading_view body shared =
-    record { commands = map named_command_view body.commands.items; names = names_view body.private.keys shared; marks = marks_view body.labels.entries }
+    record {
+      commands = map named_command_view body.commands.items;
+      names = names_view body.private.keys shared;
+      marks = marks_view body.labels.entries;
+    }

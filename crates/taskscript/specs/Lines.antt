@@ -52,7 +52,8 @@ inside field = take (length field - 2) (drop 1 field)
 -- the name between double quotes
 abbrev pub quoted_in : List ℕ → Option (List ℕ)
 quoted_in field =
-    if nat_le 2 (length field) && ((slice_index field 0 == 34) && (slice_index field (length field - 1) == 34)) then (if is_name (inside field) then Some (inside field) else None)
+    if nat_le 2 (length field) && ((slice_index field 0 == 34) && (slice_index field (length field - 1) == 34))
+    then (if is_name (inside field) then Some (inside field) else None)
     else None
 
 -- the argument of a kind that a field is, if it is one
@@ -109,7 +110,9 @@ command_of fields = with_word (cut_target fields).0 (cut_target fields).1
 
 -- the name before `:`, where the field is a label's
 abbrev pub label_in : List ℕ → Option (List ℕ)
-label_in field = if nat_le 1 (length field) && (slice_index field (length field - 1) == 58) then identifier_in (take (length field - 1) field) else None
+label_in field =
+    if nat_le 1 (length field) && (slice_index field (length field - 1) == 58) then identifier_in (take (length field - 1) field)
+    else None
 
 -- a label line has one field
 abbrev pub label_of : List (List ℕ) → Option (List ℕ)

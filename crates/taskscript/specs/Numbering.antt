@@ -87,10 +87,15 @@ abbrev pub have_room : Names → List NamedVariableData → Bool
 have_room names [] = true
 have_room names (v ∷ others) = is_within (variable_in names v) && have_room (names_with names v) others
 
--- there is room, or there is none
+-- one name is seen: it has room, or it has none
 abbrev pub Sees : {X : Type 0} → Result X FileFault → Bool → Type 0
 Sees (Ok x) room = room ≡ true
 Sees (Err fault) room = ¬ (fault ≡ OutOfMemory) → (fault ≡ TooMany) × (room ≡ false)
+
+-- some variables are seen in turn: all have room, and the names are those after them; or one has none
+abbrev pub SeesAll : {X : Type 0} → Result X FileFault → Names → Names → List NamedVariableData → Type 0
+SeesAll (Ok x) before after variables = (have_room before variables ≡ true) × (after ≡ names_after before variables)
+SeesAll (Err fault) before after variables = ¬ (fault ≡ OutOfMemory) → (fault ≡ TooMany) × (have_room before variables ≡ false)
 
 -- ---- what the code holds
 

@@ -1,7 +1,8 @@
-//! The code of one body: its lines are read one after another, and then its jumps and variables get their numbers.
+//! The code of one body: its lines are read one after another, and then its jumps and variables get
+//! their numbers.
 ghost use Rattle.std.specs.Prelude.{◌≡◌, ◌<◌, ◌≤◌, ◌^◌, ◌+◌, map, length, OnOk, Some};
 ghost use Rattle.toml.specs.View.{view, items_view};
-ghost use Rattle.taskscript.specs.Bodies.{nothing_read, reading_view, reading_with, reading_after, said_faults, faults_after};
+ghost use Rattle.taskscript.specs.Bodies.{nothing_read, reading_view, reading_after, faults_after, ReadsOn};
 ghost use Rattle.taskscript.specs.Code.{line_in, lines_in, says, body_faults, code_of, shared_after};
 ghost use Rattle.taskscript.specs.Commands.{command_view};
 ghost use Rattle.taskscript.specs.Faults.{Judges};
@@ -44,7 +45,10 @@ fn add_label(
     shared: &IndexSet<VariableName>,
 ) -> Result<(), FileFault>
     requires { length body.old.commands.items < 2 ^ 32 }
-    ensures judged { Judges result (said_faults (reading_view body.old shared.now.keys) (Some (label_line name.bytes))) (λ _. reading_view body.new shared.now.keys ≡ reading_with (reading_view body.old shared.now.keys) (Some (label_line name.bytes))) }
+    ensures judged { ReadsOn result
+        (reading_view body.old shared.now.keys)
+        (reading_view body.new shared.now.keys)
+        (Some (label_line name.bytes)) }
     ensures commands { OnOk result (body.new.commands.items ≡ body.old.commands.items) }
 {
     let place = body.commands.len() as u32;
@@ -60,7 +64,10 @@ fn add_command(
     command: NamedCommand,
     shared: &mut IndexSet<VariableName>,
 ) -> Result<(), FileFault>
-    ensures judged { Judges result (said_faults (reading_view body.old shared.old.keys) (Some (command_line (named_command_view command)))) (λ _. reading_view body.new shared.new.keys ≡ reading_with (reading_view body.old shared.old.keys) (Some (command_line (named_command_view command)))) }
+    ensures judged { ReadsOn result
+        (reading_view body.old shared.old.keys)
+        (reading_view body.new shared.new.keys)
+        (Some (command_line (named_command_view command))) }
     ensures commands { OnOk result (length body.new.commands.items ≡ length body.old.commands.items + 1) }
 {
     see_command(&command, &mut body.private, shared)?;
@@ -76,7 +83,10 @@ fn add_line(
     shared: &mut IndexSet<VariableName>,
 ) -> Result<(), FileFault>
     requires { length body.old.commands.items < 2 ^ 32 }
-    ensures judged { Judges result (said_faults (reading_view body.old shared.old.keys) (says line.now)) (λ _. reading_view body.new shared.new.keys ≡ reading_with (reading_view body.old shared.old.keys) (says line.now)) }
+    ensures judged { ReadsOn result
+        (reading_view body.old shared.old.keys)
+        (reading_view body.new shared.new.keys)
+        (says line.now) }
     ensures commands { OnOk result (length body.new.commands.items ≤ length body.old.commands.items + 1) }
 {
     match read_line(alloc, line)? {
@@ -91,7 +101,9 @@ fn body_of(
     shared: &mut IndexSet<VariableName>,
 ) -> Result<Body, FileFault>
     requires { length lines.now ≤ 1024 }
-    ensures { let start = nothing_read (texts shared.old.keys) in let all = lines_in (items_view lines.now) in Judges result (faults_after start all) (λ body. reading_view body shared.new.keys ≡ reading_after start all) }
+    ensures { let start = nothing_read (texts shared.old.keys) in
+        let all = lines_in (items_view lines.now) in
+        Judges result (faults_after start all) (λ body. reading_view body shared.new.keys ≡ reading_after start all) }
 {
     let mut body = Body {
         commands: Vec::new(alloc),
@@ -106,17 +118,20 @@ fn body_of(
 
 /// The commands of a body, whose lines are these items.
 ///
-/// `shared` has the names of shared variables that the bodies before it named, in the order of first sight, and gets
-/// those of this one. The first faulty line decides: BadCommand where it says nothing, BadLabel where it is a label that
-/// stood before, TooMany where it has the 33rd private variable of the body or the 65th shared one of the file. If no
-/// line is faulty, a jump to a label that is not in the body is BadLabel. A body of more than 1,024 lines is TooMany
-/// before all this. After an `Err` nothing is said of `shared`.
+/// `shared` has the names of shared variables that the bodies before it named, in the order of first
+/// sight, and gets those of this one. A body of more than 1,024 lines is TooMany. Then the first faulty
+/// line decides: BadCommand where it says nothing, BadLabel where it is a label that stood before,
+/// TooMany where it has the 33rd private variable of the body or the 65th shared one of the file. If no
+/// line is faulty, a jump to a label that is not in the body is BadLabel. After an `Err` nothing is said
+/// of `shared`. The lines are our own.
 pub fn read_code(
     alloc: Global,
     lines: &[Value],
     shared: &mut IndexSet<VariableName>,
 ) -> Result<Vec<Command>, FileFault>
-    ensures judged { Judges result (body_faults (texts shared.old.keys) (lines_in (items_view lines.now))) (λ code. map command_view code.items ≡ code_of (texts shared.old.keys) (lines_in (items_view lines.now))) }
+    ensures judged { let before = texts shared.old.keys in
+        let all = lines_in (items_view lines.now) in
+        Judges result (body_faults before all) (λ code. map command_view code.items ≡ code_of before all) }
     ensures shared { OnOk result (texts shared.new.keys ≡ shared_after (texts shared.old.keys) (lines_in (items_view lines.now))) }
 {
     if lines.len() > LINE_LIMIT {

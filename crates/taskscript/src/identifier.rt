@@ -28,7 +28,8 @@ fn is_identifier(bytes: &[u8]) -> bool
     has_identifier_bytes(bytes)
 }
 
-/// The text as a name, if it is one: a letter `a` to `z`, then letters, digits and `_`, 1 to 16 characters together (own choice).
+/// The text as a name, if it is one: a letter `a` to `z`, then letters, digits and `_`, 1 to 16
+/// characters together (own choice).
 pub fn identifier_of(text: &str) -> Option<Identifier>
     ensures { option_map (λ n. n.bytes) result ≡ identifier_in text.now }
 {

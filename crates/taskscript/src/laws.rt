@@ -1,5 +1,5 @@
-//! Laws of lines: what a line says is one thing, and it is what is read from it. The functions do nothing; their
-//! contracts are the laws.
+//! Laws of lines: what a line says is one thing, and it is what is read from it. The functions do
+//! nothing; their contracts are the laws.
 ghost use Rattle.std.specs.Prelude.{◌≡◌, ℕ, List, Some, None};
 ghost use Rattle.taskscript.specs.Lines.{LineData, NamedCommandData, line_of};
 ghost use Rattle.taskscript.specs.Law.{IsLine, Says};

@@ -60,7 +60,9 @@ fn arguments_of(
     kinds: &[Kind],
     fields: &[&str],
 ) -> Result<Vec<NamedArgument>, FileFault>
-    ensures read { Reads result (λ v. map named_argument_view v.items) (arguments_of kinds.now (map (λ f. f.now) fields.now)) }
+    ensures read { Reads result
+        (λ v. map named_argument_view v.items)
+        (arguments_of kinds.now (map (λ f. f.now) fields.now)) }
     ensures counted { IfOk result (λ v. length v.items ≡ length kinds.now) }
 {
     if kinds.len() != fields.len() {
@@ -77,7 +79,8 @@ fn arguments_of(
 }
 
 fn target_of(may: bool, target: Option<&str>) -> Option<Option<NamedVariable>>
-    ensures { option_map (λ t. option_map named_variable_view t) result ≡ target_of may (option_map (λ t. t.now) target.entry) }
+    ensures { option_map (λ t. option_map named_variable_view t) result
+        ≡ target_of may (option_map (λ t. t.now) target.entry) }
 {
     match target {
         None => Some(None),
@@ -100,7 +103,9 @@ fn with_word(
     target: Option<&str>,
     fields: &[&str],
 ) -> Result<NamedCommand, FileFault>
-    ensures { Reads result named_command_view (with_word (option_map (λ t. t.now) target.entry) (map (λ f. f.now) fields.now)) }
+    ensures { Reads result
+        named_command_view
+        (with_word (option_map (λ t. t.now) target.entry) (map (λ f. f.now) fields.now)) }
 {
     let (text, after) = match fields {
         [] => return Err(FileFault::BadCommand),
@@ -169,10 +174,7 @@ mod tests {
 
     #[test]
     fn a_name_stands_between_double_quotes(rt: HostRuntime) {
-        match argument_of(Kind::Name, "\"x.Y_9-\"") {
-            Some(NamedArgument::Quoted(name)) => assert_eq!(rt; name.as_str(), "x.Y_9-"),
-            _ => assert!(rt; false),
-        }
+        assert!(rt; is_argument(Kind::Name, "\"x.Y_9-\""));
         let fields = [
             "",
             "\"",

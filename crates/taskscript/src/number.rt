@@ -87,7 +87,8 @@ fn negated(n: u32) -> Option<u32>
     }
 }
 
-/// The word of a number from -2147483648 to 4294967295, or of `$` and 1 to 8 digits, if the field is one (own choice).
+/// The word of a number from -2147483648 to 4294967295, or of `$` and 1 to 8 digits, if the field is
+/// one (own choice).
 pub fn number_of(bytes: &[u8]) -> Option<u32>
     ensures { result ≡ number_of bytes.now }
 {

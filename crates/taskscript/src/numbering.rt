@@ -1,7 +1,8 @@
-//! Numbers for the names of variables, in the order of first sight: each name is seen once, and then it has a number.
+//! Numbers for the names of variables, in the order of first sight: a name is seen, and then it has a
+//! number.
 ghost use Rattle.std.specs.Prelude.{◌≡◌, [], ◌∷◌, nat_lt, map, option_map, OnOk};
 ghost use Rattle.taskscript.specs.Lines.{named_variable_view, named_argument_view, named_command_view};
-ghost use Rattle.taskscript.specs.Numbering.{seen_after, number_in, names_with, names_after, variable_in, is_within, variables_of_target, variables_of_arguments, variables_of, have_room, texts, names_view, Sees};
+ghost use Rattle.taskscript.specs.Numbering.{names_view, number_in, seen_after, texts, variable_in, variables_of, variables_of_arguments, variables_of_target, Sees, SeesAll};
 
 use crate::fault::FileFault;
 use crate::named::{NamedArgument, NamedCommand};
@@ -36,8 +37,10 @@ fn see_variable(
     private: &mut IndexSet<VariableName>,
     shared: &mut IndexSet<VariableName>,
 ) -> Result<(), FileFault>
-    ensures room { Sees result (is_within (variable_in (names_view private.old.keys shared.old.keys) (named_variable_view variable))) }
-    ensures seen { OnOk result (names_view private.new.keys shared.new.keys ≡ names_with (names_view private.old.keys shared.old.keys) (named_variable_view variable)) }
+    ensures { SeesAll result
+        (names_view private.old.keys shared.old.keys)
+        (names_view private.new.keys shared.new.keys)
+        (named_variable_view variable ∷ []) }
 {
     if variable.is_shared {
         see(shared, variable.name, SHARED_LIMIT)
@@ -51,8 +54,10 @@ fn see_target(
     private: &mut IndexSet<VariableName>,
     shared: &mut IndexSet<VariableName>,
 ) -> Result<(), FileFault>
-    ensures room { Sees result (have_room (names_view private.old.keys shared.old.keys) (variables_of_target (option_map named_variable_view target))) }
-    ensures seen { OnOk result (names_view private.new.keys shared.new.keys ≡ names_after (names_view private.old.keys shared.old.keys) (variables_of_target (option_map named_variable_view target))) }
+    ensures { SeesAll result
+        (names_view private.old.keys shared.old.keys)
+        (names_view private.new.keys shared.new.keys)
+        (variables_of_target (option_map named_variable_view target)) }
 {
     match target {
         None => Ok(()),
@@ -65,8 +70,10 @@ fn see_argument(
     private: &mut IndexSet<VariableName>,
     shared: &mut IndexSet<VariableName>,
 ) -> Result<(), FileFault>
-    ensures room { Sees result (have_room (names_view private.old.keys shared.old.keys) (variables_of_arguments (named_argument_view argument ∷ []))) }
-    ensures seen { OnOk result (names_view private.new.keys shared.new.keys ≡ names_after (names_view private.old.keys shared.old.keys) (variables_of_arguments (named_argument_view argument ∷ []))) }
+    ensures { SeesAll result
+        (names_view private.old.keys shared.old.keys)
+        (names_view private.new.keys shared.new.keys)
+        (variables_of_arguments (named_argument_view argument ∷ [])) }
 {
     match argument {
         NamedArgument::Number(_) | NamedArgument::Label(_) | NamedArgument::Quoted(_) => Ok(()),
@@ -79,8 +86,10 @@ fn see_arguments(
     private: &mut IndexSet<VariableName>,
     shared: &mut IndexSet<VariableName>,
 ) -> Result<(), FileFault>
-    ensures room { Sees result (have_room (names_view private.old.keys shared.old.keys) (variables_of_arguments (map named_argument_view arguments.now))) }
-    ensures seen { OnOk result (names_view private.new.keys shared.new.keys ≡ names_after (names_view private.old.keys shared.old.keys) (variables_of_arguments (map named_argument_view arguments.now))) }
+    ensures { SeesAll result
+        (names_view private.old.keys shared.old.keys)
+        (names_view private.new.keys shared.new.keys)
+        (variables_of_arguments (map named_argument_view arguments.now)) }
 {
     for argument in arguments {
         see_argument(*argument, private, shared)?;
@@ -88,7 +97,8 @@ fn see_arguments(
     Ok(())
 }
 
-/// The names of a command are seen, the target's first, and then those of the arguments from left to right.
+/// The names of a command are seen, the target's first, and then those of the arguments from left to
+/// right.
 ///
 /// `private` has the names of the body, and `shared` those of the file. TooMany where a number is past its limit.
 pub fn see_command(
@@ -96,8 +106,10 @@ pub fn see_command(
     private: &mut IndexSet<VariableName>,
     shared: &mut IndexSet<VariableName>,
 ) -> Result<(), FileFault>
-    ensures room { Sees result (have_room (names_view private.old.keys shared.old.keys) (variables_of (named_command_view command.now))) }
-    ensures seen { OnOk result (names_view private.new.keys shared.new.keys ≡ names_after (names_view private.old.keys shared.old.keys) (variables_of (named_command_view command.now))) }
+    ensures { SeesAll result
+        (names_view private.old.keys shared.old.keys)
+        (names_view private.new.keys shared.new.keys)
+        (variables_of (named_command_view command.now)) }
 {
     see_target(command.target, private, shared)?;
     see_arguments(command.arguments.as_slice(), private, shared)
@@ -134,7 +146,8 @@ pub fn target_in(
     private: &IndexSet<VariableName>,
     shared: &IndexSet<VariableName>,
 ) -> Option<Variable>
-    ensures { result ≡ option_map (variable_in (names_view private.now.keys shared.now.keys)) (option_map named_variable_view target) }
+    ensures { let names = names_view private.now.keys shared.now.keys in
+        result ≡ option_map (variable_in names) (option_map named_variable_view target) }
 {
     match target {
         None => None,

@@ -23,7 +23,12 @@ fn argument_in(
     shared: &IndexSet<VariableName>,
     labels: &IndexMap<LabelName, u32>,
 ) -> Result<Argument, FileFault>
-    ensures { let marks = marks_view labels.now.entries in let named = named_argument_view argument in Resolves result (are_marked marks (labels_of_arguments (named ∷ []))) (λ a. argument_view a ≡ argument_in (names_view private.now.keys shared.now.keys) (place_at marks) named) }
+    ensures { let names = names_view private.now.keys shared.now.keys in
+        let marks = marks_view labels.now.entries in
+        let named = named_argument_view argument in
+        Resolves result
+        (are_marked marks (labels_of_arguments (named ∷ [])))
+        (λ a. argument_view a ≡ argument_in names (place_at marks) named) }
 {
     match argument {
         NamedArgument::Number(n) => Ok(Argument::Number(n)),
@@ -46,7 +51,12 @@ fn arguments_in(
     labels: &IndexMap<LabelName, u32>,
 ) -> Result<[Argument; 4], FileFault>
     requires { length named.now ≤ 4 }
-    ensures { let marks = marks_view labels.now.entries in let all = map named_argument_view named.now in Resolves result (are_marked marks (labels_of_arguments all)) (λ a. map argument_view (take (length named.now) a) ≡ map (argument_in (names_view private.now.keys shared.now.keys) (place_at marks)) all) }
+    ensures { let names = names_view private.now.keys shared.now.keys in
+        let marks = marks_view labels.now.entries in
+        let all = map named_argument_view named.now in
+        Resolves result
+        (are_marked marks (labels_of_arguments all))
+        (λ a. map argument_view (take (length named.now) a) ≡ map (argument_in names (place_at marks)) all) }
 {
     let mut arguments = [Argument::Number(0); 4];
     for (i, argument) in named.iter().enumerate() {
@@ -55,7 +65,8 @@ fn arguments_in(
     Ok(arguments)
 }
 
-/// The commands with numbers and places for their names, or BadLabel where one jumps to a label that is not among these.
+/// The commands with numbers and places for their names, or BadLabel where one jumps to a label that is
+/// not among these.
 pub fn commands_in(
     alloc: Global,
     commands: &[NamedCommand],
@@ -63,7 +74,12 @@ pub fn commands_in(
     shared: &IndexSet<VariableName>,
     labels: &IndexMap<LabelName, u32>,
 ) -> Result<Vec<Command>, FileFault>
-    ensures { let marks = marks_view labels.now.entries in let all = map named_command_view commands.now in Judges result (flat_map (jump_faults_in marks) all) (λ code. map command_view code.items ≡ map (command_in (names_view private.now.keys shared.now.keys) (place_at marks)) all) }
+    ensures { let names = names_view private.now.keys shared.now.keys in
+        let marks = marks_view labels.now.entries in
+        let all = map named_command_view commands.now in
+        Judges result
+        (flat_map (jump_faults_in marks) all)
+        (λ code. map command_view code.items ≡ map (command_in names (place_at marks)) all) }
 {
     let mut code = Vec::new(alloc);
     for named in commands {
