@@ -7,20 +7,18 @@ use Rattle.taskscript.specs.declared.variable.Variable.TheVariants.{Private}
 use Rattle.taskscript.specs.declared.event.Event.{Event}
 use Rattle.taskscript.specs.declared.event.Event.TheVariants.{Run}
 use Rattle.taskscript.specs.Commands.{ArgumentData, number, variable, CommandData}
+use Rattle.taskscript.specs.File.{MachineData}
 use Rattle.memlist.specs.declared.region.Region.{Region}
-use Rattle.execmodel.specs.State.{State, andthen, booted}
-use Rattle.execmodel.specs.Step.{starts, events}
+use Rattle.execmodel.specs.Step.{run}
 use Rattle.execmodel.specs.Runs.{command, task, machine}
 
--- the machine of one task and these regions, before its start
-unfoldable pub with_regions : List Region → List CommandData → State
-with_regions regions code =
-    let s = booted (machine (task (codes "a") (pos 0) code ∷ [])) in
-    record s { memory = record { regions = regions; heap = [] } }
+-- the machine of one task and these regions
+abbrev pub machine_in : List Region → List CommandData → MachineData
+machine_in regions code = record (machine (task (codes "a") (pos 0) code ∷ [])) { regions = regions }
 
 -- the bytes that it writes over these events
 abbrev pub trace_in : List Region → List CommandData → List Event → List ℕ
-trace_in regions code list = printed (andthen starts (events list) (with_regions regions code)).lines
+trace_in regions code list = printed (run (machine_in regions code) list).lines
 
 -- a command whose answer goes into a variable
 abbrev pub into : ℕ → Word → List ArgumentData → CommandData

@@ -12,7 +12,7 @@ use Rattle.execmodel.specs.Runs.{command, task}
 
 -- the bytes that a machine of that quantum writes over these events
 abbrev pub trace_by : ℕ → List TaskData → List Event → List ℕ
-trace_by quantum tasks list = printed (run (record { quantum = quantum; tasks = tasks }) list).lines
+trace_by quantum tasks list = printed (run (record { quantum = quantum; pool = 64; regions = []; tasks = tasks }) list).lines
 
 -- ---- machines
 

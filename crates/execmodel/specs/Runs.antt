@@ -18,7 +18,7 @@ abbrev pub task : List ℕ → ℤ → List CommandData → TaskData
 task name pri code = record { name = name; pri = pri; start = true; code = code }
 
 abbrev pub machine : List TaskData → MachineData
-machine tasks = record { quantum = 4; tasks = tasks }
+machine tasks = record { quantum = 4; pool = 64; regions = []; tasks = tasks }
 
 -- the bytes that a machine writes over these events
 abbrev pub trace_of : List TaskData → List Event → List ℕ

@@ -137,7 +137,7 @@ unfoldable pub booted : MachineData → State
 booted machine = record {
   schedule = unstarted (length machine.tasks) (map (λ (task : TaskData). task.pri) machine.tasks) (map (λ (task : TaskData). task.name) machine.tasks) machine.quantum;
   scripts = record { programs = map begun machine.tasks; shared = replicate shared_variables 0 };
-  memory = record { regions = []; heap = [] };
+  memory = record { regions = machine.regions; heap = [] };
   latched = false;
   stopped = false;
 }

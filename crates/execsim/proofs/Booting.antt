@@ -11,39 +11,39 @@ use Rattle.execmodel.specs.State.{booted}
 use Rattle.execsim.specs.Agreement.{Seen, Agrees, Holds, in_order}
 use Rattle.execsim.proofs.Calling.{map-map_as}
 
-booted-in_order : (quantum : ℕ) (tasks : List TaskData) → in_order (booted (record { quantum = quantum; tasks = tasks })).schedule ≡ (booted (record { quantum = quantum; tasks = tasks })).schedule
+booted-in_order : (machine : MachineData) → in_order (booted machine).schedule ≡ (booted machine).schedule
 unfolding booted order
-booted-in_order quantum tasks = refl
+booted-in_order machine = refl
 
-booted-schedule : (quantum : ℕ) (tasks : List TaskRecord)
-    → (booted (record { quantum = quantum; tasks = map task_view tasks })).schedule ≡ unstarted (length tasks) (map (λ (t : TaskRecord). t.pri) tasks) (map (λ (t : TaskRecord). t.name.bytes) tasks) quantum
+booted-schedule : (machine : MachineData) (tasks : List TaskRecord)
+    → (booted (record machine { tasks = map task_view tasks })).schedule ≡ unstarted (length tasks) (map (λ (t : TaskRecord). t.pri) tasks) (map (λ (t : TaskRecord). t.name.bytes) tasks) machine.quantum
 unfolding booted
-booted-schedule quantum tasks =
+booted-schedule machine tasks =
     rw (length-map, ← map-map_as (λ (t : TaskData). t.pri) task_view tasks, ← map-map_as (λ (t : TaskData). t.name) task_view tasks) refl
 
-booted-going : (quantum : ℕ) (tasks : List TaskData) → false ≡ (booted (record { quantum = quantum; tasks = tasks })).stopped
+booted-going : (machine : MachineData) → false ≡ (booted machine).stopped
 unfolding booted
-booted-going quantum tasks = refl
+booted-going machine = refl
 
-booted-unlatched : (quantum : ℕ) (tasks : List TaskData) → false ≡ (booted (record { quantum = quantum; tasks = tasks })).latched
+booted-unlatched : (machine : MachineData) → false ≡ (booted machine).latched
 unfolding booted
-booted-unlatched quantum tasks = refl
+booted-unlatched machine = refl
 
-booted-memory : (quantum : ℕ) (tasks : List TaskData) → Holds (untouched []) (booted (record { quantum = quantum; tasks = tasks })).memory
+booted-memory : (machine : MachineData) → Holds (untouched machine.regions) (booted machine).memory
 unfolding booted
-booted-memory quantum tasks = record { regions = refl; heap = refl; tagged = tt }
+booted-memory machine = record { regions = refl; heap = refl; tagged = tt }
 
 -- the parts that were made for the tasks of a file are those of the first state
 pub boots : {seen : Seen} (machine : MachineData) (tasks : List TaskRecord) → map task_view tasks ≡ machine.tasks
     → seen.schedule ≡ unstarted (length tasks) (map (λ (t : TaskRecord). t.pri) tasks) (map (λ (t : TaskRecord). t.name.bytes) tasks) machine.quantum
-    → seen.scripts ≡ (booted (record { quantum = machine.quantum; tasks = map task_view tasks })).scripts
-    → seen.memory ≡ untouched []
+    → seen.scripts ≡ (booted (record machine { tasks = map task_view tasks })).scripts
+    → seen.memory ≡ untouched machine.regions
     → seen.latched ≡ false → seen.stopped ≡ false → Agrees seen (booted machine)
 boots {seen} machine tasks states schedule scripts untouched unlatched going =
-    subst (λ (ts : List TaskData). Agrees seen (booted (record { quantum = machine.quantum; tasks = ts }))) states (record {
-      schedule = schedule ∙ sym (booted-schedule machine.quantum tasks) ∙ sym (booted-in_order machine.quantum (map task_view tasks));
+    subst (λ (ts : List TaskData). Agrees seen (booted (record machine { tasks = ts }))) states (record {
+      schedule = schedule ∙ sym (booted-schedule machine tasks) ∙ sym (booted-in_order (record machine { tasks = map task_view tasks }));
       scripts = scripts;
-      memory = rw untouched (booted-memory machine.quantum (map task_view tasks));
-      latched = unlatched ∙ booted-unlatched machine.quantum (map task_view tasks);
-      stopped = going ∙ booted-going machine.quantum (map task_view tasks);
+      memory = rw untouched (booted-memory (record machine { tasks = map task_view tasks }));
+      latched = unlatched ∙ booted-unlatched (record machine { tasks = map task_view tasks });
+      stopped = going ∙ booted-going (record machine { tasks = map task_view tasks });
     })

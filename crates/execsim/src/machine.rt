@@ -110,7 +110,7 @@ impl<S: ListSpace> Machine<S> {
         let inits = inits_of(alloc, tasks)?;
         let sched = Sched::new(alloc, &inits, file.quantum())?;
         let programs = programs_of(alloc, tasks)?;
-        let memory = memory_of(alloc, &[])?;
+        let memory = memory_of(alloc, file.regions())?;
         Ok(Machine {
             kernel: Kernel::new(sched, programs, memory),
             failed: false,

@@ -22,3 +22,7 @@ first_right (f ∷ a) b h = absurd cc
 -- the first fault of what follows a place without faults
 pub skip : (a b : List FileFault) (f : FileFault) → first a ≡ None → IsFirst f b → IsFirst f (a ++ b)
 skip a b f none is ne = first_none a b none ∙ is ne
+
+-- two places without faults
+pub both : (a b : List FileFault) → first a ≡ None → first b ≡ None → first (a ++ b) ≡ None
+both a b none last = first_none a b none ∙ last

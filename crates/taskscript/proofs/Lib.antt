@@ -7,6 +7,7 @@ pub mod Documents
 pub mod EventTurns
 pub mod FirstSight
 pub mod Firsts
+pub mod ItemTurns
 pub mod Keys
 pub mod LabelPlaces
 pub mod Machines

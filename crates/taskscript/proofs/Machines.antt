@@ -1,5 +1,5 @@
 -- What holds of the machine of a tree without faults: a quantum within its range, few tasks, names that differ, short bodies, variables within the limits.
-use Rattle.std.proofs.Common.{◌≡◌, ◌≢◌, ℕ, ◌≤◌, Bool, true, false, not, if◌then◌else◌, nat_le, List, [], ◌∷◌, ◌++◌, length, All, bytes_eq, codes, pos, negsuc, lit≤, ◌&&◌, Option, Some, None, refl, sym, ap, ◌∙◌, arith}
+use Rattle.std.proofs.Common.{is_none, ◌≡◌, ◌≢◌, ℕ, ◌≤◌, Bool, true, false, not, if◌then◌else◌, nat_le, List, [], ◌∷◌, ◌++◌, length, All, bytes_eq, codes, pos, negsuc, lit≤, ◌&&◌, Option, Some, None, refl, sym, ap, ◌∙◌, arith}
 use Rattle.std.specs.List.{AllPairs, list_any}
 use Rattle.std.proofs.lemmas.Bool.{or_parts}
 use Rattle.std.proofs.lemmas.Bool.Decides.{nat_tests, not_from_Decides}
@@ -7,15 +7,17 @@ use Rattle.std.proofs.lemmas.List.Elements.{All-nil, All-cons}
 use Rattle.std.proofs.lemmas.List.Folds.{list_any-append}
 use Rattle.std.proofs.lemmas.List.Kept.{AllPairs-cons}
 use Rattle.std.proofs.lemmas.Slice.Eq.{bytes_eq-Decides}
+use Rattle.memlist.specs.declared.region.Region.{Region}
+use Rattle.memlist.specs.Regions.{regions_fault}
 use Rattle.toml.specs.Data.{Data, string, integer, float, boolean, datetime, array, table, Items, no_items, item, Members, get_member}
 use Rattle.taskscript.specs.declared.fault.FileFault.{FileFault}
-use Rattle.taskscript.specs.declared.fault.FileFault.TheVariants.{UnknownKey, BadValue, NameTwice, TooMany}
+use Rattle.taskscript.specs.declared.fault.FileFault.TheVariants.{UnknownKey, BadValue, NameTwice, BadRegions, TooMany}
 use Rattle.taskscript.specs.Code.{lines_in, body_faults, shared_after}
 use Rattle.taskscript.specs.Faults.{first, check}
-use Rattle.taskscript.specs.File.{TaskData, top_keys, task_keys, name_of, task_faults, tasks_faults, tasks_in, lines_of, bodies_faults, faults, task_of, tasks_of, machine_of}
+use Rattle.taskscript.specs.File.{TaskData, top_keys, task_keys, name_of, task_faults, tasks_faults, tasks_in, lines_of, bodies_faults, faults, region_faults, regions_faults, regions_in, quantum_of, pool_of, settings_faults, both_passes_faults, task_of, tasks_of, machine_of}
 use Rattle.taskscript.specs.Machines.{IsTask, IsMachine, task_names}
 use Rattle.taskscript.specs.Names.{is_name}
-use Rattle.taskscript.specs.Tree.{required, optional, keys_are_among, integer_faults, boolean_faults, name_faults, count_items, array_faults, are_strings, code_faults, number_or, string_or_nothing, items_or_none}
+use Rattle.taskscript.specs.Tree.{required, optional, keys_are_among, integer_faults, pri_faults, boolean_faults, name_faults, count_items, array_faults, are_strings, code_faults, number_or, items_faults, string_or_nothing, items_or_none}
 use Rattle.taskscript.proofs.CodeLaws.{commands_fit, length-code_of}
 use Rattle.taskscript.proofs.Firsts.{first_left, first_right}
 
@@ -83,7 +85,7 @@ name_part before ms h = first_left _ _ (first_right (check (keys_are_among task_
 code_part : (before : List (List ℕ)) (ms : Members) → first (task_faults before (table ms)) ≡ None → first (required code_faults (get_member (codes "code") ms)) ≡ None
 code_part before ms h =
     first_right (optional boolean_faults (get_member (codes "start") ms)) _
-    (first_right (optional (integer_faults (negsuc 127) (pos 127)) (get_member (codes "pri") ms)) _
+    (first_right (pri_faults ms) _
     (first_right (required (name_faults before) (get_member (codes "name") ms)) _ (first_right (check (keys_are_among task_keys ms) UnknownKey) _ h)))
 
 is_fresh : (before : List (List ℕ)) (d : Data) → first (task_faults before d) ≡ None → list_any (bytes_eq (name_of d)) before ≡ false
@@ -167,54 +169,65 @@ all_differ before (item d ds) h =
 
 -- ---- the machine
 
-quantum_passes : (value : Option Data) → first (optional (integer_faults (pos 1) (pos 255)) value) ≡ None
-    → (1 ≤ number_or 4 value) × (number_or 4 value ≤ 255)
-quantum_passes None h = (lit≤ tt, lit≤ tt)
-quantum_passes (Some (integer (pos n))) h = by (nat_le 1 n) (nat_le n 255) refl refl h
+-- a number of a key that may be absent
+number_passes : (low high otherwise : ℕ) (value : Option Data) → low ≤ otherwise → otherwise ≤ high → first (optional (integer_faults (pos low) (pos high)) value) ≡ None
+    → (low ≤ number_or otherwise value) × (number_or otherwise value ≤ high)
+number_passes low high otherwise None p q h = (p, q)
+number_passes low high otherwise (Some (integer (pos n))) p q h = by (nat_le low n) (nat_le n high) refl refl h
   where
-    by : (low high : Bool) → nat_le 1 n ≡ low → nat_le n 255 ≡ high → first (check (low && high) BadValue) ≡ None → (1 ≤ n) × (n ≤ 255)
+    by : (above below : Bool) → nat_le low n ≡ above → nat_le n high ≡ below → first (check (above && below) BadValue) ≡ None → (low ≤ n) × (n ≤ high)
     by true true e f h = (grind (arith, nat_tests, e), grind (arith, nat_tests, f))
     by true false e f h = absurd cc
-    by false high e f h = absurd cc
-quantum_passes (Some (integer (negsuc n))) h = absurd cc
-quantum_passes (Some (string s)) h = absurd cc
-quantum_passes (Some (float x)) h = absurd cc
-quantum_passes (Some (boolean b)) h = absurd cc
-quantum_passes (Some (datetime d)) h = absurd cc
-quantum_passes (Some (array ds)) h = absurd cc
-quantum_passes (Some (table ms)) h = absurd cc
+    by false below e f h = absurd cc
+number_passes low high otherwise (Some (integer (negsuc n))) p q h = absurd cc
+number_passes low high otherwise (Some (string s)) p q h = absurd cc
+number_passes low high otherwise (Some (float x)) p q h = absurd cc
+number_passes low high otherwise (Some (boolean b)) p q h = absurd cc
+number_passes low high otherwise (Some (datetime d)) p q h = absurd cc
+number_passes low high otherwise (Some (array ds)) p q h = absurd cc
+number_passes low high otherwise (Some (table ms)) p q h = absurd cc
+
+no_fault : {X : Type 0} (fault : Option X) → first (check (is_none fault) BadRegions) ≡ None → fault ≡ None
+no_fault None h = refl
+no_fault (Some f) h = absurd cc
+
+regions_hold : (ms : Members) → first (regions_faults ms) ≡ None → regions_fault 1048576 (regions_in ms) ≡ None
+regions_hold ms h = no_fault (regions_fault 1048576 (regions_in ms)) (first_right (optional (array_faults 8 (items_faults region_faults)) (get_member (codes "region") ms)) _ h)
 
 -- the faults of a whole tree, part by part
 pub record HasNoFaults (tree : Members) : Type 0 where
-  pub keys : keys_are_among top_keys tree ≡ true
-  pub quantum : first (optional (integer_faults (pos 1) (pos 255)) (get_member (codes "quantum") tree)) ≡ None
-  pub tasks : first (optional (array_faults 64 (tasks_faults [])) (get_member (codes "task") tree)) ≡ None
-  pub bodies : first (bodies_faults [] (tasks_in tree)) ≡ None
+  pub settings : first (settings_faults tree) ≡ None
+  pub regions : first (regions_faults tree) ≡ None
+  pub passes : first (both_passes_faults tree) ≡ None
 
 has_none : (ms : Members) → first (faults ms) ≡ None → HasNoFaults ms
 has_none ms h =
     let keys = check (keys_are_among top_keys ms) UnknownKey in
-    let quantum = optional (integer_faults (pos 1) (pos 255)) (get_member (codes "quantum") ms) in
-    let tasks = optional (array_faults 64 (tasks_faults [])) (get_member (codes "task") ms) in
-    let bodies = bodies_faults [] (tasks_in ms) in
-    let values : first (quantum ++ (tasks ++ bodies)) ≡ None = first_right keys (quantum ++ (tasks ++ bodies)) h in
-    let places : first (tasks ++ bodies) ≡ None = first_right quantum (tasks ++ bodies) values in
+    let values : first (settings_faults ms ++ (regions_faults ms ++ both_passes_faults ms)) ≡ None = first_right keys (settings_faults ms ++ (regions_faults ms ++ both_passes_faults ms)) h in
+    let arrays : first (regions_faults ms ++ both_passes_faults ms) ≡ None = first_right (settings_faults ms) (regions_faults ms ++ both_passes_faults ms) values in
     record {
-      keys = passes (keys_are_among top_keys ms) UnknownKey (first_left keys (quantum ++ (tasks ++ bodies)) h);
-      quantum = first_left quantum (tasks ++ bodies) values;
-      tasks = first_left tasks bodies places;
-      bodies = first_right tasks bodies places;
+      settings = first_left (settings_faults ms) (regions_faults ms ++ both_passes_faults ms) values;
+      regions = first_left (regions_faults ms) (both_passes_faults ms) arrays;
+      passes = first_right (regions_faults ms) (both_passes_faults ms) arrays;
     }
 
-machine_of_parts : (ms : Members) → HasNoFaults ms → IsMachine (machine_of ms)
+pub machine_of_parts : (ms : Members) → HasNoFaults ms → IsMachine (machine_of ms)
 machine_of_parts ms h =
-    let tree = array_passes 64 (tasks_faults []) (get_member (codes "task") ms) refl h.tasks in
-    let quantum = quantum_passes (get_member (codes "quantum") ms) h.quantum in
+    let tasks = optional (array_faults 64 (tasks_faults [])) (get_member (codes "task") ms) in
+    let bodies = bodies_faults [] (tasks_in ms) in
+    let tree = array_passes 64 (tasks_faults []) (get_member (codes "task") ms) refl (first_left tasks bodies h.passes) in
+    let quantum_faults = optional (integer_faults (pos 1) (pos 255)) (get_member (codes "quantum") ms) in
+    let pool_faults = optional (integer_faults (pos 1) (pos 1024)) (get_member (codes "pool") ms) in
+    let quantum = number_passes 1 255 4 (get_member (codes "quantum") ms) (lit≤ tt) (lit≤ tt) (first_left quantum_faults pool_faults h.settings) in
+    let pool = number_passes 1 1024 64 (get_member (codes "pool") ms) (lit≤ tt) (lit≤ tt) (first_right quantum_faults pool_faults h.settings) in
     record {
       some_quantum = quantum.0;
       short_quantum = quantum.1;
+      some_pool = pool.0;
+      small_pool = pool.1;
+      regions = regions_hold ms h.regions;
       few = omega (arith, length-tasks_of [] (tasks_in ms), tree.0);
-      tasks = tasks_hold [] [] (tasks_in ms) tree.1 h.bodies;
+      tasks = tasks_hold [] [] (tasks_in ms) tree.1 (first_right tasks bodies h.passes);
       names = rw (task_names-tasks_of [] (tasks_in ms)) (all_differ [] (tasks_in ms) tree.1);
     }
 
@@ -222,10 +235,7 @@ pub machine_holds : (ms : Members) → first (faults ms) ≡ None → IsMachine 
 machine_holds ms h = machine_of_parts ms (has_none ms h)
 
 -- the same of parts that were read from the tree
-pub read_holds : (ms : Members) (shared : List (List ℕ)) (ds : Items) (quantum : ℕ) (ts : List TaskData) → shared ≡ [] → ds ≡ tasks_in ms
-    → keys_are_among top_keys ms ≡ true → first (optional (integer_faults (pos 1) (pos 255)) (get_member (codes "quantum") ms)) ≡ None
-    → first (optional (array_faults 64 (tasks_faults [])) (get_member (codes "task") ms)) ≡ None → first (bodies_faults shared ds) ≡ None
-    → quantum ≡ number_or 4 (get_member (codes "quantum") ms) → ts ≡ tasks_of shared ds → IsMachine (record { quantum = quantum; tasks = ts })
-read_holds ms shared ds quantum ts none is keys small tree lines found same =
-    let body : first (bodies_faults [] (tasks_in ms)) ≡ None = rw (← none, ← is) lines in
-    rw (found, same, none, is) (machine_of_parts ms (record { keys = keys; quantum = small; tasks = tree; bodies = body }))
+pub read_holds : (ms : Members) (quantum pool : ℕ) (regions : List Region) (tasks : List TaskData) → HasNoFaults ms
+    → quantum ≡ quantum_of ms → pool ≡ pool_of ms → regions ≡ regions_in ms → tasks ≡ tasks_of [] (tasks_in ms)
+    → IsMachine (record { quantum = quantum; pool = pool; regions = regions; tasks = tasks })
+read_holds ms quantum pool regions tasks none p q r s = rw (p, q, r, s) (machine_of_parts ms none)

@@ -1,5 +1,6 @@
 -- Worked texts, computed from the definitions alone.
 use Rattle.std.proofs.Common.{◌≡◌, codes, ◌++◌, ◌∷◌, [], Ok, Err, refl}
+use Rattle.memlist.specs.Regions.{regions_fault}
 use Rattle.std.specs.Str.{is_utf8, chars}
 use Rattle.toml.proofs.OnLiterals.{toml_on_literals}
 use Rattle.taskscript.specs.declared.event.Event.TheVariants.{Run}
@@ -25,5 +26,5 @@ unfolding file_of toml_on_literals is_utf8 chars
 unknown_key = refl
 
 no_code : file_of (codes "[[task]]" ++ 10 ∷ codes "name = 'a'") ≡ Err MissingKey
-unfolding file_of toml_on_literals is_utf8 chars
+unfolding file_of toml_on_literals is_utf8 chars regions_fault
 no_code = refl

@@ -1,6 +1,7 @@
 -- What holds of the machine of every file that is accepted.
-use Rattle.std.specs.Prelude.{◌≡◌, ◌≢◌, ℕ, ◌≤◌, true, All, List, length, map}
+use Rattle.std.specs.Prelude.{◌≡◌, ◌≢◌, ℕ, ◌≤◌, true, None, All, List, length, map}
 use Rattle.std.specs.List.{AllPairs}
+use Rattle.memlist.specs.Regions.{regions_fault}
 use Rattle.taskscript.specs.Commands.{CommandFits}
 use Rattle.taskscript.specs.File.{TaskData, MachineData}
 use Rattle.taskscript.specs.Names.{is_name}
@@ -15,10 +16,13 @@ pub record IsTask (task : TaskData) : Type 0 where
 abbrev pub task_names : List TaskData → List (List ℕ)
 task_names tasks = map (λ (t : TaskData). t.name) tasks
 
--- a machine of a file: a quantum of 1 to 255, and at most 64 tasks, whose names differ
+-- a machine of a file: a quantum of 1 to 255, a pool of 1 to 1,024, regions that memory may have, and at most 64 tasks, whose names differ
 pub record IsMachine (machine : MachineData) : Type 0 where
   pub some_quantum : 1 ≤ machine.quantum
   pub short_quantum : machine.quantum ≤ 255
+  pub some_pool : 1 ≤ machine.pool
+  pub small_pool : machine.pool ≤ 1024
+  pub regions : regions_fault 1048576 machine.regions ≡ None
   pub few : length machine.tasks ≤ 64
   pub tasks : All IsTask machine.tasks
   pub names : AllPairs (λ s t. s ≢ t) (task_names machine.tasks)

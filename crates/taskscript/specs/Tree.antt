@@ -1,8 +1,8 @@
 -- The tree that a text states, and the faults of its places. Each place is judged by itself, from the tree alone.
-use Rattle.std.specs.Prelude.{ℕ, ◌+◌, Bool, true, false, not, ◌&&◌, ℤ, pos, unsigned_abs, int_le, nat_le, bytes_eq, List, [], ◌∷◌, ◌++◌, Option, Some, None, if◌then◌else◌}
+use Rattle.std.specs.Prelude.{ℕ, ◌+◌, Bool, true, false, not, ◌&&◌, ℤ, pos, negsuc, codes, unsigned_abs, int_le, nat_le, bytes_eq, List, [], ◌∷◌, ◌++◌, Option, Some, None, if◌then◌else◌}
 use Rattle.std.specs.List.{list_any}
 use Rattle.std.specs.Str.{is_utf8}
-use Rattle.toml.specs.Data.{Data, string, integer, boolean, array, table, Items, no_items, item, Members, no_members, member}
+use Rattle.toml.specs.Data.{Data, string, integer, boolean, array, table, Items, no_items, item, Members, no_members, member, get_member}
 use Rattle.toml.specs.Parse.{parse_document}
 use Rattle.taskscript.specs.declared.fault.FileFault.{FileFault}
 use Rattle.taskscript.specs.declared.fault.FileFault.TheVariants.{MissingKey, BadValue, NameTwice, TooMany}
@@ -37,6 +37,10 @@ abbrev pub integer_faults : ℤ → ℤ → Data → List FileFault
 integer_faults low high (integer z) = check (int_le low z && int_le z high) BadValue
 integer_faults low high _ = BadValue ∷ []
 
+-- a priority, of the key `pri`
+abbrev pub pri_faults : Members → List FileFault
+pri_faults owner = optional (integer_faults (negsuc 127) (pos 127)) (get_member (codes "pri") owner)
+
 abbrev pub boolean_faults : Data → List FileFault
 boolean_faults (boolean b) = []
 boolean_faults _ = BadValue ∷ []
@@ -55,6 +59,11 @@ abbrev pub array_faults : ℕ → (Items → List FileFault) → Data → List F
 array_faults limit judge (array items) = check (nat_le (count_items items) limit) TooMany ++ judge items
 array_faults limit judge _ = BadValue ∷ []
 
+-- the items of an array in their order, each judged by itself
+abbrev pub items_faults : (Data → List FileFault) → Items → List FileFault
+items_faults judge no_items = []
+items_faults judge (item value rest) = judge value ++ items_faults judge rest
+
 abbrev pub are_strings : Items → Bool
 are_strings no_items = true
 are_strings (item (string s) rest) = are_strings rest
@@ -70,6 +79,10 @@ code_faults _ = BadValue ∷ []
 abbrev pub integer_or : ℤ → Option Data → ℤ
 integer_or otherwise (Some (integer z)) = z
 integer_or otherwise _ = otherwise
+
+-- the priority, 0 where there is none
+abbrev pub pri_in : Members → ℤ
+pri_in owner = integer_or (pos 0) (get_member (codes "pri") owner)
 
 abbrev pub number_or : ℕ → Option Data → ℕ
 number_or otherwise value = unsigned_abs (integer_or (pos otherwise) value)

@@ -5,6 +5,7 @@ ghost use Rattle.taskscript.specs.Records.{task_view};
 
 use crate::command::Command;
 use crate::name::Name;
+use memlist::Region;
 use std::marker::Model;
 
 /// A task of the machine.
@@ -25,8 +26,10 @@ pub struct TaskRecord {
 /// `read_machine` alone makes one.
 #[derive(Drop)]
 pub struct MachineFile {
-    quantum: u8,
-    tasks: Vec<TaskRecord>,
+    pub(crate) quantum: u8,
+    pub(crate) pool: u32,
+    pub(crate) regions: Vec<Region>,
+    pub(crate) tasks: Vec<TaskRecord>,
 }
 
 impl Model for MachineFile {
@@ -37,26 +40,34 @@ impl Model for MachineFile {
 
     ghost Value = { MachineData };
 
-    ghost view = { λ m. record { quantum = m.quantum; tasks = map task_view m.tasks.items } };
+    ghost view = { λ m. record { quantum = m.quantum; pool = m.pool; regions = m.regions.items; tasks = map task_view m.tasks.items } };
 
-    ghost invariant = { λ m. IsMachine (record { quantum = m.quantum; tasks = map task_view m.tasks.items }) };
+    ghost invariant = { λ m. IsMachine (record { quantum = m.quantum; pool = m.pool; regions = m.regions.items; tasks = map task_view m.tasks.items }) };
 }
 
 impl MachineFile {
-    /// The machine of these parts.
-    pub(crate) fn new(quantum: u8, tasks: Vec<TaskRecord>) -> MachineFile
-        requires { IsMachine (record { quantum = quantum; tasks = map task_view tasks.items }) }
-        ensures { result ≡ record { quantum = quantum; tasks = map task_view tasks.items } }
-    {
-        MachineFile { quantum, tasks }
-    }
-
     /// The quantum: how many servings of VERTB a task runs before it lets an equal one run, 1 to 255 (RKM Libraries, Exec Tasks: scheduling).
     pub fn quantum(&self) -> u8
         ensures quantum { result ≡ self.now.quantum }
         ensures machine { IsMachine self.now }
     {
         self.quantum
+    }
+
+    /// How many live objects there may be of each of the six kinds: 1 to 1,024 (own choice).
+    pub fn pool(&self) -> u32
+        ensures pool { result ≡ self.now.pool }
+        ensures machine { IsMachine self.now }
+    {
+        self.pool
+    }
+
+    /// The regions of memory, in the order of the file (RKM Libraries, Exec Memory Allocation). `check_regions` accepts them.
+    pub fn regions(&self) -> &[Region]
+        ensures regions { result.now ≡ self.now.regions }
+        ensures machine { IsMachine self.now }
+    {
+        &self.regions
     }
 
     /// The tasks, in the order of the file: at most 64. The first one is task 1.

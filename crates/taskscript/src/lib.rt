@@ -19,6 +19,7 @@ mod number;
 mod numbering;
 mod quoted;
 mod reading;
+mod regions;
 mod resolving;
 mod tasks;
 #[cfg(test)]

@@ -5,7 +5,7 @@ ghost use Rattle.toml.specs.Data.{table as a_table, get_member};
 ghost use Rattle.toml.specs.View.{table_view, view, items_view};
 ghost use Rattle.taskscript.specs.Code.{lines_in, body_faults, shared_after};
 ghost use Rattle.taskscript.specs.Faults.{Judges};
-ghost use Rattle.taskscript.specs.File.{task_table_faults, task_faults, tasks_faults, lines_of, bodies_faults, shared_after_bodies, tasks_of, tasks_in};
+ghost use Rattle.taskscript.specs.File.{task_table_faults, task_faults, tasks_faults, lines_of, bodies_faults, both_passes_faults, shared_after_bodies, tasks_of, tasks_in};
 ghost use Rattle.taskscript.specs.Numbering.{texts};
 ghost use Rattle.taskscript.specs.Records.{head_view, head_names, head_of, heads_of, task_view, task_with};
 ghost use Rattle.taskscript.specs.Tree.{required, optional, name_faults, string_or_nothing, code_faults, array_faults};
@@ -14,7 +14,7 @@ use crate::code::read_code;
 use crate::fault::FileFault;
 use crate::file::TaskRecord;
 use crate::name::{Name, is_name};
-use crate::tree::{are_strings, has_only, items_at, member, optional_boolean, optional_integer};
+use crate::tree::{are_strings, has_only, items_at, member, optional_boolean, optional_pri};
 use crate::variable::VariableName;
 use indexmap::IndexSet;
 use std::alloc::Global;
@@ -95,14 +95,10 @@ fn head_in(table: &Table, before: &[Head]) -> Result<Head, FileFault>
         return Err(FileFault::UnknownKey);
     }
     let name = name_at(table, before)?;
-    let pri = optional_integer(table, "pri", -128, 127, 0)?;
+    let pri = optional_pri(table)?;
     let start = optional_boolean(table, "start", true)?;
     check_code(table)?;
-    Ok(Head {
-        name,
-        pri: pri as i8,
-        start,
-    })
+    Ok(Head { name, pri, start })
 }
 
 fn head_of(value: &Value, before: &[Head]) -> Result<Head, FileFault>
@@ -127,7 +123,7 @@ fn heads_of(alloc: Global, items: &[Value]) -> Result<Vec<Head>, FileFault>
 
 /// The first pass over the tasks.
 #[tactic(auto, using(crate::proofs::Keys::count_items_view))]
-pub fn task_heads(alloc: Global, table: &Table) -> Result<Vec<Head>, FileFault>
+fn task_heads(alloc: Global, table: &Table) -> Result<Vec<Head>, FileFault>
     ensures { Judges result (optional (array_faults 64 (tasks_faults [])) (get_member (codes "task") (table_view table.now))) (λ hs. map head_view hs.items ≡ heads_of (tasks_in (table_view table.now))) }
 {
     let value = match member(table, "task") {
@@ -173,7 +169,7 @@ fn task_of(
 }
 
 /// The second pass over the tasks.
-pub fn tasks_of(
+fn tasks_of(
     alloc: Global,
     heads: &[Head],
     items: &[Value],
@@ -189,4 +185,13 @@ pub fn tasks_of(
         tasks.push(task)?;
     }
     Ok(tasks)
+}
+
+/// The tasks of a file, by both passes.
+pub fn tasks_at(alloc: Global, table: &Table) -> Result<Vec<TaskRecord>, FileFault>
+    ensures { Judges result (both_passes_faults (table_view table.now)) (λ ts. map task_view ts.items ≡ tasks_of [] (tasks_in (table_view table.now))) }
+{
+    let heads = task_heads(alloc, table)?;
+    let mut shared = IndexSet::new(alloc);
+    tasks_of(alloc, &heads, items_at(table, "task"), &mut shared)
 }

@@ -1,30 +1,51 @@
 //! The faults of both texts, with the values that the formats give, and what an accepted text holds.
 use super::*;
+use std::alloc::Global;
+use std::process::Abort;
 use std::test::*;
 
 /// The fault of a machine file, if it is refused.
-fn file_fault(rt: &HostRuntime, file: &[u8]) -> Option<FileFault> {
-    match read_machine(rt.alloc(), file) {
+fn file_fault(alloc: Global, file: &[u8]) -> Option<FileFault> {
+    match read_machine(alloc, file) {
         Ok(_) => None,
         Err(fault) => Some(fault),
     }
 }
 
 /// The fault of an event text, if it is refused.
-fn event_fault(rt: &HostRuntime, text: &[u8]) -> Option<EventFault> {
-    match read_events(rt.alloc(), text) {
+fn event_fault(alloc: Global, text: &[u8]) -> Option<EventFault> {
+    match read_events(alloc, text) {
         Ok(_) => None,
         Err(fault) => Some(fault),
     }
 }
 
+/// Asserts that each of the files is refused with its fault.
+fn refuses(rt: &impl Abort, alloc: Global, cases: &[(&str, FileFault)]) {
+    for (file, fault) in cases {
+        assert!(rt;
+            file_fault(alloc, file.as_bytes()) == Some(*fault),
+            "at {file}"
+        );
+    }
+}
+
 #[test]
-fn a_machine_file_gives_its_tasks_in_order(rt: HostRuntime) -> Result<(), Fail> {
-    let file =
-        "quantum = 255\ntask = [{ name = \"A.b_c-9\", pri = -128, start = false, code = [] }, { code = [\"Print 1\", \"Wait $1000\"], name = \"b\" }]";
+fn a_machine_file_gives_its_parts_in_order(rt: HostRuntime) -> Result<(), Fail> {
+    let file = "quantum = 255\npool = 1024\n\
+        region = [{ size = 8, base = 8192, pri = -1, attrs = 7 }, { base = 4096, size = 16 }]\n\
+        [[task]]\nname = \"A.b_c-9\"\npri = -128\nstart = false\ncode = []\n\
+        [[task]]\ncode = [\"Print 1\", \"Wait $1000\"]\nname = \"b\"";
     let machine = read_machine(rt.alloc(), file.as_bytes())?;
-    let tasks = machine.tasks();
     assert_eq!(rt; machine.quantum(), 255);
+    assert_eq!(rt; machine.pool(), 1024);
+    let regions = machine.regions();
+    assert_eq!(rt; regions.len(), 2);
+    assert_eq!(rt; (regions[0].base, regions[0].size), (8192, 8));
+    assert_eq!(rt; (regions[0].attrs, regions[0].pri), (7, -1));
+    assert_eq!(rt; (regions[1].base, regions[1].size), (4096, 16));
+    assert_eq!(rt; (regions[1].attrs, regions[1].pri), (1, 0));
+    let tasks = machine.tasks();
     assert_eq!(rt; tasks.len(), 2);
     assert_eq!(rt; tasks[0].name.as_str(), "A.b_c-9");
     assert_eq!(rt; tasks[0].pri, -128);
@@ -39,96 +60,187 @@ fn a_machine_file_gives_its_tasks_in_order(rt: HostRuntime) -> Result<(), Fail> 
 }
 
 #[test]
-fn an_empty_machine_file_has_no_task(rt: HostRuntime) -> Result<(), Fail> {
+fn an_empty_machine_file_has_the_values_of_absent_keys(rt: HostRuntime) -> Result<(), Fail> {
     let machine = read_machine(rt.alloc(), b"")?;
     assert_eq!(rt; machine.quantum(), 4);
+    assert_eq!(rt; machine.pool(), 64);
+    assert!(rt; machine.regions().is_empty());
     assert!(rt; machine.tasks().is_empty());
     Ok(())
 }
 
 #[test]
-fn the_first_faulty_place_of_a_file_decides(rt: HostRuntime) {
-    let cases = [
-        ("x =", FileFault::NotToml),
-        ("speed = 1", FileFault::UnknownKey),
-        ("task = 3", FileFault::BadValue),
-        ("[task]\nname = \"a\"\ncode = []", FileFault::BadValue),
-        ("task = [1]", FileFault::BadValue),
-        ("task = 3\nspeed = 1", FileFault::UnknownKey),
-        ("[[task]]\nname = \"a\"", FileFault::MissingKey),
-        ("[[task]]\ncode = []", FileFault::MissingKey),
-        ("[[task]]\nspeed = 1", FileFault::UnknownKey),
-        ("[[task]]\nname = \"a b\"\ncode = []", FileFault::BadValue),
-        ("[[task]]\nname = \"\"\ncode = []", FileFault::BadValue),
-        (
-            "[[task]]\nname = \"a2345678901234567890123456789012\"\ncode = []",
-            FileFault::BadValue,
-        ),
-        (
-            "[[task]]\nname = 1979-05-27\ncode = []",
-            FileFault::BadValue,
-        ),
-        ("[[task]]\nname = { a = 1 }\ncode = []", FileFault::BadValue),
-        (
-            "[[task]]\nname = \"a\"\npri = 128\ncode = []",
-            FileFault::BadValue,
-        ),
-        (
-            "[[task]]\nname = \"a\"\npri = -129\ncode = []",
-            FileFault::BadValue,
-        ),
-        (
-            "[[task]]\nname = \"a\"\npri = 1.0\ncode = []",
-            FileFault::BadValue,
-        ),
-        (
-            "[[task]]\nname = \"a\"\ncode = \"Print 1\"",
-            FileFault::BadValue,
-        ),
-        ("[[task]]\nname = \"a\"\ncode = [1]", FileFault::BadValue),
-        (
-            "[[task]]\nname = \"a\"\npri = true\n[[task]]\nname = \"a\"",
-            FileFault::BadValue,
-        ),
-        (
-            "[[task]]\nname = \"a\"\ncode = []\n[[task]]\nname = \"a\"\npri = 128",
-            FileFault::NameTwice,
-        ),
-        (
-            "[[task]]\nname = \"a\"\ncode = [\"v = Forbid\"]",
-            FileFault::BadCommand,
-        ),
-        (
-            "[[task]]\nname = \"a\"\ncode = [\"\"]",
-            FileFault::BadCommand,
-        ),
-        (
-            "[[task]]\nname = \"a\"\ncode = [\"v = Forbid\"]\n[[task]]\nname = \"b\"",
-            FileFault::MissingKey,
-        ),
-    ];
-    for (file, fault) in cases {
-        assert!(rt;
-            file_fault(&rt, file.as_bytes()) == Some(fault),
-            "at {file}"
-        );
-    }
+fn keys_of_the_file_are_judged_before_their_values(rt: HostRuntime) {
+    refuses(
+        &rt,
+        rt.alloc(),
+        &[
+            ("x =", FileFault::NotToml),
+            ("speed = 1", FileFault::UnknownKey),
+            ("quantum = 0\nspeed = 1", FileFault::UnknownKey),
+            ("task = 3\nspeed = 1", FileFault::UnknownKey),
+            ("quantum = 0", FileFault::BadValue),
+            ("quantum = 256", FileFault::BadValue),
+            ("quantum = true", FileFault::BadValue),
+            ("pool = 0", FileFault::BadValue),
+            ("pool = 1025", FileFault::BadValue),
+            ("pool = 0\n[[region]]\nspeed = 1", FileFault::BadValue),
+            ("region = 3", FileFault::BadValue),
+            ("task = 3", FileFault::BadValue),
+        ],
+    );
+}
+
+#[test]
+fn regions_are_judged_one_by_one_and_then_together(rt: HostRuntime) {
+    refuses(
+        &rt,
+        rt.alloc(),
+        &[
+            ("region = [4096]", FileFault::BadValue),
+            ("[[region]]\nsize = 8", FileFault::MissingKey),
+            ("[[region]]\nbase = 4096", FileFault::MissingKey),
+            ("[[region]]\nbase = -8\nsize = 8", FileFault::BadValue),
+            (
+                "[[region]]\nbase = 4096\nsize = 4294967296",
+                FileFault::BadValue,
+            ),
+            (
+                "[[region]]\nbase = 4096\nsize = 8\nattrs = 8",
+                FileFault::BadValue,
+            ),
+            (
+                "[[region]]\nbase = 4096\nsize = 8\npri = 128",
+                FileFault::BadValue,
+            ),
+            (
+                "[[region]]\nbase = 4096\nsize = 8\nspeed = 1",
+                FileFault::UnknownKey,
+            ),
+            ("[[region]]\nbase = 4096\nsize = 12", FileFault::BadRegions),
+            (
+                "[[region]]\nbase = 4096\nsize = 1048584",
+                FileFault::BadRegions,
+            ),
+            (
+                "[[region]]\nbase = 4096\nsize = 12\n[[region]]\nbase = 4096",
+                FileFault::MissingKey,
+            ),
+            (
+                "[[region]]\nbase = 4096\nsize = 12\n[[task]]\nspeed = 1",
+                FileFault::BadRegions,
+            ),
+            (
+                "[[task]]\nname = \"a\"\ncode = [\"?\"]\n[[region]]\nbase = 4096\nsize = 12",
+                FileFault::BadRegions,
+            ),
+        ],
+    );
+}
+
+#[test]
+fn values_of_a_task_are_judged_in_order(rt: HostRuntime) {
+    refuses(
+        &rt,
+        rt.alloc(),
+        &[
+            ("[task]\nname = \"a\"\ncode = []", FileFault::BadValue),
+            ("task = [1]", FileFault::BadValue),
+            ("[[task]]\nname = \"a\"", FileFault::MissingKey),
+            ("[[task]]\ncode = []", FileFault::MissingKey),
+            ("[[task]]\nspeed = 1", FileFault::UnknownKey),
+            ("[[task]]\nname = \"a b\"\ncode = []", FileFault::BadValue),
+            ("[[task]]\nname = \"\"\ncode = []", FileFault::BadValue),
+            (
+                "[[task]]\nname = \"a2345678901234567890123456789012\"\ncode = []",
+                FileFault::BadValue,
+            ),
+            (
+                "[[task]]\nname = 1979-05-27\ncode = []",
+                FileFault::BadValue,
+            ),
+            ("[[task]]\nname = { a = 1 }\ncode = []", FileFault::BadValue),
+            (
+                "[[task]]\nname = \"a\"\npri = 128\ncode = []",
+                FileFault::BadValue,
+            ),
+            (
+                "[[task]]\nname = \"a\"\npri = -129\ncode = []",
+                FileFault::BadValue,
+            ),
+            (
+                "[[task]]\nname = \"a\"\npri = 1.0\ncode = []",
+                FileFault::BadValue,
+            ),
+            ("[[task]]\nname = \"a\"\nstart = 1", FileFault::BadValue),
+            (
+                "[[task]]\nname = \"a\"\ncode = \"Print 1\"",
+                FileFault::BadValue,
+            ),
+            ("[[task]]\nname = \"a\"\ncode = [1]", FileFault::BadValue),
+            (
+                "[[task]]\nname = \"a\"\npri = true\n[[task]]\nname = \"a\"",
+                FileFault::BadValue,
+            ),
+            (
+                "[[task]]\nname = \"a\"\ncode = []\n[[task]]\nname = \"a\"\npri = 128",
+                FileFault::NameTwice,
+            ),
+        ],
+    );
+}
+
+#[test]
+fn lines_are_judged_after_the_whole_tree(rt: HostRuntime) {
+    refuses(
+        &rt,
+        rt.alloc(),
+        &[
+            (
+                "[[task]]\nname = \"a\"\ncode = [\"v = Forbid\"]",
+                FileFault::BadCommand,
+            ),
+            (
+                "[[task]]\nname = \"a\"\ncode = [\"\"]",
+                FileFault::BadCommand,
+            ),
+            (
+                "[[task]]\nname = \"a\"\ncode = [\"?\"]\n[[task]]\nname = \"b\"",
+                FileFault::MissingKey,
+            ),
+        ],
+    );
 }
 
 #[test]
 fn bytes_that_are_no_text_are_not_toml(rt: HostRuntime) {
-    assert!(rt; file_fault(&rt, b"# \xff\n") == Some(FileFault::NotToml));
+    assert!(rt; file_fault(rt.alloc(), b"# \xff\n") == Some(FileFault::NotToml));
 }
 
 #[test]
-fn the_limits_of_a_file_hold(rt: HostRuntime) -> Result<(), Fail> {
+fn a_file_has_at_most_64_tasks(rt: HostRuntime) -> Result<(), Fail> {
     let mut file = Vec::new(rt.alloc());
     for i in 0..65 {
-        assert!(rt; file_fault(&rt, &file).is_none(), "with {i} tasks");
+        assert!(rt; file_fault(rt.alloc(), &file).is_none(), "with {i} tasks");
         let task = format!(in rt.alloc(); "[[task]]\nname = \"t{i}\"\ncode = []\n")?;
         file.extend_from_slice(task.as_bytes())?;
     }
-    assert!(rt; file_fault(&rt, &file) == Some(FileFault::TooMany));
+    assert!(rt; file_fault(rt.alloc(), &file) == Some(FileFault::TooMany));
+    Ok(())
+}
+
+#[test]
+fn a_file_has_at_most_8_regions(rt: HostRuntime) -> Result<(), Fail> {
+    let mut file = Vec::new(rt.alloc());
+    for i in 1..10 {
+        assert!(rt;
+            file_fault(rt.alloc(), &file).is_none(),
+            "before region {i}"
+        );
+        let region = format!(in rt.alloc(); "[[region]]\nbase = {i}0000\nsize = 8\n")?;
+        file.extend_from_slice(region.as_bytes())?;
+    }
+    assert!(rt; file_fault(rt.alloc(), &file) == Some(FileFault::TooMany));
     Ok(())
 }
 
@@ -141,13 +253,13 @@ fn a_body_has_at_most_1024_lines(rt: HostRuntime) -> Result<(), Fail> {
     }
     let mut longer = file.clone()?;
     file.extend_from_slice(b"]")?;
-    assert!(rt; file_fault(&rt, &file).is_none());
+    assert!(rt; file_fault(rt.alloc(), &file).is_none());
     longer.extend_from_slice(b"\"?\"")?;
     let mut mixed = longer.clone()?;
     longer.extend_from_slice(b"]")?;
-    assert!(rt; file_fault(&rt, &longer) == Some(FileFault::TooMany));
+    assert!(rt; file_fault(rt.alloc(), &longer) == Some(FileFault::TooMany));
     mixed.extend_from_slice(b",1]")?;
-    assert!(rt; file_fault(&rt, &mixed) == Some(FileFault::BadValue));
+    assert!(rt; file_fault(rt.alloc(), &mixed) == Some(FileFault::BadValue));
     Ok(())
 }
 
@@ -182,7 +294,7 @@ fn the_first_faulty_line_of_an_event_text_decides(rt: HostRuntime) {
         (b"run 1000000\nrun 1\ntic", EventFault::TooMany),
     ];
     for (text, fault) in cases {
-        assert!(rt; event_fault(&rt, text) == Some(fault), "at {text:?}");
+        assert!(rt; event_fault(rt.alloc(), text) == Some(fault), "at {text:?}");
     }
 }
 
@@ -192,8 +304,8 @@ fn an_event_text_has_at_most_100000_events(rt: HostRuntime) -> Result<(), Fail> 
     for _ in 0..50_000 {
         text.extend_from_slice(b"run 1\ntick 1\n")?;
     }
-    assert!(rt; event_fault(&rt, &text).is_none());
+    assert!(rt; event_fault(rt.alloc(), &text).is_none());
     text.extend_from_slice(b"tick 1")?;
-    assert!(rt; event_fault(&rt, &text) == Some(EventFault::TooMany));
+    assert!(rt; event_fault(rt.alloc(), &text) == Some(EventFault::TooMany));
     Ok(())
 }

@@ -5,7 +5,7 @@ ghost use Rattle.toml.specs.Data.{get_member};
 ghost use Rattle.toml.specs.View.{table_view, view, items_view};
 ghost use Rattle.taskscript.specs.Faults.{Judges};
 ghost use Rattle.taskscript.specs.Records.{DocumentFault};
-ghost use Rattle.taskscript.specs.Tree.{keys_are_among, optional, integer_faults, boolean_faults, integer_or, number_or, boolean_or, items_or_none, document_of, are_strings};
+ghost use Rattle.taskscript.specs.Tree.{keys_are_among, required, optional, integer_faults, pri_faults, boolean_faults, integer_or, pri_in, number_or, boolean_or, items_or_none, document_of, are_strings};
 
 use crate::fault::FileFault;
 use std::alloc::Global;
@@ -54,7 +54,7 @@ pub fn has_only(table: &Table, listed: &[&str]) -> bool
 }
 
 /// The integer from `low` to `high` that the key holds, or `otherwise` where the key is absent.
-pub fn optional_integer(
+fn optional_integer(
     table: &Table,
     key: &str,
     low: i64,
@@ -82,6 +82,14 @@ pub fn optional_integer(
     }
 }
 
+/// The priority that the key `pri` holds, or 0 where it is absent.
+pub fn optional_pri(table: &Table) -> Result<i8, FileFault>
+    ensures { Judges result (pri_faults (table_view table.now)) (λ p. p ≡ pri_in (table_view table.now)) }
+{
+    let pri = optional_integer(table, "pri", -128, 127, 0)?;
+    Ok(pri as i8)
+}
+
 /// The number from `low` to `high` that the key holds, or `otherwise` where the key is absent.
 pub fn optional_number(
     table: &Table,
@@ -104,6 +112,28 @@ pub fn optional_number(
         i64::from(otherwise),
     )?;
     Ok(number as u32)
+}
+
+/// The number from `low` to `high` that the key holds.
+pub fn required_number(table: &Table, key: &str, low: u32, high: u32) -> Result<u32, FileFault>
+    ensures exact { Judges result (required (integer_faults (pos low) (pos high)) (get_member key.now (table_view table.now))) (λ n. n ≡ number_or 0 (get_member key.now (table_view table.now))) }
+    ensures low_out { IfOk result (λ n. low ≤ n) }
+    ensures high_out { IfOk result (λ n. n ≤ high) }
+{
+    let value = match member(table, key) {
+        None => return Err(FileFault::MissingKey),
+        Some(value) => value,
+    };
+    match value.as_integer() {
+        None => Err(FileFault::BadValue),
+        Some(z) => {
+            if i64::from(low) <= z && z <= i64::from(high) {
+                Ok(z as u32)
+            } else {
+                Err(FileFault::BadValue)
+            }
+        }
+    }
 }
 
 /// The boolean that the key holds, or `otherwise` where the key is absent.

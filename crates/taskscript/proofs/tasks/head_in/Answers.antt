@@ -1,4 +1,4 @@
-use Rattle.std.proofs.Common.{sym, ◌∙◌, ap, Bool, codes, pos, negsuc}
+use Rattle.std.proofs.Common.{sym, ◌∙◌, ap, Bool, codes}
 use Rattle.std.proofs.lemmas.Result.{err_from_is_err_and}
 use Rattle.toml.specs.Data.{get_member}
 use Rattle.toml.specs.View.{table_view}
@@ -6,7 +6,7 @@ use Rattle.taskscript.specs.declared.fault.FileFault.TheVariants.{UnknownKey}
 use Rattle.taskscript.specs.Faults.{first, check}
 use Rattle.taskscript.specs.File.{task_keys}
 use Rattle.taskscript.specs.Records.{head_names}
-use Rattle.taskscript.specs.Tree.{required, optional, keys_are_among, integer_faults, boolean_faults, name_faults, code_faults}
+use Rattle.taskscript.specs.Tree.{required, optional, keys_are_among, pri_faults, boolean_faults, name_faults, code_faults}
 use Rattle.taskscript.proofs.Firsts.{skip}
 use Rattle.taskscript.proofs.tasks.head_in.Goals as goal
 
@@ -18,5 +18,5 @@ returns-in_err-check_code c =
     let keys = ap (λ (b : Bool). first (check b UnknownKey)) (sym c.has_only.ensures ∙ c.if-not-has_only.false) in
     rw (p.1, p.2) (skip (check (keys_are_among task_keys t) UnknownKey) _ f keys
     (skip (required (name_faults (head_names c.args.before.now)) (get_member (codes "name") t)) _ f c.in_ok-name.ensures.0
-    (skip (optional (integer_faults (negsuc 127) (pos 127)) (get_member (codes "pri") t)) _ f c.in_ok-pri.ensures.exact.0
+    (skip (pri_faults t) _ f c.in_ok-pri.ensures.0
     (skip (optional boolean_faults (get_member (codes "start") t)) (required code_faults (get_member (codes "code") t)) f c.in_ok-start.ensures.0 c.in_err-check_code.ensures))))

@@ -1,0 +1,25 @@
+-- One turn of a loop over the items of an array, where each item is judged by itself.
+use Rattle.std.proofs.Common.{◌≡◌, ℕ, ◌+◌, ◌<◌, List, [], ◌∷◌, ◌++◌, length, get_or, drop, None, sym, ap, ◌∙◌, append_assoc}
+use Rattle.memlist.specs.declared.region.Region.{Region}
+use Rattle.toml.specs.declared.value.Value.{Value}
+use Rattle.toml.specs.Data.{Data, item}
+use Rattle.toml.specs.View.{view, items_view}
+use Rattle.toml.proofs.Views.{items_view-drop}
+use Rattle.taskscript.specs.declared.fault.FileFault.{FileFault}
+use Rattle.taskscript.specs.Faults.{first}
+use Rattle.taskscript.specs.File.{region_of, regions_of}
+use Rattle.taskscript.specs.Tree.{items_faults}
+use Rattle.taskscript.proofs.Firsts.{first_none}
+
+pub items_go_on : (judge : Data → List FileFault) (vs : List Value) (i : ℕ) (v : Value) → i < length vs → v ≡ get_or vs i v → first (judge (view v)) ≡ None
+    → first (items_faults judge (items_view (drop i vs))) ≡ first (items_faults judge (items_view (drop (i + 1) vs)))
+items_go_on judge vs i v lt is good =
+    ap (λ ds. first (items_faults judge ds)) (items_view-drop vs i v lt) ∙ ap (λ (w : Value). first (items_faults judge (item (view w) (items_view (drop (i + 1) vs))))) (sym is)
+    ∙ first_none (judge (view v)) _ good
+
+pub regions_found : (rs : List Region) (r : Region) (vs : List Value) (i : ℕ) (v : Value) → i < length vs → v ≡ get_or vs i v → r ≡ region_of (view v)
+    → rs ++ regions_of (items_view (drop i vs)) ≡ (rs ++ r ∷ []) ++ regions_of (items_view (drop (i + 1) vs))
+regions_found rs r vs i v lt is same =
+    let rest = regions_of (items_view (drop (i + 1) vs)) in
+    ap (λ ds. rs ++ regions_of ds) (items_view-drop vs i v lt) ∙ ap (λ (w : Value). rs ++ (region_of (view w) ∷ rest)) (sym is)
+    ∙ ap (λ (q : Region). rs ++ (q ∷ rest)) (sym same) ∙ sym (append_assoc rs (r ∷ []) rest)

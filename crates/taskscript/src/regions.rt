@@ -1,0 +1,83 @@
+//! The regions of a machine file: the items of its array `region`, and the check of all of them together.
+ghost use Rattle.std.specs.Prelude.{◌≡◌, codes, is_none};
+ghost use Rattle.memlist.specs.Regions.{regions_fault};
+ghost use Rattle.toml.specs.Data.{table as a_table, get_member};
+ghost use Rattle.toml.specs.View.{table_view, view, items_view};
+ghost use Rattle.taskscript.specs.Faults.{Judges};
+ghost use Rattle.taskscript.specs.File.{region_table_faults, region_faults, region_of, regions_of, regions_faults, regions_in};
+ghost use Rattle.taskscript.specs.Tree.{optional, array_faults, items_faults};
+
+use crate::fault::FileFault;
+use crate::tree::{has_only, member, optional_number, optional_pri, required_number};
+use memlist::{Region, check_regions};
+use std::alloc::Global;
+use toml::{Table, Value};
+
+/// The region of a table, whose keys and values are judged in their order.
+fn region_in(table: &Table) -> Result<Region, FileFault>
+    ensures { Judges result (region_table_faults (table_view table.now)) (λ r. r ≡ region_of (a_table (table_view table.now))) }
+{
+    if !has_only(table, &["base", "size", "attrs", "pri"]) {
+        return Err(FileFault::UnknownKey);
+    }
+    let base = required_number(table, "base", 0, 4_294_967_295)?;
+    let size = required_number(table, "size", 0, 4_294_967_295)?;
+    let attrs = optional_number(table, "attrs", 0, 7, 1)?;
+    let pri = optional_pri(table)?;
+    Ok(Region {
+        base,
+        size,
+        attrs,
+        pri,
+    })
+}
+
+fn region_of(value: &Value) -> Result<Region, FileFault>
+    ensures { Judges result (region_faults (view value.now)) (λ r. r ≡ region_of (view value.now)) }
+{
+    match value.as_table() {
+        None => Err(FileFault::BadValue),
+        Some(table) => region_in(table),
+    }
+}
+
+fn regions_of(alloc: Global, items: &[Value]) -> Result<Vec<Region>, FileFault>
+    ensures { Judges result (items_faults region_faults (items_view items.now)) (λ rs. rs.items ≡ regions_of (items_view items.now)) }
+{
+    let mut regions = Vec::new(alloc);
+    for item in items {
+        let region = region_of(item)?;
+        regions.push(region)?;
+    }
+    Ok(regions)
+}
+
+/// The items of the array that the key `region` holds, or none.
+#[tactic(auto, using(crate::proofs::Keys::count_items_view))]
+fn listed_regions(alloc: Global, table: &Table) -> Result<Vec<Region>, FileFault>
+    ensures { Judges result (optional (array_faults 8 (items_faults region_faults)) (get_member (codes "region") (table_view table.now))) (λ rs. rs.items ≡ regions_in (table_view table.now)) }
+{
+    let value = match member(table, "region") {
+        None => return Ok(Vec::new(alloc)),
+        Some(value) => value,
+    };
+    let items = match value.as_array() {
+        None => return Err(FileFault::BadValue),
+        Some(items) => items,
+    };
+    if items.len() > 8 {
+        return Err(FileFault::TooMany);
+    }
+    regions_of(alloc, items)
+}
+
+/// The regions of a file, which are judged together after the last of them.
+pub fn regions_at(alloc: Global, table: &Table) -> Result<Vec<Region>, FileFault>
+    ensures { Judges result (regions_faults (table_view table.now)) (λ rs. rs.items ≡ regions_in (table_view table.now)) }
+{
+    let regions = listed_regions(alloc, table)?;
+    if check_regions(&regions).is_err() {
+        return Err(FileFault::BadRegions);
+    }
+    Ok(regions)
+}
