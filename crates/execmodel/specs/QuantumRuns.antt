@@ -39,8 +39,8 @@ adds_another =
 abbrev pub finds_another : List TaskData
 finds_another =
     task (codes "a") (pos 0)
-      (command FindTask (quoted (codes "b") ∷ []) ∷ command AddTask (number 2 ∷ []) ∷ command AddTask (number 2 ∷ []) ∷ command FindTask (quoted (codes "b") ∷ [])
-      ∷ command SetTaskPri (number 2 ∷ number 1 ∷ []) ∷ command FindTask (number 0 ∷ []) ∷ command AddTask (number 2 ∷ []) ∷ command SetTaskPri (number 2 ∷ number 0 ∷ []) ∷ [])
+    (command FindTask (quoted (codes "b") ∷ []) ∷ command AddTask (number 2 ∷ []) ∷ command AddTask (number 2 ∷ []) ∷ command FindTask (quoted (codes "b") ∷ [])
+    ∷ command SetTaskPri (number 2 ∷ number 1 ∷ []) ∷ command FindTask (number 0 ∷ []) ∷ command AddTask (number 2 ∷ []) ∷ command SetTaskPri (number 2 ∷ number 0 ∷ []) ∷ [])
     ∷ record (task (codes "b") (pos 0) (command Print (number 7 ∷ []) ∷ [])) { start = false } ∷ []
 
 -- ---- statements

@@ -25,5 +25,4 @@ pub fn a_task_that_does_not_start_is_added()
 /// A task is found by its name while it is live.
 pub fn a_live_task_is_found_by_its_name()
     ensures { ALiveTaskIsFoundByItsName }
-{
-}
+{}
