@@ -65,20 +65,17 @@ pub fn a_wait_keeps_its_mask()
 /// Arithmetic wraps, and a jump goes on at the command of its label.
 pub fn arithmetic_wraps_and_a_jump_goes_on_at_its_label()
     ensures { CalculatesAndJumps }
-{
-}
+{}
 
 /// A signal that is allocated is not given again before it is freed, and those of the system never are.
 pub fn a_signal_is_allocated_once()
     ensures { AllocatesSignals }
-{
-}
+{}
 
 /// Asked for any signal, the highest free one is given.
 pub fn the_highest_free_signal_is_allocated()
     ensures { AllocatesTheHighest }
-{
-}
+{}
 
 /// A task that is signalled under Forbid runs once that is taken back.
 pub fn forbid_keeps_others_off()

@@ -35,9 +35,9 @@ unfolding does_alloc_signal
 allocated {m} t call signal given is follows =
     let change = allocates t (cast_signed w32 (argument 0 call)) in
     follows_as {g = λ s. answered t call signal (on_schedule change s)}
-      (λ s e. ap (λ value. answered t call value (on_schedule change s))
-        (reads_schedule (λ y. cast_unsigned w32 (grant_number (grant (cast_signed w32 (argument 0 call)) (signals_of y t)))) (λ y. refl) (sym given) s e))
-      (follows_change (moves_schedule change change (allocates-in_order t (cast_signed w32 (argument 0 call))) is) follows)
+    (λ s e. ap (λ value. answered t call value (on_schedule change s))
+    (reads_schedule (λ y. cast_unsigned w32 (grant_number (grant (cast_signed w32 (argument 0 call)) (signals_of y t)))) (λ y. refl) (sym given) s e))
+    (follows_change (moves_schedule change change (allocates-in_order t (cast_signed w32 (argument 0 call))) is) follows)
 
 module _ {m n : Seen} {a b : Tape} (t : ℕ) (call : Call) where
   pub free_none : nat_eq (argument 0 call) 0xffffffff ≡ true → Follows (done t call) m n a b → Follows (does_free_signal t call) m n a b
@@ -66,10 +66,10 @@ module _ {m n : Seen} {a b : Tape} (t : ℕ) (call : Call) where
   set_masked received masked was is follows =
       let change = sets_signals t (argument 0 call) (argument 1 call) in
       follows_as {g = λ s. answered t call received (on_schedule change s)}
-        (λ s e.
-          let same : (signals_of s.schedule t).received ≡ received = reads_schedule (λ y. (signals_of y t).received) (λ y. refl) (sym was) s e in
-          rw (masked, same) refl)
-        (follows_change (moves_schedule change change (sets_signals-in_order t (argument 0 call) (argument 1 call)) is) follows)
+      (λ s e.
+      let same : (signals_of s.schedule t).received ≡ received = reads_schedule (λ y. (signals_of y t).received) (λ y. refl) (sym was) s e in
+      rw (masked, same) refl)
+      (follows_change (moves_schedule change change (sets_signals-in_order t (argument 0 call) (argument 1 call)) is) follows)
 
 module _ {m n : Seen} {a b : Tape} (t : ℕ) (call : Call) where
   pub signal_unknown : is_task (argument 0 call) m.scripts ≡ false → Follows (alerted (codes "HANDLE") t call) m n a b → Follows (does_signal t call) m n a b
