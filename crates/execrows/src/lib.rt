@@ -4,6 +4,8 @@
 #[cfg(test)]
 mod arithmetic;
 #[cfg(test)]
+mod memory;
+#[cfg(test)]
 mod running;
 #[cfg(test)]
 mod signals;
