@@ -1,6 +1,6 @@
 -- Calls: the values of their arguments, and how they end. A call that waits is kept with its values, so that a variable that
 -- changes meanwhile is not read again; all other calls leave nothing behind.
-use Rattle.std.specs.Prelude.{ℕ, ◌+◌, Bool, true, List, [], ◌∷◌, Option, None, Some, map, codes, slice_get, slice_index_or, slice_set, option_map}
+use Rattle.std.specs.Prelude.{ℕ, ◌+◌, true, List, Option, None, Some, map, slice_get, slice_index_or, slice_set}
 use Rattle.exectrace.specs.Trace.{Argument, Value, Quoted, Done, Answers, Waits, Alert}
 use Rattle.exectrace.specs.Trace as trace
 use Rattle.taskscript.specs.declared.variable.Variable.{Variable}
@@ -8,7 +8,7 @@ use Rattle.taskscript.specs.declared.variable.Variable.TheVariants.{Private, Sha
 use Rattle.taskscript.specs.Commands.{ArgumentData, number, variable, quoted, place, CommandData}
 use Rattle.taskscript.specs.Words.{word_text}
 use Rattle.scheduler.specs.Schedule.{name_of}
-use Rattle.execmodel.specs.State.{Call, Program, Scripts, State, Outcome, quiet, says, program_of, with_program, on_scripts}
+use Rattle.execmodel.specs.State.{Call, Scripts, State, Outcome, quiet, says, program_of, with_program, on_scripts}
 
 -- ---- variables
 

@@ -1,5 +1,5 @@
 -- Interrupts (RKM Libraries, Exec Interrupts). A request is a latch: further ones before the serving are the same request.
-use Rattle.std.specs.Prelude.{Bool, true, false, ◌&&◌, if◌then◌else◌, codes}
+use Rattle.std.specs.Prelude.{Bool, false, ◌&&◌, if◌then◌else◌, codes}
 use Rattle.exectrace.specs.Trace.{Serve}
 use Rattle.scheduler.specs.Schedule.{Schedule, is_interrupting_allowed, ticked}
 use Rattle.execmodel.specs.State.{State, Outcome, quiet, says, on_schedule}

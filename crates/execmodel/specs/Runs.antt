@@ -1,5 +1,5 @@
 -- Small machines and their whole traces, as the definitions compute them.
-use Rattle.std.specs.Prelude.{◌≡◌, ℕ, ℤ, true, pos, negsuc, List, [], ◌∷◌, None, Some, codes}
+use Rattle.std.specs.Prelude.{◌≡◌, ℕ, ℤ, true, pos, List, [], ◌∷◌, None, Some, codes}
 use Rattle.exectrace.specs.Trace.{printed}
 use Rattle.taskscript.specs.declared.word.Word.{Word}
 use Rattle.taskscript.specs.declared.word.Word.TheVariants.{Set, Add, Sub, And, Jump, JumpZ, Print, AllocSignal, FreeSignal, Signal, Wait, Forbid, Permit, SetTaskPri, AddTask, RemTask}

@@ -1,6 +1,6 @@
 -- How tasks come to run (RKM Libraries, Exec Tasks: task scheduling). A task that becomes ready arrives at the end of the ready
 -- sequence, which is never sorted: the chosen task is the earliest among those of greatest priority.
-use Rattle.std.specs.Prelude.{ℕ, ℤ, true, not, if◌then◌else◌, List, [], ◌∷◌, ◌++◌, Option, None, Some}
+use Rattle.std.specs.Prelude.{ℕ, ℤ, true, not, if◌then◌else◌, [], ◌∷◌, ◌++◌, Option, None, Some}
 use Rattle.execlist.specs.Order.{chosen}
 use Rattle.taskq.specs.Tasks.{pri_at, is_ready, is_live}
 use Rattle.taskq.specs.declared.TaskState.TheVariants.{Ready}

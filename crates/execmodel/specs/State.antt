@@ -1,6 +1,6 @@
 -- The state of the abstract machine, and what an action makes of it. Nothing in it is linked and nothing is sorted: each
 -- queue is a sequence in order of arrival.
-use Rattle.std.specs.Prelude.{ℕ, ◌+◌, Bool, true, false, List, [], ◌∷◌, ◌++◌, Option, None, Some, map, length, replicate, slice_index_or, slice_set}
+use Rattle.std.specs.Prelude.{ℕ, Bool, false, List, [], ◌∷◌, ◌++◌, Option, None, map, length, replicate, slice_index_or, slice_set}
 use Rattle.exectrace.specs.Trace.{Argument, TraceLine}
 use Rattle.taskscript.specs.declared.word.Word.{Word}
 use Rattle.taskscript.specs.declared.variable.Variable.{Variable}

@@ -1,5 +1,5 @@
 -- Steps, settling and whole runs: all interleaving comes from the list of events.
-use Rattle.std.specs.Prelude.{ℕ, zero, suc, ◌+◌, Bool, true, if◌then◌else◌, List, [], ◌∷◌, Option, None, Some, codes, length}
+use Rattle.std.specs.Prelude.{ℕ, zero, suc, true, if◌then◌else◌, List, [], ◌∷◌, Option, None, Some, codes, length}
 use Rattle.exectrace.specs.Trace.{Value, Done, Switch, Idle}
 use Rattle.exectrace.specs.Trace as trace
 use Rattle.taskscript.specs.declared.word.Word.{Word}

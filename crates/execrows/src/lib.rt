@@ -6,9 +6,13 @@ mod arithmetic;
 #[cfg(test)]
 mod memory;
 #[cfg(test)]
+mod quantum;
+#[cfg(test)]
 mod running;
 #[cfg(test)]
 mod signals;
+#[cfg(test)]
+mod tasks;
 #[cfg(test)]
 mod texts;
 #[cfg(test)]

@@ -1,5 +1,5 @@
 -- How the public calls follow from what the machine does without its failure to write.
-use Rattle.std.proofs.Common.{◌≡◌, Bool, true, false, refl, ap, sym, ◌∙◌}
+use Rattle.std.proofs.Common.{◌≡◌, Bool, true, false, refl, ap, ◌∙◌}
 use Rattle.std.specs.Prelude.{List, Result, Ok, Err}
 use Rattle.exectrace.specs.Sink.{Tape}
 use Rattle.exectrace.specs.declared.sinks.SinkState.TheVariants.{Good}

@@ -1,5 +1,5 @@
 -- The machine of a file agrees with the first state.
-use Rattle.std.proofs.Common.{◌≡◌, ℕ, List, [], false, length, map, refl, sym, ◌∙◌, subst}
+use Rattle.std.proofs.Common.{◌≡◌, List, false, length, map, refl, sym, ◌∙◌, subst}
 use Rattle.std.proofs.lemmas.List.{length-map}
 use Rattle.execlist.specs.Order.{order}
 use Rattle.taskscript.specs.File.{TaskData, MachineData}

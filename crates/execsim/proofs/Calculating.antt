@@ -2,7 +2,7 @@
 use Rattle.std.proofs.Common.{◌≡◌, ℕ, ◌+◌, ◌-◌, ◌%◌, ◌^◌, subst}
 use Rattle.std.specs.Prelude.{if◌then◌else◌, nat_eq, bit_and, bit_or}
 use Rattle.exectrace.specs.Sink.{Tape}
-use Rattle.execmodel.specs.State.{Call, on_scripts}
+use Rattle.execmodel.specs.State.{Call}
 use Rattle.execmodel.specs.Calls.{argument, silent, goes_on}
 use Rattle.execmodel.specs.Plain.{does_set, does_add, does_sub, does_and, does_or, jumps, does_jump, does_jump_zero, does_jump_not_zero}
 use Rattle.execsim.specs.Agreement.{Seen, Follows}

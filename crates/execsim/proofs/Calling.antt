@@ -1,8 +1,7 @@
 -- The calls that commands are.
-use Rattle.std.proofs.Common.{◌≡◌, ℕ, ◌+◌, List, [], ◌∷◌, Option, None, Some, refl, ap, sym, ◌∙◌, map, take}
+use Rattle.std.proofs.Common.{◌≡◌, ℕ, ◌+◌, List, [], ◌∷◌, None, Some, refl, ap, sym, ◌∙◌, map, take}
 use Rattle.std.proofs.lemmas.List.{take-map}
 use Rattle.std.specs.Prelude.{slice_get}
-use Rattle.std.specs.Option.{option_map}
 use Rattle.taskscript.specs.Commands.{CommandData}
 use Rattle.execmodel.specs.State.{Call, Scripts, program_of}
 use Rattle.execmodel.specs.Calls.{call_of, call_at, call_after, next_call}

@@ -1,5 +1,5 @@
 -- How the machine follows the words of signals.
-use Rattle.std.proofs.Common.{◌≡◌, ℕ, ℤ, ◌-◌, true, false, Option, None, Some, refl, ap, sym, ◌∙◌}
+use Rattle.std.proofs.Common.{◌≡◌, ℕ, ℤ, ◌-◌, true, false, Option, refl, ap, sym}
 use Rattle.std.specs.Prelude.{codes, nat_eq}
 use Rattle.exectrace.specs.Sink.{Tape}
 use Rattle.std.specs.Int.{cast_signed, cast_unsigned, w32}
@@ -7,11 +7,11 @@ use Rattle.signals.specs.Signals.{taken_signals, grant, grant_number, is_own_sig
 use Rattle.taskq.specs.Tasks.{is_live}
 use Rattle.scheduler.specs.Schedule.{Schedule, signals_of, come_for, after_wait, waits_for, takes, allocates, frees, sets_signals, status_of, with_signals}
 use Rattle.scheduler.specs.Dispatch as dispatch
-use Rattle.execmodel.specs.State.{Call, State, on_schedule}
+use Rattle.execmodel.specs.State.{Call, on_schedule}
 use Rattle.execmodel.specs.Scheduling.{signalled}
 use Rattle.execmodel.specs.Calls.{argument, done, answered, alerted}
 use Rattle.execmodel.specs.Signals.{is_task, is_mask, does_alloc_signal, does_free_signal, does_set_signal, does_signal, waited, does_wait}
-use Rattle.execsim.specs.Agreement.{Seen, Agrees, Follows, in_order}
+use Rattle.execsim.specs.Agreement.{Seen, Follows, in_order}
 use Rattle.execsim.proofs.Following.{reads_schedule, reads_scripts, moves_schedule, follows_as, follows_change}
 use Rattle.execsim.proofs.Ordering.{by_test, signalled-in_order}
 

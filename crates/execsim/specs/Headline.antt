@@ -1,6 +1,6 @@
 -- What the public calls promise: a started machine follows the abstract machine event by event, and `simulate` writes exactly the
 -- trace of its whole run.
-use Rattle.std.specs.Prelude.{◌≡◌, ℕ, Bool, true, false, List, Result, Ok, Err, IfOk, IsOk, ◌↔◌, MatchResult}
+use Rattle.std.specs.Prelude.{◌≡◌, Bool, true, false, List, Result, Ok, Err, IfOk, IsOk, ◌↔◌, MatchResult}
 use Rattle.exectrace.specs.Sink.{Tape, TakesAll, Breaks, Writes}
 use Rattle.exectrace.specs.Trace.{printed}
 use Rattle.exectrace.specs.declared.sinks.SinkState.TheVariants.{Good}

@@ -84,7 +84,8 @@ fn programs_of(alloc: Global, tasks: &[TaskRecord]) -> Result<Vec<Program>, Allo
     Ok(programs)
 }
 
-/// The memory of these regions, which were checked, with nothing allocated.
+/// The memory of these regions, with nothing allocated. Those of a machine file are never refused, so want of memory is all that can
+/// stand in the way of it.
 fn memory_of(alloc: Global, regions: &[Region]) -> Result<MemList, AllocError>
     ensures { IfOk result (λ m. m ≡ untouched regions.now) }
 {

@@ -1,4 +1,4 @@
-//! Plain words: they set variables and print values, and ask nothing of Exec.
+//! Plain words: they set variables, calculate, jump and print, and ask nothing of Exec.
 ghost use Rattle.std.specs.Prelude.{◌≡◌, ◌<◌, length, if◌then◌else◌};
 ghost use Rattle.exectrace.specs.Sink.{Tape};
 ghost use Rattle.execmodel.specs.Plain.{does_set, does_add, does_sub, does_and, does_or, jumps, does_jump, does_jump_zero, does_jump_not_zero, does_print};

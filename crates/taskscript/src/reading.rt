@@ -49,19 +49,21 @@ fn machine_of(alloc: Global, table: &Table) -> Result<MachineFile, FileFault>
 
 /// Reads a machine file, a TOML document.
 ///
-/// It may have `quantum`, 1 to 255, which is 4 where it is absent, `pool`, 1 to 1024, which is 64 where it is absent, `region`, an array of at
-/// most 8 tables, and `task`, an array of at most 64 tables. A region has `base` and `size`, 0 to 4294967295, and may have `attrs`, 0 to 7, which
-/// is 1 where it is absent, and a `pri` as a task. A task has a `name` of 1 to 31 of the characters `A`-`Z`, `a`-`z`, `0`-`9`, `.`, `_` and `-`, which no other task has, and a `code`, an array of at most 1,024 strings,
-/// which are its lines. It may have a `pri` from -128 to 127, which is 0 where it is absent, and a boolean `start`, which is true where it is
-/// absent.
+/// It may have `quantum`, 1 to 255, which is 4 where it is absent, `pool`, 1 to 1024, which is 64 where it is absent, `region`, an array of
+/// at most 8 tables, and `task`, an array of at most 64 tables. A region has `base` and `size`, 0 to 4294967295, and may have `attrs`, 0 to
+/// 7, which is 1 where it is absent, and a `pri` as a task. A task has a `name` of 1 to 31 of the characters `A`-`Z`, `a`-`z`, `0`-`9`, `.`,
+/// `_` and `-`, which no other task has, and a `code`, an array of at most 1,024 strings, which are its lines. It may have a `pri` from -128
+/// to 127, which is 0 where it is absent, and a boolean `start`, which is true where it is absent.
 ///
 /// # Errors
 ///
-/// The first faulty place decides. First the whole tree is judged: the keys of the file, then `quantum` and `pool`, then `region` and `task` (`BadValue` where it is no array, `TooMany`
-/// where it is too long), then item by item: `BadValue` where it is no table, `UnknownKey`, then its keys in the order `base`, `size`, `attrs`, `pri`, or `name`, `pri`, `start`, `code`, each
-/// `MissingKey` or `BadValue`, with `NameTwice` right after the name and `TooMany` after a `code` of strings. `BadRegions` comes after the last
-/// region, where `memlist::check_regions` refuses them. Then the lines of all tasks are
-/// judged, line by line. `NotToml` comes before all else, and `OutOfMemory` may come wherever memory is refused.
+/// The first faulty place decides. First the whole tree is judged: the keys of the file, then `quantum` and `pool`, then `region` and `task`
+/// (`BadValue` where it is no array, `TooMany` where it is too long), then item by item: `BadValue` where it is no table, `UnknownKey`, then
+/// its keys in the order `base`, `size`, `attrs`, `pri`, or `name`, `pri`, `start`, `code`, each `MissingKey` or `BadValue`, with `NameTwice`
+/// right after the name and `TooMany` after a `code` of strings. `BadRegions` comes after the last region, where `memlist::check_regions`
+/// refuses them. Then the bodies of all tasks are judged: in each, line by line, `BadCommand`, `BadLabel` for a label that stands twice and
+/// `TooMany` for a variable past its limit, and after its last line `BadLabel` for a jump whose label the body lacks. `NotToml` comes before
+/// all else, and `OutOfMemory` may come wherever memory is refused.
 ///
 /// The format is this project's own choice.
 pub fn read_machine(alloc: Global, bytes: &[u8]) -> Result<MachineFile, FileFault>

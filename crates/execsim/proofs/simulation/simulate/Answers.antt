@@ -1,4 +1,3 @@
-use Rattle.std.proofs.Common.{ap, ◌∙◌}
 use Rattle.execsim.proofs.Acting.{simulates}
 use Rattle.execsim.proofs.simulation.simulate.Goals as goal
 

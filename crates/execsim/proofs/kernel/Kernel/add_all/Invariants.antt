@@ -1,4 +1,4 @@
-use Rattle.std.proofs.Common.{◌≡◌, length}
+use Rattle.std.proofs.Common.{◌≡◌}
 use Rattle.execmodel.specs.State.{on_schedule}
 use Rattle.execmodel.specs.Step.{all_added}
 use Rattle.execsim.specs.Agreement.{Moves}

@@ -1,4 +1,3 @@
-use Rattle.std.proofs.Common.{ap, ◌∙◌}
 use Rattle.execsim.proofs.Tasking.{task_found}
 use Rattle.execsim.proofs.kernel.Kernel.find_task.Goals as goal
 

@@ -1,4 +1,4 @@
-use Rattle.std.proofs.Common.{ap, sym, ◌∙◌, refl, Some}
+use Rattle.std.proofs.Common.{sym, refl}
 use Rattle.execsim.proofs.Calling.{next-kept, next-none, next-command}
 use Rattle.execsim.proofs.kernel.Kernel.next_call.Goals as goal
 

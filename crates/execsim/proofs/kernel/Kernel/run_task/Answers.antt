@@ -1,4 +1,4 @@
-use Rattle.std.proofs.Common.{ap, sym, ◌∙◌, Some, None}
+use Rattle.std.proofs.Common.{ap, sym, ◌∙◌, None}
 use Rattle.std.specs.Option.{option_map}
 use Rattle.execsim.specs.Views.{call_view}
 use Rattle.execsim.proofs.Stepping.{acting_none, acting_as, task_step_as}

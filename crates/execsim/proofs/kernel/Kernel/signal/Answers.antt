@@ -1,4 +1,3 @@
-use Rattle.std.proofs.Common.{sym, ◌∙◌}
 use Rattle.execsim.proofs.Signalling.{signal_unknown, signal_unmasked, signal_sent}
 use Rattle.execsim.proofs.kernel.Kernel.signal.Goals as goal
 

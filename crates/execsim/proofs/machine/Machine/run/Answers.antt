@@ -1,4 +1,3 @@
-use Rattle.std.proofs.Common.{ap, sym}
 use Rattle.execsim.proofs.Acting.{acts_by}
 use Rattle.execsim.proofs.Following.{follows_then}
 use Rattle.execsim.proofs.machine.Machine.run.Goals as goal
