@@ -10,7 +10,7 @@ mod quantum;
 #[cfg(test)]
 mod running;
 #[cfg(test)]
-mod signals;
+mod task_signals;
 #[cfg(test)]
 mod tasks;
 #[cfg(test)]

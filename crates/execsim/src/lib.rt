@@ -11,9 +11,9 @@ mod memory;
 mod nesting;
 mod plain;
 mod program;
-mod signals;
 mod simulation;
 mod step;
+mod task_signals;
 mod tasks;
 
 pub use machine::{Flow, Machine};
