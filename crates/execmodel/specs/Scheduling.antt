@@ -40,7 +40,7 @@ rescheduled s = after_switch (switch_of s) s
 unfoldable pub added : ℕ → Schedule → Schedule
 added t s = if is_absent (status_of s t) then arrives t s else s
 
--- task t gets another priority; a ready one arrives anew (autodoc exec.library/SetTaskPri)
+-- task t gets another priority (autodoc exec.library/SetTaskPri); a ready one arrives anew (own choice)
 unfoldable pub reprioritized : ℕ → ℤ → Schedule → Schedule
 reprioritized t pri s =
     if is_ready (status_of s t) then arrives t (departs t (with_priority t pri s)) else with_priority t pri s

@@ -24,7 +24,7 @@ does_alloc_signal t call s =
     let n = cast_signed w32 (argument 0 call) in
     answered t call (cast_unsigned w32 (grant_number (grant n (signals_of s.schedule t)))) (on_schedule (allocates t n) s)
 
--- FreeSignal a: the signal is not allocated any more; -1 does nothing (autodoc exec.library/FreeSignal)
+-- FreeSignal a: the signal is not allocated any more; -1 does nothing (autodoc exec.library/FreeSignal; the alert: own choice)
 unfoldable pub does_free_signal : ℕ → Call → State → Outcome
 does_free_signal t call s =
     let n = argument 0 call in
@@ -32,7 +32,8 @@ does_free_signal t call s =
     else (if not (is_own_signal n) then alerted (codes "MASK") t call s
     else done t call (on_schedule (frees t n) s))
 
--- SetSignal new mask: answers the received signals; those of the mask become as in new (autodoc exec.library/SetSignal)
+-- SetSignal new mask: answers the received signals; those of the mask become as in new (autodoc exec.library/SetSignal; the alert:
+-- own choice)
 unfoldable pub does_set_signal : ℕ → Call → State → Outcome
 does_set_signal t call s =
     let new = argument 0 call in
@@ -42,7 +43,7 @@ does_set_signal t call s =
 
 -- ---- signalling and waiting
 
--- Signal t mask (autodoc exec.library/Signal)
+-- Signal t mask: the task of that number receives the signals of the mask (autodoc exec.library/Signal; the alerts: own choice)
 unfoldable pub does_signal : ℕ → Call → State → Outcome
 does_signal t call s =
     let other = argument 0 call in
@@ -57,7 +58,7 @@ waited t call None s = waiting t call s
 waited t call (Some signals) s = answered t call signals s
 
 -- Wait mask: answers the signals of the mask that were received, and they leave; where there are none, the task waits for them
--- and tries again when it next runs (autodoc exec.library/Wait; the retry: own choice)
+-- and tries again when it next runs (autodoc exec.library/Wait; the retry, and the alert: own choice)
 unfoldable pub does_wait : ℕ → Call → State → Outcome
 does_wait t call s =
     let mask = argument 0 call in

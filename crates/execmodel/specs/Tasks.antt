@@ -38,7 +38,7 @@ does_add_task t call s =
 abbrev pub is_caller : ℕ → ℕ → Bool
 is_caller t number = nat_eq number 0 || nat_eq (number - 1) t
 
--- RemTask task: ends the caller, or another live task, which is ready or waits (autodoc exec.library/RemTask)
+-- RemTask task: ends the caller, or another live task, which is ready or waits (autodoc exec.library/RemTask; the alert: own choice)
 unfoldable pub does_rem_task : ℕ → Call → State → Outcome
 does_rem_task t call s =
     let number = argument 0 call in

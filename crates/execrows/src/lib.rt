@@ -6,6 +6,8 @@ mod arithmetic;
 #[cfg(test)]
 mod memory;
 #[cfg(test)]
+mod not_simulated;
+#[cfg(test)]
 mod quantum;
 #[cfg(test)]
 mod running;

@@ -118,3 +118,74 @@ fn a_task_that_does_not_start_is_added_once(rt: HostRuntime) {
         End::Ran,
     );
 }
+
+const FINDS: &str = r#"[[task]]
+name = "a"
+pri = 0
+code = ["FindTask \"b\"", "AddTask 2", "AddTask 2", "FindTask \"b\"", "SetTaskPri 2 1", "FindTask 0", "AddTask 2", "SetTaskPri 2 0"]
+
+[[task]]
+name = "b"
+pri = 0
+start = false
+code = ["Print 7"]
+
+"#;
+
+#[test]
+fn a_task_is_found_by_its_name_while_it_lives(rt: HostRuntime) {
+    runs(
+        &rt,
+        rt.alloc(),
+        FINDS,
+        "run 10\n",
+        "switch a\na FindTask \"b\" -> $00000000\na AddTask $00000002 -> $00000002\na AddTask $00000002 -> $00000000\na FindTask \"b\" -> $00000002\na SetTaskPri $00000002 $00000001 -> $00000000\nswitch b\nb Print $00000007\nb RemTask $00000000\nswitch a\na FindTask $00000000 -> $00000001\na AddTask $00000002 -> $00000000\nalert HANDLE a SetTaskPri\n",
+        End::Alerted,
+    );
+}
+
+const NESTS: &str = r#"
+[[task]]
+name = "a"
+code = ["l:", "Forbid", "Jump l"]
+"#;
+
+#[test]
+fn forbid_nests_128_deep(rt: HostRuntime) -> Result<(), Fail> {
+    let mut trace = String::new(rt.alloc());
+    trace.push_str("switch a\n")?;
+    for _ in 0..128 {
+        trace.push_str("a Forbid\n")?;
+    }
+    trace.push_str("alert NEST a Forbid\n")?;
+    runs(
+        &rt,
+        rt.alloc(),
+        NESTS,
+        "run 257\n",
+        trace.as_str(),
+        End::Alerted,
+    );
+    Ok(())
+}
+
+const ENDED: &str = r#"
+[[task]]
+name = "a"
+code = ["RemTask 2", "Signal 2 $1000", "RemTask 2"]
+[[task]]
+name = "b"
+code = ["Print 1"]
+"#;
+
+#[test]
+fn a_signal_to_a_task_that_was_ended_does_nothing(rt: HostRuntime) {
+    runs(
+        &rt,
+        rt.alloc(),
+        ENDED,
+        "run 3\n",
+        "switch a\na RemTask $00000002\na Signal $00000002 $00001000\nalert HANDLE a RemTask\n",
+        End::Alerted,
+    );
+}

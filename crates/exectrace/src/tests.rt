@@ -110,12 +110,13 @@ enum Habit {
     StopsAt(usize),
 }
 
-/// A writer with a habit, which counts its calls.
+/// A writer with a habit, which counts its calls and those of them that fail.
 #[derive(Drop)]
 struct Fickle {
     held: Vec<u8>,
     habit: Habit,
     calls: usize,
+    failures: usize,
 }
 
 impl Fickle {
@@ -137,7 +138,11 @@ impl Fickle {
 impl Write for Fickle {
     fn write(&mut self, buf: &[u8]) -> io::Result<usize> {
         self.calls = self.calls.saturating_add(1);
-        let count = self.appetite(buf.len())?.min(buf.len());
+        let appetite = self.appetite(buf.len());
+        if appetite.is_err() {
+            self.failures = self.failures.saturating_add(1);
+        }
+        let count = appetite?.min(buf.len());
         self.held.extend_from_slice(&buf[..count])?;
         Ok(count)
     }
@@ -152,6 +157,7 @@ fn writer_with(alloc: Global, habit: Habit) -> Fickle {
         held: Vec::new(alloc),
         habit,
         calls: 0,
+        failures: 0,
     }
 }
 
@@ -203,9 +209,9 @@ fn a_slow_writer_gets_the_whole_line(rt: HostRuntime) -> Result<(), Fail> {
 }
 
 #[test]
-fn a_failing_writer_holds_a_first_part(rt: HostRuntime) -> Result<(), Fail> {
+fn a_failing_writer_holds_a_first_part_and_is_asked_no_more(rt: HostRuntime) -> Result<(), Fail> {
     for end in 0..OPENING.len() {
-        opens(
+        let writer = opens(
             &rt,
             rt.alloc(),
             Habit::FailsAt(end),
@@ -213,6 +219,7 @@ fn a_failing_writer_holds_a_first_part(rt: HostRuntime) -> Result<(), Fail> {
             SinkState::Failed,
             end,
         )?;
+        assert_eq!(rt; writer.failures, 1, "{end}");
     }
     Ok(())
 }

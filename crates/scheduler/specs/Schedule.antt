@@ -112,12 +112,12 @@ IsToOneOf None tasks = Unit {0}
 IsToOneOf (Some Idle) tasks = Unit {0}
 IsToOneOf (Some (To t)) tasks = t < tasks
 
--- a quantum that has ended with no other task to run begins anew, once switching is allowed
+-- a quantum that has ended with no other task to run begins anew, once switching is allowed (own choice)
 abbrev pub renewed : Option ℕ → Schedule → Schedule
 renewed None s = s
 renewed (Some r) s = if is_switching_allowed (Some r) s && is_quantum_over s then record s { left = s.quantum } else s
 
--- task t leaves the ready sequence and runs, with a full quantum; the machine is not idle any more
+-- task t leaves the ready sequence and runs, with a full quantum (own choice); the machine is not idle any more
 unfoldable pub begins : ℕ → Schedule → Schedule
 begins t s = record s {
   queue = record s.queue { states = (with_status t Running s).queue.states; ready = without t s.queue.ready };

@@ -1,12 +1,13 @@
 -- What calls on the tasks speak of: the state, the priority and the name of each task, by its number,
--- and the ready tasks in the order in which they are to run. RKM Libraries, Exec Tasks.
+-- and the ready tasks: for a `TaskQ` in the order in which they are to run, for the abstract machine in order of arrival.
+-- RKM Libraries, Exec Tasks.
 use Rattle.std.specs.Prelude.{◌≡◌, ℕ, ℤ, pos, length, List, [], Option, Some, None, Bool, true, false, ◌&&◌, ◌==◌, slice_index_or, map}
 use Rattle.std.specs.Cmp.Lexicographic.{pointwise}
 use Rattle.execlist.specs.Lists.{Key}
 use Rattle.taskq.specs.declared.TaskState.{TaskState}
 use Rattle.taskq.specs.declared.TaskState.TheVariants.{Absent, Ready, Running, Waiting, Removed}
 
--- the ready tasks in the order in which they are to run, and what is known of each task
+-- the ready tasks, and what is known of each task
 pub record Tasks : Type 0 where
   pub ready : List ℕ
   pub states : List TaskState

@@ -54,7 +54,7 @@ impl MachineFile {
         self.quantum
     }
 
-    /// How many live objects there may be of each of the six kinds: 1 to 1,024 (own choice).
+    /// The number that stands at `pool`: 1 to 1,024, or 64 where none stands. No word asks for it (own choice).
     pub fn pool(&self) -> u32
         ensures pool { result ≡ self.now.pool }
         ensures machine { IsMachine self.now }
