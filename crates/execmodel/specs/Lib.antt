@@ -6,6 +6,8 @@ pub mod Signals
 pub mod Nesting
 pub mod Tasks
 pub mod Memory
+pub mod Objects
+pub mod Lists
 pub mod Interrupts
 pub mod Step
 pub mod Runs

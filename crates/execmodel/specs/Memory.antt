@@ -7,7 +7,7 @@ use Rattle.std.specs.FinMap.{find, put}
 use Rattle.std.specs.FinMap.Entries.{where_key}
 use Rattle.memlist.specs.Blocks.{Blocks}
 use Rattle.memlist.specs.Fit.{fit, avail, asks, round}
-use Rattle.execmodel.specs.State.{Call, Object, Plain, Block, Heap, Memory, State, Outcome, on_memory}
+use Rattle.execmodel.specs.State.{Call, Object, Plain, ListHead, Node, Block, Heap, Memory, State, Outcome, on_memory}
 use Rattle.execmodel.specs.Calls.{argument, done, answered, alerted}
 
 -- ---- the heap
@@ -61,6 +61,8 @@ does_alloc_mem t call s =
 
 abbrev pub is_plain : Object → Bool
 is_plain Plain = true
+is_plain (ListHead nodes) = false
+is_plain (Node key) = false
 
 -- whether there is a plain block, and the size names it: it is not 0 and rounds up to the block's size
 abbrev pub is_named : ℕ → Option Block → Bool

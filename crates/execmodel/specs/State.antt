@@ -8,6 +8,7 @@ use Rattle.taskscript.specs.Commands.{CommandData}
 use Rattle.taskscript.specs.File.{MachineData, TaskData}
 use Rattle.scheduler.specs.Schedule.{Schedule, unstarted}
 use Rattle.memlist.specs.declared.region.Region.{Region}
+use Rattle.execlist.specs.Lists.{Key}
 
 -- a command of a task with the values that its arguments had when it was first tried, and the place of the command after it
 pub record Call : Type 0 where
@@ -34,6 +35,10 @@ pub record Scripts : Type 0 where
 pub data Object : Type 0 where
   -- nothing that Exec knows of: AllocMem gave the block
   Plain : Object
+  -- the header of a list, with the addresses of its nodes from the first to the last (RKM Libraries, Exec Lists and Queues)
+  ListHead : (nodes : List ℕ) → Object
+  -- a node, with its priority and its name or none
+  Node : (key : Key) → Object
 
 -- a block of memory, and what begins there
 pub record Block : Type 0 where
@@ -44,9 +49,10 @@ pub record Block : Type 0 where
 abbrev pub Heap : Type 0
 Heap = List (ℕ × Block)
 
--- the regions of memory in the order of the file, and the blocks that are allocated in them
+-- the regions of memory in the order of the file, how many objects of each kind may live, and the blocks that are allocated
 pub record Memory : Type 0 where
   pub regions : List Region
+  pub pool : ℕ
   pub heap : Heap
 
 pub record State : Type 0 where
@@ -115,6 +121,10 @@ on_scripts f s = record s { scripts = f s.scripts }
 abbrev pub on_memory : (Memory → Memory) → State → State
 on_memory f s = record s { memory = f s.memory }
 
+-- an action on the blocks and what begins there
+abbrev pub on_heap : (Heap → Heap) → Memory → Memory
+on_heap f memory = record memory { heap = f memory.heap }
+
 -- ---- the first state
 
 -- the limits on variables of one task, and on shared ones (own choice)
@@ -137,7 +147,7 @@ unfoldable pub booted : MachineData → State
 booted machine = record {
   schedule = unstarted (length machine.tasks) (map (λ (task : TaskData). task.pri) machine.tasks) (map (λ (task : TaskData). task.name) machine.tasks) machine.quantum;
   scripts = record { programs = map begun machine.tasks; shared = replicate shared_variables 0 };
-  memory = record { regions = machine.regions; heap = [] };
+  memory = record { regions = machine.regions; pool = machine.pool; heap = [] };
   latched = false;
   stopped = false;
 }

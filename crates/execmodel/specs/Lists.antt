@@ -1,0 +1,317 @@
+-- Lists of nodes (RKM Libraries, Exec Lists and Queues). A list is the sequence of its nodes, by their addresses; no node stands in two
+-- lists, nor twice in one. An address where no object of the kind begins is the alert HANDLE; a node that is linked where it must not
+-- be, or the other way, is the alert LINK (own choice).
+use Rattle.std.specs.Prelude.{ℕ, suc, ℤ, Bool, true, false, not, ◌||◌, ◌-◌, ◌==◌, if◌then◌else◌, nat_eq, is_none, is_some, length, map, take, drop, find, unwrap_or, codes, List, [], ◌∷◌, ◌++◌, Option, None, Some}
+use Rattle.std.specs.List.{list_any}
+use Rattle.std.specs.Int.{cast_signed, w32}
+use Rattle.execlist.specs.Order.{enqueue, first, without}
+use Rattle.execlist.specs.Lists.{Key, blank, last, name_is, part_after, part_before, put_after}
+use Rattle.execmodel.specs.State.{Call, Object, Plain, ListHead, Node, Block, Heap, State, Outcome, on_memory, on_heap}
+use Rattle.execmodel.specs.Calls.{argument, name_argument, done, answered, alerted}
+use Rattle.execmodel.specs.Memory.{allocates, freed}
+use Rattle.execmodel.specs.Objects.{object_at, is_kind, place_for_object, unless}
+use Rattle.execmodel.specs.Tasks.{is_priority}
+
+-- ---- lists and nodes in memory
+
+abbrev pub is_list : Object → Bool
+is_list Plain = false
+is_list (ListHead nodes) = true
+is_list (Node key) = false
+
+abbrev pub is_node : Object → Bool
+is_node Plain = false
+is_node (ListHead nodes) = false
+is_node (Node key) = true
+
+-- a list, or a node, begins at an address
+unfoldable pub is_list_at : ℕ → Heap → Bool
+is_list_at address heap = is_kind is_list (object_at address heap)
+
+unfoldable pub is_node_at : ℕ → Heap → Bool
+is_node_at address heap = is_kind is_node (object_at address heap)
+
+-- the nodes of a list
+abbrev pub nodes_in : Object → List ℕ
+nodes_in Plain = []
+nodes_in (ListHead nodes) = nodes
+nodes_in (Node key) = []
+
+abbrev pub nodes_of_object : Option Object → List ℕ
+nodes_of_object None = []
+nodes_of_object (Some object) = nodes_in object
+
+-- the nodes of the list that begins at an address
+unfoldable pub nodes_of : ℕ → Heap → List ℕ
+nodes_of list heap = nodes_of_object (object_at list heap)
+
+abbrev pub key_in : Object → Key
+key_in Plain = blank
+key_in (ListHead nodes) = blank
+key_in (Node key) = key
+
+abbrev pub key_of_object : Option Object → Key
+key_of_object None = blank
+key_of_object (Some object) = key_in object
+
+-- the priority and the name of the node that begins at an address
+unfoldable pub key_of : ℕ → Heap → Key
+key_of node heap = key_of_object (object_at node heap)
+
+-- a node stands in a sequence
+abbrev pub stands_in : ℕ → List ℕ → Bool
+stands_in node nodes = list_any (λ other. other == node) nodes
+
+-- the sequence that has a node, or the empty one where none has it
+unfoldable pub sequence_with : ℕ → Heap → List ℕ
+sequence_with node [] = []
+sequence_with node (entry ∷ rest) =
+    if stands_in node (nodes_in entry.1.object) then nodes_in entry.1.object else sequence_with node rest
+
+-- a node is linked where a list has it
+abbrev pub is_linked : ℕ → Heap → Bool
+is_linked node heap = stands_in node (sequence_with node heap)
+
+-- the list that begins at an address gets these nodes
+abbrev pub relisted : ℕ → List ℕ → ℕ × Block → ℕ × Block
+relisted list nodes entry = (entry.0, if nat_eq entry.0 list then record entry.1 { object = ListHead nodes } else entry.1)
+
+unfoldable pub with_nodes : ℕ → List ℕ → Heap → Heap
+with_nodes list nodes heap = map (relisted list nodes) heap
+
+-- a node leaves the sequence that has it
+abbrev pub left_by : ℕ → Object → Object
+left_by node Plain = Plain
+left_by node (ListHead nodes) = ListHead (without node nodes)
+left_by node (Node key) = Node key
+
+unfoldable pub unlinked : ℕ → Heap → Heap
+unlinked node heap = map (λ (entry : ℕ × Block). (entry.0, record entry.1 { object = left_by node entry.1.object })) heap
+
+-- an address, or 0 where there is none
+abbrev pub or_none : Option ℕ → ℕ
+or_none place = unwrap_or place 0
+
+-- ---- making and freeing
+
+-- a List takes 14 bytes and a Node 14, by the include file exec/nodes.h and exec/lists.h
+abbrev pub list_size : ℕ
+list_size = 14
+
+abbrev pub node_size : ℕ
+node_size = 14
+
+-- NewList: answers the address of a new empty list, or 0 (autodoc amiga.lib/NewList; that it takes the memory: own choice)
+unfoldable pub does_new_list : ℕ → Call → State → Outcome
+does_new_list t call s = allocates t call list_size (ListHead []) (place_for_object is_list list_size s.memory) s
+
+-- the alert of a call that frees a list: it has to be empty
+unfoldable pub free_list_alert : ℕ → Heap → Option (List ℕ)
+free_list_alert list heap =
+    if not (is_list_at list heap) then Some (codes "HANDLE")
+    else (if is_some (first (nodes_of list heap)) then Some (codes "LINK") else None)
+
+-- FreeList list: an empty list is freed (own choice)
+unfoldable pub does_free_list : ℕ → Call → State → Outcome
+does_free_list t call s =
+    let list = argument 0 call in
+    unless (free_list_alert list s.memory.heap) t call (λ s. done t call (on_memory (freed list) s)) s
+
+-- NewNode pri name: answers the address of a new node that is not linked, or 0; the priority is read as a signed word (own choice)
+unfoldable pub does_new_node : ℕ → Call → State → Outcome
+does_new_node t call s =
+    let pri = cast_signed w32 (argument 0 call) in
+    if not (is_priority pri) then alerted (codes "VALUE") t call s
+    else allocates t call node_size (Node (record { pri = pri; name = name_argument 1 call })) (place_for_object is_node node_size s.memory) s
+
+-- the alert of a call that frees a node: it must not be linked
+unfoldable pub free_node_alert : ℕ → Heap → Option (List ℕ)
+free_node_alert node heap =
+    if not (is_node_at node heap) then Some (codes "HANDLE")
+    else (if is_linked node heap then Some (codes "LINK") else None)
+
+-- FreeNode node: a node that is not linked is freed (own choice)
+unfoldable pub does_free_node : ℕ → Call → State → Outcome
+does_free_node t call s =
+    let node = argument 0 call in
+    unless (free_node_alert node s.memory.heap) t call (λ s. done t call (on_memory (freed node) s)) s
+
+-- ---- linking
+
+-- the alert of a call that links a node into a list: it must not be linked
+unfoldable pub link_alert : ℕ → ℕ → Heap → Option (List ℕ)
+link_alert list node heap =
+    if not (is_list_at list heap) then Some (codes "HANDLE")
+    else (if not (is_node_at node heap) then Some (codes "HANDLE")
+    else (if is_linked node heap then Some (codes "LINK") else None))
+
+-- the node is put first
+unfoldable pub added_head : ℕ → ℕ → Heap → Heap
+added_head list node heap = with_nodes list (node ∷ nodes_of list heap) heap
+
+-- AddHead list node (autodoc exec.library/AddHead)
+unfoldable pub does_add_head : ℕ → Call → State → Outcome
+does_add_head t call s =
+    let list = argument 0 call in
+    let node = argument 1 call in
+    unless (link_alert list node s.memory.heap) t call (λ s. done t call (on_memory (on_heap (added_head list node)) s)) s
+
+-- the node is put last
+unfoldable pub added_tail : ℕ → ℕ → Heap → Heap
+added_tail list node heap = with_nodes list (nodes_of list heap ++ node ∷ []) heap
+
+-- AddTail list node (autodoc exec.library/AddTail)
+unfoldable pub does_add_tail : ℕ → Call → State → Outcome
+does_add_tail t call s =
+    let list = argument 0 call in
+    let node = argument 1 call in
+    unless (link_alert list node s.memory.heap) t call (λ s. done t call (on_memory (on_heap (added_tail list node)) s)) s
+
+-- the node is put before the first node of lower priority, or last where there is none
+unfoldable pub enqueued : ℕ → ℕ → Heap → Heap
+enqueued list node heap = with_nodes list (enqueue (λ other. (key_of other heap).pri) (nodes_of list heap) node) heap
+
+-- Enqueue list node (autodoc exec.library/Enqueue)
+unfoldable pub does_enqueue : ℕ → Call → State → Outcome
+does_enqueue t call s =
+    let list = argument 0 call in
+    let node = argument 1 call in
+    unless (link_alert list node s.memory.heap) t call (λ s. done t call (on_memory (on_heap (enqueued list node)) s)) s
+
+-- an address as a predecessor: 0 is none
+abbrev pub predecessor : ℕ → Option ℕ
+predecessor 0 = None
+predecessor (suc p) = Some (suc p)
+
+-- a predecessor, if there is one, is a node
+abbrev pub is_pred_at : Option ℕ → Heap → Bool
+is_pred_at None heap = true
+is_pred_at (Some pred) heap = is_node_at pred heap
+
+-- a predecessor, if there is one, stands in the list
+abbrev pub is_pred_in : Option ℕ → ℕ → Heap → Bool
+is_pred_in None list heap = true
+is_pred_in (Some pred) list heap = stands_in pred (nodes_of list heap)
+
+-- the alert of Insert: the node must not be linked, and the predecessor has to stand in the list
+unfoldable pub insert_alert : ℕ → ℕ → ℕ → Heap → Option (List ℕ)
+insert_alert list node pred heap =
+    if not (is_list_at list heap) then Some (codes "HANDLE")
+    else (if not (is_node_at node heap) then Some (codes "HANDLE")
+    else (if not (is_pred_at (predecessor pred) heap) then Some (codes "HANDLE")
+    else (if is_linked node heap || not (is_pred_in (predecessor pred) list heap) then Some (codes "LINK") else None)))
+
+-- the node is put after its predecessor, or first for 0
+unfoldable pub inserted : ℕ → ℕ → ℕ → Heap → Heap
+inserted list node pred heap = with_nodes list (put_after (predecessor pred) node (nodes_of list heap)) heap
+
+-- Insert list node pred (autodoc exec.library/Insert)
+unfoldable pub does_insert : ℕ → Call → State → Outcome
+does_insert t call s =
+    let list = argument 0 call in
+    let node = argument 1 call in
+    let pred = argument 2 call in
+    unless (insert_alert list node pred s.memory.heap) t call (λ s. done t call (on_memory (on_heap (inserted list node pred)) s)) s
+
+-- ---- unlinking
+
+-- the alert of a call on a linked node
+unfoldable pub linked_alert : ℕ → Heap → Option (List ℕ)
+linked_alert node heap =
+    if not (is_node_at node heap) then Some (codes "HANDLE")
+    else (if not (is_linked node heap) then Some (codes "LINK") else None)
+
+-- Remove node: the node leaves the list that has it (autodoc exec.library/Remove)
+unfoldable pub does_remove : ℕ → Call → State → Outcome
+does_remove t call s =
+    let node = argument 0 call in
+    unless (linked_alert node s.memory.heap) t call (λ s. done t call (on_memory (on_heap (unlinked node)) s)) s
+
+-- the alert of a call on a list
+unfoldable pub list_alert : ℕ → Heap → Option (List ℕ)
+list_alert list heap = if not (is_list_at list heap) then Some (codes "HANDLE") else None
+
+-- the first, or the last, node of a list, or 0
+unfoldable pub first_of : ℕ → Heap → ℕ
+first_of list heap = or_none (first (nodes_of list heap))
+
+unfoldable pub last_of : ℕ → Heap → ℕ
+last_of list heap = or_none (last (nodes_of list heap))
+
+-- the first, or the last, node leaves a list
+unfoldable pub removed_head : ℕ → Heap → Heap
+removed_head list heap = with_nodes list (drop 1 (nodes_of list heap)) heap
+
+unfoldable pub removed_tail : ℕ → Heap → Heap
+removed_tail list heap = with_nodes list (take (length (nodes_of list heap) - 1) (nodes_of list heap)) heap
+
+-- RemHead list: answers the first node, which leaves the list, or 0 for an empty one (autodoc exec.library/RemHead)
+unfoldable pub does_rem_head : ℕ → Call → State → Outcome
+does_rem_head t call s =
+    let list = argument 0 call in
+    unless (list_alert list s.memory.heap) t call
+    (λ s. answered t call (first_of list s.memory.heap) (on_memory (on_heap (removed_head list)) s)) s
+
+-- RemTail list: answers the last node, which leaves the list, or 0 for an empty one (autodoc exec.library/RemTail)
+unfoldable pub does_rem_tail : ℕ → Call → State → Outcome
+does_rem_tail t call s =
+    let list = argument 0 call in
+    unless (list_alert list s.memory.heap) t call
+    (λ s. answered t call (last_of list s.memory.heap) (on_memory (on_heap (removed_tail list)) s)) s
+
+-- ---- scanning
+
+-- First list: answers the first node, or 0 for an empty list (RKM Libraries, Exec Lists and Queues: scanning a list)
+unfoldable pub does_first : ℕ → Call → State → Outcome
+does_first t call s =
+    let list = argument 0 call in
+    unless (list_alert list s.memory.heap) t call (λ s. answered t call (first_of list s.memory.heap) s) s
+
+-- Last list: answers the last node, or 0 for an empty list (RKM Libraries, Exec Lists and Queues: scanning a list)
+unfoldable pub does_last : ℕ → Call → State → Outcome
+does_last t call s =
+    let list = argument 0 call in
+    unless (list_alert list s.memory.heap) t call (λ s. answered t call (last_of list s.memory.heap) s) s
+
+-- the node after, or before, a linked one, or 0 at the end of its list
+unfoldable pub succ_of : ℕ → Heap → ℕ
+succ_of node heap = or_none (first (part_after node (sequence_with node heap)))
+
+unfoldable pub pred_of : ℕ → Heap → ℕ
+pred_of node heap = or_none (last (part_before node (sequence_with node heap)))
+
+-- Succ node: answers the node after a linked one, or 0 (RKM Libraries, Exec Lists and Queues: ln_Succ)
+unfoldable pub does_succ : ℕ → Call → State → Outcome
+does_succ t call s =
+    let node = argument 0 call in
+    unless (linked_alert node s.memory.heap) t call (λ s. answered t call (succ_of node s.memory.heap) s) s
+
+-- Pred node: answers the node before a linked one, or 0 (RKM Libraries, Exec Lists and Queues: ln_Pred)
+unfoldable pub does_pred : ℕ → Call → State → Outcome
+does_pred t call s =
+    let node = argument 0 call in
+    unless (linked_alert node s.memory.heap) t call (λ s. answered t call (pred_of node s.memory.heap) s) s
+
+-- the alert of FindName: it begins at a list, or after a linked node
+unfoldable pub find_alert : ℕ → Heap → Option (List ℕ)
+find_alert start heap = if is_list_at start heap then None else linked_alert start heap
+
+-- the nodes among which FindName looks: those of the list, or those after the node
+unfoldable pub searched : ℕ → Heap → List ℕ
+searched start heap = if is_list_at start heap then nodes_of start heap else part_after start (sequence_with start heap)
+
+-- the name of a node is that one, byte for byte
+abbrev pub has_name : List ℕ → Heap → ℕ → Bool
+has_name name heap node = name_is (key_of node heap).name name
+
+-- the first node of a name, or 0
+unfoldable pub found_node : ℕ → List ℕ → Heap → ℕ
+found_node start name heap = or_none (find (has_name name heap) (searched start heap))
+
+-- FindName start name: answers the first node of that name in a list, or after a node of it, or 0 (autodoc exec.library/FindName; that
+-- the start may be a node: RKM Libraries, Exec Lists and Queues: searching by name)
+unfoldable pub does_find_name : ℕ → Call → State → Outcome
+does_find_name t call s =
+    let start = argument 0 call in
+    unless (find_alert start s.memory.heap) t call
+    (λ s. answered t call (found_node start (unwrap_or (name_argument 1 call) []) s.memory.heap) s) s
