@@ -1,1 +1,5 @@
 pub mod Roster
+pub mod Tags
+pub mod Numbered
+pub mod Changes
+pub mod Refusals

@@ -1,5 +1,12 @@
 //! The memory of a machine and the objects that live in it, by address.
-//! `roster` gives the objects of one kind their numbers.
+//! `Heap` is what callers use. `objects` keeps the objects by number, and `roster` gives the objects of one kind their numbers.
 #![tactic(auto)]
 
-pub mod roster;
+mod heap;
+mod kind;
+mod objects;
+mod refusal;
+mod roster;
+
+pub use heap::Heap;
+pub use refusal::Refusal;

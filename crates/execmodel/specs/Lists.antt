@@ -1,7 +1,7 @@
 -- Lists of nodes (RKM Libraries, Exec Lists and Queues). A list is the sequence of its nodes, by their addresses; no node stands in two
 -- lists, nor twice in one. An address where no object of the kind begins is the alert HANDLE; a node that is linked where it must not
 -- be, or the other way, is the alert LINK (own choice).
-use Rattle.std.specs.Prelude.{ℕ, suc, ℤ, Bool, true, false, not, ◌||◌, ◌-◌, ◌==◌, if◌then◌else◌, nat_eq, is_none, is_some, length, map, take, drop, find, unwrap_or, codes, List, [], ◌∷◌, ◌++◌, Option, None, Some}
+use Rattle.std.specs.Prelude.{ℕ, zero, suc, Bool, true, false, not, ◌||◌, ◌-◌, ◌==◌, if◌then◌else◌, nat_eq, is_some, length, map, take, drop, find, unwrap_or, codes, List, [], ◌∷◌, ◌++◌, Option, None, Some}
 use Rattle.std.specs.List.{list_any}
 use Rattle.std.specs.Int.{cast_signed, w32}
 use Rattle.execlist.specs.Order.{enqueue, first, without}
@@ -180,7 +180,7 @@ does_enqueue t call s =
 
 -- an address as a predecessor: 0 is none
 abbrev pub predecessor : ℕ → Option ℕ
-predecessor 0 = None
+predecessor zero = None
 predecessor (suc p) = Some (suc p)
 
 -- a predecessor, if there is one, is a node

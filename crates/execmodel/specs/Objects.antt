@@ -1,5 +1,5 @@
 -- Objects: what begins at an address, and where a new object goes. An object takes a block of its own, with MEMF_PUBLIC (own choice).
-use Rattle.std.specs.Prelude.{ℕ, Bool, false, if◌then◌else◌, nat_lt, filter, length, map, Option, None, Some}
+use Rattle.std.specs.Prelude.{ℕ, Bool, false, if◌then◌else◌, nat_lt, filter, length, List, Option, None, Some}
 use Rattle.std.specs.Option.{option_map}
 use Rattle.execmodel.specs.State.{Call, Object, Block, Heap, Memory, State, Outcome}
 use Rattle.execmodel.specs.Calls.{alerted}

@@ -1,0 +1,102 @@
+-- What the calls on objects by number make of them.
+use Rattle.std.specs.Prelude.{ℕ, ℤ, ◌-◌, List, [], ◌∷◌, ◌++◌, drop, length, replicate, slice_set, take, Option, None, Some}
+use Rattle.execlist.specs.Order.{enqueue, first, without}
+use Rattle.execlist.specs.Lists.{Key, blank, home, last, pri_of, put_after, sequence}
+use Rattle.memlist.specs.declared.region.Region.{Region}
+use Rattle.memlist.specs.Fit.{fit}
+use Rattle.memlist.specs.Memory.{allocated, untouched, without_block}
+use Rattle.execheap.specs.Roster.{Rostered, all_free, enrolled, next_number, released}
+use Rattle.execheap.specs.Tags.{tag_of}
+use Rattle.execheap.specs.Numbered.{Numbered}
+
+-- no block, and no object of a pool of so many of each kind
+abbrev pub unused : List Region → ℕ → Numbered
+unused regions pool = record {
+  memory = untouched regions;
+  lists = all_free pool;
+  nodes = all_free pool;
+  sequences = replicate pool [];
+  homes = replicate pool None;
+  keys = replicate pool blank;
+}
+
+-- ---- objects made and freed
+
+-- where the block of a new object goes, if there is a number left for it
+abbrev pub made_at : ℕ → Option ℕ → Numbered → Option ℕ
+made_at size None s = None
+made_at size (Some number) s = fit s.memory.regions s.memory.blocks size 1
+
+-- the key of a node
+abbrev pub key_of : ℤ → Option (List ℕ) → Key
+key_of pri name = record { pri = pri; name = name }
+
+-- the next number of the lists, if there is one, is given to a list at an address, if there is one
+abbrev pub list_numbered : ℕ → Option ℕ → Option ℕ → Numbered → Numbered
+list_numbered size None place s = s
+list_numbered size (Some number) None s = s
+list_numbered size (Some number) (Some address) s = record s {
+  memory = allocated size (tag_of 0 number) (Some address) s.memory;
+  lists = enrolled address s.lists;
+}
+
+abbrev pub list_made : ℕ → Option ℕ → Numbered → Numbered
+list_made size place s = list_numbered size (next_number s.lists) place s
+
+-- the same of a node with a key
+abbrev pub node_numbered : ℕ → Key → Option ℕ → Option ℕ → Numbered → Numbered
+node_numbered size key None place s = s
+node_numbered size key (Some number) None s = s
+node_numbered size key (Some number) (Some address) s = record s {
+  memory = allocated size (tag_of 1 number) (Some address) s.memory;
+  nodes = enrolled address s.nodes;
+  keys = slice_set s.keys number key;
+}
+
+abbrev pub node_made : ℕ → Key → Option ℕ → Numbered → Numbered
+node_made size key place s = node_numbered size key (next_number s.nodes) place s
+
+-- the object of a number that begins at an address is freed
+abbrev pub list_freed : ℕ → ℕ → Numbered → Numbered
+list_freed number address s = record s { memory = without_block address s.memory; lists = released number s.lists }
+
+abbrev pub node_freed : ℕ → ℕ → Numbered → Numbered
+node_freed number address s = record s { memory = without_block address s.memory; nodes = released number s.nodes }
+
+-- ---- nodes linked and unlinked
+
+-- node n stands in list h, which has these nodes
+abbrev pub linked : ℕ → ℕ → List ℕ → Numbered → Numbered
+linked h n nodes s = record s { sequences = slice_set s.sequences h nodes; homes = slice_set s.homes n (Some h) }
+
+abbrev pub at_head : ℕ → ℕ → Numbered → Numbered
+at_head h n s = linked h n (n ∷ sequence s.sequences h) s
+
+abbrev pub at_tail : ℕ → ℕ → Numbered → Numbered
+at_tail h n s = linked h n (sequence s.sequences h ++ n ∷ []) s
+
+abbrev pub queued : ℕ → ℕ → Numbered → Numbered
+queued h n s = linked h n (enqueue (pri_of s.keys) (sequence s.sequences h) n) s
+
+abbrev pub put : ℕ → ℕ → Option ℕ → Numbered → Numbered
+put h n pred s = linked h n (put_after pred n (sequence s.sequences h)) s
+
+-- a node or none stands in no list, and list h has these nodes
+abbrev pub unlinked : ℕ → Option ℕ → List ℕ → Numbered → Numbered
+unlinked h None nodes s = record s { sequences = slice_set s.sequences h nodes }
+unlinked h (Some n) nodes s = record s { sequences = slice_set s.sequences h nodes; homes = slice_set s.homes n None }
+
+-- node n leaves the list that has it
+abbrev pub left_out : ℕ → Option ℕ → Numbered → Numbered
+left_out n None s = s
+left_out n (Some h) s = unlinked h (Some n) (without n (sequence s.sequences h)) s
+
+abbrev pub taken_out : ℕ → Numbered → Numbered
+taken_out n s = left_out n (home s.homes n) s
+
+abbrev pub head_taken : ℕ → Numbered → Numbered
+head_taken h s = unlinked h (first (sequence s.sequences h)) (drop 1 (sequence s.sequences h)) s
+
+abbrev pub tail_taken : ℕ → Numbered → Numbered
+tail_taken h s =
+    unlinked h (last (sequence s.sequences h)) (take (length (sequence s.sequences h) - 1) (sequence s.sequences h)) s

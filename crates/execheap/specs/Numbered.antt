@@ -1,0 +1,106 @@
+-- Objects by number, and the memory that they stand for: the objects by address.
+use Rattle.std.specs.Prelude.{◌≡◌, ℕ, zero, suc, ◌+◌, ◌*◌, ◌/◌, ◌%◌, ◌≤◌, ◌×◌, if◌then◌else◌, IsSome, List, [], filter, length, map, slice_index_or, Option, None, Some, unwrap_or}
+use Rattle.std.specs.Option.{option_map, option_and_then}
+use Rattle.std.specs.List.{AllByRecursion}
+use Rattle.execlist.specs.Lists.{Key, blank, sequence, home, is_at, times}
+use Rattle.memlist.specs.Memory as table
+use Rattle.memlist.specs.Blocks.{Blocks, block_at}
+use Rattle.execmodel.specs.State.{Object, Plain, ListHead, Node, Block, Heap, Memory}
+use Rattle.execheap.specs.Roster.{Rostered, place, taken}
+use Rattle.execheap.specs.Tags.{number_of, is_of, tag_of}
+
+-- the blocks with their tags; for each kind the addresses of its objects by number; and what the lists and the nodes hold, by number
+pub record Numbered : Type 0 where
+  pub memory : table.Memory
+  pub lists : Rostered
+  pub nodes : Rostered
+  pub sequences : List (List ℕ)
+  pub homes : List (Option ℕ)
+  pub keys : List Key
+
+-- the addresses of the objects of a kind, by number
+abbrev pub roster : ℕ → Numbered → List (Option ℕ)
+roster zero s = s.lists.places
+roster (suc zero) s = s.nodes.places
+roster (suc (suc kind)) s = []
+
+-- the number of the object of a kind that begins at an address
+abbrev pub number_at : ℕ → ℕ → Numbered → Option ℕ
+number_at kind address s = option_and_then (λ (block : ℕ × ℕ). number_of kind block.1) (block_at address s.memory.blocks)
+
+-- ---- what is shown
+
+-- the address of a node, by its number
+abbrev pub address_in : List (Option ℕ) → ℕ → ℕ
+address_in places n = unwrap_or (place places n) 0
+
+-- the key of a node, by its number
+abbrev pub key_at : List Key → ℕ → Key
+key_at keys n = slice_index_or keys n blank
+
+-- the object of a kind and a number
+abbrev pub object_of : ℕ → ℕ → Numbered → Object
+object_of zero number s = ListHead (map (address_in s.nodes.places) (sequence s.sequences number))
+object_of (suc zero) number s = Node (key_at s.keys number)
+object_of (suc (suc kind)) number s = Plain
+
+-- the object that a tag names
+abbrev pub shown_object : Numbered → ℕ → Object
+shown_object s zero = Plain
+shown_object s (suc n) = object_of (n % 8) (n / 8) s
+
+abbrev pub shown_block : Numbered → ℕ × ℕ → Block
+shown_block s block = record { size = block.0; object = shown_object s block.1 }
+
+abbrev pub shown_entry : Numbered → ℕ × (ℕ × ℕ) → ℕ × Block
+shown_entry s entry = (entry.0, shown_block s entry.1)
+
+unfoldable pub shown_heap : Numbered → Heap
+shown_heap s = map (shown_entry s) s.memory.blocks
+
+-- the memory that objects by number stand for
+abbrev pub shown_memory : Numbered → Memory
+shown_memory s = record { regions = s.memory.regions; pool = length s.lists.places; heap = shown_heap s }
+
+-- ---- what always holds
+
+-- the address of the object that a tag names
+abbrev pub place_of_tag : ℕ → Numbered → Option ℕ
+place_of_tag zero s = None
+place_of_tag (suc n) s = place (roster (n % 8) s) (n / 8)
+
+-- the address of what a tag names, where a plain block is anywhere
+abbrev pub place_or : ℕ → ℕ → Numbered → Option ℕ
+place_or zero address s = Some address
+place_or (suc n) address s = place_of_tag (suc n) s
+
+-- the tag of a block names a plain one, or the object of that address
+abbrev pub IsTagged : Numbered → ℕ × (ℕ × ℕ) → Type 0
+IsTagged s entry = place_or entry.1.1 entry.0 s ≡ Some entry.0
+
+-- the tag of the block that begins at an address
+abbrev pub tag_at : ℕ → Blocks → Option ℕ
+tag_at address blocks = option_map (λ (block : ℕ × ℕ). block.1) (block_at address blocks)
+
+-- how many blocks have an object of a kind
+abbrev pub counted : ℕ → Blocks → ℕ
+counted kind blocks = length (filter (λ (entry : ℕ × (ℕ × ℕ)). is_of kind entry.1.1) blocks)
+
+-- A number stands for one object, and an object for one block: each tag names what begins at its block's address, each object that has
+-- an address begins at a block with its tag, and of each kind as many blocks are tagged as numbers are given. A linked node and its
+-- list are objects that live.
+pub record IsSound (s : Numbered) : Type 0 where
+  pub tagged : AllByRecursion (IsTagged s) s.memory.blocks
+  pub complete : (n address : ℕ) → place_of_tag (suc n) s ≡ Some address → tag_at address s.memory.blocks ≡ Some (suc n)
+  pub count : (kind : ℕ) → counted kind s.memory.blocks ≡ taken (roster kind s)
+  pub live_nodes : (n : ℕ) → IsSome (home s.homes n) → IsSome (place s.nodes.places n)
+  pub live_lists : (n h : ℕ) → home s.homes n ≡ Some h → IsSome (place s.lists.places h)
+  pub each_list : length s.sequences ≡ length s.lists.places
+  pub each_node : length s.homes ≡ length s.nodes.places
+  pub one_pool : length s.nodes.places ≡ length s.lists.places
+  pub small_pool : length s.lists.places ≤ 1024
+
+-- what every list space tells of sequences, homes and keys
+pub record IsSpace (s : Numbered) : Type 0 where
+  pub stands : (h n : ℕ) → times n (sequence s.sequences h) ≡ (if is_at (home s.homes n) h then 1 else 0)
+  pub keyed : length s.keys ≡ length s.homes

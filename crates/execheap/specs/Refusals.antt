@@ -1,0 +1,13 @@
+-- What a refused call says of the abstract machine: the code of its alert.
+use Rattle.std.specs.Prelude.{ℕ, codes, List, Option, None, Some, Result, Ok, Err}
+use Rattle.execheap.specs.declared.refusal.Refusal.{Refusal}
+use Rattle.execheap.specs.declared.refusal.Refusal.TheVariants.{Handle, Link}
+
+abbrev pub code_of : Refusal → List ℕ
+code_of Handle = codes "HANDLE"
+code_of Link = codes "LINK"
+
+-- the alert of an answer: none where the call was not refused
+abbrev pub alert_of : {T : Type 0} → Result T Refusal → Option (List ℕ)
+alert_of (Ok answer) = None
+alert_of (Err why) = Some (code_of why)

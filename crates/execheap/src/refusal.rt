@@ -1,0 +1,28 @@
+//! Why a call on an object is refused.
+ghost use Rattle.std.specs.Prelude.{◌≡◌};
+ghost use Rattle.execheap.specs.Refusals.{code_of};
+
+use thiserror::Error;
+
+/// Why a call on an object is refused. A refused call changes nothing.
+#[derive(Clone, Copy, Debug, PartialEq, Eq, Error)]
+pub enum Refusal {
+    /// No live object of the kind begins at an address.
+    #[error("no object of the kind begins there")]
+    Handle,
+    /// A node is linked where it must not be, or the other way; or a list that is to be freed holds nodes.
+    #[error("a node is linked where it must not be, or the other way")]
+    Link,
+}
+
+impl Refusal {
+    /// The code of the alert, as it stands in the trace.
+    pub fn code(self) -> &'static str
+        ensures { result.now ≡ code_of self }
+    {
+        match self {
+            Refusal::Handle => "HANDLE",
+            Refusal::Link => "LINK",
+        }
+    }
+}
