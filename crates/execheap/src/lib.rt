@@ -1,12 +1,8 @@
 //! The memory of a machine and the objects that live in it, by address.
-//! `Heap` is what callers use. `objects` keeps the objects by number, and `roster` gives the objects of one kind their numbers.
 #![tactic(auto)]
 
-mod heap;
 mod kind;
-mod objects;
 mod refusal;
-mod roster;
 
-pub use heap::Heap;
+pub use kind::{Kind, number_of, tag_of};
 pub use refusal::Refusal;
