@@ -2,7 +2,7 @@
 use Rattle.std.proofs.Common.{◌≡◌, ◌≤◌, lit≤, false, nat_le, length, Some, refl}
 use Rattle.std.specs.Prelude.{slice_index}
 use Rattle.taskscript.specs.declared.word.Word.{Word}
-use Rattle.taskscript.specs.declared.word.Word.TheVariants.{Set, Add, Sub, And, Or, Jump, JumpZ, JumpNZ, Print, AllocSignal, FreeSignal, SetSignal, Signal, Wait, Forbid, Permit, Disable, Enable, SetTaskPri, AddTask, RemTask, FindTask, AllocMem, FreeMem, AvailMem}
+use Rattle.taskscript.specs.declared.word.Word.TheVariants.{Set, Add, Sub, And, Or, Jump, JumpZ, JumpNZ, Print, AllocSignal, FreeSignal, SetSignal, Signal, Wait, Forbid, Permit, Disable, Enable, SetTaskPri, AddTask, RemTask, FindTask, NewList, FreeList, NewNode, FreeNode, AddHead, AddTail, Enqueue, Insert, Remove, RemHead, RemTail, First, Last, Succ, Pred, FindName, AllocMem, FreeMem, AvailMem}
 use Rattle.taskscript.specs.Words.{word_text, word_of, kinds}
 
 -- no word has more than four arguments
@@ -29,6 +29,22 @@ few_kinds SetTaskPri = lit≤ tt
 few_kinds AddTask = lit≤ tt
 few_kinds RemTask = lit≤ tt
 few_kinds FindTask = lit≤ tt
+few_kinds NewList = lit≤ tt
+few_kinds FreeList = lit≤ tt
+few_kinds NewNode = lit≤ tt
+few_kinds FreeNode = lit≤ tt
+few_kinds AddHead = lit≤ tt
+few_kinds AddTail = lit≤ tt
+few_kinds Enqueue = lit≤ tt
+few_kinds Insert = lit≤ tt
+few_kinds Remove = lit≤ tt
+few_kinds RemHead = lit≤ tt
+few_kinds RemTail = lit≤ tt
+few_kinds First = lit≤ tt
+few_kinds Last = lit≤ tt
+few_kinds Succ = lit≤ tt
+few_kinds Pred = lit≤ tt
+few_kinds FindName = lit≤ tt
 few_kinds AllocMem = lit≤ tt
 few_kinds FreeMem = lit≤ tt
 few_kinds AvailMem = lit≤ tt
@@ -57,6 +73,22 @@ word_known SetTaskPri = refl
 word_known AddTask = refl
 word_known RemTask = refl
 word_known FindTask = refl
+word_known NewList = refl
+word_known FreeList = refl
+word_known NewNode = refl
+word_known FreeNode = refl
+word_known AddHead = refl
+word_known AddTail = refl
+word_known Enqueue = refl
+word_known Insert = refl
+word_known Remove = refl
+word_known RemHead = refl
+word_known RemTail = refl
+word_known First = refl
+word_known Last = refl
+word_known Succ = refl
+word_known Pred = refl
+word_known FindName = refl
 word_known AllocMem = refl
 word_known FreeMem = refl
 word_known AvailMem = refl
@@ -85,6 +117,22 @@ word_is_capital SetTaskPri = refl
 word_is_capital AddTask = refl
 word_is_capital RemTask = refl
 word_is_capital FindTask = refl
+word_is_capital NewList = refl
+word_is_capital FreeList = refl
+word_is_capital NewNode = refl
+word_is_capital FreeNode = refl
+word_is_capital AddHead = refl
+word_is_capital AddTail = refl
+word_is_capital Enqueue = refl
+word_is_capital Insert = refl
+word_is_capital Remove = refl
+word_is_capital RemHead = refl
+word_is_capital RemTail = refl
+word_is_capital First = refl
+word_is_capital Last = refl
+word_is_capital Succ = refl
+word_is_capital Pred = refl
+word_is_capital FindName = refl
 word_is_capital AllocMem = refl
 word_is_capital FreeMem = refl
 word_is_capital AvailMem = refl

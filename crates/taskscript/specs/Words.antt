@@ -2,9 +2,9 @@
 -- exec.library stands for that call.
 use Rattle.std.specs.Prelude.{ℕ, Bool, true, false, bytes_eq, codes, find, List, [], ◌∷◌, Option}
 use Rattle.taskscript.specs.declared.word.Word.{Word}
-use Rattle.taskscript.specs.declared.word.Word.TheVariants.{Set, Add, Sub, And, Or, Jump, JumpZ, JumpNZ, Print, AllocSignal, FreeSignal, SetSignal, Signal, Wait, Forbid, Permit, Disable, Enable, SetTaskPri, AddTask, RemTask, FindTask, AllocMem, FreeMem, AvailMem}
+use Rattle.taskscript.specs.declared.word.Word.TheVariants.{Set, Add, Sub, And, Or, Jump, JumpZ, JumpNZ, Print, AllocSignal, FreeSignal, SetSignal, Signal, Wait, Forbid, Permit, Disable, Enable, SetTaskPri, AddTask, RemTask, FindTask, NewList, FreeList, NewNode, FreeNode, AddHead, AddTail, Enqueue, Insert, Remove, RemHead, RemTail, First, Last, Succ, Pred, FindName, AllocMem, FreeMem, AvailMem}
 use Rattle.taskscript.specs.declared.word.Kind.{Kind}
-use Rattle.taskscript.specs.declared.word.Kind.TheVariants.{Value, Label, NameOrNone}
+use Rattle.taskscript.specs.declared.word.Kind.TheVariants.{Value, Label, Name, NameOrNone}
 
 -- the text of a word, in a line and in the trace
 abbrev pub word_text : Word → List ℕ
@@ -30,6 +30,22 @@ word_text SetTaskPri = codes "SetTaskPri"
 word_text AddTask = codes "AddTask"
 word_text RemTask = codes "RemTask"
 word_text FindTask = codes "FindTask"
+word_text NewList = codes "NewList"
+word_text FreeList = codes "FreeList"
+word_text NewNode = codes "NewNode"
+word_text FreeNode = codes "FreeNode"
+word_text AddHead = codes "AddHead"
+word_text AddTail = codes "AddTail"
+word_text Enqueue = codes "Enqueue"
+word_text Insert = codes "Insert"
+word_text Remove = codes "Remove"
+word_text RemHead = codes "RemHead"
+word_text RemTail = codes "RemTail"
+word_text First = codes "First"
+word_text Last = codes "Last"
+word_text Succ = codes "Succ"
+word_text Pred = codes "Pred"
+word_text FindName = codes "FindName"
 word_text AllocMem = codes "AllocMem"
 word_text FreeMem = codes "FreeMem"
 word_text AvailMem = codes "AvailMem"
@@ -58,6 +74,22 @@ answers SetTaskPri = true
 answers AddTask = true
 answers RemTask = false
 answers FindTask = true
+answers NewList = true
+answers FreeList = false
+answers NewNode = true
+answers FreeNode = false
+answers AddHead = false
+answers AddTail = false
+answers Enqueue = false
+answers Insert = false
+answers Remove = false
+answers RemHead = true
+answers RemTail = true
+answers First = true
+answers Last = true
+answers Succ = true
+answers Pred = true
+answers FindName = true
 answers AllocMem = true
 answers FreeMem = false
 answers AvailMem = true
@@ -86,12 +118,28 @@ kinds SetTaskPri = Value ∷ Value ∷ []
 kinds AddTask = Value ∷ []
 kinds RemTask = Value ∷ []
 kinds FindTask = NameOrNone ∷ []
+kinds NewList = []
+kinds FreeList = Value ∷ []
+kinds NewNode = Value ∷ NameOrNone ∷ []
+kinds FreeNode = Value ∷ []
+kinds AddHead = Value ∷ Value ∷ []
+kinds AddTail = Value ∷ Value ∷ []
+kinds Enqueue = Value ∷ Value ∷ []
+kinds Insert = Value ∷ Value ∷ Value ∷ []
+kinds Remove = Value ∷ []
+kinds RemHead = Value ∷ []
+kinds RemTail = Value ∷ []
+kinds First = Value ∷ []
+kinds Last = Value ∷ []
+kinds Succ = Value ∷ []
+kinds Pred = Value ∷ []
+kinds FindName = Value ∷ Name ∷ []
 kinds AllocMem = Value ∷ Value ∷ []
 kinds FreeMem = Value ∷ Value ∷ []
 kinds AvailMem = Value ∷ []
 
 abbrev pub all_words : List Word
-all_words = Set ∷ Add ∷ Sub ∷ And ∷ Or ∷ Jump ∷ JumpZ ∷ JumpNZ ∷ Print ∷ AllocSignal ∷ FreeSignal ∷ SetSignal ∷ Signal ∷ Wait ∷ Forbid ∷ Permit ∷ Disable ∷ Enable ∷ SetTaskPri ∷ AddTask ∷ RemTask ∷ FindTask ∷ AllocMem ∷ FreeMem ∷ AvailMem ∷ []
+all_words = Set ∷ Add ∷ Sub ∷ And ∷ Or ∷ Jump ∷ JumpZ ∷ JumpNZ ∷ Print ∷ AllocSignal ∷ FreeSignal ∷ SetSignal ∷ Signal ∷ Wait ∷ Forbid ∷ Permit ∷ Disable ∷ Enable ∷ SetTaskPri ∷ AddTask ∷ RemTask ∷ FindTask ∷ NewList ∷ FreeList ∷ NewNode ∷ FreeNode ∷ AddHead ∷ AddTail ∷ Enqueue ∷ Insert ∷ Remove ∷ RemHead ∷ RemTail ∷ First ∷ Last ∷ Succ ∷ Pred ∷ FindName ∷ AllocMem ∷ FreeMem ∷ AvailMem ∷ []
 
 -- the word of a text, if there is one
 abbrev pub word_of : List ℕ → Option Word

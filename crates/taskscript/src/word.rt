@@ -50,6 +50,38 @@ pub enum Word {
     RemTask,
     /// Finds a task by its name, or the caller (autodoc exec.library/FindTask).
     FindTask,
+    /// Makes an empty list (amiga.lib/NewList; that it takes the memory for the list: own choice).
+    NewList,
+    /// Frees an empty list (own choice).
+    FreeList,
+    /// Makes a node with a priority and a name, or with no name (own choice).
+    NewNode,
+    /// Frees a node that is in no list (own choice).
+    FreeNode,
+    /// Puts a node first in a list (autodoc exec.library/AddHead).
+    AddHead,
+    /// Puts a node last in a list (autodoc exec.library/AddTail).
+    AddTail,
+    /// Puts a node into a list by its priority (autodoc exec.library/Enqueue).
+    Enqueue,
+    /// Puts a node into a list after another one (autodoc exec.library/Insert).
+    Insert,
+    /// Takes a node out of the list that it is in (autodoc exec.library/Remove).
+    Remove,
+    /// Takes out the first node of a list (autodoc exec.library/RemHead).
+    RemHead,
+    /// Takes out the last node of a list (autodoc exec.library/RemTail).
+    RemTail,
+    /// Asks for the first node of a list (RKM Libraries, Exec Lists and Queues: scanning a list).
+    First,
+    /// Asks for the last node of a list (RKM Libraries, Exec Lists and Queues: scanning a list).
+    Last,
+    /// Asks for the node after a node (RKM Libraries, Exec Lists and Queues: scanning a list).
+    Succ,
+    /// Asks for the node before a node (RKM Libraries, Exec Lists and Queues: scanning a list).
+    Pred,
+    /// Finds a node by its name, from the start of a list or after a node (autodoc exec.library/FindName).
+    FindName,
     /// Allocates memory (autodoc exec.library/AllocMem).
     AllocMem,
     /// Frees memory (autodoc exec.library/FreeMem).
@@ -72,7 +104,7 @@ pub enum Kind {
 }
 
 /// All words.
-pub const ALL: [Word; 25] = [
+pub const ALL: [Word; 41] = [
     Word::Set,
     Word::Add,
     Word::Sub,
@@ -95,6 +127,22 @@ pub const ALL: [Word; 25] = [
     Word::AddTask,
     Word::RemTask,
     Word::FindTask,
+    Word::NewList,
+    Word::FreeList,
+    Word::NewNode,
+    Word::FreeNode,
+    Word::AddHead,
+    Word::AddTail,
+    Word::Enqueue,
+    Word::Insert,
+    Word::Remove,
+    Word::RemHead,
+    Word::RemTail,
+    Word::First,
+    Word::Last,
+    Word::Succ,
+    Word::Pred,
+    Word::FindName,
     Word::AllocMem,
     Word::FreeMem,
     Word::AvailMem,
@@ -128,6 +176,22 @@ impl Word {
             Word::AddTask => "AddTask",
             Word::RemTask => "RemTask",
             Word::FindTask => "FindTask",
+            Word::NewList => "NewList",
+            Word::FreeList => "FreeList",
+            Word::NewNode => "NewNode",
+            Word::FreeNode => "FreeNode",
+            Word::AddHead => "AddHead",
+            Word::AddTail => "AddTail",
+            Word::Enqueue => "Enqueue",
+            Word::Insert => "Insert",
+            Word::Remove => "Remove",
+            Word::RemHead => "RemHead",
+            Word::RemTail => "RemTail",
+            Word::First => "First",
+            Word::Last => "Last",
+            Word::Succ => "Succ",
+            Word::Pred => "Pred",
+            Word::FindName => "FindName",
             Word::AllocMem => "AllocMem",
             Word::FreeMem => "FreeMem",
             Word::AvailMem => "AvailMem",
@@ -161,6 +225,22 @@ impl Word {
             Word::AddTask => true,
             Word::RemTask => false,
             Word::FindTask => true,
+            Word::NewList => true,
+            Word::FreeList => false,
+            Word::NewNode => true,
+            Word::FreeNode => false,
+            Word::AddHead => false,
+            Word::AddTail => false,
+            Word::Enqueue => false,
+            Word::Insert => false,
+            Word::Remove => false,
+            Word::RemHead => true,
+            Word::RemTail => true,
+            Word::First => true,
+            Word::Last => true,
+            Word::Succ => true,
+            Word::Pred => true,
+            Word::FindName => true,
             Word::AllocMem => true,
             Word::FreeMem => false,
             Word::AvailMem => true,
@@ -194,6 +274,22 @@ impl Word {
             Word::AddTask => &[Kind::Value],
             Word::RemTask => &[Kind::Value],
             Word::FindTask => &[Kind::NameOrNone],
+            Word::NewList => &[],
+            Word::FreeList => &[Kind::Value],
+            Word::NewNode => &[Kind::Value, Kind::NameOrNone],
+            Word::FreeNode => &[Kind::Value],
+            Word::AddHead => &[Kind::Value, Kind::Value],
+            Word::AddTail => &[Kind::Value, Kind::Value],
+            Word::Enqueue => &[Kind::Value, Kind::Value],
+            Word::Insert => &[Kind::Value, Kind::Value, Kind::Value],
+            Word::Remove => &[Kind::Value],
+            Word::RemHead => &[Kind::Value],
+            Word::RemTail => &[Kind::Value],
+            Word::First => &[Kind::Value],
+            Word::Last => &[Kind::Value],
+            Word::Succ => &[Kind::Value],
+            Word::Pred => &[Kind::Value],
+            Word::FindName => &[Kind::Value, Kind::Name],
             Word::AllocMem => &[Kind::Value, Kind::Value],
             Word::FreeMem => &[Kind::Value, Kind::Value],
             Word::AvailMem => &[Kind::Value],

@@ -97,6 +97,116 @@ fn a_line_of_another_form_is_no_command(rt: HostRuntime) {
 }
 
 #[test]
+fn each_word_of_lists_and_nodes_is_read(rt: HostRuntime) -> Result<(), Fail> {
+    let cases = [
+        ("l = NewList", Word::NewList),
+        ("FreeList l", Word::FreeList),
+        ("n = NewNode -128 \"x\"", Word::NewNode),
+        ("FreeNode n", Word::FreeNode),
+        ("AddHead l n", Word::AddHead),
+        ("AddTail @l $1010", Word::AddTail),
+        ("Enqueue l n", Word::Enqueue),
+        ("Insert l n 0", Word::Insert),
+        ("Remove n", Word::Remove),
+        ("n = RemHead l", Word::RemHead),
+        ("n = RemTail l", Word::RemTail),
+        ("n = First l", Word::First),
+        ("@n = Last l", Word::Last),
+        ("n = Succ n", Word::Succ),
+        ("n = Pred n", Word::Pred),
+        ("n = FindName l \"x\"", Word::FindName),
+    ];
+    for (line, word) in cases {
+        let code = code_of(&rt, &[line], &mut IndexSet::new(rt.alloc()))?;
+        assert_eq!(rt; code.len(), 1, "at {line}");
+        assert!(rt; code[0].word == word, "at {line}");
+    }
+    Ok(())
+}
+
+#[test]
+fn a_word_of_lists_in_another_form_is_no_command(rt: HostRuntime) {
+    let lines = [
+        "NewList 1",
+        "v = FreeList l",
+        "FreeList",
+        "v = FreeNode n",
+        "v = AddHead l n",
+        "AddHead l",
+        "AddTail l n p",
+        "v = Enqueue l n",
+        "Insert l n",
+        "Insert l n \"x\"",
+        "v = Remove n",
+        "Remove l n",
+        "RemHead",
+        "First l n",
+        "Succ \"x\"",
+        "newlist",
+        "Findname l \"x\"",
+    ];
+    for line in lines {
+        assert!(rt;
+            line_fault(&rt, line) == Some(FileFault::BadCommand),
+            "at {line}"
+        );
+    }
+}
+
+/// Whether an argument is this name between double quotes.
+fn is_quoted(argument: &Argument, text: &str) -> bool {
+    match argument {
+        Argument::Quoted(name) => name.as_str() == text,
+        _ => false,
+    }
+}
+
+#[test]
+fn a_node_is_made_with_a_name_or_with_0_alone(rt: HostRuntime) -> Result<(), Fail> {
+    let lines = ["NewNode 0 0", "NewNode 0 \"x\""];
+    let code = code_of(&rt, &lines, &mut IndexSet::new(rt.alloc()))?;
+    assert_eq!(rt; code.len(), 2);
+    match argument_at(&code, 0, 1) {
+        Some(Argument::Number(n)) => assert_eq!(rt; n, 0),
+        _ => assert!(rt; false),
+    }
+    assert!(rt; is_quoted(&code[1].arguments[1], "x"));
+    for line in [
+        "NewNode 0 $0",
+        "NewNode 0 00",
+        "NewNode 0 x",
+        "NewNode 0 1",
+        "NewNode 0 \"\"",
+        "NewNode 0",
+        "NewNode \"x\" 0",
+    ] {
+        assert!(rt;
+            line_fault(&rt, line) == Some(FileFault::BadCommand),
+            "at {line}"
+        );
+    }
+    Ok(())
+}
+
+#[test]
+fn a_name_to_find_stands_between_quotes(rt: HostRuntime) {
+    assert!(rt; line_fault(&rt, "FindName l \"x\"").is_none());
+    for line in [
+        "FindName l 0",
+        "FindName l x",
+        "FindName l \"\"",
+        "FindName l",
+        "FindName \"x\"",
+        "FindName \"x\" l",
+    ] {
+        assert!(rt;
+            line_fault(&rt, line) == Some(FileFault::BadCommand),
+            "at {line}"
+        );
+    }
+}
+
+#[test]
 fn a_label_of_another_form_is_no_command(rt: HostRuntime) {
     let lines = [
         ":",
