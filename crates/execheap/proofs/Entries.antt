@@ -1,9 +1,9 @@
 -- Entries of blocks: each is the one that its address finds, and what holds of each entry carries over to what is shown.
-use Rattle.std.proofs.Common.{◌≡◌, ℕ, ◌+◌, ◌<◌, List, [], ◌∷◌, Bool, true, false, cond, map, refl, ap, sym, ◌∙◌, arith}
-use Rattle.std.specs.Prelude.{Option, None, Some, not, nat_eq}
+use Rattle.std.proofs.Common.{◌≡◌, ℕ, ◌+◌, ◌<◌, List, [], ◌∷◌, Bool, true, false, cond, map, refl, ap, sym, ◌∙◌, subst, arith}
+use Rattle.std.specs.Prelude.{Option, None, Some, is_some, unwrap_or, not, nat_eq}
 use Rattle.std.specs.Option.{option_map}
 use Rattle.std.specs.List.{AllByRecursion, filter, list_any}
-use Rattle.std.specs.Ordering.{nat_cmp, eq_by_cmp}
+use Rattle.std.specs.Ordering.{nat_cmp, eq_by_cmp, is_eq}
 use Rattle.std.specs.declared.cmp.Ordering.{Ordering}
 use Rattle.std.specs.declared.cmp.Ordering.TheVariants.{Less, Equal, Greater}
 use Rattle.std.specs.FinMap.{find, is_sorted, put}
@@ -11,8 +11,20 @@ use Rattle.std.specs.FinMap.Entries.{where_key, by_order}
 use Rattle.memlist.specs.Blocks.{Blocks}
 use Rattle.memlist.proofs.Answered.{cmp_greater, cmp_less, cmp_same}
 use Rattle.memlist.proofs.Keeping.{rising_sorted}
-use Rattle.memlist.proofs.Merged.{IsRising}
+use Rattle.memlist.proofs.Merged.{IsRising, cases_order}
 use Rattle.memlist.proofs.Slots.{AllFrom}
+
+pub some_same : {A : Type 0} {x y : A} → Some x ≡ Some y → x ≡ y
+some_same {x = x} e = ap (λ o. unwrap_or o x) e
+
+pair_is : {V : Type 0} (a : ℕ) (e : ℕ × V) (v : V) → a ≡ e.0 → e.1 ≡ v → e ≡ (a, v)
+pair_is a e v p q = λ i. (sym p i, q i)
+
+from_key : (a b : ℕ) → eq_by_cmp nat_cmp a b ≡ true → a ≡ b
+from_key a b e = cases_order a b
+    (λ lt. let bad : false ≡ true = ap is_eq (sym (cmp_less a b lt)) ∙ e in cc)
+    (λ eq. eq)
+    (λ gt. let bad : false ≡ true = ap is_eq (sym (cmp_greater a b gt)) ∙ e in cc)
 
 -- ---- one entry an address
 
@@ -50,10 +62,79 @@ module _ {A : Type 0} where
   all_then f [] p = tt
   all_then f (x ∷ xs) p = (f x p.0, all_then f xs p.1)
 
-  pub map_same : {B : Type 0} {f g : A → B} (xs : List A) → AllByRecursion (λ x. f x ≡ g x) xs → map f xs ≡ map g xs
-  map_same [] all = refl
-  map_same {f = f} {g = g} (x ∷ xs) all = ap (λ y. y ∷ map f xs) all.0 ∙ ap (λ ys. g x ∷ ys) (map_same xs all.1)
+  pub map_same : {B : Type 0} (f g : A → B) (xs : List A) → AllByRecursion (λ x. f x ≡ g x) xs → map f xs ≡ map g xs
+  map_same f g [] all = refl
+  map_same f g (x ∷ xs) all = ap (λ y. y ∷ map f xs) all.0 ∙ ap (λ ys. g x ∷ ys) (map_same f g xs all.1)
 
-  pub filter_same : {p q : A → Bool} (xs : List A) → AllByRecursion (λ x. p x ≡ q x) xs → filter p xs ≡ filter q xs
-  filter_same [] all = refl
-  filter_same {p = p} {q = q} (x ∷ xs) all = ap (λ b. cond b (x ∷ filter p xs) (filter p xs)) all.0 ∙ ap (λ ys. cond (q x) (x ∷ ys) ys) (filter_same xs all.1)
+  pub filter_same : (p q : A → Bool) (xs : List A) → AllByRecursion (λ x. p x ≡ q x) xs → filter p xs ≡ filter q xs
+  filter_same p q [] all = refl
+  filter_same p q (x ∷ xs) all = ap (λ b. cond b (x ∷ filter p xs) (filter p xs)) all.0 ∙ ap (λ ys. cond (q x) (x ∷ ys) ys) (filter_same p q xs all.1)
+
+-- ---- entries whose values are shown as others
+
+module _ {V W : Type 0} (g : V → W) where
+  abbrev shown : List (ℕ × V) → List (ℕ × W)
+  shown entries = map (λ (e : ℕ × V). (e.0, g e.1)) entries
+
+  found : (b : Bool) (v : V) (rest : Option V) → cond b (Some (g v)) (option_map g rest) ≡ option_map g (cond b (Some v) rest)
+  found true v rest = refl
+  found false v rest = refl
+
+  pub find_shown : (a : ℕ) (entries : List (ℕ × V)) → find nat_cmp a (shown entries) ≡ option_map g (find nat_cmp a entries)
+  find_shown a [] = refl
+  find_shown a (e ∷ rest) =
+      ap (λ z. cond (eq_by_cmp nat_cmp a e.0) (Some (g e.1)) z) (find_shown a rest) ∙ found (eq_by_cmp nat_cmp a e.0) e.1 (find nat_cmp a rest)
+
+  put_in : (o : Ordering) (a : ℕ) (v : V) (e : ℕ × V) (rest tail : List (ℕ × V))
+      → by_order o ((a, g v) ∷ (e.0, g e.1) ∷ shown rest) ((e.0, g v) ∷ shown rest) ((e.0, g e.1) ∷ shown tail)
+      ≡ shown (by_order o ((a, v) ∷ e ∷ rest) ((e.0, v) ∷ rest) (e ∷ tail))
+  put_in Less a v e rest tail = refl
+  put_in Equal a v e rest tail = refl
+  put_in Greater a v e rest tail = refl
+
+  pub put_shown : (a : ℕ) (v : V) (entries : List (ℕ × V)) → put nat_cmp a (g v) (shown entries) ≡ shown (put nat_cmp a v entries)
+  put_shown a v [] = refl
+  put_shown a v (e ∷ rest) =
+      ap (λ z. by_order (nat_cmp a e.0) ((a, g v) ∷ (e.0, g e.1) ∷ shown rest) ((e.0, g v) ∷ shown rest) ((e.0, g e.1) ∷ z)) (put_shown a v rest)
+      ∙ put_in (nat_cmp a e.0) a v e rest (put nat_cmp a v rest)
+
+  kept_in : (b : Bool) (e : ℕ × V) (rest : List (ℕ × V)) → cond b ((e.0, g e.1) ∷ shown rest) (shown rest) ≡ shown (cond b (e ∷ rest) rest)
+  kept_in true e rest = refl
+  kept_in false e rest = refl
+
+  pub where_key_shown : (p : ℕ → Bool) (entries : List (ℕ × V)) → where_key nat_cmp p (shown entries) ≡ shown (where_key nat_cmp p entries)
+  where_key_shown p [] = refl
+  where_key_shown p (e ∷ rest) =
+      ap (λ z. cond (p e.0) ((e.0, g e.1) ∷ z) z) (where_key_shown p rest) ∙ kept_in (p e.0) e (where_key nat_cmp p rest)
+
+-- ---- what holds of every entry
+
+module _ {V : Type 0} (P : ℕ × V → Type 0) where
+  all_in : (o : Ordering) (a : ℕ) (v : V) (e : ℕ × V) (rest tail : List (ℕ × V)) → P (a, v) → P (e.0, v) → AllByRecursion P (e ∷ rest) → AllByRecursion P (e ∷ tail)
+      → AllByRecursion P (by_order o ((a, v) ∷ e ∷ rest) ((e.0, v) ∷ rest) (e ∷ tail))
+  all_in Less a v e rest tail here there all more = (here, all)
+  all_in Equal a v e rest tail here there all more = (there, all.1)
+  all_in Greater a v e rest tail here there all more = more
+
+  -- an entry that is put, wherever it goes
+  pub all_put : (a : ℕ) (v : V) (entries : List (ℕ × V)) → ((b : ℕ) → P (b, v)) → AllByRecursion P entries → AllByRecursion P (put nat_cmp a v entries)
+  all_put a v [] here all = (here a, tt)
+  all_put a v (e ∷ rest) here all = all_in (nat_cmp a e.0) a v e rest (put nat_cmp a v rest) (here a) (here e.0) all (all.0, all_put a v rest here all.1)
+
+  all_kept : (b : Bool) (e : ℕ × V) (rest : List (ℕ × V)) → P e → AllByRecursion P rest → AllByRecursion P (cond b (e ∷ rest) rest)
+  all_kept true e rest here all = (here, all)
+  all_kept false e rest here all = all
+
+  pub all_where_key : (p : ℕ → Bool) (entries : List (ℕ × V)) → AllByRecursion P entries → AllByRecursion P (where_key nat_cmp p entries)
+  all_where_key p [] all = tt
+  all_where_key p (e ∷ rest) all = all_kept (p e.0) e (where_key nat_cmp p rest) all.0 (all_where_key p rest all.1)
+
+-- the entry that an address finds
+module _ {V : Type 0} (P : ℕ × V → Type 0) where
+  found_in : (b : Bool) (a : ℕ) (e : ℕ × V) (rest : Option V) (v : V) → (b ≡ true → a ≡ e.0) → P e → (rest ≡ Some v → P (a, v)) → cond b (Some e.1) rest ≡ Some v → P (a, v)
+  found_in true a e rest v same here there is = subst P (pair_is a e v (same refl) (some_same is)) here
+  found_in false a e rest v same here there is = there is
+
+  pub at_found : (a : ℕ) (es : List (ℕ × V)) (v : V) → AllByRecursion P es → find nat_cmp a es ≡ Some v → P (a, v)
+  at_found a [] v all is = let bad : false ≡ true = ap is_some is in cc
+  at_found a (e ∷ es) v all is = found_in (eq_by_cmp nat_cmp a e.0) a e (find nat_cmp a es) v (from_key a e.0) all.0 (at_found a es v all.1) is

@@ -1,2 +1,4 @@
 pub mod Entries
 pub mod Tagging
+pub mod Shown
+pub mod Relisted

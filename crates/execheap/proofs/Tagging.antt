@@ -1,7 +1,8 @@
 -- Tags: what is written is read, and what is read was written.
 use Rattle.std.proofs.Common.{◌≡◌, ℕ, zero, suc, ◌+◌, ◌*◌, ◌/◌, ◌%◌, ◌<◌, Bool, true, false, cond, refl, ap, sym, ◌∙◌, arith}
-use Rattle.std.specs.Prelude.{Option, None, Some, nat_eq}
-use Rattle.execmodel.specs.State.{Object}
+use Rattle.std.specs.Prelude.{Option, None, Some, is_some, nat_eq, ◌&&◌, ◌≢◌}
+use Rattle.memlist.proofs.Answered.{nat_eq-other, nat_eq-same}
+use Rattle.memlist.proofs.Headers.{from_eq}
 use Rattle.execheap.specs.Roster.{place}
 use Rattle.execheap.specs.Tags.{tag_of, number_of, is_of}
 use Rattle.execheap.specs.Numbered.{Numbered, object_of, shown_object, place_of_tag, roster}
@@ -12,9 +13,6 @@ kind_read kind number few = omega (arith, few)
 pub number_read : (kind number : ℕ) → kind < 8 → (kind + 8 * number) / 8 ≡ number
 number_read kind number few = omega (arith, few)
 
-pub same_is : (n : ℕ) → nat_eq n n ≡ true
-same_is n = omega arith
-
 -- the tag of an object of a kind and a number shows that object, and its place is that of the number
 pub shown_tag : (s : Numbered) (kind number : ℕ) → kind < 8 → shown_object s (tag_of kind number) ≡ object_of kind number s
 shown_tag s kind number few = ap (λ k. object_of k ((kind + 8 * number) / 8) s) (kind_read kind number few) ∙ ap (λ n. object_of kind n s) (number_read kind number few)
@@ -23,13 +21,29 @@ pub place_tag : (s : Numbered) (kind number : ℕ) → kind < 8 → place_of_tag
 place_tag s kind number few =
     ap (λ k. place (roster k s) ((kind + 8 * number) / 8)) (kind_read kind number few) ∙ ap (λ n. place (roster kind s) n) (number_read kind number few)
 
-nat_eq_true : (a b : ℕ) → nat_eq a b ≡ true → a ≡ b
-nat_eq_true a b e = omega (arith, e)
-
 -- a tag that names a number of a kind is that of the kind and the number
 pub tag_named : (kind tag number : ℕ) → number_of kind tag ≡ Some number → tag ≡ tag_of kind number
-tag_named kind zero number e = let bad : None {T = ℕ} ≡ Some number = e in cc
+tag_named kind zero number e = let bad : false ≡ true = ap is_some e in cc
 tag_named kind (suc n) number e = elim (nat_eq (n % 8) kind) as (λ b. nat_eq (n % 8) kind ≡ b → cond b (Some (n / 8)) None ≡ Some number → suc n ≡ tag_of kind number) [
-  | true ↦ λ same there. let here : n / 8 ≡ number = cc in omega (arith, nat_eq_true (n % 8) kind same, here)
-  | false ↦ λ other there. let bad : None {T = ℕ} ≡ Some number = there in cc
+  | true ↦ λ same there. let here : n / 8 ≡ number = cc in omega (arith, from_eq (n % 8) kind same, here)
+  | false ↦ λ other there. let bad : false ≡ true = ap is_some there in cc
 ] refl e
+
+-- ---- two numbers
+
+not_eq : (a b : ℕ) → nat_eq a b ≡ false → a ≢ b
+not_eq a b e same = let bad : true ≡ false = sym (nat_eq-same b) ∙ ap (λ z. nat_eq z b) (sym same) ∙ e in cc
+
+pub either_number : (a b : ℕ) (P : Bool → Type 0) → (a ≡ b → P true) → (a ≢ b → P false) → P (nat_eq a b)
+either_number a b P same other = elim (nat_eq a b) as (λ c. nat_eq a b ≡ c → P c) [
+  | true ↦ λ e. same (from_eq a b e)
+  | false ↦ λ e. other (not_eq a b e)
+] refl
+
+-- a tag is that of a kind and a number where its parts are
+pub tag_parts : (kind number n : ℕ) → kind < 8 → nat_eq (suc n) (tag_of kind number) ≡ (nat_eq (n % 8) kind && nat_eq (n / 8) number)
+tag_parts kind number n few = either_number (n % 8) kind (λ b. nat_eq (suc n) (tag_of kind number) ≡ (b && nat_eq (n / 8) number))
+    (λ k. either_number (n / 8) number (λ c. nat_eq (suc n) (tag_of kind number) ≡ c)
+      (λ m. ap (λ z. nat_eq z (tag_of kind number)) (let same : suc n ≡ tag_of kind number = omega (arith, k, m) in same) ∙ nat_eq-same (tag_of kind number))
+      (λ m. nat_eq-other (suc n) (tag_of kind number) (omega (arith, k, m, few))))
+    (λ k. nat_eq-other (suc n) (tag_of kind number) (omega (arith, k, few)))

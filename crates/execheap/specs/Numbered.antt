@@ -1,5 +1,5 @@
 -- Objects by number, and the memory that they stand for: the objects by address.
-use Rattle.std.specs.Prelude.{◌≡◌, ℕ, zero, suc, ◌+◌, ◌*◌, ◌/◌, ◌%◌, ◌≤◌, ◌×◌, if◌then◌else◌, IsSome, List, [], filter, length, map, slice_index_or, Option, None, Some, unwrap_or}
+use Rattle.std.specs.Prelude.{◌≡◌, ℕ, zero, suc, ◌+◌, ◌*◌, ◌/◌, ◌%◌, ◌≤◌, if◌then◌else◌, IsSome, List, [], filter, length, map, slice_index_or, Option, None, Some, unwrap_or}
 use Rattle.std.specs.Option.{option_map, option_and_then}
 use Rattle.std.specs.List.{AllByRecursion}
 use Rattle.execlist.specs.Lists.{Key, blank, sequence, home, is_at, times}

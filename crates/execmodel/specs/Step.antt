@@ -18,6 +18,7 @@ use Rattle.execmodel.specs.Plain.{does_set, does_add, does_sub, does_and, does_o
 use Rattle.execmodel.specs.Signals.{does_alloc_signal, does_free_signal, does_set_signal, does_signal, does_wait}
 use Rattle.execmodel.specs.Nesting.{does_forbid, does_permit, does_disable, does_enable}
 use Rattle.execmodel.specs.Tasks.{does_set_task_pri, does_add_task, does_rem_task, does_find_task}
+use Rattle.execmodel.specs.Lists.{does_new_list, does_free_list, does_new_node, does_free_node, does_add_head, does_add_tail, does_enqueue, does_insert, does_remove, does_rem_head, does_rem_tail, does_first, does_last, does_succ, does_pred, does_find_name}
 use Rattle.execmodel.specs.Memory.{does_alloc_mem, does_free_mem, does_avail_mem}
 
 -- ---- settle
@@ -62,6 +63,22 @@ does_word word.SetTaskPri t call s = does_set_task_pri t call s
 does_word word.AddTask t call s = does_add_task t call s
 does_word word.RemTask t call s = does_rem_task t call s
 does_word word.FindTask t call s = does_find_task t call s
+does_word word.NewList t call s = does_new_list t call s
+does_word word.FreeList t call s = does_free_list t call s
+does_word word.NewNode t call s = does_new_node t call s
+does_word word.FreeNode t call s = does_free_node t call s
+does_word word.AddHead t call s = does_add_head t call s
+does_word word.AddTail t call s = does_add_tail t call s
+does_word word.Enqueue t call s = does_enqueue t call s
+does_word word.Insert t call s = does_insert t call s
+does_word word.Remove t call s = does_remove t call s
+does_word word.RemHead t call s = does_rem_head t call s
+does_word word.RemTail t call s = does_rem_tail t call s
+does_word word.First t call s = does_first t call s
+does_word word.Last t call s = does_last t call s
+does_word word.Succ t call s = does_succ t call s
+does_word word.Pred t call s = does_pred t call s
+does_word word.FindName t call s = does_find_name t call s
 does_word word.AllocMem t call s = does_alloc_mem t call s
 does_word word.FreeMem t call s = does_free_mem t call s
 does_word word.AvailMem t call s = does_avail_mem t call s
