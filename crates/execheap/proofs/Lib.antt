@@ -2,3 +2,4 @@ pub mod Entries
 pub mod Tagging
 pub mod Shown
 pub mod Relisted
+pub mod Mapped
