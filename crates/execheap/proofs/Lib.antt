@@ -3,3 +3,4 @@ pub mod Tagging
 pub mod Shown
 pub mod Relisted
 pub mod Mapped
+pub mod Linked
