@@ -1,6 +1,7 @@
 pub mod Entries
-pub mod Tagging
-pub mod Shown
-pub mod Relisted
-pub mod Mapped
 pub mod Linked
+pub mod Mapped
+pub mod Relisted
+pub mod Rosters
+pub mod Shown
+pub mod Tagging

@@ -1,7 +1,9 @@
 -- How a roster stands for its objects: for each number the address at which its object begins, none where the number is free.
-use Rattle.std.specs.Prelude.{◌≡◌, ℕ, zero, suc, ◌+◌, ◌-◌, List, [], ◌∷◌, ◌++◌, Option, Some, None, length, replicate, slice_index_or, slice_set, take}
-use Rattle.execlist.specs.Lists.{last}
+use Rattle.std.specs.Prelude.{◌≡◌, ℕ, suc, ◌+◌, ◌-◌, ◌≤◌, nat_lt, Bool, ◌&&◌, not, is_some, if◌then◌else◌, List, [], ◌∷◌, ◌++◌, length, replicate, slice_set, take, Option, Some, None, slice_index_or}
+use Rattle.std.specs.List.{range_with_len}
+use Rattle.execlist.specs.Lists.{last, times}
 
+-- the address of the object of each number, and the free numbers, of which the last is given next
 pub record Rostered : Type 0 where
   pub places : List (Option ℕ)
   pub free : List ℕ
@@ -16,17 +18,25 @@ taken [] = 0
 taken (None ∷ ps) = taken ps
 taken (Some a ∷ ps) = suc (taken ps)
 
+-- number n is there, and is given to no object
+abbrev pub is_free : List (Option ℕ) → ℕ → Bool
+is_free places n = nat_lt n (length places) && not (is_some (place places n))
+
+-- the list holds each free number once and no other, and has room for all numbers
+pub record IsRoster (places : List (Option ℕ)) (free : List ℕ) (capacity : ℕ) : Type 0 where
+  pub counted : length free + taken places ≡ length places
+  pub stands : (n : ℕ) → times n free ≡ (if is_free places n then 1 else 0)
+  pub room : length places ≤ capacity
+
+-- so many numbers, all of them free
+abbrev pub all_free : ℕ → Rostered
+all_free count = record { places = replicate count None; free = range_with_len 0 count }
+
 -- the number that is given next
 abbrev pub next_number : Rostered → Option ℕ
 next_number r = last r.free
 
-abbrev pub numbers : ℕ → List ℕ
-numbers zero = []
-numbers (suc n) = n ∷ numbers n
-
-abbrev pub all_free : ℕ → Rostered
-all_free n = record { places = replicate n None; free = numbers n }
-
+-- the next number, if there is one, is given to the object at an address
 abbrev pub given : Option ℕ → ℕ → Rostered → Rostered
 given None address r = r
 given (Some n) address r = record { places = slice_set r.places n (Some address); free = take (length r.free - 1) r.free }
@@ -34,5 +44,6 @@ given (Some n) address r = record { places = slice_set r.places n (Some address)
 abbrev pub enrolled : ℕ → Rostered → Rostered
 enrolled address r = given (next_number r) address r
 
+-- number n is free again
 abbrev pub released : ℕ → Rostered → Rostered
 released n r = record { places = slice_set r.places n None; free = r.free ++ n ∷ [] }
