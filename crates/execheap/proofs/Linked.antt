@@ -13,7 +13,7 @@ use Rattle.execmodel.specs.State.{Object, Plain, ListHead, Node, Block}
 use Rattle.execmodel.specs.Lists.{is_linked, nodes_in, sequence_with, stands_in}
 use Rattle.execheap.specs.Roster.{place}
 use Rattle.execheap.specs.Tags.{tag_of}
-use Rattle.execheap.specs.Numbered.{Numbered, IsSound, IsSpace, address_in, object_of, shown_object, shown_entry, shown_heap, tag_at}
+use Rattle.execheap.specs.Numbered.{Numbered, contents, IsSound, IsSpace, address_in, object_of, shown_object, shown_entry, shown_heap, tag_at}
 use Rattle.execheap.proofs.Entries.{all_then, some_same}
 use Rattle.execheap.proofs.Mapped.{Alike, alike_apart, stands-map, stands_by_times, members}
 use Rattle.execheap.proofs.Shown.{number_same, tag_live}
@@ -38,21 +38,21 @@ turned a b = either_number b a (λ c. (a == b) ≡ c)
 
 -- ---- the list that has an address, among entries
 
-in_no_list : (s : Numbered) (a : ℕ) → ((tag : ℕ) → stands_in a (nodes_in (shown_object s tag)) ≡ false) → (es : Blocks) → sequence_with a (map (shown_entry s) es) ≡ []
+in_no_list : (s : Numbered) (a : ℕ) → ((tag : ℕ) → stands_in a (nodes_in (shown_object (contents s) tag)) ≡ false) → (es : Blocks) → sequence_with a (map (shown_entry (contents s)) es) ≡ []
 unfolding sequence_with
 in_no_list s a nowhere [] = refl
 in_no_list s a nowhere (e ∷ es) =
-    ap (λ b. if b then nodes_in (shown_object s e.1.1) else sequence_with a (map (shown_entry s) es)) (nowhere e.1.1) ∙ in_no_list s a nowhere es
+    ap (λ b. if b then nodes_in (shown_object (contents s) e.1.1) else sequence_with a (map (shown_entry (contents s)) es)) (nowhere e.1.1) ∙ in_no_list s a nowhere es
 
-in_one_list : (s : Numbered) (a t : ℕ) → ((tag : ℕ) → stands_in a (nodes_in (shown_object s tag)) ≡ nat_eq tag t) → (es : Blocks)
-    → sequence_with a (map (shown_entry s) es) ≡ (if list_any (λ (e : ℕ × (ℕ × ℕ)). nat_eq e.1.1 t) es then nodes_in (shown_object s t) else [])
+in_one_list : (s : Numbered) (a t : ℕ) → ((tag : ℕ) → stands_in a (nodes_in (shown_object (contents s) tag)) ≡ nat_eq tag t) → (es : Blocks)
+    → sequence_with a (map (shown_entry (contents s)) es) ≡ (if list_any (λ (e : ℕ × (ℕ × ℕ)). nat_eq e.1.1 t) es then nodes_in (shown_object (contents s) t) else [])
 unfolding sequence_with
 in_one_list s a t there [] = refl
 in_one_list s a t there (e ∷ es) =
-    ap (λ b. if b then nodes_in (shown_object s e.1.1) else sequence_with a (map (shown_entry s) es)) (there e.1.1)
-    ∙ either_number e.1.1 t (λ b. (if b then nodes_in (shown_object s e.1.1) else sequence_with a (map (shown_entry s) es))
-        ≡ (if b || list_any (λ (f : ℕ × (ℕ × ℕ)). nat_eq f.1.1 t) es then nodes_in (shown_object s t) else []))
-      (λ same. ap (λ tag. nodes_in (shown_object s tag)) same)
+    ap (λ b. if b then nodes_in (shown_object (contents s) e.1.1) else sequence_with a (map (shown_entry (contents s)) es)) (there e.1.1)
+    ∙ either_number e.1.1 t (λ b. (if b then nodes_in (shown_object (contents s) e.1.1) else sequence_with a (map (shown_entry (contents s)) es))
+        ≡ (if b || list_any (λ (f : ℕ × (ℕ × ℕ)). nat_eq f.1.1 t) es then nodes_in (shown_object (contents s) t) else []))
+      (λ same. ap (λ tag. nodes_in (shown_object (contents s) tag)) same)
       (λ other. in_one_list s a t there es)
 
 any_found : (a t : ℕ) (es : Blocks) → tag_at a es ≡ Some t → list_any (λ (e : ℕ × (ℕ × ℕ)). nat_eq e.1.1 t) es ≡ true
@@ -99,16 +99,16 @@ module _ {s : Numbered} (sound : IsSound s) (space : IsSpace s) where
       ∙ stands-map (address_in s.nodes.places) n (sequence s.sequences h) (told_apart h n a here) ∙ stands_at h n
 
   -- what an object holds has the address where it is the list that is the node's home
-  stands_of : (n a : ℕ) → place s.nodes.places n ≡ Some a → (k m : ℕ) → stands_in a (nodes_in (object_of k m s)) ≡ (nat_eq k 0 && is_at (home s.homes n) m)
+  stands_of : (n a : ℕ) → place s.nodes.places n ≡ Some a → (k m : ℕ) → stands_in a (nodes_in (object_of k m (contents s))) ≡ (nat_eq k 0 && is_at (home s.homes n) m)
   stands_of n a here zero m = stands_shown m n a here
   stands_of n a here (suc zero) m = refl
   stands_of n a here (suc (suc k)) m = sym (ap (λ b. b && is_at (home s.homes n) m) (nat_eq-other (suc (suc k)) 0 (omega arith)))
 
-  stands_nowhere : (n a : ℕ) → place s.nodes.places n ≡ Some a → home s.homes n ≡ None → (tag : ℕ) → stands_in a (nodes_in (shown_object s tag)) ≡ false
+  stands_nowhere : (n a : ℕ) → place s.nodes.places n ≡ Some a → home s.homes n ≡ None → (tag : ℕ) → stands_in a (nodes_in (shown_object (contents s) tag)) ≡ false
   stands_nowhere n a here none zero = refl
   stands_nowhere n a here none (suc j) = stands_of n a here (j % 8) (j / 8) ∙ ap (λ o. nat_eq (j % 8) 0 && is_at o (j / 8)) none ∙ and_false (nat_eq (j % 8) 0)
 
-  stands_there : (n a h : ℕ) → place s.nodes.places n ≡ Some a → home s.homes n ≡ Some h → (tag : ℕ) → stands_in a (nodes_in (shown_object s tag)) ≡ nat_eq tag (tag_of 0 h)
+  stands_there : (n a h : ℕ) → place s.nodes.places n ≡ Some a → home s.homes n ≡ Some h → (tag : ℕ) → stands_in a (nodes_in (shown_object (contents s) tag)) ≡ nat_eq tag (tag_of 0 h)
   stands_there n a h here there zero = sym (nat_eq-other 0 (tag_of 0 h) (omega arith))
   stands_there n a h here there (suc j) =
       stands_of n a here (j % 8) (j / 8) ∙ ap (λ o. nat_eq (j % 8) 0 && is_at o (j / 8)) there
@@ -126,7 +126,7 @@ module _ {s : Numbered} (sound : IsSound s) (space : IsSpace s) where
   sequence_shown n a h here there =
       let list = some_is (place s.lists.places h) (sound.live_lists n h there) in
       in_one_list s a (tag_of 0 h) (stands_there n a h here there) s.memory.blocks
-      ∙ ap (λ b. if b then nodes_in (shown_object s (tag_of 0 h)) else []) (any_found list.0 (tag_of 0 h) s.memory.blocks (tag_live sound 0 h list.0 (lit≤ tt) list.1))
+      ∙ ap (λ b. if b then nodes_in (shown_object (contents s) (tag_of 0 h)) else []) (any_found list.0 (tag_of 0 h) s.memory.blocks (tag_live sound 0 h list.0 (lit≤ tt) list.1))
       ∙ ap nodes_in (shown_tag s 0 h (lit≤ tt))
 
   pub is_linked_shown : (n a : ℕ) → place s.nodes.places n ≡ Some a → is_linked a (shown_heap s) ≡ is_some (home s.homes n)

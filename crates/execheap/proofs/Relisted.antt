@@ -13,7 +13,7 @@ use Rattle.execmodel.specs.State.{Object, Plain, ListHead, Node, Block}
 use Rattle.execmodel.specs.Lists.{relisted, with_nodes}
 use Rattle.execheap.specs.Roster.{Rostered, place}
 use Rattle.execheap.specs.Tags.{tag_of}
-use Rattle.execheap.specs.Numbered.{Numbered, IsSound, address_in, key_at, object_of, shown_object, shown_entry, shown_heap}
+use Rattle.execheap.specs.Numbered.{Numbered, contents, IsSound, address_in, key_at, object_of, shown_object, shown_entry, shown_heap}
 use Rattle.execheap.proofs.Entries.{all_then, map_same}
 use Rattle.execheap.proofs.Shown.{tells}
 use Rattle.execheap.proofs.Tagging.{either_number, tag_parts}
@@ -22,17 +22,17 @@ use Rattle.execheap.proofs.Tagging.{either_number, tag_parts}
 
 -- what each tag shows, where one shows an object of its own
 abbrev Shows : Numbered → Numbered → ℕ → Object → Type 0
-Shows old new tag object = (other : ℕ) → shown_object new other ≡ (if nat_eq other tag then object else shown_object old other)
+Shows old new tag object = (other : ℕ) → shown_object (contents new) other ≡ (if nat_eq other tag then object else shown_object (contents old) other)
 
 relisted_entry : (old new : Numbered) (list : ℕ) (nodes : List ℕ) (tag : ℕ) → Shows old new tag (ListHead nodes) → (entry : ℕ × (ℕ × ℕ))
-    → nat_eq entry.0 list ≡ nat_eq entry.1.1 tag → shown_entry new entry ≡ relisted list nodes (shown_entry old entry)
+    → nat_eq entry.0 list ≡ nat_eq entry.1.1 tag → shown_entry (contents new) entry ≡ relisted list nodes (shown_entry (contents old) entry)
 relisted_entry old new list nodes tag shows entry told =
     ap (λ (object : Object). (entry.0, record { size = entry.1.0; object = object })) (shows entry.1.1)
     ∙ either (nat_eq entry.1.1 tag)
-    ∙ ap (λ b. (entry.0, if b then record { size = entry.1.0; object = ListHead nodes } else record { size = entry.1.0; object = shown_object old entry.1.1 })) (sym told)
+    ∙ ap (λ b. (entry.0, if b then record { size = entry.1.0; object = ListHead nodes } else record { size = entry.1.0; object = shown_object (contents old) entry.1.1 })) (sym told)
   where
-    either : (b : Bool) → ◌≡◌ {A = ℕ × Block} (entry.0, record { size = entry.1.0; object = (if b then ListHead nodes else shown_object old entry.1.1) })
-        (entry.0, if b then record { size = entry.1.0; object = ListHead nodes } else record { size = entry.1.0; object = shown_object old entry.1.1 })
+    either : (b : Bool) → ◌≡◌ {A = ℕ × Block} (entry.0, record { size = entry.1.0; object = (if b then ListHead nodes else shown_object (contents old) entry.1.1) })
+        (entry.0, if b then record { size = entry.1.0; object = ListHead nodes } else record { size = entry.1.0; object = shown_object (contents old) entry.1.1 })
     either true = refl
     either false = refl
 
@@ -41,10 +41,10 @@ pub with_nodes_shown : {s : Numbered} → IsSound s → IsWellFormed s.memory.re
     → shown_heap new ≡ with_nodes list nodes (shown_heap s)
 unfolding shown_heap with_nodes
 with_nodes_shown {s} sound formed new list h nodes live same shows =
-    ap (λ memory. map (shown_entry new) memory.blocks) same
-    ∙ map_same (shown_entry new) (λ entry. relisted list nodes (shown_entry s entry)) s.memory.blocks
+    ap (λ memory. map (shown_entry (contents new)) memory.blocks) same
+    ∙ map_same (shown_entry (contents new)) (λ entry. relisted list nodes (shown_entry (contents s) entry)) s.memory.blocks
       (all_then (λ entry told. relisted_entry s new list nodes (tag_of 0 h) shows entry told) s.memory.blocks (tells sound formed 0 h list (lit≤ tt) live))
-    ∙ sym (map-map (relisted list nodes) (shown_entry s) s.memory.blocks)
+    ∙ sym (map-map (relisted list nodes) (shown_entry (contents s)) s.memory.blocks)
 
 -- ---- a sequence that is set
 
@@ -61,7 +61,7 @@ either_object false f nodes rest = refl
 -- the objects where the nodes of list h are set
 module _ (old new : Numbered) (h : ℕ) (nodes : List ℕ) (known : h < length old.sequences) (set : new.sequences ≡ slice_set old.sequences h nodes)
     (keys : new.keys ≡ old.keys) (places : new.nodes ≡ old.nodes) where
-  object_set : (k m : ℕ) → object_of k m new ≡ (if nat_eq k 0 && nat_eq m h then ListHead (map (address_in old.nodes.places) nodes) else object_of k m old)
+  object_set : (k m : ℕ) → object_of k m (contents new) ≡ (if nat_eq k 0 && nat_eq m h then ListHead (map (address_in old.nodes.places) nodes) else object_of k m (contents old))
   object_set zero m =
       ap (λ (roster : Rostered). ListHead (map (address_in roster.places) (sequence new.sequences m))) places
       ∙ ap (λ all. ListHead (map (address_in old.nodes.places) (sequence all m))) set
@@ -73,4 +73,4 @@ module _ (old new : Numbered) (h : ℕ) (nodes : List ℕ) (known : h < length o
   pub shows_nodes : Shows old new (tag_of 0 h) (ListHead (map (address_in old.nodes.places) nodes))
   shows_nodes zero = sym (ap (λ b. if b then ListHead (map (address_in old.nodes.places) nodes) else Plain) (nat_eq-other 0 (tag_of 0 h) (omega arith)))
   shows_nodes (suc n) = object_set (n % 8) (n / 8)
-      ∙ ap (λ b. if b then ListHead (map (address_in old.nodes.places) nodes) else shown_object old (suc n)) (sym (tag_parts 0 h n (lit≤ tt)))
+      ∙ ap (λ b. if b then ListHead (map (address_in old.nodes.places) nodes) else shown_object (contents old) (suc n)) (sym (tag_parts 0 h n (lit≤ tt)))

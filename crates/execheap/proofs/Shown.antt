@@ -16,49 +16,49 @@ use Rattle.execmodel.specs.Objects.{object_at, is_kind}
 use Rattle.execmodel.specs.Lists.{is_list, is_node, is_list_at, is_node_at, nodes_of, nodes_of_object, key_of, key_of_object}
 use Rattle.execheap.specs.Roster.{place}
 use Rattle.execheap.specs.Tags.{tag_of, number_of, is_of}
-use Rattle.execheap.specs.Numbered.{Numbered, IsSound, IsTagged, place_or, place_of_tag, roster, number_at, tag_at, address_in, key_at, object_of, shown_object, shown_block, shown_entry, shown_heap}
+use Rattle.execheap.specs.Numbered.{Numbered, contents, IsSound, IsTagged, place_or, place_of_tag, roster, number_at, tag_at, address_in, key_at, object_of, shown_object, shown_block, shown_entry, shown_heap}
 use Rattle.execheap.proofs.Entries.{IsFound, all_found, all_with, at_found, find_shown, some_same}
 use Rattle.execheap.proofs.Tagging.{place_tag, shown_tag, tag_named}
 
 -- ---- the block that begins at an address
 
-pub block_shown : (s : Numbered) (a : ℕ) → model.block_at a (shown_heap s) ≡ option_map (shown_block s) (block_at a s.memory.blocks)
+pub block_shown : (s : Numbered) (a : ℕ) → model.block_at a (shown_heap s) ≡ option_map (shown_block (contents s)) (block_at a s.memory.blocks)
 unfolding shown_heap
-block_shown s a = find_shown (shown_block s) a s.memory.blocks
+block_shown s a = find_shown (shown_block (contents s)) a s.memory.blocks
 
-object_at_shown : (s : Numbered) (a : ℕ) → object_at a (shown_heap s) ≡ option_map (λ (block : ℕ × ℕ). shown_object s block.1) (block_at a s.memory.blocks)
+object_at_shown : (s : Numbered) (a : ℕ) → object_at a (shown_heap s) ≡ option_map (λ (block : ℕ × ℕ). shown_object (contents s) block.1) (block_at a s.memory.blocks)
 object_at_shown s a = ap (option_map (λ (block : Block). block.object)) (block_shown s a) ∙ both (block_at a s.memory.blocks)
   where
-    both : (found : Option (ℕ × ℕ)) → option_map (λ (block : Block). block.object) (option_map (shown_block s) found) ≡ option_map (λ (block : ℕ × ℕ). shown_object s block.1) found
+    both : (found : Option (ℕ × ℕ)) → option_map (λ (block : Block). block.object) (option_map (shown_block (contents s)) found) ≡ option_map (λ (block : ℕ × ℕ). shown_object (contents s) block.1) found
     both None = refl
     both (Some block) = refl
 
 -- an object of a kind and a number begins where that number does
-pub object_shown : (s : Numbered) (kind a number : ℕ) → kind < 8 → number_at kind a s ≡ Some number → object_at a (shown_heap s) ≡ Some (object_of kind number s)
+pub object_shown : (s : Numbered) (kind a number : ℕ) → kind < 8 → number_at kind a s ≡ Some number → object_at a (shown_heap s) ≡ Some (object_of kind number (contents s))
 object_shown s kind a number few is = object_at_shown s a ∙ named (block_at a s.memory.blocks) is
   where
     named : (found : Option (ℕ × ℕ)) → option_and_then (λ (block : ℕ × ℕ). number_of kind block.1) found ≡ Some number
-        → option_map (λ (block : ℕ × ℕ). shown_object s block.1) found ≡ Some (object_of kind number s)
+        → option_map (λ (block : ℕ × ℕ). shown_object (contents s) block.1) found ≡ Some (object_of kind number (contents s))
     named None e = let bad : false ≡ true = ap is_some e in cc
-    named (Some block) e = ap (λ tag. Some (shown_object s tag)) (tag_named kind block.1 number e) ∙ ap Some (shown_tag s kind number few)
+    named (Some block) e = ap (λ tag. Some (shown_object (contents s) tag)) (tag_named kind block.1 number e) ∙ ap Some (shown_tag s kind number few)
 
 -- ---- of which kind it is
 
-is_list_of : (s : Numbered) (k n : ℕ) → is_list (object_of k n s) ≡ nat_eq k 0
+is_list_of : (s : Numbered) (k n : ℕ) → is_list (object_of k n (contents s)) ≡ nat_eq k 0
 is_list_of s zero n = refl
 is_list_of s (suc zero) n = refl
 is_list_of s (suc (suc k)) n = sym (nat_eq-other (suc (suc k)) 0 (omega arith))
 
-is_node_of : (s : Numbered) (k n : ℕ) → is_node (object_of k n s) ≡ nat_eq k 1
+is_node_of : (s : Numbered) (k n : ℕ) → is_node (object_of k n (contents s)) ≡ nat_eq k 1
 is_node_of s zero n = refl
 is_node_of s (suc zero) n = refl
 is_node_of s (suc (suc k)) n = sym (nat_eq-other (suc (suc k)) 1 (omega arith))
 
-pub is_list_shown : (s : Numbered) (tag : ℕ) → is_list (shown_object s tag) ≡ is_of 0 tag
+pub is_list_shown : (s : Numbered) (tag : ℕ) → is_list (shown_object (contents s) tag) ≡ is_of 0 tag
 is_list_shown s zero = refl
 is_list_shown s (suc n) = is_list_of s (n % 8) (n / 8)
 
-pub is_node_shown : (s : Numbered) (tag : ℕ) → is_node (shown_object s tag) ≡ is_of 1 tag
+pub is_node_shown : (s : Numbered) (tag : ℕ) → is_node (shown_object (contents s) tag) ≡ is_of 1 tag
 is_node_shown s zero = refl
 is_node_shown s (suc n) = is_node_of s (n % 8) (n / 8)
 
@@ -66,8 +66,8 @@ numbered_is : (kind tag : ℕ) → is_of kind tag ≡ is_some (number_of kind ta
 numbered_is kind zero = refl
 numbered_is kind (suc n) = elim (nat_eq (n % 8) kind) as (λ b. b ≡ is_some (cond b (Some (n / 8)) None)) [ true ↦ refl | false ↦ refl ]
 
-kind_found : (s : Numbered) (test : Object → Bool) (kind : ℕ) → ((tag : ℕ) → test (shown_object s tag) ≡ is_of kind tag) → (found : Option (ℕ × ℕ))
-    → is_kind test (option_map (λ (block : ℕ × ℕ). shown_object s block.1) found) ≡ is_some (option_and_then (λ (block : ℕ × ℕ). number_of kind block.1) found)
+kind_found : (s : Numbered) (test : Object → Bool) (kind : ℕ) → ((tag : ℕ) → test (shown_object (contents s) tag) ≡ is_of kind tag) → (found : Option (ℕ × ℕ))
+    → is_kind test (option_map (λ (block : ℕ × ℕ). shown_object (contents s) block.1) found) ≡ is_some (option_and_then (λ (block : ℕ × ℕ). number_of kind block.1) found)
 kind_found s test kind tells None = refl
 kind_found s test kind tells (Some block) = tells block.1 ∙ numbered_is kind block.1
 

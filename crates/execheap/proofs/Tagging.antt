@@ -5,7 +5,7 @@ use Rattle.memlist.proofs.Answered.{nat_eq-other, nat_eq-same}
 use Rattle.memlist.proofs.Headers.{from_eq}
 use Rattle.execheap.specs.Roster.{place}
 use Rattle.execheap.specs.Tags.{tag_of, number_of, is_of}
-use Rattle.execheap.specs.Numbered.{Numbered, object_of, shown_object, place_of_tag, roster}
+use Rattle.execheap.specs.Numbered.{Numbered, contents, object_of, shown_object, place_of_tag, roster}
 
 pub kind_read : (kind number : ℕ) → kind < 8 → (kind + 8 * number) % 8 ≡ kind
 kind_read kind number few = omega (arith, few)
@@ -14,8 +14,8 @@ pub number_read : (kind number : ℕ) → kind < 8 → (kind + 8 * number) / 8 �
 number_read kind number few = omega (arith, few)
 
 -- the tag of an object of a kind and a number shows that object, and its place is that of the number
-pub shown_tag : (s : Numbered) (kind number : ℕ) → kind < 8 → shown_object s (tag_of kind number) ≡ object_of kind number s
-shown_tag s kind number few = ap (λ k. object_of k ((kind + 8 * number) / 8) s) (kind_read kind number few) ∙ ap (λ n. object_of kind n s) (number_read kind number few)
+pub shown_tag : (s : Numbered) (kind number : ℕ) → kind < 8 → shown_object (contents s) (tag_of kind number) ≡ object_of kind number (contents s)
+shown_tag s kind number few = ap (λ k. object_of k ((kind + 8 * number) / 8) (contents s)) (kind_read kind number few) ∙ ap (λ n. object_of kind n (contents s)) (number_read kind number few)
 
 pub place_tag : (s : Numbered) (kind number : ℕ) → kind < 8 → place_of_tag (tag_of kind number) s ≡ place (roster kind s) number
 place_tag s kind number few =

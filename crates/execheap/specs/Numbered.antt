@@ -38,25 +38,34 @@ address_in places n = unwrap_or (place places n) 0
 abbrev pub key_at : List Key → ℕ → Key
 key_at keys n = slice_index_or keys n blank
 
+-- what the objects hold, by number: the nodes of each list, the key of each node, and the address of each node
+pub record Contents : Type 0 where
+  pub places : List (Option ℕ)
+  pub sequences : List (List ℕ)
+  pub keys : List Key
+
+abbrev pub contents : Numbered → Contents
+contents s = record { places = s.nodes.places; sequences = s.sequences; keys = s.keys }
+
 -- the object of a kind and a number
-abbrev pub object_of : ℕ → ℕ → Numbered → Object
-object_of zero number s = ListHead (map (address_in s.nodes.places) (sequence s.sequences number))
-object_of (suc zero) number s = Node (key_at s.keys number)
-object_of (suc (suc kind)) number s = Plain
+abbrev pub object_of : ℕ → ℕ → Contents → Object
+object_of zero number c = ListHead (map (address_in c.places) (sequence c.sequences number))
+object_of (suc zero) number c = Node (key_at c.keys number)
+object_of (suc (suc kind)) number c = Plain
 
 -- the object that a tag names
-abbrev pub shown_object : Numbered → ℕ → Object
-shown_object s zero = Plain
-shown_object s (suc n) = object_of (n % 8) (n / 8) s
+abbrev pub shown_object : Contents → ℕ → Object
+shown_object c zero = Plain
+shown_object c (suc n) = object_of (n % 8) (n / 8) c
 
-abbrev pub shown_block : Numbered → ℕ × ℕ → Block
-shown_block s block = record { size = block.0; object = shown_object s block.1 }
+abbrev pub shown_block : Contents → ℕ × ℕ → Block
+shown_block c block = record { size = block.0; object = shown_object c block.1 }
 
-abbrev pub shown_entry : Numbered → ℕ × (ℕ × ℕ) → ℕ × Block
-shown_entry s entry = (entry.0, shown_block s entry.1)
+abbrev pub shown_entry : Contents → ℕ × (ℕ × ℕ) → ℕ × Block
+shown_entry c entry = (entry.0, shown_block c entry.1)
 
 unfoldable pub shown_heap : Numbered → Heap
-shown_heap s = map (shown_entry s) s.memory.blocks
+shown_heap s = map (shown_entry (contents s)) s.memory.blocks
 
 -- the memory that objects by number stand for
 abbrev pub shown_memory : Numbered → Memory
