@@ -1,5 +1,6 @@
 -- What a refused call says of the abstract machine: the code of its alert.
-use Rattle.std.specs.Prelude.{ℕ, codes, List, Option, None, Some, Result, Ok, Err}
+use Rattle.std.specs.Prelude.{ℕ, Bool, true, codes, List, Option, None, Some, Result, Ok, Err}
+use Rattle.execlist.specs.Lists.{home, is_at}
 use Rattle.execheap.specs.declared.refusal.Refusal.{Refusal}
 use Rattle.execheap.specs.declared.refusal.Refusal.TheVariants.{Handle, Link}
 
@@ -11,3 +12,9 @@ code_of Link = codes "LINK"
 abbrev pub alert_of : {T : Type 0} → Result T Refusal → Option (List ℕ)
 alert_of (Ok answer) = None
 alert_of (Err why) = Some (code_of why)
+
+-- a node, if there is one, stands in list h
+abbrev pub is_none_or_in : Option ℕ → ℕ → List (Option ℕ) → Bool
+is_none_or_in None h homes = true
+is_none_or_in (Some pred) h homes = is_at (home homes pred) h
+

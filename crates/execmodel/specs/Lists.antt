@@ -1,7 +1,7 @@
 -- Lists of nodes (RKM Libraries, Exec Lists and Queues). A list is the sequence of its nodes, by their addresses; no node stands in two
 -- lists, nor twice in one. An address where no object of the kind begins is the alert HANDLE; a node that is linked where it must not
 -- be, or the other way, is the alert LINK (own choice).
-use Rattle.std.specs.Prelude.{ℕ, zero, suc, Bool, true, false, not, ◌||◌, ◌-◌, ◌==◌, if◌then◌else◌, nat_eq, is_some, length, map, take, drop, find, unwrap_or, codes, List, [], ◌∷◌, ◌++◌, Option, None, Some}
+use Rattle.std.specs.Prelude.{ℕ, zero, suc, Bool, true, false, not, ◌-◌, ◌==◌, if◌then◌else◌, nat_eq, is_some, length, map, take, drop, find, unwrap_or, codes, List, [], ◌∷◌, ◌++◌, Option, None, Some}
 use Rattle.std.specs.List.{list_any}
 use Rattle.std.specs.Int.{cast_signed, w32}
 use Rattle.execlist.specs.Order.{enqueue, first, without}
@@ -188,6 +188,10 @@ abbrev pub is_pred_at : Option ℕ → Heap → Bool
 is_pred_at None heap = true
 is_pred_at (Some pred) heap = is_node_at pred heap
 
+-- the alert of a predecessor that is no node
+abbrev pub pred_alert : Option ℕ → Heap → Option (List ℕ)
+pred_alert pred heap = if not (is_pred_at pred heap) then Some (codes "HANDLE") else None
+
 -- a predecessor, if there is one, stands in the list
 abbrev pub is_pred_in : Option ℕ → ℕ → Heap → Bool
 is_pred_in None list heap = true
@@ -199,7 +203,8 @@ insert_alert list node pred heap =
     if not (is_list_at list heap) then Some (codes "HANDLE")
     else (if not (is_node_at node heap) then Some (codes "HANDLE")
     else (if not (is_pred_at (predecessor pred) heap) then Some (codes "HANDLE")
-    else (if is_linked node heap || not (is_pred_in (predecessor pred) list heap) then Some (codes "LINK") else None)))
+    else (if is_linked node heap then Some (codes "LINK")
+    else (if not (is_pred_in (predecessor pred) list heap) then Some (codes "LINK") else None))))
 
 -- the node is put after its predecessor, or first for 0
 unfoldable pub inserted : ℕ → ℕ → ℕ → Heap → Heap
