@@ -35,7 +35,13 @@ impl<S: ListSpace> Kernel<S> {
     }
 
     /// A call that answers nothing: it is done, or refused by its alert.
-    fn concluded<W: Sink>(&mut self, tried: Result<(), Refusal>, t: TaskId, call: &Call, out: &mut W)
+    fn concluded<W: Sink>(
+        &mut self,
+        tried: Result<(), Refusal>,
+        t: TaskId,
+        call: &Call,
+        out: &mut W,
+    )
         requires { t < length self.old.scripts.programs }
         ensures { Follows (done_or_alerted tried t (call_view call.now)) self.old self.new (W.tape out.old) (W.tape out.new) }
     {
@@ -46,7 +52,13 @@ impl<S: ListSpace> Kernel<S> {
     }
 
     /// A call that answers: it does, or is refused by its alert.
-    fn concluded_with<W: Sink>(&mut self, tried: Result<u32, Refusal>, t: TaskId, call: &Call, out: &mut W)
+    fn concluded_with<W: Sink>(
+        &mut self,
+        tried: Result<u32, Refusal>,
+        t: TaskId,
+        call: &Call,
+        out: &mut W,
+    )
         requires { t < length self.old.scripts.programs }
         ensures { Follows (answered_or_alerted tried t (call_view call.now)) self.old self.new (W.tape out.old) (W.tape out.new) }
     {
