@@ -1,6 +1,8 @@
 pub mod Blocks
 pub mod Entries
 pub mod Linked
+pub mod Linking
+pub mod Making
 pub mod Mapped
 pub mod Relisted
 pub mod Rosters
