@@ -1,8 +1,8 @@
 -- Objects stay sound where nodes are linked and unlinked: no block and no number changes, and a linked node and its list still live.
-use Rattle.std.proofs.Common.{◌≡◌, ◌≢◌, ℕ, zero, suc, ◌/◌, ◌%◌, ◌<◌, List, [], ◌∷◌, Bool, true, false, length, slice_set, refl, ap, sym, ◌∙◌, subst, arith}
+use Rattle.std.proofs.Common.{◌≡◌, ℕ, zero, suc, ◌/◌, ◌%◌, ◌<◌, List, [], ◌∷◌, true, false, length, slice_set, refl, ap, sym, ◌∙◌, subst, arith}
 use Rattle.std.specs.Prelude.{Some, None, Option, is_some, IsSome, MatchOption}
 use Rattle.std.proofs.lemmas.List.{get_or-set_same, get_or-set_other, length-set}
-use Rattle.execlist.specs.Lists.{Key, home, sequence}
+use Rattle.execlist.specs.Lists.{Key, home}
 use Rattle.execheap.specs.Roster.{place, taken}
 use Rattle.execheap.specs.Numbered.{Numbered, IsSound, place_or, roster}
 use Rattle.execheap.proofs.Entries.{all_then, some_same}
