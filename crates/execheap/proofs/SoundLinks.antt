@@ -62,32 +62,40 @@ module _ {s : Numbered} (sound : IsSound s) where
     small_pool = sound.small_pool;
   }
 
+  -- the blocks and the numbers of what is sound then are those that there were
+  kept_sound : {new : Numbered} → new.memory ≡ s.memory → new.lists ≡ s.lists → new.nodes ≡ s.nodes → IsSound (relinked s new.sequences new.homes new.keys) → IsSound new
+  kept_sound {new} memory lists nodes held = subst IsSound
+      (λ i. record { memory = sym memory i; lists = sym lists i; nodes = sym nodes i; sequences = new.sequences; homes = new.homes; keys = new.keys }) held
+
   -- ---- nodes linked and unlinked
 
   -- a live node is linked into a live list
-  pub linked_sound : {now : Numbered} {sequences : List (List ℕ)} {homes : List (Option ℕ)} {keys : List Key} (h n : ℕ) (nodes : List ℕ) → s ≡ now
-      → IsSome (place now.lists.places h) → IsSome (place now.nodes.places n) → sequences ≡ slice_set s.sequences h nodes → homes ≡ slice_set s.homes n (Some h)
-      → IsSound (relinked s sequences homes keys)
-  linked_sound {now} {sequences} {homes} {keys} h n nodes same list node placed set =
+  pub linked_sound : {now new : Numbered} (h n : ℕ) (nodes : List ℕ) → s ≡ now → new.sequences ≡ slice_set s.sequences h nodes → new.homes ≡ slice_set s.homes n (Some h)
+      → new.memory ≡ s.memory → new.lists ≡ s.lists → new.nodes ≡ s.nodes
+      → IsSome (place now.lists.places h) → IsSome (place now.nodes.places n) → IsSound new
+  linked_sound {now} {new} h n nodes same placed set memory lists places list node =
       let lives : IsSome (place s.nodes.places n) = subst (λ (t : Numbered). IsSome (place t.nodes.places n)) (sym same) node in
       let has : IsSome (place s.lists.places h) = subst (λ (t : Numbered). IsSome (place t.lists.places h)) (sym same) list in
       let at = some_is (place s.nodes.places n) lives in
       let known : n < length s.homes = omega (arith, place_known s.nodes.places n at.0 at.1, sound.each_node) in
-      relinked_sound sequences homes keys (ap length placed ∙ length-set s.sequences h nodes) (ap length set ∙ length-set s.homes n (Some h))
-        (λ m. subst (λ os. IsHomed s m (home os m)) (sym set)
+      kept_sound memory lists places (relinked_sound new.sequences new.homes new.keys
+        (ap length placed ∙ length-set s.sequences h nodes) (ap length set ∙ length-set s.homes n (Some h))
+        (λ m. subst (λ homes. IsHomed s m (home homes m)) (sym set)
           (home_either (IsHomed s) s.homes n (Some h) (get_or-set_same s.homes n (Some h) None known)
-            (λ k is. (lives, subst (λ k. IsSome (place s.lists.places k)) (some_same is) has)) homed m))
+            (λ k is. (lives, subst (λ j. IsSome (place s.lists.places j)) (some_same is) has)) homed m)))
 
   -- a node leaves its list
-  pub left_sound : {sequences : List (List ℕ)} {homes : List (Option ℕ)} {keys : List Key} (n : ℕ) → length sequences ≡ length s.sequences
-      → homes ≡ slice_set s.homes n None → IsSound (relinked s sequences homes keys)
-  left_sound {sequences} {homes} {keys} n lists set = relinked_sound sequences homes keys lists (ap length set ∙ length-set s.homes n None)
-      (λ m. subst (λ os. IsHomed s m (home os m)) (sym set)
-        (home_either (IsHomed s) s.homes n None (home_cleared s.homes n) (λ h is. let bad : false ≡ true = ap is_some is in cc) homed m))
+  pub left_sound : {new : Numbered} (n : ℕ) → length new.sequences ≡ length s.sequences → new.homes ≡ slice_set s.homes n None
+      → new.memory ≡ s.memory → new.lists ≡ s.lists → new.nodes ≡ s.nodes → IsSound new
+  left_sound {new} n same set memory lists places = kept_sound memory lists places (relinked_sound new.sequences new.homes new.keys
+      same (ap length set ∙ length-set s.homes n None)
+      (λ m. subst (λ homes. IsHomed s m (home homes m)) (sym set)
+        (home_either (IsHomed s) s.homes n None (home_cleared s.homes n) (λ h is. let bad : false ≡ true = ap is_some is in cc) homed m)))
 
   -- a node or none leaves list h, which has other nodes then
-  pub taken_sound : {sequences : List (List ℕ)} {homes : List (Option ℕ)} {keys : List Key} (h : ℕ) (nodes : List ℕ) (o : Option ℕ)
-      → sequences ≡ slice_set s.sequences h nodes → MatchOption o (homes ≡ s.homes) (λ n. homes ≡ slice_set s.homes n None) → IsSound (relinked s sequences homes keys)
-  taken_sound {sequences} {homes} {keys} h nodes None placed kept = relinked_sound sequences homes keys (ap length placed ∙ length-set s.sequences h nodes) (ap length kept)
-      (λ m. subst (λ os. IsHomed s m (home os m)) (sym kept) (homed m))
-  taken_sound h nodes (Some n) placed set = left_sound n (ap length placed ∙ length-set s.sequences h nodes) set
+  pub taken_sound : {new : Numbered} (o : Option ℕ) (h : ℕ) (nodes : List ℕ) → new.sequences ≡ slice_set s.sequences h nodes
+      → MatchOption o (new.homes ≡ s.homes) (λ n. new.homes ≡ slice_set s.homes n None)
+      → new.memory ≡ s.memory → new.lists ≡ s.lists → new.nodes ≡ s.nodes → IsSound new
+  taken_sound {new} None h nodes placed kept memory lists places = kept_sound memory lists places (relinked_sound new.sequences new.homes new.keys
+      (ap length placed ∙ length-set s.sequences h nodes) (ap length kept) (λ m. subst (λ homes. IsHomed s m (home homes m)) (sym kept) (homed m)))
+  taken_sound (Some n) h nodes placed set memory lists places = left_sound n (ap length placed ∙ length-set s.sequences h nodes) set memory lists places
