@@ -7,4 +7,5 @@ pub mod Mapped
 pub mod Relisted
 pub mod Rosters
 pub mod Shown
+pub mod SoundLinks
 pub mod Tagging

@@ -11,6 +11,9 @@ ghost use Rattle.execheap.specs.Tags.{kind_code};
 ghost use Rattle.execheap.specs.Numbered.{IsSound, IsSpace, number_at, roster};
 ghost use Rattle.execheap.specs.Changes.{unused, made_at, key_of, list_numbered, list_made, list_freed, node_numbered, node_made, node_freed, at_head, at_tail, queued, put, taken_out, head_taken, tail_taken};
 
+#[cfg(test)]
+mod tests;
+
 use crate::kind::{Kind, number_of, tag_of};
 use crate::roster::Roster;
 use execlist::key::Name;
