@@ -7,7 +7,9 @@ pub returns-in-None-clause-alert : goal.returns-in-None-clause-alert
 returns-in-None-clause-alert g c = sym (linked_refused c.args.self.now c.args.node (sym c.in-None.ensures.value))
 
 pub returns-in-Some-home-clause-alert : goal.returns-in-Some-home-clause-alert
-returns-in-Some-home-clause-alert g c = sym (linked_found c.facts.ensures.sound c.facts.ensures.space c.args.node c.in-Some.n (sym c.in-Some.ensures.value) (sym c.in-Some-home.ensures))
+returns-in-Some-home-clause-alert g c =
+    sym (linked_found c.facts.ensures.sound c.facts.ensures.space c.args.node c.in-Some.n (sym c.in-Some.ensures.value) (sym c.in-Some-home.ensures))
 
 pub returns-in-None-home-clause-alert : goal.returns-in-None-home-clause-alert
-returns-in-None-home-clause-alert g c = sym (linked_found c.facts.ensures.sound c.facts.ensures.space c.args.node c.in-Some.n (sym c.in-Some.ensures.value) (sym c.in-None-home.ensures))
+returns-in-None-home-clause-alert g c =
+    sym (linked_found c.facts.ensures.sound c.facts.ensures.space c.args.node c.in-Some.n (sym c.in-Some.ensures.value) (sym c.in-None-home.ensures))

@@ -7,7 +7,8 @@ pub returns-in-Some-clause-alert : goal.returns-in-Some-clause-alert
 returns-in-Some-clause-alert g c = sym (find_list c.args.self.now c.args.start c.in-Some.h (sym c.in-Some.ensures.value))
 
 pub returns-in-Some-clause-searched : goal.returns-in-Some-clause-searched
-returns-in-Some-clause-searched g c = searched_list c.args.self.now c.args.start c.in-Some.h (sym c.in-Some.ensures.value)
+returns-in-Some-clause-searched g c =
+    searched_list c.args.self.now c.args.start c.in-Some.h (sym c.in-Some.ensures.value)
 
 pub returns-in-Err-clause-alert : goal.returns-in-Err-clause-alert
 returns-in-Err-clause-alert g c = c.in-Err.ensures.alert ∙ sym (find_node c.args.self.now c.args.start (sym c.in-None.ensures.value))
@@ -17,4 +18,5 @@ returns-in-Ok-clause-alert g c = c.in-Ok.ensures.alert ∙ sym (find_node c.args
 
 pub returns-in-Ok-clause-searched : goal.returns-in-Ok-clause-searched
 returns-in-Ok-clause-searched g c =
-    searched_node c.facts.ensures.sound c.facts.ensures.space c.args.start c.in-Ok.n c.in-Ok.h (sym c.in-None.ensures.value) c.in-Ok.ensures.found c.in-Ok.ensures.linked
+    searched_node c.facts.ensures.sound c.facts.ensures.space c.args.start c.in-Ok.n c.in-Ok.h (sym c.in-None.ensures.value) c.in-Ok.ensures.found
+      c.in-Ok.ensures.linked
