@@ -1,3 +1,4 @@
+pub mod Alerts
 pub mod Blocks
 pub mod Entries
 pub mod Linked
