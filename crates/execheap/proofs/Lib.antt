@@ -4,4 +4,5 @@ pub mod Mapped
 pub mod Relisted
 pub mod Rosters
 pub mod Shown
+pub mod SoundObjects
 pub mod Tagging
