@@ -9,4 +9,5 @@ pub mod Relisted
 pub mod Rosters
 pub mod Shown
 pub mod SoundLinks
+pub mod SoundObjects
 pub mod Tagging

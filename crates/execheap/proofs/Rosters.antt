@@ -9,7 +9,7 @@ use Rattle.std.proofs.Math.Seq.{take-append_seam}
 use Rattle.std.proofs.lemmas.List.{get_or-set_same, get_or-set_other, length-set, length-replicate}
 use Rattle.std.specs.Option.{option_to_list}
 use Rattle.execlist.specs.Lists.{last, times}
-use Rattle.execheap.specs.Roster.{Rostered, next_number, place, taken, is_free, IsRoster}
+use Rattle.execheap.specs.Roster.{Rostered, IsStocked, next_number, place, taken, is_free, IsRoster}
 use Rattle.execheap.specs.Roster as roster
 
 -- The address of a number.
@@ -50,6 +50,10 @@ taken_enrolled (None ∷ ps) zero a e l = refl
 taken_enrolled (Some b ∷ ps) zero a e l = cc
 taken_enrolled (None ∷ ps) (suc n) a e l = taken_enrolled ps n a e (omega arith)
 taken_enrolled (Some b ∷ ps) (suc n) a e l = ap suc (taken_enrolled ps n a e (omega arith))
+
+-- where a number is free, not all are given
+pub taken_below : (ps : List (Option ℕ)) (n : ℕ) → place ps n ≡ None → n < length ps → taken ps < length ps
+taken_below ps n free known = omega (arith, taken_enrolled ps n 0 free known, taken_at_most (slice_set ps n (Some 0)), length-set ps n (Some 0))
 
 -- a given number is free again: one less
 pub taken_released : (ps : List (Option ℕ)) (n a : ℕ) → place ps n ≡ Some a → suc (taken (slice_set ps n None)) ≡ taken ps
@@ -246,6 +250,10 @@ module _ (ps : List (Option ℕ)) (free : List ℕ) (capacity : ℕ) (r : IsRost
   next_vacant None is = tt
   next_vacant (Some n) is = (next_free n (sym is)).1
 
-  -- where no number is next, each is given
-  pub all_given : last free ≡ None → taken ps ≡ length ps
-  all_given none = omega (arith, r.counted, ap length (last_none free none))
+  -- what is known of the number that is next
+  pub stocked : IsStocked (record { places = ps; free = free })
+  stocked = record {
+    full = λ none. omega (arith, r.counted, ap length (last_none free none));
+    free = next_vacant (last free) refl;
+    known = next_known (last free) refl;
+  }

@@ -3,7 +3,7 @@
 //! The numbers are an own choice: Exec knows its objects by address alone. The free ones stand in a stack with room
 //! for all, so that each call but `new` takes constant time and no memory.
 ghost use Rattle.std.specs.Prelude.{◌≡◌, ◌<◌, length, None, IfOk, IfSome, IsSome};
-ghost use Rattle.execheap.specs.Roster.{all_free, enrolled, next_number, place, released, taken};
+ghost use Rattle.execheap.specs.Roster.{IsStocked, all_free, enrolled, next_number, place, released};
 
 use std::alloc::{AllocError, Global};
 use std::marker::Model;
@@ -63,9 +63,9 @@ impl Roster {
         self.free.push(n).unwrap();
     }
 
-    /// What always holds of a roster: where no number is next, each is given. It costs nothing.
+    /// What always holds of the number that is next. It costs nothing.
     pub fn facts(&self)
-        ensures { next_number self.now ≡ None → taken self.now.places ≡ length self.now.places }
+        ensures { IsStocked self.now }
     {
         let _ = &self.free;
     }

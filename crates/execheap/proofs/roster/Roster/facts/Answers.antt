@@ -1,7 +1,8 @@
--- An empty stack means that each number is given.
-use Rattle.std.proofs.Common.{sym, ap, ◌∙◌}
-use Rattle.execheap.proofs.Rosters.{all_given}
+-- What is known of the number on top of the stack.
+use Rattle.std.proofs.Common.{subst}
+use Rattle.execheap.specs.Roster.{IsStocked}
+use Rattle.execheap.proofs.Rosters.{stocked}
 use Rattle.execheap.proofs.roster.Roster.facts.Goals as goal
 
 pub returns : goal.returns
-returns c = rw (sym c.self.view_is) (all_given _ _ _ c.self.invariant)
+returns c = subst IsStocked c.self.view_is (stocked _ _ _ c.self.invariant)

@@ -1,0 +1,6 @@
+-- A plain block is put where it fits.
+use Rattle.execheap.proofs.SoundObjects.{sound_allocated}
+use Rattle.execheap.proofs.objects.Objects.allocate.Goals as goal
+
+pub invariant_of-self : goal.invariant_of-self
+invariant_of-self g c = rw c.alloc_mem.ensures.allocated (sound_allocated c.self.invariant c.is_well_formed.ensures c.args.size c.args.reqs c.alloc_mem.result c.alloc_mem.ensures.address)
