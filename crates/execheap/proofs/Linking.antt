@@ -206,3 +206,8 @@ module _ {s : Numbered} (sound : IsSound s) (space : IsSpace s) where
     taken_out_shown n node h live there =
         ap (λ o. shown_memory (numbered.left_out n o s)) there
         ∙ heap_set s (emptied n h) (unlinked node (shown_heap s)) refl refl (emptied_shown n node h live there)
+
+-- a node that leaves a list keeps its address
+pub unlinked_nodes : (h : ℕ) (n : Option ℕ) (nodes : List ℕ) (s : Numbered) → (numbered.unlinked h n nodes s).nodes ≡ s.nodes
+unlinked_nodes h None nodes s = refl
+unlinked_nodes h (Some n) nodes s = refl

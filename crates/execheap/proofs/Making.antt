@@ -5,7 +5,8 @@ use Rattle.std.specs.List.{AllByRecursion, list_any}
 use Rattle.std.specs.Ordering.{nat_cmp}
 use Rattle.std.specs.FinMap.{put}
 use Rattle.std.proofs.Math.Path.{fun_ext}
-use Rattle.std.proofs.lemmas.List.{get_or-set_other, length-map, length-set}
+use Rattle.std.proofs.lemmas.List.{get_or-set_other, length-replicate, length-set}
+use Rattle.memlist.specs.declared.region.Region.{Region}
 use Rattle.execlist.specs.Order.{first}
 use Rattle.execlist.specs.Lists.{Key, blank, home, is_at, sequence, times}
 use Rattle.memlist.specs.Blocks.{Blocks, with_block}
@@ -220,3 +221,7 @@ module _ {s : Numbered} (sound : IsSound s) (space : IsSpace s) where
 
   pub node_freed_shown : (n a : ℕ) → home s.homes n ≡ None → shown_memory (numbered.node_freed n a s) ≡ freed a (shown_memory s)
   node_freed_shown n a none = block_freed s (numbered.node_freed n a s) a refl refl (shown_kept n none)
+
+pub unused_shown : (regions : List Region) (pool : ℕ) → shown_memory (numbered.unused regions pool) ≡ record { regions = regions; pool = pool; heap = [] }
+unfolding shown_heap
+unused_shown regions pool = λ i. record { regions = regions; pool = length-replicate {A = Option ℕ} pool None i; heap = [] }
