@@ -214,7 +214,8 @@ take_rest n rest =
     ∙ take-append_seam rest (n ∷ [])
 
 -- the stack without its top is that of the roster with one number more given
-pub enrolled_by : (ps : List (Option ℕ)) (free rest : List ℕ) (a n : ℕ) (o : Option ℕ) → free ≡ rest ++ option_to_list o → o ≡ Some n
+pub enrolled_by : (ps : List (Option ℕ)) (free rest : List ℕ) (a n : ℕ) (o : Option ℕ)
+    → free ≡ rest ++ option_to_list o → o ≡ Some n
     → record { places = slice_set ps n (Some a); free = rest } ≡ roster.enrolled a (record { places = ps; free = free })
 enrolled_by ps free rest a n o split top =
     let is : free ≡ rest ++ n ∷ [] = split ∙ ap (λ p. rest ++ option_to_list p) top in

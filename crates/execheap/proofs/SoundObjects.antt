@@ -49,7 +49,8 @@ here_found : (a : ℕ) (e : ℕ × (ℕ × ℕ)) (es : Blocks) → a ≡ e.0 →
 here_found a e es same = ap (λ b. cond b (Some e.1) (block_at a es)) (ap (λ k. eq_by_cmp nat_cmp a k) (sym same) ∙ key_same a)
 
 -- a block that is put where none begins
-counted_put : (kind a : ℕ) (v : ℕ × ℕ) (es : Blocks) → block_at a es ≡ None → counted kind (put nat_cmp a v es) ≡ tally kind v.1 + counted kind es
+counted_put : (kind a : ℕ) (v : ℕ × ℕ) (es : Blocks) → block_at a es ≡ None
+    → counted kind (put nat_cmp a v es) ≡ tally kind v.1 + counted kind es
 counted_put kind a v [] fresh = counted_more kind (a, v) []
 counted_put kind a v (e ∷ es) fresh = cases_order a e.0
     (λ less. ap (counted kind) (put_before a v e es less) ∙ counted_more kind (a, v) (e ∷ es))
@@ -61,10 +62,12 @@ freed_here : (a : ℕ) (e : ℕ × (ℕ × ℕ)) (es : Blocks) → e.0 ≡ a →
 freed_here a e es same = ap (λ b. cond (not b) (e ∷ freed a es) (freed a es)) (ap (λ k. nat_eq k a) same ∙ nat_eq-same a)
 
 -- a block that is freed
-counted_freed : (kind a : ℕ) (block : ℕ × ℕ) (es : Blocks) → IsRising es → block_at a es ≡ Some block → tally kind block.1 + counted kind (freed a es) ≡ counted kind es
+counted_freed : (kind a : ℕ) (block : ℕ × ℕ) (es : Blocks) → IsRising es → block_at a es ≡ Some block
+    → tally kind block.1 + counted kind (freed a es) ≡ counted kind es
 counted_freed kind a block [] rising found = let bad : false ≡ true = ap is_some found in cc
 counted_freed kind a block (e ∷ es) rising found = cases_eq e.0 a
-    (λ same. ap (λ bs. tally kind block.1 + counted kind bs) (freed_here a e es same ∙ freed_none a es (subst (λ k. AllFrom (k + 1) es) same rising.0))
+    (λ same. ap (λ bs. tally kind block.1 + counted kind bs)
+        (freed_here a e es same ∙ freed_none a es (subst (λ k. AllFrom (k + 1) es) same rising.0))
       ∙ ap (λ (v : ℕ × ℕ). tally kind v.1 + counted kind es) (sym (found_here a e block es same found)) ∙ sym (counted_more kind e es))
     (λ other. omega (arith, ap (counted kind) (freed_later a e es other), counted_more kind e (freed a es), counted_more kind e es,
       counted_freed kind a block es rising.1 (found_later a e (Some block) es other found)))
@@ -80,7 +83,8 @@ module _ (P : ℕ × (ℕ × ℕ) → Type 0) where
       (λ more. subst (AllByRecursion P) (sym (put_after a v e es more)) (all.0, all_placed a v es here all.1))
 
 module _ {P Q : ℕ × (ℕ × ℕ) → Type 0} where
-  all_freed : (a : ℕ) (es : Blocks) → ((e : ℕ × (ℕ × ℕ)) → e.0 ≢ a → P e → Q e) → AllByRecursion P es → AllByRecursion Q (freed a es)
+  all_freed : (a : ℕ) (es : Blocks) → ((e : ℕ × (ℕ × ℕ)) → e.0 ≢ a → P e → Q e)
+      → AllByRecursion P es → AllByRecursion Q (freed a es)
   all_freed a [] f all = tt
   all_freed a (e ∷ es) f all = cases_eq e.0 a
       (λ same. subst (AllByRecursion Q) (sym (freed_here a e es same)) (all_freed a es f all.1))
@@ -114,7 +118,8 @@ tag_in found = option_map (λ (block : ℕ × ℕ). block.1) found
 
 module _ {s t : Numbered} (sound : IsSound s) (a : ℕ) where
   -- a block is put where none begins
-  matched_put : (v : ℕ × ℕ) → block_at a s.memory.blocks ≡ None → t.memory.blocks ≡ put nat_cmp a v s.memory.blocks → IsGiven a v.1 s t → IsMatched t
+  matched_put : (v : ℕ × ℕ) → block_at a s.memory.blocks ≡ None → t.memory.blocks ≡ put nat_cmp a v s.memory.blocks
+      → IsGiven a v.1 s t → IsMatched t
   matched_put v fresh is given = record {
     tagged = subst (AllByRecursion (IsTagged t)) (sym is)
       (all_placed (IsTagged t) a v s.memory.blocks given.mine
@@ -128,14 +133,17 @@ module _ {s t : Numbered} (sound : IsSound s) (a : ℕ) where
     complete : (n b : ℕ) → (place_of_tag (suc n) s ≡ Some b) ⊎ ((suc n ≡ v.1) × (b ≡ a)) → tag_at b t.memory.blocks ≡ Some (suc n)
     complete n b (inl was) =
         let there = sound.complete n b was in
-        let other : b ≢ a = λ same. (let bad : false ≡ true = ap is_some (sym (ap tag_in fresh) ∙ ap (λ k. tag_at k s.memory.blocks) (sym same) ∙ there) in cc) in
+        let other : b ≢ a = λ same.
+          (let bad : false ≡ true = ap is_some (sym (ap tag_in fresh) ∙ ap (λ k. tag_at k s.memory.blocks) (sym same) ∙ there) in cc) in
         told b ∙ ap (λ c. tag_in (cond c (Some v) (block_at b s.memory.blocks))) (key_other b a other) ∙ there
     complete n b (inr now) =
-        told b ∙ ap (λ c. tag_in (cond c (Some v) (block_at b s.memory.blocks))) (ap (λ k. eq_by_cmp nat_cmp k a) now.1 ∙ key_same a) ∙ ap Some (sym now.0)
+        told b
+        ∙ ap (λ c. tag_in (cond c (Some v) (block_at b s.memory.blocks))) (ap (λ k. eq_by_cmp nat_cmp k a) now.1 ∙ key_same a)
+        ∙ ap Some (sym now.0)
 
   -- the block that begins at an address is freed
-  matched_freed : (block : ℕ × ℕ) → IsRising s.memory.blocks → block_at a s.memory.blocks ≡ Some block → t.memory.blocks ≡ freed a s.memory.blocks
-      → IsTaken a block.1 s t → IsMatched t
+  matched_freed : (block : ℕ × ℕ) → IsRising s.memory.blocks → block_at a s.memory.blocks ≡ Some block
+      → t.memory.blocks ≡ freed a s.memory.blocks → IsTaken a block.1 s t → IsMatched t
   matched_freed block rising found is given = record {
     tagged = subst (AllByRecursion (IsTagged t)) (sym is)
       (all_freed {P = IsTagged s} {Q = IsTagged t} a s.memory.blocks (λ e other here. given.kept e.1.1 e.0 other here) sound.tagged);
@@ -145,7 +153,8 @@ module _ {s t : Numbered} (sound : IsSound s) (a : ℕ) where
     told : (b : ℕ) → b ≢ a → tag_at b t.memory.blocks ≡ tag_at b s.memory.blocks
     told b other =
         ap (λ bs. tag_at b bs) is
-        ∙ ap tag_in (find-where_key nat_cmp (λ k. not (nat_eq k a)) b (λ x e. ap (λ k. not (nat_eq k a)) (sym (nat_cmp-IsAntisymmetric b x e))) s.memory.blocks
+        ∙ ap tag_in
+          (find-where_key nat_cmp (λ k. not (nat_eq k a)) b (λ x e. ap (λ k. not (nat_eq k a)) (sym (nat_cmp-IsAntisymmetric b x e))) s.memory.blocks
           ∙ ap (λ c. cond (not c) (block_at b s.memory.blocks) None) (nat_eq-other b a other))
 
     complete : (n b : ℕ) → tag_at b s.memory.blocks ≡ Some (suc n) → suc n ≢ block.1 → tag_at b t.memory.blocks ≡ Some (suc n)
@@ -200,7 +209,8 @@ module _ {kind number : ℕ} {p : Option ℕ} {s t : Numbered} (reset : IsReset 
 
   reset_other : (other m : ℕ) → (other ≡ kind → m ≢ number) → place (roster other t) m ≡ place (roster other s) m
   reset_other other m ne = cases_eq other kind
-      (λ e. subst (λ k. place (roster k t) m ≡ place (roster k s) m) (sym e) (ap (λ ps. place ps m) reset.set ∙ place_other (roster kind s) number m p (ne e)))
+      (λ e. subst (λ k. place (roster k t) m ≡ place (roster k s) m) (sym e)
+        (ap (λ ps. place ps m) reset.set ∙ place_other (roster kind s) number m p (ne e)))
       (λ e. ap (λ ps. place ps m) (reset.same other e))
 
   reset_length : (other : ℕ) → length (roster other t) ≡ length (roster other s)
@@ -292,7 +302,8 @@ roster_kept s memory zero = refl
 roster_kept s memory (suc zero) = refl
 roster_kept s memory (suc (suc kind)) = refl
 
-plain_block : {A : Type 0} (size : ℕ) (found : Option (ℕ × ℕ)) → names size found ≡ true → ((block : ℕ × ℕ) → found ≡ Some block → block.1 ≡ 0 → A) → A
+plain_block : {A : Type 0} (size : ℕ) (found : Option (ℕ × ℕ)) → names size found ≡ true
+    → ((block : ℕ × ℕ) → found ≡ Some block → block.1 ≡ 0 → A) → A
 plain_block size None e f = let bad : false ≡ true = e in cc
 plain_block size (Some block) e f = f block refl (from_eq block.1 0 (and_left _ (nat_lt 0 size) (and_left _ (nat_eq (round size) block.0) e)))
 
@@ -311,7 +322,8 @@ module _ {s : Numbered} (sound : IsSound s) where
   }
 
   module _ (formed : IsWellFormed s.memory.regions s.memory.blocks) where
-    pub sound_allocated : (size reqs : ℕ) (o : Option ℕ) → o ≡ fit s.memory.regions s.memory.blocks size reqs → IsSound (record s { memory = allocated size 0 o s.memory })
+    pub sound_allocated : (size reqs : ℕ) (o : Option ℕ) → o ≡ fit s.memory.regions s.memory.blocks size reqs
+        → IsSound (record s { memory = allocated size 0 o s.memory })
     sound_allocated size reqs None is = sound
     sound_allocated size reqs (Some a) is = plain_sound (allocated size 0 (Some a) s.memory)
         (matched_put sound a (round size, 0) (fitted_fresh s.memory.regions s.memory.blocks size reqs a formed (sym is)) refl
@@ -320,31 +332,31 @@ module _ {s : Numbered} (sound : IsSound s) where
     pub sound_freed : (a size : ℕ) → can_free a size s.memory.blocks ≡ true → IsSound (record s { memory = without_block a s.memory })
     sound_freed a size can = plain_block size (block_at a s.memory.blocks) can (λ block found plain. plain_sound (without_block a s.memory)
         (matched_freed sound a block (rising_sorted s.memory.blocks formed.in_order) found refl
-          (subst (λ tag. IsTaken a tag s (record s { memory = without_block a s.memory })) (sym plain) (plain_taken (roster_kept s (without_block a s.memory)) a))))
+          (subst (λ tag. IsTaken a tag s (record s { memory = without_block a s.memory })) (sym plain)
+            (plain_taken (roster_kept s (without_block a s.memory)) a))))
 
 -- ---- objects made and freed
 
-is_there : {A : Type 0} (o : Option A) (x : A) → o ≡ Some x → IsSome o
-is_there o x e = ap is_some e
-
 -- what lives goes on living where one more object does
-lives_on : {kind number a : ℕ} {s t : Numbered} → IsReset kind number (Some a) s t → (other m : ℕ) → IsSome (place (roster other s) m) → IsSome (place (roster other t) m)
+lives_on : {kind number a : ℕ} {s t : Numbered} → IsReset kind number (Some a) s t → (other m : ℕ) → IsSome (place (roster other s) m)
+    → IsSome (place (roster other t) m)
 lives_on {kind} {number} {a} {s} {t} reset other m lives = cases_eq other kind
     (λ k. cases_eq m number
-      (λ n. subst (λ x. IsSome (place (roster x t) m)) (sym k) (subst (λ y. IsSome (place (roster kind t) y)) (sym n) (is_there _ a (reset_here reset))))
+      (λ n. subst (λ x. IsSome (place (roster x t) m)) (sym k)
+        (subst (λ y. IsSome (place (roster kind t) y)) (sym n) (ap is_some (reset_here reset))))
       (λ n. ap is_some (reset_other reset other m (λ e. n)) ∙ lives))
     (λ k. ap is_some (reset_other reset other m (λ e. absurd (k e))) ∙ lives)
 
-list_reset : {s t : Numbered} (number : ℕ) (p : Option ℕ) → number < length s.lists.places → t.lists.places ≡ slice_set s.lists.places number p → t.nodes.places ≡ s.nodes.places
-    → IsReset 0 number p s t
+list_reset : {s t : Numbered} (number : ℕ) (p : Option ℕ) → number < length s.lists.places
+    → t.lists.places ≡ slice_set s.lists.places number p → t.nodes.places ≡ s.nodes.places → IsReset 0 number p s t
 list_reset {s} {t} number p known set nodes = record { few = omega arith; known = known; set = set; same = same } where
   same : (other : ℕ) → other ≢ 0 → roster other t ≡ roster other s
   same zero other = absurd (other refl)
   same (suc zero) other = nodes
   same (suc (suc kind)) other = refl
 
-node_reset : {s t : Numbered} (number : ℕ) (p : Option ℕ) → number < length s.nodes.places → t.nodes.places ≡ slice_set s.nodes.places number p → t.lists.places ≡ s.lists.places
-    → IsReset 1 number p s t
+node_reset : {s t : Numbered} (number : ℕ) (p : Option ℕ) → number < length s.nodes.places
+    → t.nodes.places ≡ slice_set s.nodes.places number p → t.lists.places ≡ s.lists.places → IsReset 1 number p s t
 node_reset {s} {t} number p known set lists = record { few = omega arith; known = known; set = set; same = same } where
   same : (other : ℕ) → other ≢ 1 → roster other t ≡ roster other s
   same zero other = lists
@@ -357,15 +369,23 @@ pub record IsAhead (r : Rostered) (number : ℕ) : Type 0 where
   pub known : number < length r.places
   pub vacant : place r.places number ≡ None
 
-pub ahead : (r : Rostered) (number : ℕ) → IsStocked r → next_number r ≡ Some number → IsAhead r number
-ahead r number stocked next = record {
+ahead_of : (r : Rostered) (number : ℕ) → IsStocked r → next_number r ≡ Some number → IsAhead r number
+ahead_of r number stocked next = record {
   next = next;
   known = subst (λ o. IfSome o (λ n. n < length r.places)) next stocked.known;
   vacant = subst (λ o. IfSome o (λ n. place r.places n ≡ None)) next stocked.free;
 }
 
+module _ {s t : Numbered} (number : ℕ) (is : s ≡ t) where
+  pub list_ahead : IsStocked s.lists → next_number t.lists ≡ Some number → IsAhead s.lists number
+  list_ahead stocked next = ahead_of s.lists number stocked (ap (λ (u : Numbered). next_number u.lists) is ∙ next)
+
+  pub node_ahead : IsStocked s.nodes → next_number t.nodes ≡ Some number → IsAhead s.nodes number
+  node_ahead stocked next = ahead_of s.nodes number stocked (ap (λ (u : Numbered). next_number u.nodes) is ∙ next)
+
 module _ {s : Numbered} (sound : IsSound s) (formed : IsWellFormed s.memory.regions s.memory.blocks) where
-  pub sound_list_placed : (size number : ℕ) (o : Option ℕ) → IsAhead s.lists number → o ≡ fit s.memory.regions s.memory.blocks size 1 → IsSound (list_numbered size (Some number) o s)
+  pub sound_list_placed : (size number : ℕ) (o : Option ℕ) → IsAhead s.lists number → o ≡ fit s.memory.regions s.memory.blocks size 1
+      → IsSound (list_numbered size (Some number) o s)
   sound_list_placed size number None ahead is = sound
   sound_list_placed size number (Some a) ahead is = record {
     tagged = matched.tagged;
@@ -385,7 +405,8 @@ module _ {s : Numbered} (sound : IsSound s) (formed : IsWellFormed s.memory.regi
     reset = list_reset number (Some a) ahead.known (enrolled_places a number s.lists ahead.next) refl
 
     matched : IsMatched t
-    matched = matched_put sound a (round size, tag_of 0 number) (fitted_fresh s.memory.regions s.memory.blocks size 1 a formed (sym is)) refl (number_given reset ahead.vacant)
+    matched = matched_put sound a (round size, tag_of 0 number)
+      (fitted_fresh s.memory.regions s.memory.blocks size 1 a formed (sym is)) refl (number_given reset ahead.vacant)
 
   pub sound_node_placed : (size number : ℕ) (key : Key) (o : Option ℕ) → IsAhead s.nodes number → o ≡ fit s.memory.regions s.memory.blocks size 1
       → IsSound (node_numbered size key (Some number) o s)
@@ -408,10 +429,12 @@ module _ {s : Numbered} (sound : IsSound s) (formed : IsWellFormed s.memory.regi
     reset = node_reset number (Some a) ahead.known (enrolled_places a number s.nodes ahead.next) refl
 
     matched : IsMatched t
-    matched = matched_put sound a (round size, tag_of 1 number) (fitted_fresh s.memory.regions s.memory.blocks size 1 a formed (sym is)) refl (number_given reset ahead.vacant)
+    matched = matched_put sound a (round size, tag_of 1 number)
+      (fitted_fresh s.memory.regions s.memory.blocks size 1 a formed (sym is)) refl (number_given reset ahead.vacant)
 
   -- the block of an object that lives, and whose number is then free
-  matched_released : {t : Numbered} (kind number a : ℕ) → kind < 8 → place (roster kind s) number ≡ Some a → t.memory.blocks ≡ freed a s.memory.blocks → IsReset kind number None s t → IsMatched t
+  matched_released : {t : Numbered} (kind number a : ℕ) → kind < 8 → place (roster kind s) number ≡ Some a
+      → t.memory.blocks ≡ freed a s.memory.blocks → IsReset kind number None s t → IsMatched t
   matched_released {t} kind number a few live is reset = block_of (block_at a s.memory.blocks) refl
     where
       block_of : (found : Option (ℕ × ℕ)) → block_at a s.memory.blocks ≡ found → IsMatched t
@@ -480,7 +503,8 @@ module _ {s : Numbered} (sound : IsSound s) (formed : IsWellFormed s.memory.regi
 
 module _ {s : Numbered} (sound : IsSound s) where
   -- what begins at an address lives
-  pub number_lives : (kind address : ℕ) (o : Option ℕ) → kind < 8 → o ≡ number_at kind address s → IfSome o (λ n. place (roster kind s) n ≡ Some address)
+  pub number_lives : (kind address : ℕ) (o : Option ℕ) → kind < 8 → o ≡ number_at kind address s
+      → IfSome o (λ n. place (roster kind s) n ≡ Some address)
   number_lives kind address None few is = tt
   number_lives kind address (Some n) few is = number_placed sound kind n address few (sym is)
 
@@ -508,12 +532,12 @@ module _ {s : Numbered} (sound : IsSound s) where
   lists_full stocked none = sound.count 0 ∙ stocked.full none
 
   pub lists_left : (n : ℕ) → IsStocked s.lists → next_number s.lists ≡ Some n → counted 0 s.memory.blocks < length s.lists.places
-  lists_left n stocked next = let there = ahead s.lists n stocked next in
+  lists_left n stocked next = let there = ahead_of s.lists n stocked next in
       omega (arith, sound.count 0, taken_below s.lists.places n there.vacant there.known)
 
   pub nodes_full : IsStocked s.nodes → next_number s.nodes ≡ None → counted 1 s.memory.blocks ≡ length s.nodes.places
   nodes_full stocked none = sound.count 1 ∙ stocked.full none
 
   pub nodes_left : (n : ℕ) → IsStocked s.nodes → next_number s.nodes ≡ Some n → counted 1 s.memory.blocks < length s.nodes.places
-  nodes_left n stocked next = let there = ahead s.nodes n stocked next in
+  nodes_left n stocked next = let there = ahead_of s.nodes n stocked next in
       omega (arith, sound.count 1, taken_below s.nodes.places n there.vacant there.known)

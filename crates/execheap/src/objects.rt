@@ -367,3 +367,6 @@ fn memory_of(alloc: Global, regions: &[Region]) -> Result<MemList, AllocError>
         Err(_) => Err(AllocError),
     }
 }
+
+#[cfg(test)]
+mod making_tests;

@@ -8,7 +8,8 @@ use Rattle.execheap.proofs.objects.Objects.free_list.Goals as goal
 
 pub free_block-requires : goal.free_block-requires
 free_block-requires g c =
-    live_block c.self.invariant 0 c.args.h c.args.address (omega arith) (ap (λ (s : Numbered). place s.lists.places c.args.h) c.self.view_is ∙ c.requires.live)
+    live_block c.self.invariant 0 c.args.h c.args.address (omega arith)
+      (ap (λ (s : Numbered). place s.lists.places c.args.h) c.self.view_is ∙ c.requires.live)
 
 pub invariant_of-self : goal.invariant_of-self
 invariant_of-self g c =

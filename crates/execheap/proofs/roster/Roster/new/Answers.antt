@@ -13,7 +13,8 @@ none c = search rules
 
 each : (c : In_ok-free) → c.in_ok-free.free.items ≡ range_with_len 0 c.args.count
 each c =
-    let all : IfOk c.collect.result (λ v. vec_items v ≡ range_with_len 0 c.args.count) = items_from_collect _ c.collect.ensures.ran (YieldsList-from_range 0 c.args.count c.args.count refl (omega arith)) in
+    let all : IfOk c.collect.result (λ v. vec_items v ≡ range_with_len 0 c.args.count) =
+      items_from_collect _ c.collect.ensures.ran (YieldsList-from_range 0 c.args.count c.args.count refl (omega arith)) in
     rw c.in_ok-free.was at all
 
 pub invariant_of-result : goal.invariant_of-result
@@ -21,4 +22,6 @@ invariant_of-result c =
     rw (none c, each c) (new_roster c.args.count _ (omega (arith, c.in_ok-free.free.ok.0, ap length (each c), length-range_with_len 0 c.args.count)))
 
 pub returns : goal.returns
-returns c = ap (λ ps. record { places = ps; free = c.in_ok-free.free.items }) (none c) ∙ ap (λ f. record { places = replicate c.args.count None; free = f }) (each c)
+returns c =
+    ap (λ ps. record { places = ps; free = c.in_ok-free.free.items }) (none c)
+    ∙ ap (λ f. record { places = replicate c.args.count None; free = f }) (each c)
