@@ -4,6 +4,8 @@
 #[cfg(test)]
 mod arithmetic;
 #[cfg(test)]
+mod lists;
+#[cfg(test)]
 mod memory;
 #[cfg(test)]
 mod not_simulated;
