@@ -2,7 +2,7 @@
 ghost use Rattle.std.specs.Prelude.{◌≡◌, OnOk, Some};
 ghost use Rattle.std.specs.Io.KnownBytes.{Appends};
 ghost use Rattle.program.specs.Fault.{line_of};
-ghost use Rattle.program.specs.Ending.{IsSilent, ending_after, status_of};
+ghost use Rattle.program.specs.Ending.{IsSilent, code_of, ending_after, status_of};
 
 use crate::command_line::write_answer;
 use crate::fault::Fault;
@@ -23,6 +23,15 @@ pub enum Status {
     Alerted = 3,
     /// Memory, reading or writing failed.
     Failed = 4,
+}
+
+impl Status {
+    /// The number that stands for it where the program ends.
+    pub fn code(self) -> u8
+        ensures { result ≡ code_of self }
+    {
+        self as u8
+    }
 }
 
 /// How the program ends.

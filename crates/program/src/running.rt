@@ -105,5 +105,5 @@ pub fn run<R: Files, W: Write, E: Write>(
     ensures silent { (result ≡ 0) ⊎ (result ≡ 3) → err.new ≡ err.old }
     ensures untouched { result ≡ 2 → out.new ≡ out.old }
 {
-    report(&ending_of(rt, alloc, words, out), err) as u8
+    report(&ending_of(rt, alloc, words, out), err).code()
 }
