@@ -1,7 +1,7 @@
 -- What the program does with two paths: the files that it reads, the trace that it writes, and the end that comes of it.
 use Rattle.std.specs.Borrow.{Bor}
 use Rattle.std.specs.Prelude.{◌≡◌, ◌≤◌, ◌⊎◌, ℕ, Bool, true, false, List, length, codes, Option, Some, Result, Ok, Err}
-use Rattle.std.specs.Io.KnownBytes.{Keeps}
+use Rattle.std.specs.Io.KnownBytes.{Appends, Keeps}
 use Rattle.clap.specs.Words.{Text, first_of, matches_of}
 use Rattle.exectrace.specs.Sink.{Tape}
 use Rattle.exectrace.specs.declared.sinks.SinkState.TheVariants.{Good}
@@ -86,3 +86,7 @@ pub record WritesWhole (before after : Held) (how : End) : Type 0 where
   pub sink : Tape
   pub runs : RunsWhole (file_of machine) (script_of events) (good_sink before) sink how
   pub keeps : Keeps sink.taken after
+
+-- a writer took some bytes more
+abbrev pub Grows : Held → Held → Type 0
+Grows before after = (bytes : List ℕ) × Appends before after bytes

@@ -2,9 +2,9 @@
 ghost use Rattle.std.specs.Prelude.{◌≡◌, ◌≢◌, ◌≤◌, ◌⊎◌};
 ghost use Rattle.clap.specs.Walk.{texts};
 ghost use Rattle.clap.specs.Words.{kind_of};
-ghost use Rattle.program.specs.CommandLine.{AreRefused, AreRight};
+ghost use Rattle.program.specs.CommandLine.{AreRefused, AreRight, AskForHelp};
 ghost use Rattle.program.specs.Ending.{status_of};
-ghost use Rattle.program.specs.Running.{EndsRun, IsOneOf, ReadsNothing, RunsFiles, RunsWords, WritesTrace, WritesWhole, answer_of};
+ghost use Rattle.program.specs.Running.{EndsRun, Grows, IsOneOf, ReadsNothing, RunsFiles, RunsWords, WritesTrace, WritesWhole, answer_of};
 ghost use Rattle.std.specs.Io.KnownBytes.{Keeps};
 
 use crate::command_line::{Paths, paths_given, write_answer};
@@ -76,10 +76,12 @@ fn simulate_files<'a, R: Files, W: Write>(
 /// The end of a run whose command line gave no paths.
 ///
 /// Help that was asked for is written to `out`; a refused command line leaves `out` as it was.
-fn ending_without_paths<'a, W: Write>(error: clap::Error, out: &mut W) -> Ending<'a>
+fn ending_without_paths<'a, W: Write>(alloc: Global, error: clap::Error, out: &mut W) -> Ending<'a>
     ensures memory { kind_of error ≡ ErrorKind.OutOfMemory → result ≡ Ending.Failed Fault.NoMemory }
     ensures refused { kind_of error ≢ ErrorKind.OutOfMemory → kind_of error ≢ ErrorKind.DisplayHelp
         → kind_of error ≢ ErrorKind.DisplayVersion → result ≡ Ending.Refused error }
+    ensures help { kind_of error ≡ ErrorKind.DisplayHelp
+        → ((result ≡ Ending.Done) × Grows (W.contents out.old) (W.contents out.new)) ⊎ (status_of result ≡ Status.Failed) }
     ensures untouched { status_of result ≡ Status.CommandLineRefused → out.new ≡ out.old }
     ensures unwritten { kind_of error ≡ ErrorKind.OutOfMemory → out.new ≡ out.old }
 {
@@ -89,9 +91,9 @@ fn ending_without_paths<'a, W: Write>(error: clap::Error, out: &mut W) -> Ending
     if error.use_stderr() {
         return Ending::Refused(error);
     }
-    match write_answer(&error, out) {
+    match write_answer(alloc, &error, out) {
         Ok(()) => Ending::Done,
-        Err(_) => Ending::Failed(Fault::WriteFailed),
+        Err(fault) => Ending::Failed(fault),
     }
 }
 
@@ -106,11 +108,13 @@ fn ending_of<'a, R: Files, W: Write>(
     ensures refused { AreRefused (texts words.now)
         → (status_of result ≡ Status.CommandLineRefused) ⊎ (result ≡ Ending.Failed Fault.NoMemory) }
     ensures runs { AreRight (texts words.now) → RunsWords (texts words.now) (W.contents out.old) (W.contents out.new) result }
+    ensures help { AskForHelp (texts words.now)
+        → ((result ≡ Ending.Done) × Grows (W.contents out.old) (W.contents out.new)) ⊎ (status_of result ≡ Status.Failed) }
     ensures untouched { status_of result ≡ Status.CommandLineRefused → out.new ≡ out.old }
 {
     match paths_given(alloc, words) {
         Ok(paths) => Ending::from(simulate_files(rt, alloc, paths, out)),
-        Err(error) => ending_without_paths(error, out),
+        Err(error) => ending_without_paths(alloc, error, out),
     }
 }
 
@@ -132,6 +136,7 @@ pub fn run<R: Files, W: Write, E: Write>(
     ensures ran { AreRight (texts words.now) → result ≡ 0 → WritesWhole (W.contents out.old) (W.contents out.new) End.Ran }
     ensures alerted { AreRight (texts words.now) → result ≡ 3 → WritesWhole (W.contents out.old) (W.contents out.new) End.Alerted }
     ensures refused_text { AreRight (texts words.now) → result ≡ 1 → Keeps (W.contents out.old) (W.contents out.new) }
+    ensures help { AskForHelp (texts words.now) → ((result ≡ 0) × Grows (W.contents out.old) (W.contents out.new)) ⊎ (result ≡ 4) }
     ensures silent { (result ≡ 0) ⊎ (result ≡ 3) → err.new ≡ err.old }
     ensures untouched { result ≡ 2 → out.new ≡ out.old }
 {
