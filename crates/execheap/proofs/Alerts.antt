@@ -6,7 +6,8 @@ use Rattle.execlist.specs.Order.{first}
 use Rattle.execlist.specs.Lists.{home, part_after, sequence}
 use Rattle.execmodel.specs.State.{Heap}
 use Rattle.execmodel.specs.Lists.{find_alert, free_list_alert, free_node_alert, insert_alert, link_alert, linked_alert, list_alert}
-use Rattle.execmodel.specs.Lists.{is_linked, is_list_at, is_node_at, is_pred_at, is_pred_in, nodes_of, pred_alert, predecessor, searched, sequence_with, stands_in}
+use Rattle.execmodel.specs.Lists.{is_linked, is_list_at, is_node_at, is_pred_at, is_pred_in, nodes_of, pred_alert, predecessor}
+use Rattle.execmodel.specs.Lists.{searched, sequence_with, stands_in}
 use Rattle.execheap.specs.Roster.{place}
 use Rattle.execheap.specs.Numbered.{Numbered, IsSound, IsSpace, address_in, number_at, shown_heap}
 use Rattle.execheap.specs.Refusals.{is_none_or_in}
@@ -34,7 +35,8 @@ is_there true e = refl
 is_there false e = let bad : true ≡ false = ap is_some e in cc
 
 -- and a call of which it is the first test is refused as it is
-refused_first : (there : Bool) {why : List ℕ} (next : Option (List ℕ)) → handle_unless there None ≡ Some why → handle_unless there next ≡ Some why
+refused_first : (there : Bool) {why : List ℕ} (next : Option (List ℕ)) → handle_unless there None ≡ Some why
+    → handle_unless there next ≡ Some why
 refused_first true next e = let bad : false ≡ true = ap is_some e in cc
 refused_first false next e = e
 
@@ -71,7 +73,8 @@ module _ (s : Numbered) (list h : ℕ) (found : number_at 0 list s ≡ Some h) w
       ∙ is_some_map (address_in s.nodes.places) (first (sequence s.sequences h))
 
   -- a list that is to be freed is refused where it holds a node
-  pub free_list_found : {held : Option ℕ} → first (sequence s.sequences h) ≡ held → free_list_alert list (shown_heap s) ≡ link_if (is_some held) None
+  pub free_list_found : {held : Option ℕ} → first (sequence s.sequences h) ≡ held
+      → free_list_alert list (shown_heap s) ≡ link_if (is_some held) None
   unfolding free_list_alert
   free_list_found holds =
       ap (λ b. handle_unless b (link_if (is_some (first (nodes_of list (shown_heap s)))) None)) list_there
@@ -94,31 +97,37 @@ module _ (s : Numbered) (node : ℕ) (none : number_at 1 node s ≡ None) where
 node_there : (s : Numbered) (node n : ℕ) → number_at 1 node s ≡ Some n → is_node_at node (shown_heap s) ≡ true
 node_there s node n found = node_at_shown s node ∙ ap is_some found
 
-module _ {s : Numbered} (sound : IsSound s) (space : IsSpace s) (node n : ℕ) (found : number_at 1 node s ≡ Some n) {list : Option ℕ} (at : home s.homes n ≡ list) where
-  -- a node is linked where a list has it by number
-  linked_where : is_linked node (shown_heap s) ≡ is_some list
-  linked_where = is_linked_shown sound space n node (number_placed sound 1 n node (lit≤ tt) found) ∙ ap is_some at
+module _ {s : Numbered} (sound : IsSound s) (space : IsSpace s) where
+  module _ (node n : ℕ) (found : number_at 1 node s ≡ Some n) {list : Option ℕ} (at : home s.homes n ≡ list) where
+    -- a node is linked where a list has it by number
+    linked_where : is_linked node (shown_heap s) ≡ is_some list
+    linked_where = is_linked_shown sound space n node (number_placed sound 1 n node (lit≤ tt) found) ∙ ap is_some at
 
-  pub free_node_found : free_node_alert node (shown_heap s) ≡ link_if (is_some list) None
-  unfolding free_node_alert
-  free_node_found =
-      ap (λ b. handle_unless b (link_if (is_linked node (shown_heap s)) None)) (node_there s node n found) ∙ ap (λ b. link_if b None) linked_where
+    pub free_node_found : free_node_alert node (shown_heap s) ≡ link_if (is_some list) None
+    unfolding free_node_alert
+    free_node_found =
+        ap (λ b. handle_unless b (link_if (is_linked node (shown_heap s)) None)) (node_there s node n found)
+        ∙ ap (λ b. link_if b None) linked_where
 
-  pub linked_found : linked_alert node (shown_heap s) ≡ link_unless (is_some list)
-  unfolding linked_alert
-  linked_found = ap (λ b. handle_unless b (link_unless (is_linked node (shown_heap s)))) (node_there s node n found) ∙ ap link_unless linked_where
+    pub linked_found : linked_alert node (shown_heap s) ≡ link_unless (is_some list)
+    unfolding linked_alert
+    linked_found =
+        ap (λ b. handle_unless b (link_unless (is_linked node (shown_heap s)))) (node_there s node n found) ∙ ap link_unless linked_where
 
 -- ---- the alert of a list and a node that is to be linked
 
 module _ (list node : ℕ) (heap : Heap) where
+  -- the tests of a node that is to be linked
+  abbrev of_node : Option (List ℕ)
+  of_node = handle_unless (is_node_at node heap) (link_if (is_linked node heap) None)
+
   pub link_by_list : {why : List ℕ} → list_alert list heap ≡ Some why → link_alert list node heap ≡ Some why
   unfolding link_alert list_alert
-  link_by_list refused = refused_first (is_list_at list heap) (handle_unless (is_node_at node heap) (link_if (is_linked node heap) None)) refused
+  link_by_list refused = refused_first (is_list_at list heap) of_node refused
 
   pub link_by_node : list_alert list heap ≡ None → link_alert list node heap ≡ free_node_alert node heap
   unfolding link_alert list_alert free_node_alert
-  link_by_node there =
-      ap (λ b. handle_unless b (handle_unless (is_node_at node heap) (link_if (is_linked node heap) None))) (is_there (is_list_at list heap) there)
+  link_by_node there = ap (λ b. handle_unless b of_node) (is_there (is_list_at list heap) there)
 
 -- ---- the alert of a predecessor
 
@@ -143,7 +152,8 @@ after_node list node pred heap = handle_unless (is_pred_at (predecessor pred) he
 abbrev after_list : ℕ → ℕ → ℕ → Heap → Option (List ℕ)
 after_list list node pred heap = handle_unless (is_node_at node heap) (after_node list node pred heap)
 
-pub insert_by_list : (list node pred : ℕ) (heap : Heap) {why : List ℕ} → list_alert list heap ≡ Some why → insert_alert list node pred heap ≡ Some why
+pub insert_by_list : (list node pred : ℕ) (heap : Heap) {why : List ℕ} → list_alert list heap ≡ Some why
+    → insert_alert list node pred heap ≡ Some why
 unfolding insert_alert list_alert
 insert_by_list list node pred heap refused = refused_first (is_list_at list heap) (after_list list node pred heap) refused
 
@@ -159,19 +169,23 @@ module _ (s : Numbered) (list node pred : ℕ) (listed : list_alert list (shown_
     past_node : insert_alert list node pred (shown_heap s) ≡ after_node list node pred (shown_heap s)
     past_node = past_list ∙ ap (λ b. handle_unless b (after_node list node pred (shown_heap s))) (node_there s node n found)
 
-    pub insert_by_pred : {why : List ℕ} → pred_alert (predecessor pred) (shown_heap s) ≡ Some why → insert_alert list node pred (shown_heap s) ≡ Some why
-    insert_by_pred refused = past_node ∙ refused_first (is_pred_at (predecessor pred) (shown_heap s)) (after_pred list node pred (shown_heap s)) refused
+    pub insert_by_pred : {why : List ℕ} → pred_alert (predecessor pred) (shown_heap s) ≡ Some why
+        → insert_alert list node pred (shown_heap s) ≡ Some why
+    insert_by_pred refused =
+        past_node ∙ refused_first (is_pred_at (predecessor pred) (shown_heap s)) (after_pred list node pred (shown_heap s)) refused
 
     module _ (preceded : pred_alert (predecessor pred) (shown_heap s) ≡ None) (sound : IsSound s) (space : IsSpace s) where
       past_pred : insert_alert list node pred (shown_heap s) ≡ after_pred list node pred (shown_heap s)
       past_pred =
-          past_node
-          ∙ ap (λ b. handle_unless b (after_pred list node pred (shown_heap s))) (is_there (is_pred_at (predecessor pred) (shown_heap s)) preceded)
+          let there = is_there (is_pred_at (predecessor pred) (shown_heap s)) preceded in
+          past_node ∙ ap (λ b. handle_unless b (after_pred list node pred (shown_heap s))) there
 
       past_link : {linked : Option ℕ} → home s.homes n ≡ linked
-          → insert_alert list node pred (shown_heap s) ≡ link_if (is_some linked) (link_unless (is_pred_in (predecessor pred) list (shown_heap s)))
+          → insert_alert list node pred (shown_heap s)
+          ≡ link_if (is_some linked) (link_unless (is_pred_in (predecessor pred) list (shown_heap s)))
       past_link at =
-          past_pred ∙ ap (λ b. link_if b (link_unless (is_pred_in (predecessor pred) list (shown_heap s)))) (linked_where sound space node n found at)
+          past_pred
+          ∙ ap (λ b. link_if b (link_unless (is_pred_in (predecessor pred) list (shown_heap s)))) (linked_where sound space node n found at)
 
       pub insert_by_link : {h : ℕ} → home s.homes n ≡ Some h → insert_alert list node pred (shown_heap s) ≡ Some (codes "LINK")
       insert_by_link linked = past_link linked
@@ -195,8 +209,9 @@ module _ {s : Numbered} (sound : IsSound s) (space : IsSpace s) (list h : ℕ) (
       ∙ stands_shown sound space h m lives.0 lives.1
 
   -- where the list, the node and the predecessor are there, and the node is not linked, the predecessor has to stand in the list
-  pub insert_found : (node pred : ℕ) {n : ℕ} (p : Option ℕ) {stands : Bool} → list_alert list (shown_heap s) ≡ None → number_at 1 node s ≡ Some n
-      → pred_alert (predecessor pred) (shown_heap s) ≡ None → option_map (address_in s.nodes.places) p ≡ predecessor pred
+  pub insert_found : (node pred : ℕ) {n : ℕ} (p : Option ℕ) {stands : Bool} → list_alert list (shown_heap s) ≡ None
+      → number_at 1 node s ≡ Some n → pred_alert (predecessor pred) (shown_heap s) ≡ None
+      → option_map (address_in s.nodes.places) p ≡ predecessor pred
       → ForSome p (λ m. IsSome (place s.nodes.places m)) → home s.homes n ≡ None → is_none_or_in p h s.homes ≡ stands
       → insert_alert list node pred (shown_heap s) ≡ link_unless stands
   insert_found node pred p listed found preceded is live unlinked stands =
@@ -220,7 +235,8 @@ module _ (s : Numbered) (start h : ℕ) (found : number_at 0 start s ≡ Some h)
       ap (λ b. if b then nodes_of start (shown_heap s) else searched_after start (shown_heap s)) (list_there s start h found)
       ∙ nodes_shown s start h found
 
-pub find_node : (s : Numbered) (start : ℕ) → number_at 0 start s ≡ None → find_alert start (shown_heap s) ≡ linked_alert start (shown_heap s)
+pub find_node : (s : Numbered) (start : ℕ) → number_at 0 start s ≡ None
+    → find_alert start (shown_heap s) ≡ linked_alert start (shown_heap s)
 unfolding find_alert
 find_node s start none = ap (λ b. if b then None else linked_alert start (shown_heap s)) (no_list s start none)
 
