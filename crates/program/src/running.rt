@@ -1,11 +1,11 @@
 //! The program over any files, any words and any two writers.
 ghost use Rattle.std.specs.Prelude.{◌≡◌, ◌≢◌, ◌≤◌, ◌⊎◌};
+ghost use Rattle.std.specs.Io.KnownBytes.{Keeps};
 ghost use Rattle.clap.specs.Walk.{texts};
 ghost use Rattle.clap.specs.Words.{kind_of};
 ghost use Rattle.program.specs.CommandLine.{AreRefused, AreRight, AskForHelp};
 ghost use Rattle.program.specs.Ending.{status_of};
 ghost use Rattle.program.specs.Running.{EndsRun, Grows, IsOneOf, ReadsNothing, RunsFiles, RunsWords, WritesTrace, WritesWhole, answer_of};
-ghost use Rattle.std.specs.Io.KnownBytes.{Keeps};
 
 use crate::command_line::{Paths, paths_given, write_answer};
 use crate::ending::{Ending, Status, report};
