@@ -1,14 +1,13 @@
 -- The machine of a file agrees with the first state.
-use Rattle.std.proofs.Common.{◌≡◌, List, false, length, map, refl, sym, ◌∙◌, subst}
+use Rattle.std.proofs.Common.{◌≡◌, List, [], false, length, map, refl, sym, ◌∙◌, subst}
 use Rattle.std.proofs.lemmas.List.{length-map}
 use Rattle.execlist.specs.Order.{order}
 use Rattle.taskscript.specs.File.{TaskData, MachineData}
 use Rattle.taskscript.specs.Records.{task_view}
 use Rattle.taskscript.specs.declared.file.TaskRecord.{TaskRecord}
 use Rattle.scheduler.specs.Schedule.{unstarted}
-use Rattle.memlist.specs.Memory.{untouched}
 use Rattle.execmodel.specs.State.{booted}
-use Rattle.execsim.specs.Agreement.{Seen, Agrees, Holds, in_order}
+use Rattle.execsim.specs.Agreement.{Seen, Agrees, in_order}
 use Rattle.execsim.proofs.Calling.{map-map_as}
 
 booted-in_order : (machine : MachineData) → in_order (booted machine).schedule ≡ (booted machine).schedule
@@ -29,21 +28,21 @@ booted-unlatched : (machine : MachineData) → false ≡ (booted machine).latche
 unfolding booted
 booted-unlatched machine = refl
 
-booted-memory : (machine : MachineData) → Holds (untouched machine.regions) (booted machine).memory
+booted-memory : (machine : MachineData) → record { regions = machine.regions; pool = machine.pool; heap = [] } ≡ (booted machine).memory
 unfolding booted
-booted-memory machine = record { regions = refl; heap = refl; tagged = tt }
+booted-memory machine = refl
 
 -- the parts that were made for the tasks of a file are those of the first state
 pub boots : {seen : Seen} (machine : MachineData) (tasks : List TaskRecord) → map task_view tasks ≡ machine.tasks
     → seen.schedule ≡ unstarted (length tasks) (map (λ (t : TaskRecord). t.pri) tasks) (map (λ (t : TaskRecord). t.name.bytes) tasks) machine.quantum
     → seen.scripts ≡ (booted (record machine { tasks = map task_view tasks })).scripts
-    → seen.memory ≡ untouched machine.regions
+    → seen.memory ≡ record { regions = machine.regions; pool = machine.pool; heap = [] }
     → seen.latched ≡ false → seen.stopped ≡ false → Agrees seen (booted machine)
-boots {seen} machine tasks states schedule scripts untouched unlatched going =
+boots {seen} machine tasks states schedule scripts memory unlatched going =
     subst (λ (ts : List TaskData). Agrees seen (booted (record machine { tasks = ts }))) states (record {
       schedule = schedule ∙ sym (booted-schedule machine tasks) ∙ sym (booted-in_order (record machine { tasks = map task_view tasks }));
       scripts = scripts;
-      memory = rw untouched (booted-memory (record machine { tasks = map task_view tasks }));
+      memory = memory ∙ booted-memory (record machine { tasks = map task_view tasks });
       latched = unlatched ∙ booted-unlatched (record machine { tasks = map task_view tasks });
       stopped = going ∙ booted-going (record machine { tasks = map task_view tasks });
     })

@@ -5,10 +5,9 @@ use Rattle.exectrace.specs.Sink.{Tape, Puts}
 use Rattle.exectrace.specs.Trace.{TraceLine, printed_line}
 use Rattle.exectrace.proofs.Pieces.{puts_none, puts_then, put_same}
 use Rattle.scheduler.specs.Schedule.{Schedule}
-use Rattle.memlist.specs.Memory as table
 use Rattle.execmodel.specs.State.{State, Scripts, Memory, Outcome, quiet, says, andthen, on_schedule, on_scripts, on_memory}
 use Rattle.execmodel.specs.Interrupts.{on_latch}
-use Rattle.execsim.specs.Agreement.{Seen, Agrees, Holds, Follows, Moves, in_order}
+use Rattle.execsim.specs.Agreement.{Seen, Agrees, Follows, Moves, in_order}
 
 -- What the state that is agreed with holds, by what the machine shows.
 
@@ -21,6 +20,9 @@ module _ {m : Seen} {X : Type 0} where
   pub reads_scripts : (read : Scripts → X) {x : X} → read m.scripts ≡ x → (s : State) → Agrees m s → read s.scripts ≡ x
   reads_scripts read is s a = ap read (sym a.scripts) ∙ is
 
+  pub reads_memory : (read : Memory → X) {x : X} → read m.memory ≡ x → (s : State) → Agrees m s → read s.memory ≡ x
+  reads_memory read is s a = ap read (sym a.memory) ∙ is
+
 pub reads_latch : {m : Seen} {b : Bool} → m.latched ≡ b → (s : State) → Agrees m s → s.latched ≡ b
 reads_latch is s a = sym a.latched ∙ is
 
@@ -29,10 +31,6 @@ reads_stopped is s a = sym a.stopped ∙ is
 
 -- Changes of one layer.
 
--- a memory that stays shows what it did
-stays : {m n : table.Memory} {memory : Memory} → n ≡ m → Holds m memory → Holds n memory
-stays is h = rw is h
-
 -- a change that goes the same way in the schedule that is agreed with
 pub moves_schedule_seen : {m n : Seen} (next seen : Schedule → Schedule) → ((y : Schedule) → m.schedule ≡ in_order y → seen (in_order y) ≡ in_order (next y))
     → n ≡ record m { schedule = seen m.schedule } → Moves (on_schedule next) m n
@@ -40,7 +38,7 @@ moves_schedule_seen next seen commutes is = record {
   agrees = λ s a. record {
     schedule = ap (λ (x : Seen). x.schedule) is ∙ ap seen a.schedule ∙ commutes s.schedule a.schedule;
     scripts = ap (λ (x : Seen). x.scripts) is ∙ a.scripts;
-    memory = stays (ap (λ (x : Seen). x.memory) is) a.memory;
+    memory = ap (λ (x : Seen). x.memory) is ∙ a.memory;
     latched = ap (λ (x : Seen). x.latched) is ∙ a.latched;
     stopped = ap (λ (x : Seen). x.stopped) is ∙ a.stopped;
   };
@@ -56,19 +54,18 @@ moves_scripts next is = record {
   agrees = λ s a. record {
     schedule = ap (λ (x : Seen). x.schedule) is ∙ a.schedule;
     scripts = ap (λ (x : Seen). x.scripts) is ∙ ap next a.scripts;
-    memory = stays (ap (λ (x : Seen). x.memory) is) a.memory;
+    memory = ap (λ (x : Seen). x.memory) is ∙ a.memory;
     latched = ap (λ (x : Seen). x.latched) is ∙ a.latched;
     stopped = ap (λ (x : Seen). x.stopped) is ∙ a.stopped;
   };
 }
 
-pub moves_memory : {m n : Seen} (next : Memory → Memory) (seen : table.Memory) → ((memory : Memory) → Holds m.memory memory → Holds seen (next memory))
-    → n ≡ record m { memory = seen } → Moves (on_memory next) m n
-moves_memory next seen shows is = record {
+pub moves_memory : {m n : Seen} (next : Memory → Memory) → n ≡ record m { memory = next m.memory } → Moves (on_memory next) m n
+moves_memory next is = record {
   agrees = λ s a. record {
     schedule = ap (λ (x : Seen). x.schedule) is ∙ a.schedule;
     scripts = ap (λ (x : Seen). x.scripts) is ∙ a.scripts;
-    memory = stays (ap (λ (x : Seen). x.memory) is) (shows s.memory a.memory);
+    memory = ap (λ (x : Seen). x.memory) is ∙ ap next a.memory;
     latched = ap (λ (x : Seen). x.latched) is ∙ a.latched;
     stopped = ap (λ (x : Seen). x.stopped) is ∙ a.stopped;
   };
@@ -79,7 +76,7 @@ moves_stopped stopped is = record {
   agrees = λ s a. record {
     schedule = ap (λ (x : Seen). x.schedule) is ∙ a.schedule;
     scripts = ap (λ (x : Seen). x.scripts) is ∙ a.scripts;
-    memory = stays (ap (λ (x : Seen). x.memory) is) a.memory;
+    memory = ap (λ (x : Seen). x.memory) is ∙ a.memory;
     latched = ap (λ (x : Seen). x.latched) is ∙ a.latched;
     stopped = ap (λ (x : Seen). x.stopped) is;
   };
@@ -90,7 +87,7 @@ moves_latch latched is = record {
   agrees = λ s a. record {
     schedule = ap (λ (x : Seen). x.schedule) is ∙ a.schedule;
     scripts = ap (λ (x : Seen). x.scripts) is ∙ a.scripts;
-    memory = stays (ap (λ (x : Seen). x.memory) is) a.memory;
+    memory = ap (λ (x : Seen). x.memory) is ∙ a.memory;
     latched = ap (λ (x : Seen). x.latched) is;
     stopped = ap (λ (x : Seen). x.stopped) is ∙ a.stopped;
   };

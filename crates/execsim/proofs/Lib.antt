@@ -6,7 +6,7 @@ pub mod Calling
 pub mod Endings
 pub mod Following
 pub mod Forbidding
-pub mod Heaps
+pub mod Listing
 pub mod Ordering
 pub mod Serving
 pub mod Signalling

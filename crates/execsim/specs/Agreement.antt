@@ -1,7 +1,6 @@
 -- How the machine agrees with the abstract machine, and how a part of it follows an action. The abstract state keeps its ready
 -- tasks in order of arrival; the machine keeps them in order of running. All else is equal.
-use Rattle.std.specs.Prelude.{◌≡◌, ℕ, Bool, map}
-use Rattle.std.specs.List.{AllByRecursion}
+use Rattle.std.specs.Prelude.{◌≡◌, ℕ, Bool}
 use Rattle.exectrace.specs.Sink.{Tape, Puts}
 use Rattle.exectrace.specs.Trace.{printed}
 use Rattle.exectrace.specs.Trace as trace
@@ -9,14 +8,13 @@ use Rattle.taskscript.specs.Words.{word_text}
 use Rattle.execlist.specs.Order.{order}
 use Rattle.taskq.specs.Tasks.{pri_at}
 use Rattle.scheduler.specs.Schedule.{Schedule, name_of}
-use Rattle.memlist.specs.Memory as table
-use Rattle.execmodel.specs.State.{Call, Block, Plain, Memory, State, Scripts, Outcome}
+use Rattle.execmodel.specs.State.{Call, Memory, State, Scripts, Outcome}
 
 -- what the layers of the machine show, a field for each
 pub record Seen : Type 0 where
   pub schedule : Schedule
   pub scripts : Scripts
-  pub memory : table.Memory
+  pub memory : Memory
   pub latched : Bool
   pub stopped : Bool
 
@@ -24,28 +22,11 @@ pub record Seen : Type 0 where
 abbrev pub in_order : Schedule → Schedule
 in_order s = record s { queue = record s.queue { ready = order (pri_at s.queue.pris) s.queue.ready } }
 
--- the block of an entry of the machine's table: its size, and the object that its tag names
-abbrev pub shown_block : ℕ × ℕ → Block
-shown_block entry = record { size = entry.0; object = Plain }
-
-abbrev pub shown_entry : ℕ × (ℕ × ℕ) → ℕ × Block
-shown_entry entry = (entry.0, shown_block entry.1)
-
--- the tag of an entry says what its object is
-abbrev pub IsTagged : ℕ × (ℕ × ℕ) → Type 0
-IsTagged entry = entry.1.1 ≡ 0
-
--- the machine's table of blocks shows this memory
-pub record Holds (seen : table.Memory) (memory : Memory) : Type 0 where
-  pub regions : seen.regions ≡ memory.regions
-  pub heap : map shown_entry seen.blocks ≡ memory.heap
-  pub tagged : AllByRecursion IsTagged seen.blocks
-
 -- the machine shows this state
 pub record Agrees (seen : Seen) (s : State) : Type 0 where
   pub schedule : seen.schedule ≡ in_order s.schedule
   pub scripts : seen.scripts ≡ s.scripts
-  pub memory : Holds seen.memory s.memory
+  pub memory : seen.memory ≡ s.memory
   pub latched : seen.latched ≡ s.latched
   pub stopped : seen.stopped ≡ s.stopped
 

@@ -1,3 +1,4 @@
 pub mod Agreement
+pub mod Endings
 pub mod Headline
 pub mod Views

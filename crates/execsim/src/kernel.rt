@@ -10,9 +10,9 @@ ghost use Rattle.execmodel.specs.Signals.{is_task};
 ghost use Rattle.execsim.specs.Views.{call_view};
 
 use crate::program::{Call, Program};
+use execheap::Heap;
 use execlist::space::ListSpace;
 use exectrace::{Arg, Name};
-use memlist::MemList;
 use scheduler::Sched;
 use std::marker::Model;
 use taskq::TaskId;
@@ -21,13 +21,13 @@ use taskscript::{Argument, Command, Variable};
 /// How many variables all tasks share.
 const SHARED_VARIABLES: usize = 64;
 
-/// The tasks, what they execute, the memory, whether VERTB is requested, and whether an alert has stopped them.
+/// The tasks, what they execute, the memory with its objects, whether VERTB is requested, and whether an alert has stopped them.
 #[derive(Drop)]
 pub struct Kernel<S: ListSpace> {
     pub(crate) sched: Sched<S>,
     pub(crate) programs: Vec<Program>,
     pub(crate) shared: [u32; SHARED_VARIABLES],
-    pub(crate) memory: MemList,
+    pub(crate) memory: Heap<S>,
     pub(crate) latched: bool,
     pub(crate) stopped: bool,
 }
@@ -51,7 +51,7 @@ impl<S: ListSpace> Model for Kernel<S> {
 
 impl<S: ListSpace> Kernel<S> {
     /// The machine of these tasks and this memory, with every shared variable 0.
-    pub(crate) fn new(sched: Sched<S>, programs: Vec<Program>, memory: MemList) -> Self
+    pub(crate) fn new(sched: Sched<S>, programs: Vec<Program>, memory: Heap<S>) -> Self
         requires each { length programs.items ≡ task_count sched }
         requires few { length programs.items ≤ 4096 }
         ensures { result ≡ record {

@@ -6,6 +6,7 @@
 mod calls;
 mod interrupts;
 mod kernel;
+mod lists;
 mod machine;
 mod memory;
 mod nesting;

@@ -7,16 +7,15 @@ ghost use Rattle.taskscript.specs.Commands.{command_view};
 ghost use Rattle.taskscript.specs.Records.{task_view};
 ghost use Rattle.execmodel.specs.State.{State, booted, begun, andthen};
 ghost use Rattle.execmodel.specs.Step.{starts, event, events};
-ghost use Rattle.memlist.specs.Memory.{untouched};
 ghost use Rattle.execsim.specs.Agreement.{Agrees};
 ghost use Rattle.execsim.specs.Headline.{Acts, StaysFailed, Finishes, flow_of};
 
 use crate::kernel::Kernel;
 use crate::program::Program;
+use execheap::Heap;
 use execlist::space::ListSpace;
 use exectrace::sinks::written;
 use exectrace::{Sink, WriteFault};
-use memlist::{MemList, Region};
 use scheduler::Sched;
 use std::alloc::{AllocError, Global};
 use std::marker::Model;
@@ -84,17 +83,6 @@ fn programs_of(alloc: Global, tasks: &[TaskRecord]) -> Result<Vec<Program>, Allo
     Ok(programs)
 }
 
-/// The memory of these regions, with nothing allocated. Those of a machine file are never refused, so want of memory is all that can
-/// stand in the way of it.
-fn memory_of(alloc: Global, regions: &[Region]) -> Result<MemList, AllocError>
-    ensures { IfOk result (λ m. m ≡ untouched regions.now) }
-{
-    match MemList::new(alloc, regions) {
-        Ok(memory) => Ok(memory),
-        Err(_) => Err(AllocError),
-    }
-}
-
 impl<S: ListSpace> Machine<S> {
     /// Makes the machine that a file states, before its start.
     ///
@@ -111,7 +99,7 @@ impl<S: ListSpace> Machine<S> {
         let inits = inits_of(alloc, tasks)?;
         let sched = Sched::new(alloc, &inits, file.quantum())?;
         let programs = programs_of(alloc, tasks)?;
-        let memory = memory_of(alloc, file.regions())?;
+        let memory = Heap::new(alloc, file.regions(), file.pool())?;
         Ok(Machine {
             kernel: Kernel::new(sched, programs, memory),
             failed: false,

@@ -1,8 +1,8 @@
 //! Memory: blocks that AllocMem gives and FreeMem takes back.
 ghost use Rattle.std.specs.Prelude.{◌≡◌, ◌<◌, length, true, false};
-ghost use Rattle.memlist.specs.Fit.{fit, avail};
-ghost use Rattle.memlist.specs.Memory.{allocated, can_free, without_block};
-ghost use Rattle.execmodel.specs.Memory.{has_only, can_be_asked, does_alloc_mem, does_free_mem, does_avail_mem};
+ghost use Rattle.memlist.specs.Fit.{avail};
+ghost use Rattle.execmodel.specs.State.{Plain};
+ghost use Rattle.execmodel.specs.Memory.{block_at, can_be_asked, does_alloc_mem, does_avail_mem, does_free_mem, extents, freed, has_only, is_named, place_for, placed};
 ghost use Rattle.execsim.specs.Agreement.{Follows};
 ghost use Rattle.execsim.specs.Views.{call_view};
 
@@ -40,25 +40,25 @@ fn can_be_asked(reqs: u32) -> bool
 impl<S: ListSpace> Kernel<S> {
     /// A plain block of so many bytes, if one fits.
     fn allocate(&mut self, size: u32, reqs: u32) -> Option<u32>
-        ensures answer { result ≡ fit self.old.memory.regions self.old.memory.blocks size reqs }
-        ensures next { self.new ≡ record self.old { memory = allocated size 0 result self.old.memory } }
+        ensures answer { result ≡ place_for size reqs self.old.memory }
+        ensures next { self.new ≡ record self.old { memory = placed size Plain result self.old.memory } }
     {
-        self.memory.alloc_mem(size, reqs, 0)
+        self.memory.alloc_mem(size, reqs)
     }
 
     /// Frees the plain block that begins at an address, if the size names it.
     fn free(&mut self, address: u32, size: u32) -> bool
-        ensures answer { result ≡ can_free address size self.old.memory.blocks }
-        ensures freed { result ≡ true → self.new ≡ record self.old { memory = without_block address self.old.memory } }
+        ensures answer { result ≡ is_named size (block_at address self.old.memory.heap) }
+        ensures freed { result ≡ true → self.new ≡ record self.old { memory = freed address self.old.memory } }
         ensures kept { result ≡ false → self.new ≡ self.old }
     {
-        self.memory.free_mem(address, size).is_ok()
+        self.memory.free_mem(address, size)
     }
 
     /// How much memory there is.
     fn available(&self, reqs: u32) -> u32
         requires { can_be_asked reqs ≡ true }
-        ensures { result ≡ avail self.now.memory.regions self.now.memory.blocks reqs }
+        ensures { result ≡ avail self.now.memory.regions (extents self.now.memory.heap) reqs }
     {
         self.memory.avail(reqs)
     }

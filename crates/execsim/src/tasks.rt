@@ -17,7 +17,7 @@ use exectrace::{Name, Sink};
 use taskq::TaskId;
 
 /// Whether a task may have the priority that the word is, read as a signed one.
-fn is_priority(word: u32) -> bool
+pub(crate) fn is_priority(word: u32) -> bool
     ensures { result ≡ is_priority (cast_signed w32 word) }
 {
     let pri = word.cast_signed();
@@ -77,7 +77,7 @@ impl<S: ListSpace> Kernel<S> {
     }
 
     /// Ends a live task that does not run.
-    fn remove(&mut self, t: TaskId)
+    fn remove_task(&mut self, t: TaskId)
         requires live { IsTrue (is_live (status_of self.old.schedule t)) }
         requires stopped { self.old.schedule.running ≢ Some t }
         ensures { self.new ≡ record self.old { schedule = removed t self.old.schedule } }
@@ -129,7 +129,7 @@ impl<S: ListSpace> Kernel<S> {
         } else if !self.is_live_task(other) {
             self.alerted("HANDLE", t, call, out);
         } else {
-            self.remove(other as usize - 1);
+            self.remove_task(other as usize - 1);
             self.done(t, call, out);
         }
     }

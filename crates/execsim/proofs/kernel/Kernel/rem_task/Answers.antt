@@ -11,4 +11,4 @@ returns-then-not-is_live_task g c = rem_unknown _ _ (rw (c.is_caller.ensures, c.
 pub returns-else-not-is_live_task : goal.returns-else-not-is_live_task
 returns-else-not-is_live_task g c = rem_other _ _ (rw (c.is_caller.ensures, c.number-other.ensures) at c.if-is_caller.false)
     (rw (c.is_live_task.ensures, c.number-other.ensures) at c.if-not-is_live_task.false)
-    (rw c.number-other.ensures at c.remove.ensures) c.done-else-not-is_live_task.ensures
+    (rw c.number-other.ensures at c.remove_task.ensures) c.done-else-not-is_live_task.ensures

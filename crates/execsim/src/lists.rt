@@ -1,0 +1,264 @@
+//! Lists and nodes: how they are made and freed, linked, unlinked and scanned. An object is named by the address of its block.
+ghost use Rattle.std.specs.Prelude.{◌≡◌, ◌<◌, [], length, IfOk, IsTrue};
+ghost use Rattle.std.specs.Int.{cast_signed, w32};
+ghost use Rattle.std.specs.Option.{option_map, unwrap_or};
+ghost use Rattle.execmodel.specs.State.{ListHead, Node};
+ghost use Rattle.execmodel.specs.Calls.{alerted};
+ghost use Rattle.execmodel.specs.Memory.{placed};
+ghost use Rattle.execmodel.specs.Objects.{place_for_object};
+ghost use Rattle.execmodel.specs.Tasks.{is_priority};
+ghost use Rattle.execmodel.specs.Lists.{find_alert, found_node, is_list, is_node, list_size, node_size};
+ghost use Rattle.execmodel.specs.Lists.{does_new_list, does_free_list, does_new_node, does_free_node, does_add_head, does_add_tail, does_enqueue, does_insert};
+ghost use Rattle.execmodel.specs.Lists.{does_remove, does_rem_head, does_rem_tail, does_first, does_last, does_succ, does_pred, does_find_name};
+ghost use Rattle.execheap.specs.Refusals.{alert_of, code_of};
+ghost use Rattle.execsim.specs.Agreement.{Follows};
+ghost use Rattle.execsim.specs.Endings.{answered_or_alerted, done_or_alerted};
+ghost use Rattle.execsim.specs.Views.{call_view};
+
+use crate::kernel::Kernel;
+use crate::program::Call;
+use crate::tasks::is_priority;
+use execheap::Refusal;
+use execlist::space::ListSpace;
+use exectrace::{Name, Sink};
+use taskq::TaskId;
+
+impl<S: ListSpace> Kernel<S> {
+    // ---- how a call on an object ends
+
+    /// A refused call stops the machine by the alert of its refusal.
+    fn refused<W: Sink>(&mut self, why: Refusal, t: TaskId, call: &Call, out: &mut W)
+        requires { t < length self.old.scripts.programs }
+        ensures { Follows (alerted (code_of why) t (call_view call.now)) self.old self.new (W.tape out.old) (W.tape out.new) }
+    {
+        self.alerted(why.code(), t, call, out);
+    }
+
+    /// A call that answers nothing: it is done, or refused by its alert.
+    fn concluded<W: Sink>(&mut self, tried: Result<(), Refusal>, t: TaskId, call: &Call, out: &mut W)
+        requires { t < length self.old.scripts.programs }
+        ensures { Follows (done_or_alerted tried t (call_view call.now)) self.old self.new (W.tape out.old) (W.tape out.new) }
+    {
+        match tried {
+            Ok(()) => self.done(t, call, out),
+            Err(why) => self.refused(why, t, call, out),
+        }
+    }
+
+    /// A call that answers: it does, or is refused by its alert.
+    fn concluded_with<W: Sink>(&mut self, tried: Result<u32, Refusal>, t: TaskId, call: &Call, out: &mut W)
+        requires { t < length self.old.scripts.programs }
+        ensures { Follows (answered_or_alerted tried t (call_view call.now)) self.old self.new (W.tape out.old) (W.tape out.new) }
+    {
+        match tried {
+            Ok(value) => self.answered(t, call, value, out),
+            Err(why) => self.refused(why, t, call, out),
+        }
+    }
+
+    // ---- made and freed
+
+    /// A new empty list, if there is room for one.
+    fn make_list(&mut self) -> Option<u32>
+        ensures address { result ≡ place_for_object is_list list_size self.old.memory }
+        ensures next { self.new ≡ record self.old { memory = placed list_size (ListHead []) result self.old.memory } }
+    {
+        self.memory.new_list()
+    }
+
+    /// A new node with the priority that the word is, read as a signed one, and with that name or none, if there is room for one.
+    fn make_node(&mut self, pri: u32, name: Option<Name>) -> Option<u32>
+        requires inside { IsTrue (is_priority (cast_signed w32 pri)) }
+        ensures address { result ≡ place_for_object is_node node_size self.old.memory }
+        ensures next { self.new ≡ record self.old {
+          memory = placed node_size (Node (record { pri = cast_signed w32 pri; name = option_map (λ n. n.bytes) name })) result self.old.memory;
+        } }
+    {
+        self.memory.new_node(pri.cast_signed() as i8, name)
+    }
+
+    /// NewList (autodoc amiga.lib/NewList).
+    pub(crate) fn new_list<W: Sink>(&mut self, t: TaskId, call: &Call, out: &mut W)
+        requires { t < length self.old.scripts.programs }
+        ensures { Follows (does_new_list t (call_view call.now)) self.old self.new (W.tape out.old) (W.tape out.new) }
+    {
+        let list = self.make_list();
+        self.answered(t, call, list.unwrap_or(0), out);
+    }
+
+    /// FreeList list (own choice).
+    pub(crate) fn free_list<W: Sink>(&mut self, t: TaskId, call: &Call, out: &mut W)
+        requires { t < length self.old.scripts.programs }
+        ensures { Follows (does_free_list t (call_view call.now)) self.old self.new (W.tape out.old) (W.tape out.new) }
+    {
+        let list = call.number(0);
+        let tried = self.memory.free_list(list);
+        self.concluded(tried, t, call, out);
+    }
+
+    /// NewNode pri name (own choice).
+    pub(crate) fn new_node<W: Sink>(&mut self, t: TaskId, call: &Call, out: &mut W)
+        requires { t < length self.old.scripts.programs }
+        ensures { Follows (does_new_node t (call_view call.now)) self.old self.new (W.tape out.old) (W.tape out.new) }
+    {
+        let pri = call.number(0);
+        if !is_priority(pri) {
+            self.alerted("VALUE", t, call, out);
+        } else {
+            let node = self.make_node(pri, call.name(1));
+            self.answered(t, call, node.unwrap_or(0), out);
+        }
+    }
+
+    /// FreeNode node (own choice).
+    pub(crate) fn free_node<W: Sink>(&mut self, t: TaskId, call: &Call, out: &mut W)
+        requires { t < length self.old.scripts.programs }
+        ensures { Follows (does_free_node t (call_view call.now)) self.old self.new (W.tape out.old) (W.tape out.new) }
+    {
+        let node = call.number(0);
+        let tried = self.memory.free_node(node);
+        self.concluded(tried, t, call, out);
+    }
+
+    // ---- linked
+
+    /// AddHead list node (autodoc exec.library/AddHead).
+    pub(crate) fn add_head<W: Sink>(&mut self, t: TaskId, call: &Call, out: &mut W)
+        requires { t < length self.old.scripts.programs }
+        ensures { Follows (does_add_head t (call_view call.now)) self.old self.new (W.tape out.old) (W.tape out.new) }
+    {
+        let list = call.number(0);
+        let node = call.number(1);
+        let tried = self.memory.add_head(list, node);
+        self.concluded(tried, t, call, out);
+    }
+
+    /// AddTail list node (autodoc exec.library/AddTail).
+    pub(crate) fn add_tail<W: Sink>(&mut self, t: TaskId, call: &Call, out: &mut W)
+        requires { t < length self.old.scripts.programs }
+        ensures { Follows (does_add_tail t (call_view call.now)) self.old self.new (W.tape out.old) (W.tape out.new) }
+    {
+        let list = call.number(0);
+        let node = call.number(1);
+        let tried = self.memory.add_tail(list, node);
+        self.concluded(tried, t, call, out);
+    }
+
+    /// Enqueue list node (autodoc exec.library/Enqueue).
+    pub(crate) fn enqueue<W: Sink>(&mut self, t: TaskId, call: &Call, out: &mut W)
+        requires { t < length self.old.scripts.programs }
+        ensures { Follows (does_enqueue t (call_view call.now)) self.old self.new (W.tape out.old) (W.tape out.new) }
+    {
+        let list = call.number(0);
+        let node = call.number(1);
+        let tried = self.memory.enqueue(list, node);
+        self.concluded(tried, t, call, out);
+    }
+
+    /// Insert list node pred (autodoc exec.library/Insert).
+    pub(crate) fn insert<W: Sink>(&mut self, t: TaskId, call: &Call, out: &mut W)
+        requires { t < length self.old.scripts.programs }
+        ensures { Follows (does_insert t (call_view call.now)) self.old self.new (W.tape out.old) (W.tape out.new) }
+    {
+        let list = call.number(0);
+        let node = call.number(1);
+        let pred = call.number(2);
+        let tried = self.memory.insert(list, node, pred);
+        self.concluded(tried, t, call, out);
+    }
+
+    // ---- unlinked
+
+    /// Remove node (autodoc exec.library/Remove).
+    pub(crate) fn remove<W: Sink>(&mut self, t: TaskId, call: &Call, out: &mut W)
+        requires { t < length self.old.scripts.programs }
+        ensures { Follows (does_remove t (call_view call.now)) self.old self.new (W.tape out.old) (W.tape out.new) }
+    {
+        let node = call.number(0);
+        let tried = self.memory.remove(node);
+        self.concluded(tried, t, call, out);
+    }
+
+    /// RemHead list (autodoc exec.library/RemHead).
+    pub(crate) fn rem_head<W: Sink>(&mut self, t: TaskId, call: &Call, out: &mut W)
+        requires { t < length self.old.scripts.programs }
+        ensures { Follows (does_rem_head t (call_view call.now)) self.old self.new (W.tape out.old) (W.tape out.new) }
+    {
+        let list = call.number(0);
+        let tried = self.memory.rem_head(list);
+        self.concluded_with(tried, t, call, out);
+    }
+
+    /// RemTail list (autodoc exec.library/RemTail).
+    pub(crate) fn rem_tail<W: Sink>(&mut self, t: TaskId, call: &Call, out: &mut W)
+        requires { t < length self.old.scripts.programs }
+        ensures { Follows (does_rem_tail t (call_view call.now)) self.old self.new (W.tape out.old) (W.tape out.new) }
+    {
+        let list = call.number(0);
+        let tried = self.memory.rem_tail(list);
+        self.concluded_with(tried, t, call, out);
+    }
+
+    // ---- scanned
+
+    /// First list (RKM Libraries, Exec Lists and Queues: scanning a list).
+    pub(crate) fn first<W: Sink>(&mut self, t: TaskId, call: &Call, out: &mut W)
+        requires { t < length self.old.scripts.programs }
+        ensures { Follows (does_first t (call_view call.now)) self.old self.new (W.tape out.old) (W.tape out.new) }
+    {
+        let list = call.number(0);
+        let tried = self.memory.first(list);
+        self.concluded_with(tried, t, call, out);
+    }
+
+    /// Last list (RKM Libraries, Exec Lists and Queues: scanning a list).
+    pub(crate) fn last<W: Sink>(&mut self, t: TaskId, call: &Call, out: &mut W)
+        requires { t < length self.old.scripts.programs }
+        ensures { Follows (does_last t (call_view call.now)) self.old self.new (W.tape out.old) (W.tape out.new) }
+    {
+        let list = call.number(0);
+        let tried = self.memory.last(list);
+        self.concluded_with(tried, t, call, out);
+    }
+
+    /// Succ node (RKM Libraries, Exec Lists and Queues: `ln_Succ`).
+    pub(crate) fn succ<W: Sink>(&mut self, t: TaskId, call: &Call, out: &mut W)
+        requires { t < length self.old.scripts.programs }
+        ensures { Follows (does_succ t (call_view call.now)) self.old self.new (W.tape out.old) (W.tape out.new) }
+    {
+        let node = call.number(0);
+        let tried = self.memory.succ(node);
+        self.concluded_with(tried, t, call, out);
+    }
+
+    /// Pred node (RKM Libraries, Exec Lists and Queues: `ln_Pred`).
+    pub(crate) fn pred<W: Sink>(&mut self, t: TaskId, call: &Call, out: &mut W)
+        requires { t < length self.old.scripts.programs }
+        ensures { Follows (does_pred t (call_view call.now)) self.old self.new (W.tape out.old) (W.tape out.new) }
+    {
+        let node = call.number(0);
+        let tried = self.memory.pred(node);
+        self.concluded_with(tried, t, call, out);
+    }
+
+    /// The address of the first node of that name in a list, or after a linked node, or 0. Where no name is given it is the empty one.
+    fn find(&self, start: u32, name: Option<Name>) -> Result<u32, Refusal>
+        ensures alert { alert_of result ≡ find_alert start self.now.memory.heap }
+        ensures answer { IfOk result (λ answer. answer ≡ found_node start (unwrap_or (option_map (λ n. n.bytes) name) []) self.now.memory.heap) }
+    {
+        match name {
+            None => self.memory.find_name(start, ""),
+            Some(name) => self.memory.find_name(start, name.as_str()),
+        }
+    }
+
+    /// FindName start name (autodoc exec.library/FindName).
+    pub(crate) fn find_name<W: Sink>(&mut self, t: TaskId, call: &Call, out: &mut W)
+        requires { t < length self.old.scripts.programs }
+        ensures { Follows (does_find_name t (call_view call.now)) self.old self.new (W.tape out.old) (W.tape out.new) }
+    {
+        let start = call.number(0);
+        let tried = self.find(start, call.name(1));
+        self.concluded_with(tried, t, call, out);
+    }
+}
