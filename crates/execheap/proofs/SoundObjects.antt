@@ -369,7 +369,7 @@ pub record IsAhead (r : Rostered) (number : ℕ) : Type 0 where
   pub known : number < length r.places
   pub vacant : place r.places number ≡ None
 
-ahead_of : (r : Rostered) (number : ℕ) → IsStocked r → next_number r ≡ Some number → IsAhead r number
+pub ahead_of : (r : Rostered) (number : ℕ) → IsStocked r → next_number r ≡ Some number → IsAhead r number
 ahead_of r number stocked next = record {
   next = next;
   known = subst (λ o. IfSome o (λ n. n < length r.places)) next stocked.known;
