@@ -1,8 +1,13 @@
+pub mod Alerts
 pub mod Blocks
 pub mod Entries
 pub mod Linked
+pub mod Linking
+pub mod Making
 pub mod Mapped
 pub mod Relisted
 pub mod Rosters
 pub mod Shown
+pub mod SoundLinks
+pub mod SoundObjects
 pub mod Tagging

@@ -1,14 +1,16 @@
 -- Numbers that are given to objects and are free again.
-use Rattle.std.proofs.Common.{◌≡◌, ◌≢◌, ℕ, zero, suc, ◌+◌, ◌<◌, ◌≤◌, Bool, true, false, cond, not, eqb, List, [], ◌∷◌, ◌++◌, length, refl, sym, ◌∙◌, ap, arith, inl, inr, Option, Some, None, is_some, replicate, length-append}
+use Rattle.std.proofs.Common.{◌≡◌, ◌≢◌, ℕ, zero, suc, ◌+◌, ◌<◌, ◌≤◌, Bool, true, false, cond, not, eqb, List, [], ◌∷◌, ◌++◌, length, refl, sym, ◌∙◌, ap, subst, arith, inl, inr, Option, Some, None, is_some, replicate, length-append}
 use Rattle.std.proofs.Math.Bool.{and-true, and-false}
 use Rattle.std.specs.List.{range_with_len}
 use Rattle.std.proofs.lemmas.List.FromFn.{length-range_with_len}
-use Rattle.std.specs.Prelude.{slice_set, ◌⊎◌, nat_lt, ◌&&◌, IsSome}
+use Rattle.std.specs.Prelude.{slice_set, take, ◌-◌, ◌⊎◌, nat_lt, ◌&&◌, IsSome, IfSome, slice_get}
 use Rattle.std.proofs.lemmas.Bool.{cond-true, cond-false, eq-eqb, ne_eqb, cases_eq, lt-ltb, le-ltb, cases_lt}
+use Rattle.std.proofs.Math.Seq.{take-append_seam}
 use Rattle.std.proofs.lemmas.List.{get_or-set_same, get_or-set_other, length-set, length-replicate}
 use Rattle.std.specs.Option.{option_to_list}
-use Rattle.execlist.specs.Lists.{times}
-use Rattle.execheap.specs.Roster.{place, taken, is_free, IsRoster}
+use Rattle.execlist.specs.Lists.{last, times}
+use Rattle.execheap.specs.Roster.{Rostered, IsStocked, next_number, place, taken, is_free, IsRoster}
+use Rattle.execheap.specs.Roster as roster
 
 -- The address of a number.
 
@@ -48,6 +50,10 @@ taken_enrolled (None ∷ ps) zero a e l = refl
 taken_enrolled (Some b ∷ ps) zero a e l = cc
 taken_enrolled (None ∷ ps) (suc n) a e l = taken_enrolled ps n a e (omega arith)
 taken_enrolled (Some b ∷ ps) (suc n) a e l = ap suc (taken_enrolled ps n a e (omega arith))
+
+-- where a number is free, not all are given
+pub taken_below : (ps : List (Option ℕ)) (n : ℕ) → place ps n ≡ None → n < length ps → taken ps < length ps
+taken_below ps n free known = omega (arith, taken_enrolled ps n 0 free known, taken_at_most (slice_set ps n (Some 0)), length-set ps n (Some 0))
 
 -- a given number is free again: one less
 pub taken_released : (ps : List (Option ℕ)) (n a : ℕ) → place ps n ≡ Some a → suc (taken (slice_set ps n None)) ≡ taken ps
@@ -185,3 +191,70 @@ module _ (ps : List (Option ℕ)) (free : List ℕ) (capacity n a : ℕ) (r : Is
     stands : (m : ℕ) → (m ≡ n) ⊎ (m ≡ n → ⊥) → times m (free ++ n ∷ []) ≡ cond (is_free (slice_set ps n None) m) 1 0
     stands m (inl e) = rw (e, free_same ps n None (place_known ps n a given)) (times_top n free ∙ ap suc none)
     stands m (inr ne) = times_below n m free ne ∙ r.stands m ∙ ap (λ b. cond b 1 0) (sym (free_other ps n m None ne))
+
+-- The number that is given next.
+
+-- where the next number is given to an object, the object's address is its place
+pub enrolled_places : (a n : ℕ) (r : Rostered) → next_number r ≡ Some n → (roster.enrolled a r).places ≡ slice_set r.places n (Some a)
+enrolled_places a n r next = ap (λ o. (roster.given o a r).places) next
+
+last-push : (xs : List ℕ) (n : ℕ) → last (xs ++ n ∷ []) ≡ Some n
+last-push [] n = refl
+last-push (x ∷ []) n = refl
+last-push (x ∷ y ∷ xs) n = last-push (y ∷ xs) n
+
+last_none : (xs : List ℕ) → last xs ≡ None → xs ≡ []
+last_none [] e = refl
+last_none (x ∷ []) e = let bad : true ≡ false = ap is_some e in cc
+last_none (x ∷ y ∷ xs) e = let none = last_none (y ∷ xs) e in cc
+
+take_rest : (n : ℕ) (rest : List ℕ) → take (length (rest ++ n ∷ []) - 1) (rest ++ n ∷ []) ≡ rest
+take_rest n rest =
+    ap (λ k. take k (rest ++ n ∷ [])) (let less : length (rest ++ n ∷ []) - 1 ≡ length rest = omega (arith, length-append rest (n ∷ [])) in less)
+    ∙ take-append_seam rest (n ∷ [])
+
+-- the stack without its top is that of the roster with one number more given
+pub enrolled_by : (ps : List (Option ℕ)) (free rest : List ℕ) (a n : ℕ) (o : Option ℕ)
+    → free ≡ rest ++ option_to_list o → o ≡ Some n
+    → record { places = slice_set ps n (Some a); free = rest } ≡ roster.enrolled a (record { places = ps; free = free })
+enrolled_by ps free rest a n o split top =
+    let is : free ≡ rest ++ n ∷ [] = split ∙ ap (λ p. rest ++ option_to_list p) top in
+    sym (ap (λ f. roster.enrolled a (record { places = ps; free = f })) is
+      ∙ ap (λ p. roster.given p a (record { places = ps; free = rest ++ n ∷ [] })) (last-push rest n)
+      ∙ ap (λ f. record { places = slice_set ps n (Some a); free = f }) (take_rest n rest))
+
+last_split : (n : ℕ) (xs : List ℕ) → last xs ≡ Some n → (rest : List ℕ) × (xs ≡ rest ++ n ∷ [])
+last_split n [] e = let bad : false ≡ true = ap is_some e in cc
+last_split n (x ∷ []) e = ([], ap (λ y. y ∷ []) (let same : x ≡ n = cc in same))
+last_split n (x ∷ y ∷ xs) e = let more = last_split n (y ∷ xs) e in (x ∷ more.0, ap (λ ys. x ∷ ys) more.1)
+
+-- the last item is that of the greatest index
+pub last_read : (xs : List ℕ) → slice_get xs (length xs - 1) ≡ last xs
+last_read [] = refl
+last_read (x ∷ []) = refl
+last_read (x ∷ y ∷ xs) =
+    ap (λ k. slice_get (x ∷ y ∷ xs) k) (let less : length (x ∷ y ∷ xs) - 1 ≡ suc (length (y ∷ xs) - 1) = omega arith in less)
+    ∙ last_read (y ∷ xs)
+
+module _ (ps : List (Option ℕ)) (free : List ℕ) (capacity : ℕ) (r : IsRoster ps free capacity) where
+  -- the number that is next is there, and is given to no object
+  pub next_free : (n : ℕ) → last free ≡ Some n → (n < length ps) × (place ps n ≡ None)
+  next_free n next =
+      let split = last_split n free next in
+      top_free ps split.0 capacity n (subst (λ f. IsRoster ps f capacity) split.1 r)
+
+  pub next_known : (o : Option ℕ) → o ≡ last free → IfSome o (λ n. n < length ps)
+  next_known None is = tt
+  next_known (Some n) is = (next_free n (sym is)).0
+
+  pub next_vacant : (o : Option ℕ) → o ≡ last free → IfSome o (λ n. place ps n ≡ None)
+  next_vacant None is = tt
+  next_vacant (Some n) is = (next_free n (sym is)).1
+
+  -- what is known of the number that is next
+  pub stocked : IsStocked (record { places = ps; free = free })
+  stocked = record {
+    full = λ none. omega (arith, r.counted, ap length (last_none free none));
+    free = next_vacant (last free) refl;
+    known = next_known (last free) refl;
+  }

@@ -18,7 +18,7 @@ use Rattle.execheap.specs.Roster.{place}
 use Rattle.execheap.specs.Tags.{tag_of, number_of, is_of}
 use Rattle.execheap.specs.Numbered.{Numbered, contents, IsSound, IsTagged, place_or, place_of_tag, roster, number_at, tag_at, address_in, key_at, object_of, shown_object, shown_block, shown_entry, shown_heap}
 use Rattle.execheap.proofs.Entries.{IsFound, all_found, all_with, at_found, find_shown, some_same}
-use Rattle.execheap.proofs.Tagging.{place_tag, shown_tag, tag_named}
+use Rattle.execheap.proofs.Tagging.{number_tag, place_tag, shown_tag, tag_named}
 
 -- ---- the block that begins at an address
 
@@ -118,6 +118,14 @@ module _ {s : Numbered} (sound : IsSound s) where
         | None ↦ λ found e. let bad : false ≡ true = ap is_some e in cc
         | Some block ↦ λ found e. place_found kind number address block few found e
       ] refl is
+
+  -- and a number that has an address is at it
+  pub number_live : (kind number address : ℕ) → kind < 8 → place (roster kind s) number ≡ Some address → number_at kind address s ≡ Some number
+  number_live kind number address few live = elim (block_at address s.memory.blocks)
+      as (λ found. option_map (λ (block : ℕ × ℕ). block.1) found ≡ Some (tag_of kind number) → option_and_then (λ (block : ℕ × ℕ). number_of kind block.1) found ≡ Some number) [
+        | None ↦ λ e. let bad : false ≡ true = ap is_some e in cc
+        | Some block ↦ λ e. ap (number_of kind) (some_same e) ∙ number_tag kind number few
+      ] (tag_live kind number address few live)
 
   -- two numbers of a kind have no one address
   pub number_same : (kind n m address : ℕ) → kind < 8 → place (roster kind s) n ≡ Some address → place (roster kind s) m ≡ Some address → n ≡ m

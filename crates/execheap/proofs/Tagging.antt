@@ -1,6 +1,6 @@
 -- Tags: what is written is read, and what is read was written.
 use Rattle.std.proofs.Common.{◌≡◌, ℕ, zero, suc, ◌+◌, ◌*◌, ◌/◌, ◌%◌, ◌<◌, Bool, true, false, cond, refl, ap, sym, ◌∙◌, arith}
-use Rattle.std.specs.Prelude.{Option, None, Some, is_some, nat_eq, ◌&&◌, ◌≢◌}
+use Rattle.std.specs.Prelude.{Option, None, Some, is_some, nat_eq, ◌&&◌, ◌≢◌, if◌then◌else◌}
 use Rattle.memlist.proofs.Answered.{nat_eq-other, nat_eq-same}
 use Rattle.memlist.proofs.Headers.{from_eq}
 use Rattle.execheap.specs.Roster.{place}
@@ -20,6 +20,12 @@ shown_tag s kind number few = ap (λ k. object_of k ((kind + 8 * number) / 8) (c
 pub place_tag : (s : Numbered) (kind number : ℕ) → kind < 8 → place_of_tag (tag_of kind number) s ≡ place (roster kind s) number
 place_tag s kind number few =
     ap (λ k. place (roster k s) ((kind + 8 * number) / 8)) (kind_read kind number few) ∙ ap (λ n. place (roster kind s) n) (number_read kind number few)
+
+-- the tag of a kind and a number names that number
+pub number_tag : (kind number : ℕ) → kind < 8 → number_of kind (tag_of kind number) ≡ Some number
+number_tag kind number few =
+    ap (λ b. if b then Some ((kind + 8 * number) / 8) else None) (ap (λ k. nat_eq k kind) (kind_read kind number few) ∙ nat_eq-same kind)
+    ∙ ap Some (number_read kind number few)
 
 -- a tag that names a number of a kind is that of the kind and the number
 pub tag_named : (kind tag number : ℕ) → number_of kind tag ≡ Some number → tag ≡ tag_of kind number

@@ -1,5 +1,5 @@
 -- How a roster stands for its objects: for each number the address at which its object begins, none where the number is free.
-use Rattle.std.specs.Prelude.{◌≡◌, ℕ, suc, ◌+◌, ◌-◌, ◌≤◌, nat_lt, Bool, ◌&&◌, not, is_some, if◌then◌else◌, List, [], ◌∷◌, ◌++◌, length, replicate, slice_set, take, Option, Some, None, slice_index_or}
+use Rattle.std.specs.Prelude.{◌≡◌, ℕ, suc, ◌+◌, ◌-◌, ◌<◌, ◌≤◌, nat_lt, IfSome, Bool, ◌&&◌, not, is_some, if◌then◌else◌, List, [], ◌∷◌, ◌++◌, length, replicate, slice_set, take, Option, Some, None, slice_index_or}
 use Rattle.std.specs.List.{range_with_len}
 use Rattle.execlist.specs.Lists.{last, times}
 
@@ -35,6 +35,12 @@ all_free count = record { places = replicate count None; free = range_with_len 0
 -- the number that is given next
 abbrev pub next_number : Rostered → Option ℕ
 next_number r = last r.free
+
+-- the number that is next is there, and is given to no object; where none is next, each number is given
+pub record IsStocked (r : Rostered) : Type 0 where
+  pub full : next_number r ≡ None → taken r.places ≡ length r.places
+  pub free : IfSome (next_number r) (λ n. place r.places n ≡ None)
+  pub known : IfSome (next_number r) (λ n. n < length r.places)
 
 -- the next number, if there is one, is given to the object at an address
 abbrev pub given : Option ℕ → ℕ → Rostered → Rostered

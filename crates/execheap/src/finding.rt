@@ -46,6 +46,7 @@ impl<S: ListSpace> Objects<S> {
         ensures found { IfOk result (λ n. place self.now.nodes.places n ≡ Some node) }
         ensures unlinked { IfOk result (λ n. home self.now.homes n ≡ None) }
     {
+        self.facts();
         match self.number_at(Kind::Node, node) {
             None => Err(Refusal::Handle),
             Some(n) => match self.home(n) {
@@ -61,6 +62,7 @@ impl<S: ListSpace> Objects<S> {
         ensures found { IfOk result (λ pair. place self.now.nodes.places pair.1 ≡ Some node) }
         ensures linked { IfOk result (λ pair. home self.now.homes pair.1 ≡ Some pair.0) }
     {
+        self.facts();
         match self.number_at(Kind::Node, node) {
             None => Err(Refusal::Handle),
             Some(n) => match self.home(n) {
@@ -127,6 +129,7 @@ impl<S: ListSpace> Objects<S> {
         ensures unlinked { IfOk result (λ three. home self.now.homes three.1 ≡ None) }
         ensures pred_in { IfOk result (λ three. ForSome three.2 (λ p. home self.now.homes p ≡ Some three.0)) }
     {
+        self.facts();
         match self.list_at(list) {
             Err(why) => Err(why),
             Ok(h) => match self.number_at(Kind::Node, node) {
@@ -156,6 +159,7 @@ impl<S: ListSpace> Objects<S> {
         ensures searched { IfOk result (λ pair. searched start (shown_heap self.now)
             ≡ map (address_in self.now.nodes.places) (part_from pair.1 (sequence self.now.sequences pair.0))) }
     {
+        self.facts();
         match self.number_at(Kind::List, start) {
             Some(h) => Ok((h, None)),
             None => match self.linked_node_at(start) {

@@ -6,10 +6,13 @@ ghost use Rattle.execlist.specs.Order.{first};
 ghost use Rattle.execlist.specs.Lists.{home, is_named, last, part_after, part_before, part_from, sequence};
 ghost use Rattle.memlist.specs.Fit.{asks, avail, fit};
 ghost use Rattle.memlist.specs.Memory.{IsWellFormed, allocated, can_free, untouched, without_block};
-ghost use Rattle.execheap.specs.Roster.{next_number, place};
+ghost use Rattle.execheap.specs.Roster.{IsStocked, next_number, place};
 ghost use Rattle.execheap.specs.Tags.{kind_code};
 ghost use Rattle.execheap.specs.Numbered.{IsSound, IsSpace, number_at, roster};
 ghost use Rattle.execheap.specs.Changes.{unused, made_at, key_of, list_numbered, list_made, list_freed, node_numbered, node_made, node_freed, at_head, at_tail, queued, put, taken_out, head_taken, tail_taken};
+
+#[cfg(test)]
+mod tests;
 
 use crate::kind::{Kind, number_of, tag_of};
 use crate::roster::Roster;
@@ -85,9 +88,13 @@ impl<S: ListSpace> Objects<S> {
         ensures sound { IsSound self.now }
         ensures space { IsSpace self.now }
         ensures memory { IsWellFormed self.now.memory.regions self.now.memory.blocks }
+        ensures lists { IsStocked self.now.lists }
+        ensures nodes { IsStocked self.now.nodes }
     {
         let _ = &self.space;
         self.memory.is_well_formed();
+        self.lists.facts();
+        self.nodes.facts();
     }
 
     // ---- plain blocks
@@ -97,6 +104,7 @@ impl<S: ListSpace> Objects<S> {
         ensures answer { result ≡ fit self.old.memory.regions self.old.memory.blocks size reqs }
         ensures next { self.new ≡ record self.old { memory = allocated size 0 result self.old.memory } }
     {
+        self.memory.is_well_formed();
         self.memory.alloc_mem(size, reqs, 0)
     }
 
@@ -106,6 +114,7 @@ impl<S: ListSpace> Objects<S> {
         ensures freed { result ≡ true → self.new ≡ record self.old { memory = without_block address self.old.memory } }
         ensures kept { result ≡ false → self.new ≡ self.old }
     {
+        self.memory.is_well_formed();
         self.memory.free_mem(address, size).is_ok()
     }
 
@@ -157,6 +166,8 @@ impl<S: ListSpace> Objects<S> {
         ensures answer { result ≡ fit self.old.memory.regions self.old.memory.blocks 14 1 }
         ensures next { self.new ≡ list_numbered 14 (Some number) result self.old }
     {
+        self.memory.is_well_formed();
+        self.lists.facts();
         let tag = tag_of(Kind::List, number);
         match self.memory.alloc_mem(LIST_SIZE, MEMF_PUBLIC, tag) {
             Some(address) => {
@@ -184,6 +195,8 @@ impl<S: ListSpace> Objects<S> {
         ensures answer { result ≡ fit self.old.memory.regions self.old.memory.blocks 14 1 }
         ensures next { self.new ≡ node_numbered 14 (key_of pri (option_map (λ text. text.bytes) name)) (Some number) result self.old }
     {
+        self.memory.is_well_formed();
+        self.nodes.facts();
         let tag = tag_of(Kind::Node, number);
         match self.memory.alloc_mem(NODE_SIZE, MEMF_PUBLIC, tag) {
             Some(address) => {
@@ -201,6 +214,7 @@ impl<S: ListSpace> Objects<S> {
         requires empty { sequence self.old.sequences h ≡ [] }
         ensures { self.new ≡ list_freed h address self.old }
     {
+        self.memory.is_well_formed();
         self.memory.free_block(address);
         self.lists.release(h);
     }
@@ -211,6 +225,7 @@ impl<S: ListSpace> Objects<S> {
         requires unlinked { home self.old.homes n ≡ None }
         ensures { self.new ≡ node_freed n address self.old }
     {
+        self.memory.is_well_formed();
         self.memory.free_block(address);
         self.nodes.release(n);
     }
@@ -352,3 +367,6 @@ fn memory_of(alloc: Global, regions: &[Region]) -> Result<MemList, AllocError>
         Err(_) => Err(AllocError),
     }
 }
+
+#[cfg(test)]
+mod making_tests;

@@ -3,7 +3,7 @@
 //! The numbers are an own choice: Exec knows its objects by address alone. The free ones stand in a stack with room
 //! for all, so that each call but `new` takes constant time and no memory.
 ghost use Rattle.std.specs.Prelude.{◌≡◌, ◌<◌, length, None, IfOk, IfSome, IsSome};
-ghost use Rattle.execheap.specs.Roster.{all_free, enrolled, next_number, place, released, taken};
+ghost use Rattle.execheap.specs.Roster.{IsStocked, all_free, enrolled, next_number, place, released};
 
 use std::alloc::{AllocError, Global};
 use std::marker::Model;
@@ -63,9 +63,9 @@ impl Roster {
         self.free.push(n).unwrap();
     }
 
-    /// What always holds of a roster: where no number is next, each is given. It costs nothing.
+    /// What always holds of the number that is next. It costs nothing.
     pub fn facts(&self)
-        ensures { next_number self.now ≡ None → taken self.now.places ≡ length self.now.places }
+        ensures { IsStocked self.now }
     {
         let _ = &self.free;
     }
@@ -89,32 +89,30 @@ mod tests {
     #[test]
     fn a_new_roster_has_each_number_free(rt: HostRuntime) -> Result<(), Fail> {
         let roster = Roster::new(rt.alloc(), 2)?;
-        assert!(rt; roster.has_free());
+        assert!(rt; roster.next().is_some());
         assert_eq!(rt; roster.place(0), None);
         assert_eq!(rt; roster.place(1), None);
         assert_eq!(rt; roster.place(2), None);
-        assert!(rt; !Roster::new(rt.alloc(), 0)?.has_free());
+        assert_eq!(rt; Roster::new(rt.alloc(), 0)?.next(), None);
         Ok(())
     }
 
     #[test]
     fn each_number_is_given_once_until_it_is_released(rt: HostRuntime) -> Result<(), Fail> {
         let mut roster = Roster::new(rt.alloc(), 2)?;
-        assert!(rt; roster.has_free());
-        let first = roster.enroll(0x1000);
-        assert!(rt; roster.has_free());
-        let second = roster.enroll(0x2000);
-        assert!(rt; first != second);
-        assert_eq!(rt; roster.place(first), Some(0x1000));
-        assert_eq!(rt; roster.place(second), Some(0x2000));
-        assert!(rt; !roster.has_free());
-        roster.release(first);
-        assert_eq!(rt; roster.place(first), None);
-        assert_eq!(rt; roster.place(second), Some(0x2000));
-        assert!(rt; roster.has_free());
-        let third = roster.enroll(0x3000);
-        assert_eq!(rt; third, first);
-        assert_eq!(rt; roster.place(third), Some(0x3000));
+        assert_eq!(rt; roster.next(), Some(1));
+        roster.enroll(0x1000);
+        assert_eq!(rt; roster.next(), Some(0));
+        roster.enroll(0x2000);
+        assert_eq!(rt; roster.place(1), Some(0x1000));
+        assert_eq!(rt; roster.place(0), Some(0x2000));
+        assert_eq!(rt; roster.next(), None);
+        roster.release(1);
+        assert_eq!(rt; roster.place(1), None);
+        assert_eq!(rt; roster.place(0), Some(0x2000));
+        assert_eq!(rt; roster.next(), Some(1));
+        roster.enroll(0x3000);
+        assert_eq!(rt; roster.place(1), Some(0x3000));
         Ok(())
     }
 }

@@ -1,3 +1,4 @@
 pub mod MemoryTraces
 pub mod QuantumTraces
+pub mod Stopped
 pub mod Traces

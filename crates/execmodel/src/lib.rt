@@ -1,7 +1,8 @@
 //! The abstract machine: what a machine file does over a list of events, in definitions alone (`specs/`).
-//! The functions here have no effect. Their contracts are whole traces of small machines, as the definitions compute them.
+//! The functions here have no effect. Their contracts are laws, and whole traces of small machines as the definitions compute them.
 #![tactic(auto)]
 
+pub mod laws;
 pub mod memory_runs;
 pub mod quantum_runs;
 

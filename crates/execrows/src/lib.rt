@@ -1,14 +1,17 @@
-//! Worked runs of whole machines, from both texts to the trace: tests that cross crates, and no code.
+//! Whole runs, from both texts to the trace: one call that keeps the trace, and tests of worked machines, which cross crates.
 #![tactic(auto)]
 
 #[cfg(test)]
 mod arithmetic;
+#[cfg(test)]
+mod lists;
 #[cfg(test)]
 mod memory;
 #[cfg(test)]
 mod not_simulated;
 #[cfg(test)]
 mod quantum;
+mod run;
 #[cfg(test)]
 mod running;
 #[cfg(test)]
@@ -19,3 +22,5 @@ mod tasks;
 mod texts;
 #[cfg(test)]
 mod writers;
+
+pub use run::{Run, run_of};

@@ -105,3 +105,27 @@ fn suitable_regions_are_tried_by_priority(rt: HostRuntime) {
         End::Alerted,
     );
 }
+
+const LARGE_SIZES: &str = r#"
+[[region]]
+base = 4096
+size = 32
+attrs = 1
+
+[[task]]
+name = "a"
+pri = 0
+code = ["AllocMem $FFFFFFFF 1", "AllocMem $FFFFFFF8 1", "AllocMem 33 1", "AvailMem 1", "AllocMem 32 1"]
+"#;
+
+#[test]
+fn a_size_past_all_free_memory_fits_nowhere(rt: HostRuntime) {
+    runs(
+        &rt,
+        rt.alloc(),
+        LARGE_SIZES,
+        "run 5\n",
+        "switch a\na AllocMem $FFFFFFFF $00000001 -> $00000000\na AllocMem $FFFFFFF8 $00000001 -> $00000000\na AllocMem $00000021 $00000001 -> $00000000\na AvailMem $00000001 -> $00000020\na AllocMem $00000020 $00000001 -> $00001000\n",
+        End::Ran,
+    );
+}

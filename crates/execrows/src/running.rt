@@ -1,4 +1,9 @@
 //! Running a machine in a test.
+ghost use Rattle.taskscript.specs.File.{file_of};
+ghost use Rattle.taskscript.specs.Events.{script_of};
+ghost use Rattle.execrows.specs.Runs.{IsRun, IsFault};
+
+use crate::run::run_of;
 use execsim::{End, SimFault, simulate};
 use exectrace::{Sink, SinkState, WriteSink};
 use std::alloc::Global;
@@ -12,11 +17,12 @@ pub(crate) fn runs(
     events: &str,
     trace: &str,
     end: End,
-) {
-    let mut out = WriteSink::new(Vec::new(alloc));
-    let answer = simulate(alloc, machine.as_bytes(), events.as_bytes(), &mut out);
-    assert_eq!(rt; out.into_inner().as_slice(), trace.as_bytes(), "{machine}");
-    assert_eq!(rt; answer, Ok(end), "{machine}");
+)
+    ensures { IsRun (file_of machine.now) (script_of events.now) trace.now end }
+{
+    let run = run_of(alloc, machine.as_bytes(), events.as_bytes()).expect(rt, machine);
+    assert_eq!(rt; run.trace.as_slice(), trace.as_bytes(), "{machine}");
+    assert_eq!(rt; run.end, end, "{machine}");
 }
 
 /// Runs the texts, which are refused by this fault, and nothing is written.
@@ -26,7 +32,9 @@ pub(crate) fn refuses(
     machine: &[u8],
     events: &[u8],
     fault: SimFault,
-) {
+)
+    ensures { IsFault (file_of machine.now) (script_of events.now) fault }
+{
     let mut out = WriteSink::new(Vec::new(alloc));
     let answer = simulate(alloc, machine, events, &mut out);
     assert_eq!(rt; answer, Err(fault));

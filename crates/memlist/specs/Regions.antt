@@ -3,7 +3,14 @@ use Rattle.std.specs.Prelude.{ℕ, ◌+◌, ◌%◌, Bool, true, not, ◌&&◌, 
 use Rattle.std.specs.List.{list_all, list_any, sum_by}
 use Rattle.memlist.specs.declared.region.Region.{Region}
 use Rattle.memlist.specs.declared.region.MemFault.{MemFault}
-use Rattle.memlist.specs.declared.region.MemFault.TheVariants.{Misaligned, Overlap, TooLarge}
+use Rattle.memlist.specs.declared.region.MemFault.TheVariants.{Misaligned, Overlap, TooLarge, OutOfMemory}
+
+-- the number of a fault (own choice)
+abbrev pub fault_number : MemFault → ℕ
+fault_number Misaligned = 1
+fault_number Overlap = 2
+fault_number TooLarge = 3
+fault_number OutOfMemory = 4
 
 -- the address after a region's last byte
 abbrev pub region_end : Region → ℕ

@@ -1,7 +1,7 @@
 //! The regions of a machine, and the check that refuses those that it may not have.
 ghost use Rattle.std.specs.Prelude.{◌≡◌, ◌≤◌, IsTrue, None, Some, MatchResult, length};
 ghost use Rattle.std.specs.List.{list_all, list_any};
-ghost use Rattle.memlist.specs.Regions.{are_apart, are_small, is_aligned, is_in_reach, overlaps, regions_fault, total_size};
+ghost use Rattle.memlist.specs.Regions.{are_apart, are_small, fault_number, is_aligned, is_in_reach, overlaps, regions_fault, total_size};
 
 use thiserror::Error;
 
@@ -48,6 +48,15 @@ pub enum MemFault {
     /// There was no memory for the list itself. Only `MemList::new` answers it.
     #[error("no memory")]
     OutOfMemory = 4,
+}
+
+impl MemFault {
+    /// The number of the fault, 1 to 4 (own choice).
+    pub fn number(self) -> u8
+        ensures { result ≡ fault_number self }
+    {
+        self as u8
+    }
 }
 
 /// Checks the regions of a machine: the first of Misaligned, TooLarge and Overlap that holds of them is the fault.

@@ -18,6 +18,17 @@ fn region(base: u32, size: u32) -> Region {
 }
 
 #[test]
+fn faults_are_numbered_from_1(rt: HostRuntime) {
+    let faults = [
+        MemFault::Misaligned,
+        MemFault::Overlap,
+        MemFault::TooLarge,
+        MemFault::OutOfMemory,
+    ];
+    assert_eq!(rt; faults.map(|fault| fault.number()), [1, 2, 3, 4]);
+}
+
+#[test]
 fn sizes_round_up_and_gaps_are_filled_from_the_front(rt: HostRuntime) -> Result<(), Fail> {
     let mut memory = small(rt.alloc(), 32)?;
     assert_eq!(rt; memory.alloc_mem(7, 1, 0), Some(0x1000));

@@ -1,2 +1,4 @@
 mod CommandLemmas
+mod LentLemmas
 mod ReadLemmas
+mod RunLemmas

@@ -34,6 +34,10 @@ pub record AreGivenBy (words : List Text) (paths : Paths) : Type 0 where
 abbrev pub AreRight : List Text → Type 0
 AreRight words = fault_of two_paths words ≡ []
 
+-- the words ask for help
+abbrev pub AskForHelp : List Text → Type 0
+AskForHelp words = fault_of two_paths words ≡ DisplayHelp ∷ []
+
 -- the words are no command line, and do not ask for help before that shows
 pub record AreRefused (words : List Text) : Type 0 where
   pub kind : ErrorKind

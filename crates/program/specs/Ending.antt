@@ -1,5 +1,5 @@
 -- The ends of the program: the status that stands for each, and which of them go without a word on standard error.
-use Rattle.std.specs.Prelude.{⊤}
+use Rattle.std.specs.Prelude.{⊤, ℕ}
 use Rattle.std.specs.declared.result.Result.{Result}
 use Rattle.std.specs.declared.result.Result.TheVariants.{Ok, Err}
 use Rattle.execsim.specs.declared.simulation.End.{End}
@@ -24,6 +24,14 @@ status_of (ending.Refused error) = status.CommandLineRefused
 status_of (ending.Failed (Machine fault)) = status.TextRefused
 status_of (ending.Failed (Events fault)) = status.TextRefused
 status_of (ending.Failed fault) = status.Failed
+
+-- the number of each status, which the process ends with
+abbrev pub code_of : Status → ℕ
+code_of status.Done = 0
+code_of status.TextRefused = 1
+code_of status.CommandLineRefused = 2
+code_of status.Alerted = 3
+code_of status.Failed = 4
 
 abbrev pub IsSilent : Ending → Type 0
 IsSilent ending.Done = ⊤

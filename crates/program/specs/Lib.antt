@@ -3,3 +3,5 @@ pub mod Message
 pub mod Fault
 pub mod Reading
 pub mod Ending
+pub mod Lending
+pub mod Running

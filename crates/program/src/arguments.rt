@@ -23,7 +23,8 @@ fn run_buffered<R: Env + Files + AllocGlobal, W: Write + Drop, E: Write>(
     out: W,
     err: &mut E,
 ) -> io::Result<u8>
-    ensures { IfOk result (λ status. status ≤ 4) }
+    ensures status { IfOk result (λ status. status ≤ 4) }
+    ensures silent { IfOk result (λ status. (status ≡ 0) ⊎ (status ≡ 3) → err.new ≡ err.old) }
 {
     let alloc = rt.alloc();
     let arguments: Vec<String> = env::args(rt)?.skip(1).collect(alloc)?;
@@ -37,6 +38,7 @@ fn ending_without_words<'a>(alloc: Global, error: &io::Error) -> Ending<'a>
     ensures memory { error_kind error.now ≡ ErrorKind.OutOfMemory → result ≡ Ending.Failed Fault.NoMemory }
     ensures not_text { error_kind error.now ≢ ErrorKind.OutOfMemory
         → (status_of result ≡ Status.CommandLineRefused) ⊎ (result ≡ Ending.Failed Fault.NoMemory) }
+    ensures status { (status_of result ≡ Status.CommandLineRefused) ⊎ (status_of result ≡ Status.Failed) }
 {
     if error.kind() == ErrorKind::OutOfMemory {
         return Ending::Failed(Fault::NoMemory);
@@ -55,10 +57,11 @@ pub fn run_on_arguments<R: Env + Files + AllocGlobal, W: Write + Drop, E: Write>
     out: W,
     err: &mut E,
 ) -> u8
-    ensures { result ≤ 4 }
+    ensures status { result ≤ 4 }
+    ensures silent { (result ≡ 0) ⊎ (result ≡ 3) → err.new ≡ err.old }
 {
     match run_buffered(rt, out, err) {
         Ok(status) => status,
-        Err(error) => report(&ending_without_words(rt.alloc(), &error), err) as u8,
+        Err(error) => report(&ending_without_words(rt.alloc(), &error), err).code(),
     }
 }

@@ -1,10 +1,13 @@
 //! The command line: two paths.
-ghost use Rattle.std.specs.Prelude.{◌≡◌, IfOk, false};
+ghost use Rattle.std.specs.Prelude.{◌≡◌, ◌⊎◌, IfErr, IfOk, OnOk, false};
+ghost use Rattle.std.specs.Io.KnownBytes.{Appends};
 ghost use Rattle.clap.specs.Words.{FailsBy, IsPlainArg, fault_of, kind_of, rule_of};
 ghost use Rattle.clap.specs.Built.{TakesValue};
 ghost use Rattle.clap.specs.Walk.{texts};
 ghost use Rattle.program.specs.CommandLine.{AreGivenBy, TakesTwoPaths, path_rule, two_paths};
+ghost use Rattle.program.specs.Running.{Grows};
 
+use crate::fault::Fault;
 use clap::error::ErrorKind;
 use clap::{Arg, ArgAction, Command, Error};
 use std::alloc::{AllocError, Global};
@@ -73,8 +76,32 @@ pub fn not_text_error(alloc: Global) -> Result<Error, AllocError>
     )
 }
 
-/// Writes the text of an answer of `clap`'s, and flushes it.
-pub fn write_answer<W: Write>(answer: &Error, out: &mut W) -> io::Result<()> {
-    write!(out, "{answer}")?;
+/// Writes a text, and flushes it.
+fn write_text<W: Write>(text: &str, out: &mut W) -> io::Result<()>
+    ensures { OnOk result (Appends (W.contents out.old) (W.contents out.new) text.now) }
+{
+    out.write_all(text.as_bytes())?;
     out.flush()
+}
+
+/// Writes the text of an answer of `clap`'s, and flushes it. Which text that is, `clap` alone says.
+///
+/// # Errors
+///
+/// `NoMemory` where memory for the text is refused, and nothing is written then; `WriteFailed` where the text cannot be written.
+pub fn write_answer<'a, W: Write>(
+    alloc: Global,
+    answer: &Error,
+    out: &mut W,
+) -> Result<(), Fault<'a>>
+    ensures writes { OnOk result (Grows (W.contents out.old) (W.contents out.new)) }
+    ensures faults { IfErr result (λ fault. ((fault ≡ Fault.NoMemory) × (out.new ≡ out.old)) ⊎ (fault ≡ Fault.WriteFailed)) }
+{
+    let Ok(text) = format!(in alloc; "{answer}") else {
+        return Err(Fault::NoMemory);
+    };
+    match write_text(text.as_str(), out) {
+        Ok(()) => Ok(()),
+        Err(_) => Err(Fault::WriteFailed),
+    }
 }

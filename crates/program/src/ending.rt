@@ -1,12 +1,12 @@
 //! How the program ends: what it says on standard error, and its status.
-ghost use Rattle.std.specs.Prelude.{◌≡◌, OnOk, Some};
+ghost use Rattle.std.specs.Prelude.{◌≡◌, IfSome, OnOk, Some};
 ghost use Rattle.std.specs.Io.KnownBytes.{Appends};
 ghost use Rattle.program.specs.Fault.{line_of};
-ghost use Rattle.program.specs.Ending.{IsSilent, ending_after, status_of};
+ghost use Rattle.program.specs.Ending.{IsSilent, code_of, ending_after, status_of};
 
-use crate::command_line::write_answer;
 use crate::fault::Fault;
 use execsim::End;
+use std::fmt::Display;
 use std::io;
 use std::io::Write;
 
@@ -23,6 +23,15 @@ pub enum Status {
     Alerted = 3,
     /// Memory, reading or writing failed.
     Failed = 4,
+}
+
+impl Status {
+    /// The number that stands for it where the program ends.
+    pub fn code(self) -> u8
+        ensures { result ≡ code_of self }
+    {
+        self as u8
+    }
 }
 
 /// How the program ends.
@@ -66,6 +75,14 @@ impl Ending<'_> {
     }
 }
 
+/// Writes what a value shows of itself, and flushes it.
+fn write_shown<D: Display + Drop, E: Write>(shown: D, err: &mut E) -> io::Result<()>
+    ensures { OnOk result (IfSome (D.output shown) (Appends (E.contents err.old) (E.contents err.new))) }
+{
+    write!(err, "{shown}")?;
+    err.flush()
+}
+
 /// Writes the line of a fault, and flushes it.
 fn write_fault<E: Write>(fault: &Fault<'_>, err: &mut E) -> io::Result<()>
     ensures { OnOk result (Appends (E.contents err.old) (E.contents err.new) (line_of fault.now)) }
@@ -82,7 +99,7 @@ pub fn report<E: Write>(ending: &Ending<'_>, err: &mut E) -> Status
 {
     let _ = match ending {
         Ending::Done | Ending::Alerted => Ok(()),
-        Ending::Refused(error) => write_answer(error, err),
+        Ending::Refused(error) => write_shown(error, err),
         Ending::Failed(fault) => write_fault(fault, err),
     };
     ending.status()

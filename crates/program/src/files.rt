@@ -42,9 +42,9 @@ impl From<io::Error> for ReadFault {
 ///
 /// `Failed` where a read answers an error, and `OutOfMemory` where memory is refused.
 fn read_limited<R: Read + Drop>(alloc: Global, reader: R) -> Result<Vec<u8>, ReadFault>
-    ensures within { IfOk result (λ bytes. vec_len bytes ≤ FILE_LIMIT) }
+    ensures within { IfOk result (λ bytes. vec_len bytes ≤ 4194304) }
     ensures whole { IfOk result (λ bytes. IfSome (R.remaining reader) (λ all. bytes.items ≡ all)) }
-    ensures too_long { IsErrOf result ReadFault.TooLong → IfSome (R.remaining reader) (λ all. FILE_LIMIT < length all) }
+    ensures too_long { IsErrOf result ReadFault.TooLong → IfSome (R.remaining reader) (λ all. 4194304 < length all) }
 {
     let mut bytes = Vec::new(alloc);
     reader.take(FILE_LIMIT as u64 + 1).read_to_end(&mut bytes)?;
@@ -70,7 +70,7 @@ fn fault_at(path: &str, fault: ReadFault) -> Fault<'_>
 ///
 /// `NoMemory` where memory is refused, and `CannotRead` where the file cannot be opened or read, or is longer.
 pub fn read_file<'a, R: Files>(rt: &R, alloc: Global, path: &'a str) -> Result<Vec<u8>, Fault<'a>>
-    ensures within { IfOk result (λ bytes. vec_len bytes ≤ FILE_LIMIT) }
+    ensures within { IfOk result (λ bytes. vec_len bytes ≤ 4194304) }
     ensures faults { IfErr result (λ fault. (fault ≡ Fault.NoMemory) ⊎ (fault ≡ Fault.CannotRead path.entry)) }
 {
     let file = fs::open(rt, path).map_err(|error| fault_at(path, ReadFault::from(error)))?;

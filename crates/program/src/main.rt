@@ -6,6 +6,7 @@ mod command_line;
 mod ending;
 mod fault;
 mod files;
+mod lent;
 mod running;
 #[cfg(test)]
 mod tests;

@@ -1,17 +1,19 @@
 -- What holds of every text that is accepted.
-use Rattle.std.proofs.Common.{◌≡◌, ℕ, ◌+◌, if◌then◌else◌, Bool, true, false, List, [], ◌∷◌, ◌++◌, length, Option, Some, None, Ok, refl, subst, append_assoc, arith}
+use Rattle.std.proofs.Common.{◌≡◌, ℕ, ◌+◌, ◌≤◌, All, if◌then◌else◌, Bool, true, false, List, [], ◌∷◌, ◌++◌, length, Option, Some, None, Ok, refl, subst, append_assoc, arith}
 use Rattle.std.proofs.lemmas.Bool.Decides.{nat_tests}
 use Rattle.std.proofs.lemmas.List.{append-nil}
+use Rattle.std.proofs.lemmas.List.Elements.{All-nil}
 use Rattle.toml.specs.Data.{Members}
 use Rattle.taskscript.specs.declared.event.Event.{Event}
 use Rattle.taskscript.specs.declared.fault.EventFault.{EventFault}
 use Rattle.taskscript.specs.declared.fault.EventFault.TheVariants.{TooMany}
 use Rattle.taskscript.specs.declared.fault.FileFault.{FileFault}
-use Rattle.taskscript.specs.Events.{event_of, is_skipped, events_of, is_within, fault_by, line_faults, faults as line_by_line, first as first_line, judged as judged_lines, lines_of, script_of, AreWithin}
+use Rattle.taskscript.specs.Events.{event_of, is_skipped, events_of, is_within, fault_by, line_faults, faults as line_by_line, first as first_line, judged as judged_lines, lines_of, script_of, turns, AreWithin}
 use Rattle.taskscript.specs.Faults.{first}
 use Rattle.taskscript.specs.File.{MachineData, faults, machine_of, judged, file_of_document, file_of}
 use Rattle.taskscript.specs.Machines.{IsMachine}
 use Rattle.taskscript.specs.Tree.{document_of}
+use Rattle.taskscript.proofs.EventSizes.{events_some}
 use Rattle.taskscript.proofs.EventTurns.{events_push}
 use Rattle.taskscript.proofs.Machines.{machine_holds}
 
@@ -39,17 +41,17 @@ right : (a b : List EventFault) → first_line (a ++ b) ≡ None → first_line 
 right [] b h = h
 right (f ∷ a) b h = absurd cc
 
-tells : (events : List Event) (within : Bool) → is_within events ≡ within → first_line (if within then [] else TooMany ∷ []) ≡ None → AreWithin events
-tells events true is h = record { steps = grind (arith, nat_tests, is); ticks = grind (arith, nat_tests, is); count = grind (arith, nat_tests, is) }
-tells events false is h = absurd cc
+tells : (events : List Event) (within : Bool) → All (λ e. 1 ≤ turns e) events → is_within events ≡ within → first_line (if within then [] else TooMany ∷ []) ≡ None → AreWithin events
+tells events true some is h = record { some = some; steps = grind (arith, nat_tests, is); ticks = grind (arith, nat_tests, is); count = grind (arith, nat_tests, is) }
+tells events false some is h = absurd cc
 
-with_event : (event : Option Event) (number : ℕ) (events : List Event) → first_line (fault_by event number events) ≡ None → AreWithin events
-with_event None number events h = absurd cc
-with_event (Some e) number events h = tells events (is_within events) refl h
+with_event : (event : Option Event) (number : ℕ) (events : List Event) → All (λ e. 1 ≤ turns e) events → first_line (fault_by event number events) ≡ None → AreWithin events
+with_event None number events some h = absurd cc
+with_event (Some e) number events some h = tells events (is_within events) some refl h
 
 after_line : (skipped : Bool) (before : List (List ℕ)) (line : List ℕ) → is_skipped line ≡ skipped → AreWithin (events_of before) → first_line (line_faults before line) ≡ None → AreWithin (events_of (before ++ line ∷ []))
 after_line true before line is so_far h = rw (events_push before line, is, append-nil (events_of before)) so_far
-after_line false before line is so_far h = with_event (event_of line) (length before + 1) (events_of (before ++ line ∷ [])) (rw is at h)
+after_line false before line is so_far h = with_event (event_of line) (length before + 1) (events_of (before ++ line ∷ [])) (events_some (before ++ line ∷ [])) (rw is at h)
 
 after_lines : (before lines : List (List ℕ)) → AreWithin (events_of before) → first_line (line_by_line before lines) ≡ None → AreWithin (events_of (before ++ lines))
 after_lines before [] so_far h = rw append-nil so_far
@@ -60,7 +62,7 @@ after_lines before (line ∷ lines) so_far h =
 of_lines : (lines : List (List ℕ)) (events : List Event) (fault : Option EventFault) → first_line (line_by_line [] lines) ≡ fault → judged_lines (events_of lines) fault ≡ Ok events → AreWithin events
 of_lines lines events None none is =
     let same : events_of lines ≡ events = cc in
-    let nothing : AreWithin [] = record { steps = omega arith; ticks = omega arith; count = omega arith } in
+    let nothing : AreWithin [] = record { some = All-nil (λ e. 1 ≤ turns e); steps = omega arith; ticks = omega arith; count = omega arith } in
     subst (λ (es : List Event). AreWithin es) same (after_lines [] lines nothing none)
 of_lines lines events (Some f) some is = absurd cc
 

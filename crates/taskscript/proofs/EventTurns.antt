@@ -9,6 +9,7 @@ use Rattle.taskscript.specs.declared.event.Event.{Event}
 use Rattle.taskscript.specs.declared.fault.EventFault.{EventFault}
 use Rattle.taskscript.specs.declared.fault.EventFault.TheVariants.{BadLine, TooMany, OutOfMemory}
 use Rattle.taskscript.specs.Events.{event_of, is_skipped, events_on, events_of, steps, ticks, are_within, is_within, line_faults, faults, first, lines_of, script_of, JudgesLines, AreWithin}
+use Rattle.taskscript.proofs.EventSizes.{events_some}
 
 abbrev pub nowhere : Bor (List ℕ)
 nowhere = record { ref_ptr = (0, 0); now = [] }
@@ -82,8 +83,8 @@ pub limits : (s t n : ℕ) → are_within s t n ≡ true → (s ≤ 1000000) × 
 limits s t n h = (grind (arith, nat_tests), grind (arith, nat_tests), grind (arith, nat_tests))
 
 -- the events are within the limits where the counters are
-pub all_within : (es : List Event) (s t : ℕ) → s ≡ sum_by steps es → t ≡ sum_by ticks es → s ≤ 1000000 → t ≤ 1000000 → length es ≤ 100000 → AreWithin es
-all_within es s t p q few short count = record { steps = omega arith; ticks = omega arith; count = count }
+pub all_within : (es : List Event) (lines : List (List ℕ)) (s t : ℕ) → es ≡ events_of lines → s ≡ sum_by steps es → t ≡ sum_by ticks es → s ≤ 1000000 → t ≤ 1000000 → length es ≤ 100000 → AreWithin es
+all_within es lines s t found p q few short count = record { some = rw found (events_some lines); steps = omega arith; ticks = omega arith; count = count }
 
 pub decided : (text : List ℕ) (ls : List (List ℕ)) (r : Result (List Event) EventFault) → ls ≡ lines_of text → JudgesLines r (faults [] ls) (λ v. v ≡ events_of ls)
     → MatchResult r (λ v. script_of text ≡ Ok v) (λ f. ¬ (f ≡ OutOfMemory) → script_of text ≡ Err f)

@@ -4,10 +4,12 @@ pub mod Below
 pub mod BodyReading
 pub mod CodeLaws
 pub mod Documents
+pub mod EventSizes
 pub mod EventTurns
 pub mod FirstSight
 pub mod Firsts
 pub mod ItemTurns
+pub mod Jumps
 pub mod Keys
 pub mod LabelPlaces
 pub mod Machines

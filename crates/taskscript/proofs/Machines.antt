@@ -20,6 +20,7 @@ use Rattle.taskscript.specs.Names.{is_name}
 use Rattle.taskscript.specs.Tree.{required, optional, keys_are_among, integer_faults, pri_faults, boolean_faults, name_faults, count_items, array_faults, are_strings, code_faults, number_or, items_faults, string_or_nothing, items_or_none}
 use Rattle.taskscript.proofs.CodeLaws.{commands_fit, length-code_of}
 use Rattle.taskscript.proofs.Firsts.{first_left, first_right}
+use Rattle.taskscript.proofs.Jumps.{jumps_fit}
 
 -- ---- one place
 
@@ -120,6 +121,7 @@ task_holds before shared d h k = record {
   name = is_named before d h;
   code = omega (arith, length-code_of shared (lines_of d), is_short before d h);
   commands = commands_fit shared (lines_of d) k;
+  jumps = jumps_fit shared (lines_of d);
 }
 
 -- ---- all tasks

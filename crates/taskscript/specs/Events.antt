@@ -1,5 +1,5 @@
 -- The events of a text, or its first fault.
-use Rattle.std.specs.Prelude.{◌≡◌, ℕ, ◌+◌, ◌≤◌, Bool, true, ◌&&◌, nat_le, ◌==◌, bytes_eq, codes, List, [], ◌∷◌, ◌++◌, length, drop, take, sum_by, Option, Some, None, Result, Ok, Err, option_map, option_and_then, option_to_list, if◌then◌else◌}
+use Rattle.std.specs.Prelude.{◌≡◌, ℕ, ◌+◌, ◌≤◌, Bool, true, ◌&&◌, nat_le, ◌==◌, bytes_eq, codes, All, List, [], ◌∷◌, ◌++◌, length, drop, take, sum_by, Option, Some, None, Result, Ok, Err, option_map, option_and_then, option_to_list, if◌then◌else◌}
 use Rattle.std.specs.List.{slice_split}
 use Rattle.taskscript.specs.Numbers.{decimal_of}
 use Rattle.taskscript.specs.declared.event.Event.{Event}
@@ -99,8 +99,14 @@ abbrev pub JudgesLines : {X : Type 0} → Result X EventFault → List EventFaul
 JudgesLines (Ok x) fs right = (first fs ≡ None) × right x
 JudgesLines (Err f) fs right = ¬ (f ≡ OutOfMemory) → first fs ≡ Some f
 
--- what holds of the events of every text that is accepted
+-- the turns that an event asks for
+abbrev pub turns : Event → ℕ
+turns (Run n) = n
+turns (Tick n) = n
+
+-- what holds of the events of every text that is accepted: each asks for at least one turn, and they are within the limits
 pub record AreWithin (events : List Event) : Type 0 where
+  pub some : All (λ event. 1 ≤ turns event) events
   pub steps : sum_by steps events ≤ 1000000
   pub ticks : sum_by ticks events ≤ 1000000
   pub count : length events ≤ 100000

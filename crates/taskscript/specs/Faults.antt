@@ -1,7 +1,29 @@
--- Faults of a machine file: the list of all faults in their order, and the first of them.
-use Rattle.std.specs.Prelude.{◌≡◌, Bool, List, [], ◌∷◌, Option, Some, None, Result, Ok, Err, if◌then◌else◌}
+-- Faults: their numbers, and for a machine file the list of all faults in their order, and the first of them.
+use Rattle.std.specs.Prelude.{◌≡◌, ℕ, Bool, List, [], ◌∷◌, Option, Some, None, Result, Ok, Err, if◌then◌else◌}
 use Rattle.taskscript.specs.declared.fault.FileFault.{FileFault}
-use Rattle.taskscript.specs.declared.fault.FileFault.TheVariants.{OutOfMemory}
+use Rattle.taskscript.specs.declared.fault.FileFault.TheVariants.{NotToml, UnknownKey, MissingKey, BadValue, NameTwice, BadRegions, BadCommand, BadLabel, NotInInterrupt, TooMany, OutOfMemory}
+use Rattle.taskscript.specs.declared.fault.EventFault.{EventFault}
+use Rattle.taskscript.specs.declared.fault.EventFault.TheVariants as event
+
+-- the number of a fault of a machine file (own choice)
+abbrev pub file_fault_number : FileFault → ℕ
+file_fault_number NotToml = 1
+file_fault_number UnknownKey = 2
+file_fault_number MissingKey = 3
+file_fault_number BadValue = 4
+file_fault_number NameTwice = 5
+file_fault_number BadRegions = 6
+file_fault_number BadCommand = 7
+file_fault_number BadLabel = 8
+file_fault_number NotInInterrupt = 9
+file_fault_number TooMany = 10
+file_fault_number OutOfMemory = 11
+
+-- the number of a fault of an event text (own choice)
+abbrev pub event_fault_number : EventFault → ℕ
+event_fault_number (event.BadLine line) = 1
+event_fault_number event.TooMany = 2
+event_fault_number event.OutOfMemory = 3
 
 abbrev pub first : List FileFault → Option FileFault
 first [] = None

@@ -2,15 +2,24 @@
 use Rattle.std.specs.Prelude.{◌≡◌, ◌≢◌, ℕ, ◌≤◌, true, None, All, List, length, map}
 use Rattle.std.specs.List.{AllPairs}
 use Rattle.memlist.specs.Regions.{regions_fault}
-use Rattle.taskscript.specs.Commands.{CommandFits}
+use Rattle.taskscript.specs.Commands.{ArgumentData, place, CommandData, CommandFits}
 use Rattle.taskscript.specs.File.{TaskData, MachineData}
 use Rattle.taskscript.specs.Names.{is_name}
 
--- a task of a file: its name is a name, it has at most 1,024 commands, and their variables are within the limits
+-- a jump among so many commands goes to one of them, or to the end behind the last one
+abbrev pub JumpFits : ℕ → ArgumentData → Type 0
+JumpFits count (place k) = k ≤ count
+JumpFits count _ = Unit {0}
+
+abbrev pub JumpsFit : ℕ → CommandData → Type 0
+JumpsFit count c = All (JumpFits count) c.arguments
+
+-- a task of a file: its name is a name, it has at most 1,024 commands, their variables are within the limits, and their jumps stay in it
 pub record IsTask (task : TaskData) : Type 0 where
   pub name : is_name task.name ≡ true
   pub code : length task.code ≤ 1024
   pub commands : All CommandFits task.code
+  pub jumps : All (JumpsFit (length task.code)) task.code
 
 -- the names of some tasks
 abbrev pub task_names : List TaskData → List (List ℕ)

@@ -5,13 +5,14 @@ ghost use Rattle.taskscript.specs.File.{MachineData, file_of};
 ghost use Rattle.taskscript.specs.Machines.{IsMachine};
 ghost use Rattle.taskscript.specs.declared.event.Event.{Event};
 
-/// The machine of an accepted file has a quantum of 1 to 255 and at most 64 tasks, whose names differ. Each has at most 1,024 commands, and their variables are within
-/// the limits of 32 private ones and 64 shared ones.
+/// The machine of an accepted file has a quantum of 1 to 255 and at most 64 tasks, whose names differ. Each has at most 1,024 commands, their variables are within the
+/// limits of 32 private ones and 64 shared ones, and each of their jumps goes to one of them or to the end behind the last one.
 pub fn accepted_file_is_machine()
     ensures { (bytes : List ℕ) (m : MachineData) → file_of bytes ≡ Ok m → IsMachine m }
 {}
 
-/// The events of an accepted text are at most 100,000, and their steps and their ticks sum to at most 1,000,000 each.
+/// The events of an accepted text are at most 100,000. Each asks for at least one turn, and their steps and their ticks sum to at most
+/// 1,000,000 each.
 pub fn accepted_events_are_within()
     ensures { (text : List ℕ) (events : List Event) → script_of text ≡ Ok events → AreWithin events }
 {}

@@ -37,7 +37,8 @@ impl Event {
 
 /// The events of a text, in their order.
 ///
-/// `read_events` alone makes them: there are at most 100,000, and their steps and their ticks sum to at most 1,000,000 each.
+/// `read_events` alone makes them: each asks for at least one turn, there are at most 100,000, and their steps and their ticks sum to at
+/// most 1,000,000 each.
 #[derive(Debug, Drop)]
 pub struct Events {
     list: Vec<Event>,

@@ -2,6 +2,7 @@
 ghost use Rattle.std.specs.Prelude.{◌≡◌};
 ghost use Rattle.taskscript.specs.declared.fault.FileFault.TheVariants as file_fault;
 ghost use Rattle.taskscript.specs.declared.fault.EventFault.TheVariants as event_fault;
+ghost use Rattle.taskscript.specs.Faults.{file_fault_number, event_fault_number};
 
 use std::alloc::{AllocError, AllocFailed};
 use thiserror::Error;
@@ -46,6 +47,15 @@ pub enum FileFault {
     OutOfMemory = 11,
 }
 
+impl FileFault {
+    /// The number of the fault, 1 to 11 (own choice).
+    pub fn number(self) -> u8
+        ensures { result ≡ file_fault_number self }
+    {
+        self as u8
+    }
+}
+
 impl From<AllocError> for FileFault {
     ghost from_gives = { λ _ e. e ≡ file_fault.OutOfMemory };
 
@@ -76,6 +86,19 @@ pub enum EventFault {
     /// Memory was refused while the text was read.
     #[error("out of memory")]
     OutOfMemory,
+}
+
+impl EventFault {
+    /// The number of the fault, 1 to 3, whatever its line (own choice).
+    pub fn number(self) -> u8
+        ensures { result ≡ event_fault_number self }
+    {
+        match self {
+            EventFault::BadLine(_) => 1,
+            EventFault::TooMany => 2,
+            EventFault::OutOfMemory => 3,
+        }
+    }
 }
 
 impl From<AllocError> for EventFault {

@@ -31,6 +31,33 @@ fn refuses(rt: &impl Abort, alloc: Global, cases: &[(&str, FileFault)]) {
 }
 
 #[test]
+fn faults_are_numbered_from_1(rt: HostRuntime) {
+    let faults = [
+        FileFault::NotToml,
+        FileFault::UnknownKey,
+        FileFault::MissingKey,
+        FileFault::BadValue,
+        FileFault::NameTwice,
+        FileFault::BadRegions,
+        FileFault::BadCommand,
+        FileFault::BadLabel,
+        FileFault::NotInInterrupt,
+        FileFault::TooMany,
+        FileFault::OutOfMemory,
+    ];
+    assert_eq!(rt;
+        faults.map(|fault| fault.number()),
+        [1, 2, 3, 4, 5, 6, 7, 8, 9, 10, 11]
+    );
+    let faults = [
+        EventFault::BadLine(7),
+        EventFault::TooMany,
+        EventFault::OutOfMemory,
+    ];
+    assert_eq!(rt; faults.map(|fault| fault.number()), [1, 2, 3]);
+}
+
+#[test]
 fn a_machine_file_gives_its_parts_in_order(rt: HostRuntime) -> Result<(), Fail> {
     let file = "quantum = 255\npool = 1024\n\
         region = [{ size = 8, base = 8192, pri = -1, attrs = 7 }, { base = 4096, size = 16 }]\n\

@@ -1,4 +1,4 @@
-use Rattle.std.proofs.Common.{◌≡◌, sym, ◌∙◌, arith, true, false, ◌++◌, ◌∷◌, [], ◌+◌, length}
+use Rattle.std.proofs.Common.{◌≡◌, sym, ◌∙◌, arith, true, false, ◌++◌, ◌∷◌, [], ◌+◌, length, map, take}
 use Rattle.std.proofs.lemmas.List.{length_push}
 use Rattle.std.proofs.lemmas.List.Sums.{sum_by_push}
 use Rattle.taskscript.specs.Events.{is_skipped, is_within, steps, ticks}
@@ -54,4 +54,4 @@ loop-i-preserved c =
     })
 
 pub new-requires : goal.new-requires
-new-requires c = all_within c.loop-i.events.items c.loop-i.steps c.loop-i.ticks c.loop-i.invariant.steps_sum c.loop-i.invariant.ticks_sum c.loop-i.invariant.steps_limit c.loop-i.invariant.ticks_limit c.loop-i.invariant.count_limit
+new-requires c = all_within c.loop-i.events.items (take c.loop-i.i (map (λ l. l.now) c.args.lines.now)) c.loop-i.steps c.loop-i.ticks c.loop-i.invariant.found c.loop-i.invariant.steps_sum c.loop-i.invariant.ticks_sum c.loop-i.invariant.steps_limit c.loop-i.invariant.ticks_limit c.loop-i.invariant.count_limit

@@ -1,6 +1,7 @@
 -- The number on top of the stack is free, and leaves it.
-use Rattle.std.proofs.Common.{sym, arith}
-use Rattle.execheap.proofs.Rosters.{popped, top_free, enrolled}
+use Rattle.std.proofs.Common.{ap, ◌∙◌, arith}
+use Rattle.execheap.specs.Roster as spec
+use Rattle.execheap.proofs.Rosters.{popped, top_free, enrolled, enrolled_by}
 use Rattle.execheap.proofs.roster.Roster.enroll.Goals as goal
 
 pub index_mut-requires : goal.index_mut-requires
@@ -13,12 +14,5 @@ invariant_of-self c =
     let before = popped _ _ _ _ _ _ c.self.invariant c.pop.ensures.items c.unwrap-n.ensures in
     rw c.pop.ensures.capacity (enrolled _ _ _ _ before c.args.address)
 
-pub returns-clause-known : goal.returns-clause-known
-returns-clause-known c =
-    let before = popped _ _ _ _ _ _ c.self.invariant c.pop.ensures.items c.unwrap-n.ensures in
-    rw (sym c.self.view_is) (top_free _ _ _ _ before).0
-
-pub returns-clause-was_free : goal.returns-clause-was_free
-returns-clause-was_free c =
-    let before = popped _ _ _ _ _ _ c.self.invariant c.pop.ensures.items c.unwrap-n.ensures in
-    rw (sym c.self.view_is) (top_free _ _ _ _ before).1
+pub returns : goal.returns
+returns c = enrolled_by _ _ _ _ _ _ c.pop.ensures.items c.unwrap-n.ensures ∙ ap (spec.enrolled c.args.address) c.self.view_is

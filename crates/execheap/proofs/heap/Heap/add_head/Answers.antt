@@ -1,0 +1,14 @@
+-- The node stands first in the list that is shown.
+use Rattle.std.proofs.Common.{ap, ◌∙◌}
+use Rattle.execmodel.specs.State.{on_heap}
+use Rattle.execmodel.specs.Lists.{added_head}
+use Rattle.execheap.specs.Numbered.{shown_memory}
+use Rattle.execheap.proofs.Linking.{at_head_shown}
+use Rattle.execheap.proofs.heap.Heap.add_head.Goals as goal
+
+pub returns-in-Ok-clause-next : goal.returns-in-Ok-clause-next
+returns-in-Ok-clause-next g c =
+    let f = c.facts.ensures in
+    ap shown_memory c.add_head.ensures
+    ∙ at_head_shown f.sound f.space f.memory c.in-Ok.h c.in-Ok.n c.args.list c.args.node c.in-Ok.ensures.list c.in-Ok.ensures.node
+    ∙ ap (on_heap (added_head c.args.list c.args.node)) c.self.view_is

@@ -1,0 +1,17 @@
+-- The node stands after its predecessor in the list that is shown.
+use Rattle.std.proofs.Common.{ap, ◌∙◌}
+use Rattle.std.specs.Prelude.{is_some}
+use Rattle.execmodel.specs.State.{on_heap}
+use Rattle.execmodel.specs.Lists.{inserted}
+use Rattle.execheap.specs.Numbered.{shown_memory}
+use Rattle.execheap.proofs.Linking.{put_shown}
+use Rattle.execheap.proofs.heap.Heap.insert.Goals as goal
+
+pub returns-in-Ok-clause-next : goal.returns-in-Ok-clause-next
+returns-in-Ok-clause-next g c =
+    let f = c.facts.ensures in
+    let e = c.in-Ok.ensures in
+    ap shown_memory c.insert.ensures
+    ∙ put_shown f.sound f.space f.memory c.in-Ok.h c.in-Ok.n c.args.list c.args.node c.args.pred c.in-Ok.p e.list e.node e.pred
+      (λ m is. f.sound.live_nodes m (ap is_some (e.pred_in m is)))
+    ∙ ap (on_heap (inserted c.args.list c.args.node c.args.pred)) c.self.view_is

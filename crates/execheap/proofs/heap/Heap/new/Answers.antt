@@ -1,0 +1,8 @@
+-- No block is shown, and the pool is as long as its rosters.
+use Rattle.std.proofs.Common.{ap, ◌∙◌}
+use Rattle.execheap.specs.Numbered.{shown_memory}
+use Rattle.execheap.proofs.Making.{unused_shown}
+use Rattle.execheap.proofs.heap.Heap.new.Goals as goal
+
+pub returns : goal.returns
+returns g c = ap shown_memory c.in_ok-objects.ensures ∙ unused_shown c.args.regions.now c.args.pool

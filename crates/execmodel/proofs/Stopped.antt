@@ -1,0 +1,52 @@
+-- A machine that an alert has stopped does nothing.
+use Rattle.std.proofs.Common.{◌≡◌, ℕ, zero, suc, true, List, [], ◌∷◌, ◌++◌, refl, ap, ◌∙◌}
+use Rattle.taskscript.specs.declared.event.Event.{Event}
+use Rattle.taskscript.specs.declared.event.Event.TheVariants.{Run, Tick}
+use Rattle.execmodel.specs.State.{State, Outcome, quiet, andthen}
+use Rattle.execmodel.specs.Step.{acts, settle, step, steps, tick, ticks, event, events}
+
+-- an outcome, and then another action
+abbrev after : (State → Outcome) → Outcome → Outcome
+after next a = let b = next a.state in record { state = b.state; lines = a.lines ++ b.lines; marks = a.marks ++ b.marks }
+
+-- two actions that do nothing
+both_quiet : (first next : State → Outcome) (s : State) → first s ≡ quiet s → next s ≡ quiet s → andthen first next s ≡ quiet s
+unfolding andthen
+both_quiet first next s f n =
+    ap (after next) f ∙ ap (λ (b : Outcome). record { state = b.state; lines = [] ++ b.lines; marks = [] ++ b.marks }) n
+
+acts_stopped : (s : State) → s.stopped ≡ true → acts s ≡ quiet s
+unfolding acts
+acts_stopped s h = rw h refl
+
+settle_stopped : (s : State) → s.stopped ≡ true → settle s ≡ quiet s
+unfolding settle
+settle_stopped s h = rw h refl
+
+step_stopped : (s : State) → s.stopped ≡ true → step s ≡ quiet s
+unfolding step
+step_stopped s h = both_quiet acts settle s (acts_stopped s h) (settle_stopped s h)
+
+steps_stopped : (n : ℕ) (s : State) → s.stopped ≡ true → steps n s ≡ quiet s
+unfolding steps
+steps_stopped zero s h = refl
+steps_stopped (suc n) s h = both_quiet (steps n) step s (steps_stopped n s h) (step_stopped s h)
+
+tick_stopped : (s : State) → s.stopped ≡ true → tick s ≡ quiet s
+unfolding tick
+tick_stopped s h = rw h refl
+
+ticks_stopped : (n : ℕ) (s : State) → s.stopped ≡ true → ticks n s ≡ quiet s
+unfolding ticks
+ticks_stopped zero s h = refl
+ticks_stopped (suc n) s h = both_quiet (ticks n) tick s (ticks_stopped n s h) (tick_stopped s h)
+
+pub event_stopped : (e : Event) (s : State) → s.stopped ≡ true → event e s ≡ quiet s
+unfolding event
+event_stopped (Run n) s h = steps_stopped n s h
+event_stopped (Tick n) s h = ticks_stopped n s h
+
+pub events_stopped : (list : List Event) (s : State) → s.stopped ≡ true → events list s ≡ quiet s
+unfolding events
+events_stopped [] s h = refl
+events_stopped (e ∷ rest) s h = both_quiet (event e) (events rest) s (event_stopped e s h) (events_stopped rest s h)
