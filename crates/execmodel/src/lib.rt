@@ -2,6 +2,7 @@
 //! The functions here have no effect. Their contracts are whole traces of small machines, as the definitions compute them.
 #![tactic(auto)]
 
+pub mod list_runs;
 pub mod memory_runs;
 pub mod quantum_runs;
 
