@@ -12,4 +12,5 @@ pub mod Interrupts
 pub mod Step
 pub mod Runs
 pub mod MemoryRuns
+pub mod ListRuns
 pub mod QuantumRuns

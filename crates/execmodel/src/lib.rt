@@ -3,6 +3,7 @@
 #![tactic(auto)]
 
 pub mod laws;
+pub mod list_runs;
 pub mod memory_runs;
 pub mod quantum_runs;
 
