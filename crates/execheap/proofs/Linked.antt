@@ -51,9 +51,9 @@ in_one_list s a t there [] = refl
 in_one_list s a t there (e ∷ es) =
     ap (λ b. if b then nodes_in (shown_object (contents s) e.1.1) else sequence_with a (map (shown_entry (contents s)) es)) (there e.1.1)
     ∙ either_number e.1.1 t (λ b. (if b then nodes_in (shown_object (contents s) e.1.1) else sequence_with a (map (shown_entry (contents s)) es))
-        ≡ (if b || list_any (λ (f : ℕ × (ℕ × ℕ)). nat_eq f.1.1 t) es then nodes_in (shown_object (contents s) t) else []))
-      (λ same. ap (λ tag. nodes_in (shown_object (contents s) tag)) same)
-      (λ other. in_one_list s a t there es)
+    ≡ (if b || list_any (λ (f : ℕ × (ℕ × ℕ)). nat_eq f.1.1 t) es then nodes_in (shown_object (contents s) t) else []))
+    (λ same. ap (λ tag. nodes_in (shown_object (contents s) tag)) same)
+    (λ other. in_one_list s a t there es)
 
 any_found : (a t : ℕ) (es : Blocks) → tag_at a es ≡ Some t → list_any (λ (e : ℕ × (ℕ × ℕ)). nat_eq e.1.1 t) es ≡ true
 any_found a t [] is = let bad : false ≡ true = ap is_some is in cc

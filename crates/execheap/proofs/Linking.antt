@@ -90,7 +90,7 @@ module _ {s : Numbered} (sound : IsSound s) (space : IsSpace s) where
   found_shown name start h after is =
       ap (λ nodes. or_none (find (has_name name (shown_heap s)) nodes)) is
       ∙ ap or_none (find-map (address_in s.nodes.places) (has_name name (shown_heap s)) (is_named s.keys name) (part_from after (sequence s.sequences h))
-        (all_from (λ n. has_name name (shown_heap s) (address_in s.nodes.places n) ≡ is_named s.keys name n) after (sequence s.sequences h) (all_named name h)))
+      (all_from (λ n. has_name name (shown_heap s) (address_in s.nodes.places n) ≡ is_named s.keys name n) after (sequence s.sequences h) (all_named name h)))
 
   module _ (formed : IsWellFormed s.memory.regions s.memory.blocks) where
     -- ---- a list whose nodes change
@@ -101,7 +101,7 @@ module _ {s : Numbered} (sound : IsSound s) (space : IsSpace s) where
     relinked new h list nodes live memory lists places keys set = heap_set s new (with_nodes list (map (address_in s.nodes.places) nodes) (shown_heap s))
         (ap (λ m. m.regions) memory) (ap (λ r. r.places) lists)
         (with_nodes_shown sound formed new list h (map (address_in s.nodes.places) nodes) live memory
-          (shows_nodes s new h nodes (list_known h list live) set keys places))
+        (shows_nodes s new h nodes (list_known h list live) set keys places))
 
     -- the same nodes by address, whatever was said of them
     pub linked_shown : (h n list : ℕ) (nodes : List ℕ) (shown : Heap → List ℕ) → place s.lists.places h ≡ Some list → shown (shown_heap s) ≡ map (address_in s.nodes.places) nodes
@@ -133,8 +133,8 @@ module _ {s : Numbered} (sound : IsSound s) (space : IsSpace s) where
         (ap (λ nodes. enqueue pri nodes node) (nodes_at h list live)
         ∙ ap (λ a. enqueue pri (map (address_in s.nodes.places) (sequence s.sequences h)) a) (sym (address_is n node here))
         ∙ enqueue-map (address_in s.nodes.places) pri (pri_of s.keys) (sequence s.sequences h) n
-          (all_then (λ m there. ap (λ (key : Key). key.pri) (key_at_address m there)) (sequence s.sequences h) (all_live h))
-          (ap (λ (key : Key). key.pri) (key_at_address n (ap is_some here))))
+        (all_then (λ m there. ap (λ (key : Key). key.pri) (key_at_address m there)) (sequence s.sequences h) (all_live h))
+        (ap (λ (key : Key). key.pri) (key_at_address n (ap is_some here))))
 
     pub put_shown : (h n list node pred : ℕ) (p : Option ℕ) → place s.lists.places h ≡ Some list → place s.nodes.places n ≡ Some node
         → option_map (address_in s.nodes.places) p ≡ predecessor pred → ForSome p (λ m. IsSome (place s.nodes.places m))
@@ -145,7 +145,7 @@ module _ {s : Numbered} (sound : IsSound s) (space : IsSpace s) where
         ∙ ap (λ a. put_after (predecessor pred) a (map (address_in s.nodes.places) (sequence s.sequences h))) (sym (address_is n node here))
         ∙ ap (λ q. put_after q (address_in s.nodes.places n) (map (address_in s.nodes.places) (sequence s.sequences h))) (sym is)
         ∙ put_after-map (address_in s.nodes.places) p n (sequence s.sequences h)
-          (λ m e. let a = some_is (place s.nodes.places m) (there m e) in told_apart sound space h m a.0 a.1))
+        (λ m e. let a = some_is (place s.nodes.places m) (there m e) in told_apart sound space h m a.0 a.1))
 
     -- ---- a node leaves a list
 
@@ -158,13 +158,13 @@ module _ {s : Numbered} (sound : IsSound s) (space : IsSpace s) where
     unfolding removed_head
     head_taken_shown h list live = taken h list (first (sequence s.sequences h)) (drop 1 (sequence s.sequences h)) live
         ∙ ap (λ nodes. on_heap (with_nodes list nodes) (shown_memory s))
-          (sym (ap (drop 1) (nodes_at h list live) ∙ without_first-map (address_in s.nodes.places) (sequence s.sequences h)))
+        (sym (ap (drop 1) (nodes_at h list live) ∙ without_first-map (address_in s.nodes.places) (sequence s.sequences h)))
 
     pub tail_taken_shown : (h list : ℕ) → place s.lists.places h ≡ Some list → shown_memory (numbered.tail_taken h s) ≡ on_heap (removed_tail list) (shown_memory s)
     unfolding removed_tail
     tail_taken_shown h list live = taken h list (last (sequence s.sequences h)) (take (length (sequence s.sequences h) - 1) (sequence s.sequences h)) live
         ∙ ap (λ nodes. on_heap (with_nodes list nodes) (shown_memory s))
-          (sym (ap (λ nodes. take (length nodes - 1) nodes) (nodes_at h list live) ∙ without_last-map (address_in s.nodes.places) (sequence s.sequences h)))
+        (sym (ap (λ nodes. take (length nodes - 1) nodes) (nodes_at h list live) ∙ without_last-map (address_in s.nodes.places) (sequence s.sequences h)))
 
     -- ---- a node leaves the list that has it
 
@@ -173,8 +173,8 @@ module _ {s : Numbered} (sound : IsSound s) (space : IsSpace s) where
     sequence_without n h there m =
         sequence_set s.sequences h (without n (sequence s.sequences h)) m (let list = some_is (place s.lists.places h) (sound.live_lists n h there) in list_known h list.0 list.1)
         ∙ either_number m h (λ b. (if b then without n (sequence s.sequences h) else sequence s.sequences m) ≡ without n (sequence s.sequences m))
-          (λ same. ap (λ k. without n (sequence s.sequences k)) (sym same))
-          (λ other. sym (without_absent n (sequence s.sequences m) (stands_at sound space m n ∙ ap (λ o. is_at o m) there ∙ nat_eq-other h m (λ same. other (sym same)))))
+        (λ same. ap (λ k. without n (sequence s.sequences k)) (sym same))
+        (λ other. sym (without_absent n (sequence s.sequences m) (stands_at sound space m n ∙ ap (λ o. is_at o m) there ∙ nat_eq-other h m (λ same. other (sym same)))))
 
     -- the objects once a node has left its list
     abbrev emptied : ℕ → ℕ → Numbered

@@ -96,8 +96,8 @@ block_put s new a size tag object pool memory same here = λ i. record {
       ∙ sym (put_shown (shown_block (contents new)) a (round size, tag) s.memory.blocks)
       ∙ ap (λ o. put nat_cmp a (record { size = round size; object = o }) (map (shown_entry (contents new)) s.memory.blocks)) here
       ∙ ap (put nat_cmp a (record { size = round size; object = object }))
-        (map_same (shown_entry (contents new)) (shown_entry (contents s)) s.memory.blocks
-          (all_then (λ (entry : ℕ × (ℕ × ℕ)) e. ap (λ o. (entry.0, record { size = entry.1.0; object = o })) e) s.memory.blocks same))) i;
+      (map_same (shown_entry (contents new)) (shown_entry (contents s)) s.memory.blocks
+      (all_then (λ (entry : ℕ × (ℕ × ℕ)) e. ap (λ o. (entry.0, record { size = entry.1.0; object = o })) e) s.memory.blocks same))) i;
 }
 
 -- the same memory, with one block less
@@ -111,7 +111,7 @@ block_freed s new a pool memory same = λ i. record {
   heap = (
       ap (λ (m : table.Memory). map (shown_entry (contents new)) m.blocks) memory
       ∙ ap (λ (f : ℕ × (ℕ × ℕ) → ℕ × Block). map f (without_block a s.memory).blocks)
-        (fun_ext (λ (entry : ℕ × (ℕ × ℕ)). ap (λ o. (entry.0, record { size = entry.1.0; object = o })) (same entry.1.1)))
+      (fun_ext (λ (entry : ℕ × (ℕ × ℕ)). ap (λ o. (entry.0, record { size = entry.1.0; object = o })) (same entry.1.1)))
       ∙ sym (where_key_shown (shown_block (contents s)) (λ other. not (nat_eq other a)) s.memory.blocks)) i;
 }
 
@@ -161,7 +161,7 @@ module _ {s : Numbered} (sound : IsSound s) (space : IsSpace s) where
       → map (address_in (slice_set s.nodes.places n p)) (sequence s.sequences h) ≡ map (address_in s.nodes.places) (sequence s.sequences h)
   addresses_kept h n p other = map_agree (address_in (slice_set s.nodes.places n p)) (address_in s.nodes.places) (sequence s.sequences h)
       (members (λ m. address_in (slice_set s.nodes.places n p) m ≡ address_in s.nodes.places m) (sequence s.sequences h)
-        (λ m stands. ap (λ o. unwrap_or o 0) (place_other s.nodes.places n m p (other m stands))))
+      (λ m stands. ap (λ o. unwrap_or o 0) (place_other s.nodes.places n m p (other m stands))))
 
   free_elsewhere : (h n : ℕ) → place s.nodes.places n ≡ None → (m : ℕ) → list_any (λ other. other == m) (sequence s.sequences h) ≡ true → m ≢ n
   free_elsewhere h n free m stands same =
@@ -196,8 +196,8 @@ module _ {s : Numbered} (sound : IsSound s) (space : IsSpace s) where
       let new = numbered.node_numbered 14 key (Some n) (Some a) s in
       block_put s new a 14 (tag_of 1 n) (Node key) refl refl
       (all_then (λ (entry : ℕ × (ℕ × ℕ)) tagged.
-        ap (λ ps. shown_object (record { places = ps; sequences = s.sequences; keys = slice_set s.keys n key }) entry.1.1) places
-        ∙ shown_beside n (Some a) key free entry.1.1 entry.0 tagged) s.memory.blocks sound.tagged)
+      ap (λ ps. shown_object (record { places = ps; sequences = s.sequences; keys = slice_set s.keys n key }) entry.1.1) places
+      ∙ shown_beside n (Some a) key free entry.1.1 entry.0 tagged) s.memory.blocks sound.tagged)
       (ap (λ ps. shown_object (record { places = ps; sequences = s.sequences; keys = slice_set s.keys n key }) (tag_of 1 n)) places ∙ node_here n (Some a) key known)
 
   pub node_made_shown : (next at : Option ℕ) (key : Key) → next_number s.nodes ≡ next → at ≡ numbered.made_at 14 next s → ((n : ℕ) → next ≡ Some n → place s.nodes.places n ≡ None)

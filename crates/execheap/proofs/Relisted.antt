@@ -43,7 +43,7 @@ unfolding shown_heap with_nodes
 with_nodes_shown {s} sound formed new list h nodes live same shows =
     ap (λ memory. map (shown_entry (contents new)) memory.blocks) same
     ∙ map_same (shown_entry (contents new)) (λ entry. relisted list nodes (shown_entry (contents s) entry)) s.memory.blocks
-      (all_then (λ entry told. relisted_entry s new list nodes (tag_of 0 h) shows entry told) s.memory.blocks (tells sound formed 0 h list (lit≤ tt) live))
+    (all_then (λ entry told. relisted_entry s new list nodes (tag_of 0 h) shows entry told) s.memory.blocks (tells sound formed 0 h list (lit≤ tt) live))
     ∙ sym (map-map (relisted list nodes) (shown_entry (contents s)) s.memory.blocks)
 
 -- ---- a sequence that is set

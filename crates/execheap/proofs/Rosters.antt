@@ -220,8 +220,8 @@ pub enrolled_by : (ps : List (Option ℕ)) (free rest : List ℕ) (a n : ℕ) (o
 enrolled_by ps free rest a n o split top =
     let is : free ≡ rest ++ n ∷ [] = split ∙ ap (λ p. rest ++ option_to_list p) top in
     sym (ap (λ f. roster.enrolled a (record { places = ps; free = f })) is
-      ∙ ap (λ p. roster.given p a (record { places = ps; free = rest ++ n ∷ [] })) (last-push rest n)
-      ∙ ap (λ f. record { places = slice_set ps n (Some a); free = f }) (take_rest n rest))
+    ∙ ap (λ p. roster.given p a (record { places = ps; free = rest ++ n ∷ [] })) (last-push rest n)
+    ∙ ap (λ f. record { places = slice_set ps n (Some a); free = f }) (take_rest n rest))
 
 last_split : (n : ℕ) (xs : List ℕ) → last xs ≡ Some n → (rest : List ℕ) × (xs ≡ rest ++ n ∷ [])
 last_split n [] e = let bad : false ≡ true = ap is_some e in cc

@@ -79,10 +79,10 @@ module _ {s : Numbered} (sound : IsSound s) where
       let at = some_is (place s.nodes.places n) lives in
       let known : n < length s.homes = omega (arith, place_known s.nodes.places n at.0 at.1, sound.each_node) in
       kept_sound memory lists places (relinked_sound new.sequences new.homes new.keys
-        (ap length placed ∙ length-set s.sequences h nodes) (ap length set ∙ length-set s.homes n (Some h))
-        (λ m. subst (λ homes. IsHomed s m (home homes m)) (sym set)
-          (home_either (IsHomed s) s.homes n (Some h) (get_or-set_same s.homes n (Some h) None known)
-            (λ k is. (lives, subst (λ j. IsSome (place s.lists.places j)) (some_same is) has)) homed m)))
+      (ap length placed ∙ length-set s.sequences h nodes) (ap length set ∙ length-set s.homes n (Some h))
+      (λ m. subst (λ homes. IsHomed s m (home homes m)) (sym set)
+      (home_either (IsHomed s) s.homes n (Some h) (get_or-set_same s.homes n (Some h) None known)
+      (λ k is. (lives, subst (λ j. IsSome (place s.lists.places j)) (some_same is) has)) homed m)))
 
   -- a node leaves its list
   pub left_sound : {new : Numbered} (n : ℕ) → length new.sequences ≡ length s.sequences → new.homes ≡ slice_set s.homes n None
@@ -90,7 +90,7 @@ module _ {s : Numbered} (sound : IsSound s) where
   left_sound {new} n same set memory lists places = kept_sound memory lists places (relinked_sound new.sequences new.homes new.keys
       same (ap length set ∙ length-set s.homes n None)
       (λ m. subst (λ homes. IsHomed s m (home homes m)) (sym set)
-        (home_either (IsHomed s) s.homes n None (home_cleared s.homes n) (λ h is. let bad : false ≡ true = ap is_some is in cc) homed m)))
+      (home_either (IsHomed s) s.homes n None (home_cleared s.homes n) (λ h is. let bad : false ≡ true = ap is_some is in cc) homed m)))
 
   -- a node or none leaves list h, which has other nodes then
   pub taken_sound : {new : Numbered} (o : Option ℕ) (h : ℕ) (nodes : List ℕ) → new.sequences ≡ slice_set s.sequences h nodes

@@ -55,8 +55,13 @@ counted_put kind a v [] fresh = counted_more kind (a, v) []
 counted_put kind a v (e ∷ es) fresh = cases_order a e.0
     (λ less. ap (counted kind) (put_before a v e es less) ∙ counted_more kind (a, v) (e ∷ es))
     (λ same. let bad : true ≡ false = ap is_some (sym (here_found a e es same) ∙ fresh) in cc)
-    (λ more. omega (arith, ap (counted kind) (put_after a v e es more), counted_more kind e (put nat_cmp a v es), counted_more kind e es,
-      counted_put kind a v es (found_later a e None es (λ same. omega (arith, more, same)) fresh)))
+    (λ more. omega (
+      arith,
+      ap (counted kind) (put_after a v e es more),
+      counted_more kind e (put nat_cmp a v es),
+      counted_more kind e es,
+      counted_put kind a v es (found_later a e None es (λ same. omega (arith, more, same)) fresh),
+    ))
 
 freed_here : (a : ℕ) (e : ℕ × (ℕ × ℕ)) (es : Blocks) → e.0 ≡ a → freed a (e ∷ es) ≡ freed a es
 freed_here a e es same = ap (λ b. cond (not b) (e ∷ freed a es) (freed a es)) (ap (λ k. nat_eq k a) same ∙ nat_eq-same a)
@@ -67,10 +72,15 @@ counted_freed : (kind a : ℕ) (block : ℕ × ℕ) (es : Blocks) → IsRising e
 counted_freed kind a block [] rising found = let bad : false ≡ true = ap is_some found in cc
 counted_freed kind a block (e ∷ es) rising found = cases_eq e.0 a
     (λ same. ap (λ bs. tally kind block.1 + counted kind bs)
-        (freed_here a e es same ∙ freed_none a es (subst (λ k. AllFrom (k + 1) es) same rising.0))
-      ∙ ap (λ (v : ℕ × ℕ). tally kind v.1 + counted kind es) (sym (found_here a e block es same found)) ∙ sym (counted_more kind e es))
-    (λ other. omega (arith, ap (counted kind) (freed_later a e es other), counted_more kind e (freed a es), counted_more kind e es,
-      counted_freed kind a block es rising.1 (found_later a e (Some block) es other found)))
+    (freed_here a e es same ∙ freed_none a es (subst (λ k. AllFrom (k + 1) es) same rising.0))
+    ∙ ap (λ (v : ℕ × ℕ). tally kind v.1 + counted kind es) (sym (found_here a e block es same found)) ∙ sym (counted_more kind e es))
+    (λ other. omega (
+      arith,
+      ap (counted kind) (freed_later a e es other),
+      counted_more kind e (freed a es),
+      counted_more kind e es,
+      counted_freed kind a block es rising.1 (found_later a e (Some block) es other found),
+    ))
 
 -- ---- what holds of every block
 
@@ -122,7 +132,7 @@ module _ {s t : Numbered} (sound : IsSound s) (a : ℕ) where
       → IsGiven a v.1 s t → IsMatched t
   matched_put v fresh is given = record {
     tagged = subst (AllByRecursion (IsTagged t)) (sym is)
-      (all_placed (IsTagged t) a v s.memory.blocks given.mine
+        (all_placed (IsTagged t) a v s.memory.blocks given.mine
         (all_then {P = IsTagged s} {Q = IsTagged t} (λ e here. given.kept e.1.1 e.0 here) s.memory.blocks sound.tagged));
     complete = λ n b live. complete n b (given.only n b live);
     count = λ kind. omega (arith, ap (counted kind) is, counted_put kind a v s.memory.blocks fresh, sound.count kind, given.more kind);
@@ -134,7 +144,7 @@ module _ {s t : Numbered} (sound : IsSound s) (a : ℕ) where
     complete n b (inl was) =
         let there = sound.complete n b was in
         let other : b ≢ a = λ same.
-          (let bad : false ≡ true = ap is_some (sym (ap tag_in fresh) ∙ ap (λ k. tag_at k s.memory.blocks) (sym same) ∙ there) in cc) in
+        (let bad : false ≡ true = ap is_some (sym (ap tag_in fresh) ∙ ap (λ k. tag_at k s.memory.blocks) (sym same) ∙ there) in cc) in
         told b ∙ ap (λ c. tag_in (cond c (Some v) (block_at b s.memory.blocks))) (key_other b a other) ∙ there
     complete n b (inr now) =
         told b
@@ -146,7 +156,7 @@ module _ {s t : Numbered} (sound : IsSound s) (a : ℕ) where
       → t.memory.blocks ≡ freed a s.memory.blocks → IsTaken a block.1 s t → IsMatched t
   matched_freed block rising found is given = record {
     tagged = subst (AllByRecursion (IsTagged t)) (sym is)
-      (all_freed {P = IsTagged s} {Q = IsTagged t} a s.memory.blocks (λ e other here. given.kept e.1.1 e.0 other here) sound.tagged);
+        (all_freed {P = IsTagged s} {Q = IsTagged t} a s.memory.blocks (λ e other here. given.kept e.1.1 e.0 other here) sound.tagged);
     complete = λ n b live. complete n b (sound.complete n b (given.left n b live)) (given.gone n b live);
     count = λ kind. omega (arith, ap (counted kind) is, counted_freed kind a block s.memory.blocks rising found, sound.count kind, given.less kind);
   } where
@@ -154,8 +164,8 @@ module _ {s t : Numbered} (sound : IsSound s) (a : ℕ) where
     told b other =
         ap (λ bs. tag_at b bs) is
         ∙ ap tag_in
-          (find-where_key nat_cmp (λ k. not (nat_eq k a)) b (λ x e. ap (λ k. not (nat_eq k a)) (sym (nat_cmp-IsAntisymmetric b x e))) s.memory.blocks
-          ∙ ap (λ c. cond (not c) (block_at b s.memory.blocks) None) (nat_eq-other b a other))
+        (find-where_key nat_cmp (λ k. not (nat_eq k a)) b (λ x e. ap (λ k. not (nat_eq k a)) (sym (nat_cmp-IsAntisymmetric b x e))) s.memory.blocks
+        ∙ ap (λ c. cond (not c) (block_at b s.memory.blocks) None) (nat_eq-other b a other))
 
     complete : (n b : ℕ) → tag_at b s.memory.blocks ≡ Some (suc n) → suc n ≢ block.1 → tag_at b t.memory.blocks ≡ Some (suc n)
     complete n b there other =
@@ -210,7 +220,7 @@ module _ {kind number : ℕ} {p : Option ℕ} {s t : Numbered} (reset : IsReset 
   reset_other : (other m : ℕ) → (other ≡ kind → m ≢ number) → place (roster other t) m ≡ place (roster other s) m
   reset_other other m ne = cases_eq other kind
       (λ e. subst (λ k. place (roster k t) m ≡ place (roster k s) m) (sym e)
-        (ap (λ ps. place ps m) reset.set ∙ place_other (roster kind s) number m p (ne e)))
+      (ap (λ ps. place ps m) reset.set ∙ place_other (roster kind s) number m p (ne e)))
       (λ e. ap (λ ps. place ps m) (reset.same other e))
 
   reset_length : (other : ℕ) → length (roster other t) ≡ length (roster other s)
@@ -243,7 +253,7 @@ module _ {kind number a : ℕ} {s t : Numbered} (reset : IsReset kind number (So
     more : (other : ℕ) → taken (roster other t) ≡ tally other (tag_of kind number) + taken (roster other s)
     more other = cases_eq other kind
         (λ e. subst (λ k. taken (roster k t) ≡ tally k (tag_of kind number) + taken (roster k s)) (sym e)
-          (omega (arith, ap taken reset.set, taken_enrolled (roster kind s) number a vacant reset.known, tally_own kind number reset.few)))
+        (omega (arith, ap taken reset.set, taken_enrolled (roster kind s) number a vacant reset.known, tally_own kind number reset.few)))
         (λ e. omega (arith, ap taken (reset.same other e), tally_other kind other number reset.few e))
 
 module _ {kind number a : ℕ} {s t : Numbered} (reset : IsReset kind number None s t) (live : place (roster kind s) number ≡ Some a) where
@@ -267,7 +277,7 @@ module _ {kind number a : ℕ} {s t : Numbered} (reset : IsReset kind number Non
     less : (other : ℕ) → tally other (tag_of kind number) + taken (roster other t) ≡ taken (roster other s)
     less other = cases_eq other kind
         (λ e. subst (λ k. tally k (tag_of kind number) + taken (roster k t) ≡ taken (roster k s)) (sym e)
-          (omega (arith, ap taken reset.set, taken_released (roster kind s) number a live, tally_own kind number reset.few)))
+        (omega (arith, ap taken reset.set, taken_released (roster kind s) number a live, tally_own kind number reset.few)))
         (λ e. omega (arith, ap taken (reset.same other e), tally_other kind other number reset.few e))
 
 -- ---- objects at first
@@ -327,13 +337,13 @@ module _ {s : Numbered} (sound : IsSound s) where
     sound_allocated size reqs None is = sound
     sound_allocated size reqs (Some a) is = plain_sound (allocated size 0 (Some a) s.memory)
         (matched_put sound a (round size, 0) (fitted_fresh s.memory.regions s.memory.blocks size reqs a formed (sym is)) refl
-          (plain_given (roster_kept s (allocated size 0 (Some a) s.memory)) a))
+        (plain_given (roster_kept s (allocated size 0 (Some a) s.memory)) a))
 
     pub sound_freed : (a size : ℕ) → can_free a size s.memory.blocks ≡ true → IsSound (record s { memory = without_block a s.memory })
     sound_freed a size can = plain_block size (block_at a s.memory.blocks) can (λ block found plain. plain_sound (without_block a s.memory)
         (matched_freed sound a block (rising_sorted s.memory.blocks formed.in_order) found refl
-          (subst (λ tag. IsTaken a tag s (record s { memory = without_block a s.memory })) (sym plain)
-            (plain_taken (roster_kept s (without_block a s.memory)) a))))
+        (subst (λ tag. IsTaken a tag s (record s { memory = without_block a s.memory })) (sym plain)
+        (plain_taken (roster_kept s (without_block a s.memory)) a))))
 
 -- ---- objects made and freed
 
@@ -342,9 +352,9 @@ lives_on : {kind number a : ℕ} {s t : Numbered} → IsReset kind number (Some 
     → IsSome (place (roster other t) m)
 lives_on {kind} {number} {a} {s} {t} reset other m lives = cases_eq other kind
     (λ k. cases_eq m number
-      (λ n. subst (λ x. IsSome (place (roster x t) m)) (sym k)
-        (subst (λ y. IsSome (place (roster kind t) y)) (sym n) (ap is_some (reset_here reset))))
-      (λ n. ap is_some (reset_other reset other m (λ e. n)) ∙ lives))
+    (λ n. subst (λ x. IsSome (place (roster x t) m)) (sym k)
+    (subst (λ y. IsSome (place (roster kind t) y)) (sym n) (ap is_some (reset_here reset))))
+    (λ n. ap is_some (reset_other reset other m (λ e. n)) ∙ lives))
     (λ k. ap is_some (reset_other reset other m (λ e. absurd (k e))) ∙ lives)
 
 list_reset : {s t : Numbered} (number : ℕ) (p : Option ℕ) → number < length s.lists.places
@@ -406,7 +416,7 @@ module _ {s : Numbered} (sound : IsSound s) (formed : IsWellFormed s.memory.regi
 
     matched : IsMatched t
     matched = matched_put sound a (round size, tag_of 0 number)
-      (fitted_fresh s.memory.regions s.memory.blocks size 1 a formed (sym is)) refl (number_given reset ahead.vacant)
+        (fitted_fresh s.memory.regions s.memory.blocks size 1 a formed (sym is)) refl (number_given reset ahead.vacant)
 
   pub sound_node_placed : (size number : ℕ) (key : Key) (o : Option ℕ) → IsAhead s.nodes number → o ≡ fit s.memory.regions s.memory.blocks size 1
       → IsSound (node_numbered size key (Some number) o s)
@@ -430,7 +440,7 @@ module _ {s : Numbered} (sound : IsSound s) (formed : IsWellFormed s.memory.regi
 
     matched : IsMatched t
     matched = matched_put sound a (round size, tag_of 1 number)
-      (fitted_fresh s.memory.regions s.memory.blocks size 1 a formed (sym is)) refl (number_given reset ahead.vacant)
+        (fitted_fresh s.memory.regions s.memory.blocks size 1 a formed (sym is)) refl (number_given reset ahead.vacant)
 
   -- the block of an object that lives, and whose number is then free
   matched_released : {t : Numbered} (kind number a : ℕ) → kind < 8 → place (roster kind s) number ≡ Some a
@@ -442,7 +452,7 @@ module _ {s : Numbered} (sound : IsSound s) (formed : IsWellFormed s.memory.regi
       block_of (Some block) found =
           let tag : block.1 ≡ tag_of kind number = some_same (sym (ap tag_in found) ∙ tag_live sound kind number a few live) in
           matched_freed sound a block (rising_sorted s.memory.blocks formed.in_order) found is
-            (subst (λ n. IsTaken a n s t) (sym tag) (number_taken reset live))
+          (subst (λ n. IsTaken a n s t) (sym tag) (number_taken reset live))
 
   -- a list that no node has as its home
   pub sound_list_freed : (h a : ℕ) → place s.lists.places h ≡ Some a → sequence s.sequences h ≡ []

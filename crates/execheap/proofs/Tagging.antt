@@ -50,6 +50,6 @@ either_number a b P same other = elim (nat_eq a b) as (λ c. nat_eq a b ≡ c �
 pub tag_parts : (kind number n : ℕ) → kind < 8 → nat_eq (suc n) (tag_of kind number) ≡ (nat_eq (n % 8) kind && nat_eq (n / 8) number)
 tag_parts kind number n few = either_number (n % 8) kind (λ b. nat_eq (suc n) (tag_of kind number) ≡ (b && nat_eq (n / 8) number))
     (λ k. either_number (n / 8) number (λ c. nat_eq (suc n) (tag_of kind number) ≡ c)
-      (λ m. ap (λ z. nat_eq z (tag_of kind number)) (let same : suc n ≡ tag_of kind number = omega (arith, k, m) in same) ∙ nat_eq-same (tag_of kind number))
-      (λ m. nat_eq-other (suc n) (tag_of kind number) (omega (arith, k, m, few))))
+    (λ m. ap (λ z. nat_eq z (tag_of kind number)) (let same : suc n ≡ tag_of kind number = omega (arith, k, m) in same) ∙ nat_eq-same (tag_of kind number))
+    (λ m. nat_eq-other (suc n) (tag_of kind number) (omega (arith, k, m, few))))
     (λ k. nat_eq-other (suc n) (tag_of kind number) (omega (arith, k, few)))

@@ -17,4 +17,3 @@ alert_of (Err why) = Some (code_of why)
 abbrev pub is_none_or_in : Option ℕ → ℕ → List (Option ℕ) → Bool
 is_none_or_in None h homes = true
 is_none_or_in (Some pred) h homes = is_at (home homes pred) h
-

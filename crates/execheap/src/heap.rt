@@ -317,7 +317,10 @@ impl<S: ListSpace> Heap<S> {
         self.objects.facts();
         match self.objects.to_search(start) {
             Err(why) => Err(why),
-            Ok((h, after)) => Ok(self.objects.address_or_0(self.objects.find_name(h, after, name))),
+            Ok((h, after)) => Ok(
+                self.objects
+                    .address_or_0(self.objects.find_name(h, after, name)),
+            ),
         }
     }
 }

@@ -148,7 +148,10 @@ fn nodes_stand_where_they_are_put(rt: HostRuntime) -> Result<(), Fail> {
     assert_eq!(rt; link(&mut objects, list, b, Place::First), Some(()));
     assert_eq!(rt; link(&mut objects, list, c, Place::After(b)), Some(()));
     assert_eq!(rt; forwards(&objects, list), Some([Some(b), Some(c), Some(a)]));
-    assert_eq!(rt; backwards(&objects, list), Some([Some(a), Some(c), Some(b)]));
+    assert_eq!(rt;
+        backwards(&objects, list),
+        Some([Some(a), Some(c), Some(b)])
+    );
     assert_eq!(rt; link(&mut objects, list, c, Place::Last), None);
     assert_eq!(rt; unlink(&mut objects, b), Some(()));
     assert_eq!(rt; unlink(&mut objects, b), None);

@@ -17,7 +17,7 @@ returns-clause-address g c =
     let s = c.self.inside.objects in
     c.make_list.ensures.answer
     ∙ sym (list_made_at s (λ none. f.sound.count 0 ∙ f.lists.full none)
-      (λ n next. let a = ahead_of s.lists n f.lists next in omega (arith, f.sound.count 0, taken_below s.lists.places n a.vacant a.known)))
+    (λ n next. let a = ahead_of s.lists n f.lists next in omega (arith, f.sound.count 0, taken_below s.lists.places n a.vacant a.known)))
     ∙ ap (place_for_object is_list 14) c.self.view_is
 
 pub returns-clause-next : goal.returns-clause-next

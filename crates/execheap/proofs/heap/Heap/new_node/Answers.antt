@@ -22,7 +22,7 @@ returns-clause-address g c =
     let s = c.self.inside.objects in
     c.make_node.ensures.answer
     ∙ sym (node_made_at s (λ none. f.sound.count 1 ∙ f.nodes.full none ∙ f.sound.one_pool)
-      (λ n next. let a = ahead_of s.nodes n f.nodes next in omega (arith, f.sound.count 1, f.sound.one_pool, taken_below s.nodes.places n a.vacant a.known)))
+    (λ n next. let a = ahead_of s.nodes n f.nodes next in omega (arith, f.sound.count 1, f.sound.one_pool, taken_below s.nodes.places n a.vacant a.known)))
     ∙ ap (place_for_object is_node 14) c.self.view_is
 
 pub returns-clause-next : goal.returns-clause-next
@@ -34,5 +34,5 @@ returns-clause-next g c =
     ap shown_memory c.make_node.ensures.next
     ∙ ap (λ pri. shown_memory (node_made 14 (key_of pri (option_map (λ text. text.bytes) c.args.name)) c.make_node.result s)) (to_z-of_z w8 c.args.pri fits)
     ∙ node_made_shown f.sound f.space (next_number s.nodes) c.make_node.result key refl c.make_node.ensures.answer (λ n next. (ahead_of s.nodes n f.nodes next).vacant)
-      (λ n next. omega (arith, f.space.keyed, f.sound.each_node, (ahead_of s.nodes n f.nodes next).known))
+    (λ n next. omega (arith, f.space.keyed, f.sound.each_node, (ahead_of s.nodes n f.nodes next).known))
     ∙ ap (placed 14 (Node key) c.make_node.result) c.self.view_is

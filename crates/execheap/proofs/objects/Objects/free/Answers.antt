@@ -18,4 +18,4 @@ pub invariant_of-self : goal.invariant_of-self
 invariant_of-self g c =
     let freed = c.free_mem.ensures in
     freed_or_kept c.free_mem.new.self c.args.address c.args.size c.free_mem.result
-      c.self.invariant c.is_well_formed.ensures freed.variant freed.ok freed.err
+    c.self.invariant c.is_well_formed.ensures freed.variant freed.ok freed.err

@@ -14,4 +14,4 @@ few Node = omega arith
 pub returns-in-Some-clause-live : goal.returns-in-Some-clause-live
 returns-in-Some-clause-live g c =
     rw (sym c.self.view_is) (number_lives c.self.invariant (kind_code c.args.kind) c.args.address c.number_of.result (few c.args.kind)
-      (c.number_of.ensures ∙ ap (option_and_then (λ (block : ℕ × ℕ). number_of (kind_code c.args.kind) block.1)) (sym c.in-Some.is ∙ c.block_at.ensures)))
+    (c.number_of.ensures ∙ ap (option_and_then (λ (block : ℕ × ℕ). number_of (kind_code c.args.kind) block.1)) (sym c.in-Some.is ∙ c.block_at.ensures)))

@@ -14,7 +14,7 @@ none c = search rules
 each : (c : In_ok-free) → c.in_ok-free.free.items ≡ range_with_len 0 c.args.count
 each c =
     let all : IfOk c.collect.result (λ v. vec_items v ≡ range_with_len 0 c.args.count) =
-      items_from_collect _ c.collect.ensures.ran (YieldsList-from_range 0 c.args.count c.args.count refl (omega arith)) in
+    items_from_collect _ c.collect.ensures.ran (YieldsList-from_range 0 c.args.count c.args.count refl (omega arith)) in
     rw c.in_ok-free.was at all
 
 pub invariant_of-result : goal.invariant_of-result
