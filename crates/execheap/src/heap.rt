@@ -324,3 +324,6 @@ impl<S: ListSpace> Heap<S> {
         }
     }
 }
+
+#[cfg(test)]
+mod tests;
