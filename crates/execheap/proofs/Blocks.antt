@@ -1,18 +1,16 @@
 -- Blocks by number and by address: where one fits, how much is free, and which one may be freed, is the same.
-use Rattle.std.proofs.Common.{◌≡◌, ℕ, zero, suc, List, [], ◌∷◌, ◌++◌, ◌+◌, Bool, true, false, cond, map, length, ◌/◌, ◌%◌, refl, ap, sym, ◌∙◌, arith}
+use Rattle.std.proofs.Common.{◌≡◌, ℕ, zero, suc, List, [], ◌∷◌, ◌++◌, ◌+◌, true, false, map, length, ◌/◌, ◌%◌, refl, ap, sym, ◌∙◌, arith}
 use Rattle.std.proofs.Math.Path.{fun_ext}
 use Rattle.std.specs.Prelude.{Option, None, Some, not, ◌&&◌, nat_eq, nat_lt, if◌then◌else◌, is_some}
 use Rattle.std.specs.Option.{option_map, option_and_then}
-use Rattle.std.specs.List.{AllByRecursion, filter, flat_map, sum_by}
-use Rattle.std.specs.Ordering.{nat_cmp, eq_by_cmp}
-use Rattle.std.specs.FinMap.{find, put}
+use Rattle.std.specs.List.{filter, flat_map, sum_by}
 use Rattle.memlist.specs.declared.gap.Gap.{Gap}
 use Rattle.memlist.specs.declared.region.Region.{Region}
 use Rattle.memlist.specs.Regions.{region_end, total_size}
 use Rattle.memlist.specs.Blocks.{Blocks, block_at, blocks_in, is_in, gaps_between, gaps, stretch}
 use Rattle.memlist.specs.Fit.{fit, avail, round, asks, chosen, is_suitable, lowest_gap, greatest}
 use Rattle.memlist.specs.Memory as table
-use Rattle.execmodel.specs.State.{Object, Plain, Block, Memory}
+use Rattle.execmodel.specs.State.{Plain}
 use Rattle.execmodel.specs.Memory.{extents, place_for, placed, freed, is_named, is_plain}
 use Rattle.execmodel.specs.Memory as model
 use Rattle.memlist.proofs.Answered.{nat_eq-other}

@@ -1,21 +1,19 @@
 -- A node that is linked: by number it has a home, by address one list has it.
-use Rattle.std.proofs.Common.{◌≡◌, ℕ, zero, suc, ◌+◌, ◌*◌, ◌/◌, ◌%◌, ◌<◌, lit≤, List, [], ◌∷◌, Bool, true, false, cond, map, length, refl, ap, sym, ◌∙◌, subst, arith}
+use Rattle.std.proofs.Common.{◌≡◌, ℕ, zero, suc, ◌/◌, ◌%◌, lit≤, [], ◌∷◌, Bool, true, false, cond, map, refl, ap, sym, ◌∙◌, arith}
 use Rattle.std.specs.Prelude.{Some, None, Option, is_some, nat_eq, ◌==◌, ◌&&◌, ◌||◌, if◌then◌else◌, unwrap_or, IsSome}
 use Rattle.std.specs.Option.{option_map}
-use Rattle.std.specs.List.{AllByRecursion, list_any}
+use Rattle.std.specs.List.{list_any}
 use Rattle.std.specs.Ordering.{nat_cmp, eq_by_cmp}
 use Rattle.std.specs.FinMap.{find}
-use Rattle.execlist.specs.Lists.{home, is_at, sequence, times}
+use Rattle.execlist.specs.Lists.{home, is_at, sequence}
 use Rattle.memlist.specs.Blocks.{Blocks}
-use Rattle.memlist.specs.Memory.{IsWellFormed}
 use Rattle.memlist.proofs.Answered.{nat_eq-other, nat_eq-same}
-use Rattle.execmodel.specs.State.{Object, Plain, ListHead, Node, Block}
 use Rattle.execmodel.specs.Lists.{is_linked, nodes_in, sequence_with, stands_in}
 use Rattle.execheap.specs.Roster.{place}
 use Rattle.execheap.specs.Tags.{tag_of}
 use Rattle.execheap.specs.Numbered.{Numbered, contents, IsSound, IsSpace, address_in, object_of, shown_object, shown_entry, shown_heap, tag_at}
-use Rattle.execheap.proofs.Entries.{all_then, some_same}
-use Rattle.execheap.proofs.Mapped.{Alike, alike_apart, stands-map, stands_by_times, members}
+use Rattle.execheap.proofs.Entries.{some_same}
+use Rattle.execheap.proofs.Mapped.{Alike, alike_apart, stands-map, stands_by_times}
 use Rattle.execheap.proofs.Shown.{number_same, tag_live}
 use Rattle.execheap.proofs.Tagging.{either_number, shown_tag, tag_parts}
 

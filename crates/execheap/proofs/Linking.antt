@@ -1,21 +1,20 @@
 -- Nodes linked and unlinked: what it makes of numbered objects is what it makes of those that are shown.
-use Rattle.std.proofs.Common.{◌≡◌, ℕ, zero, suc, ◌-◌, ◌<◌, ◌/◌, ◌%◌, lit≤, List, [], ◌∷◌, ◌++◌, Bool, true, false, cond, map, length, take, drop, slice_set, refl, ap, sym, ◌∙◌, subst, arith}
-use Rattle.std.specs.Prelude.{ℤ, Some, None, Option, is_some, nat_eq, ◌==◌, if◌then◌else◌, unwrap_or, option_map, IsSome, find, ◌≢◌}
+use Rattle.std.proofs.Common.{◌≡◌, ℕ, zero, suc, ◌-◌, ◌<◌, ◌/◌, ◌%◌, lit≤, List, [], ◌∷◌, ◌++◌, map, length, take, drop, slice_set, refl, ap, sym, ◌∙◌, arith}
+use Rattle.std.specs.Prelude.{ℤ, Some, None, Option, is_some, if◌then◌else◌, unwrap_or, option_map, IsSome, find}
 use Rattle.std.specs.Option.{ForSome}
-use Rattle.std.specs.List.{AllByRecursion, list_any}
+use Rattle.std.specs.List.{AllByRecursion}
 use Rattle.std.proofs.lemmas.Simd.{map-map}
 use Rattle.std.proofs.lemmas.List.{map-append}
 use Rattle.execlist.specs.Order.{enqueue, first, without}
 use Rattle.execlist.specs.Lists.{Key, home, is_at, is_named, last, name_is, part_after, part_before, part_from, pri_of, put_after, sequence}
 use Rattle.memlist.specs.Memory.{IsWellFormed}
-use Rattle.execmodel.specs.State.{Object, ListHead, Block, Heap, Memory, on_heap}
-use Rattle.execmodel.specs.Lists.{added_head, added_tail, enqueued, found_node, first_of, has_name, inserted, key_of, last_of, left_by, nodes_of, or_none, pred_of, predecessor, removed_head, removed_tail, searched, sequence_with, succ_of, unlinked, with_nodes}
+use Rattle.execmodel.specs.State.{Object, ListHead, Block, Heap, on_heap}
+use Rattle.execmodel.specs.Lists.{added_head, added_tail, enqueued, found_node, first_of, has_name, inserted, key_of, last_of, left_by, nodes_of, or_none, pred_of, predecessor, removed_head, removed_tail, searched, succ_of, unlinked, with_nodes}
 use Rattle.execheap.specs.Roster.{place}
-use Rattle.execheap.specs.Tags.{tag_of}
-use Rattle.execheap.specs.Numbered.{Numbered, Contents, contents, IsSound, IsSpace, address_in, key_at, number_at, object_of, shown_object, shown_entry, shown_heap, shown_memory}
+use Rattle.execheap.specs.Numbered.{Numbered, contents, IsSound, IsSpace, address_in, key_at, object_of, shown_object, shown_entry, shown_heap, shown_memory}
 use Rattle.execheap.specs.Changes as numbered
 use Rattle.execheap.proofs.Entries.{all_then}
-use Rattle.execheap.proofs.Mapped.{Alike, all_of_part_after, enqueue-map, find-map, first-map, last-map, members, part_after-map, part_before-map, put_after-map, without-map, without_absent, without_first-map, without_last-map}
+use Rattle.execheap.proofs.Mapped.{all_of_part_after, enqueue-map, find-map, first-map, last-map, members, part_after-map, part_before-map, put_after-map, without-map, without_absent, without_first-map, without_last-map}
 use Rattle.execheap.proofs.Linked.{sequence_shown, some_is, stands_at, standing_lives, told_apart}
 use Rattle.execheap.proofs.Relisted.{sequence_set, shows_nodes, with_nodes_shown}
 use Rattle.execheap.proofs.Rosters.{place_known}

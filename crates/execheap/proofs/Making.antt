@@ -1,34 +1,33 @@
 -- Objects made and freed: what it makes of numbered objects is what it makes of those that are shown.
-use Rattle.std.proofs.Common.{◌≡◌, ℕ, zero, suc, ◌+◌, ◌*◌, ◌<◌, ◌/◌, ◌%◌, lit≤, List, [], ◌∷◌, Bool, true, false, cond, map, length, slice_set, refl, ap, sym, ◌∙◌, subst, arith}
-use Rattle.std.specs.Prelude.{Some, None, Option, is_some, is_none, not, nat_eq, nat_lt, ◌==◌, if◌then◌else◌, unwrap_or, option_map, filter, IsSome, ◌≢◌}
+use Rattle.std.proofs.Common.{◌≡◌, ℕ, zero, suc, ◌+◌, ◌*◌, ◌<◌, ◌/◌, ◌%◌, lit≤, List, [], ◌∷◌, Bool, true, false, cond, map, length, slice_set, refl, ap, sym, ◌∙◌, arith}
+use Rattle.std.specs.Prelude.{Some, None, Option, is_some, not, nat_eq, ◌==◌, if◌then◌else◌, unwrap_or, filter, ◌≢◌}
 use Rattle.std.specs.List.{AllByRecursion, list_any}
 use Rattle.std.specs.Ordering.{nat_cmp}
 use Rattle.std.specs.FinMap.{put}
 use Rattle.std.proofs.Math.Path.{fun_ext}
 use Rattle.std.proofs.lemmas.List.{get_or-set_other, length-replicate, length-set}
 use Rattle.memlist.specs.declared.region.Region.{Region}
-use Rattle.execlist.specs.Order.{first}
 use Rattle.execlist.specs.Lists.{Key, blank, home, is_at, sequence, times}
 use Rattle.memlist.specs.Blocks.{Blocks, with_block}
-use Rattle.memlist.specs.Fit.{fit, round}
+use Rattle.memlist.specs.Fit.{round}
 use Rattle.memlist.specs.Memory.{IsWellFormed, without_block}
 use Rattle.memlist.specs.Memory as table
-use Rattle.memlist.proofs.Answered.{nat_eq-other, nat_eq-same}
+use Rattle.memlist.proofs.Answered.{nat_eq-same}
 use Rattle.std.proofs.lemmas.Grind.{get_or-set_at}
 use Rattle.std.proofs.lemmas.Bool.{le-ltb, lt-ltb}
-use Rattle.execmodel.specs.State.{Object, Plain, ListHead, Node, Block, Heap, Memory}
+use Rattle.execmodel.specs.State.{Object, ListHead, Node, Block}
 use Rattle.execmodel.specs.Memory.{freed, placed, place_for}
 use Rattle.execmodel.specs.Objects.{live, place_for_object}
 use Rattle.execmodel.specs.Lists.{is_list, is_node}
-use Rattle.execheap.specs.Roster.{Rostered, enrolled, given, next_number, place, released, taken}
+use Rattle.execheap.specs.Roster.{enrolled, given, next_number, place}
 use Rattle.execheap.specs.Tags.{is_of, tag_of}
-use Rattle.execheap.specs.Numbered.{Numbered, Contents, contents, IsSound, IsSpace, IsTagged, address_in, counted, key_at, object_of, place_or, roster, shown_block, shown_object, shown_entry, shown_heap, shown_memory}
+use Rattle.execheap.specs.Numbered.{Numbered, Contents, contents, IsSound, IsSpace, address_in, counted, object_of, place_or, roster, shown_block, shown_object, shown_entry, shown_heap, shown_memory}
 use Rattle.execheap.specs.Changes as numbered
 use Rattle.execheap.proofs.Blocks.{fit_shown}
 use Rattle.execheap.proofs.Entries.{all_then, map_same, put_shown, where_key_shown}
 use Rattle.execheap.proofs.Mapped.{map_agree, members}
-use Rattle.execheap.proofs.Linked.{some_is, stands_at, standing_lives}
-use Rattle.execheap.proofs.Rosters.{place_known, place_other, place_same}
+use Rattle.execheap.proofs.Linked.{stands_at, standing_lives}
+use Rattle.execheap.proofs.Rosters.{place_other}
 use Rattle.execheap.proofs.Shown.{is_list_shown, is_node_shown}
 use Rattle.execheap.proofs.Tagging.{either_number, kind_read, number_read, shown_tag}
 

@@ -1,14 +1,12 @@
 -- A list whose nodes change: by number one sequence is another, by address one block is another.
-use Rattle.std.proofs.Common.{◌≡◌, ℕ, zero, suc, ◌+◌, ◌*◌, ◌/◌, ◌%◌, ◌<◌, lit≤, List, [], Bool, true, false, cond, map, length, slice_set, refl, ap, sym, ◌∙◌, arith}
-use Rattle.std.specs.Prelude.{Some, None, Option, nat_eq, ◌&&◌, if◌then◌else◌}
-use Rattle.std.specs.List.{AllByRecursion}
+use Rattle.std.proofs.Common.{◌≡◌, ℕ, zero, suc, ◌/◌, ◌%◌, ◌<◌, lit≤, List, [], Bool, true, false, cond, map, length, slice_set, refl, ap, sym, ◌∙◌, arith}
+use Rattle.std.specs.Prelude.{Some, nat_eq, ◌&&◌, if◌then◌else◌}
 use Rattle.std.proofs.lemmas.Simd.{map-map}
 use Rattle.std.proofs.lemmas.List.{get_or-set_other}
 use Rattle.std.proofs.lemmas.Grind.{get_or-set_at}
 use Rattle.execlist.specs.Lists.{sequence}
 use Rattle.memlist.specs.Memory.{IsWellFormed}
-use Rattle.memlist.proofs.Answered.{nat_eq-other, nat_eq-same}
-use Rattle.memlist.proofs.Headers.{from_eq}
+use Rattle.memlist.proofs.Answered.{nat_eq-other}
 use Rattle.execmodel.specs.State.{Object, Plain, ListHead, Node, Block}
 use Rattle.execmodel.specs.Lists.{relisted, with_nodes}
 use Rattle.execheap.specs.Roster.{Rostered, place}

@@ -1,22 +1,20 @@
 -- What objects by number show by address.
-use Rattle.std.proofs.Common.{◌≡◌, ℕ, zero, suc, ◌+◌, ◌*◌, ◌/◌, ◌%◌, ◌<◌, lit≤, List, [], ◌∷◌, Bool, true, false, cond, map, length, refl, ap, sym, ◌∙◌, subst, arith}
-use Rattle.std.specs.Prelude.{Option, None, Some, is_some, nat_eq, if◌then◌else◌}
+use Rattle.std.proofs.Common.{◌≡◌, ℕ, zero, suc, ◌+◌, ◌*◌, ◌/◌, ◌%◌, ◌<◌, lit≤, Bool, true, false, cond, map, refl, ap, sym, ◌∙◌, arith}
+use Rattle.std.specs.Prelude.{Option, None, Some, is_some, nat_eq}
 use Rattle.std.specs.Option.{option_map, option_and_then}
 use Rattle.std.specs.List.{AllByRecursion}
-use Rattle.std.specs.Ordering.{nat_cmp}
-use Rattle.std.specs.FinMap.{find}
-use Rattle.execlist.specs.Lists.{Key, sequence}
-use Rattle.memlist.specs.Blocks.{Blocks, block_at}
+use Rattle.execlist.specs.Lists.{sequence}
+use Rattle.memlist.specs.Blocks.{block_at}
 use Rattle.memlist.specs.Memory.{IsWellFormed}
 use Rattle.memlist.proofs.Answered.{nat_eq-other, nat_eq-same}
 use Rattle.memlist.proofs.Headers.{from_eq}
-use Rattle.execmodel.specs.State.{Object, Plain, ListHead, Node, Block}
+use Rattle.execmodel.specs.State.{Object, Block}
 use Rattle.execmodel.specs.Memory as model
 use Rattle.execmodel.specs.Objects.{object_at, is_kind}
 use Rattle.execmodel.specs.Lists.{is_list, is_node, is_list_at, is_node_at, nodes_of, nodes_of_object, key_of, key_of_object}
 use Rattle.execheap.specs.Roster.{place}
 use Rattle.execheap.specs.Tags.{tag_of, number_of, is_of}
-use Rattle.execheap.specs.Numbered.{Numbered, contents, IsSound, IsTagged, place_or, place_of_tag, roster, number_at, tag_at, address_in, key_at, object_of, shown_object, shown_block, shown_entry, shown_heap}
+use Rattle.execheap.specs.Numbered.{Numbered, contents, IsSound, IsTagged, place_or, roster, number_at, tag_at, address_in, key_at, object_of, shown_object, shown_block, shown_heap}
 use Rattle.execheap.proofs.Entries.{IsFound, all_found, all_with, at_found, find_shown, some_same}
 use Rattle.execheap.proofs.Tagging.{number_tag, place_tag, shown_tag, tag_named}
 

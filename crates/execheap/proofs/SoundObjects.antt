@@ -1,16 +1,16 @@
 -- Objects stay sound where blocks are put and freed, and numbers given and released.
-use Rattle.std.proofs.Common.{◌≡◌, ◌≢◌, ℕ, zero, suc, ◌+◌, ◌*◌, ◌/◌, ◌%◌, ◌<◌, ◌≤◌, lit≤, List, [], ◌∷◌, Bool, true, false, cond, length, inl, inr, refl, ap, sym, ◌∙◌, subst, arith}
-use Rattle.std.specs.Prelude.{Some, None, Option, is_some, nat_eq, nat_lt, not, ◌&&◌, ◌⊎◌, if◌then◌else◌, replicate, slice_set, IfSome, IsSome}
+use Rattle.std.proofs.Common.{◌≡◌, ◌≢◌, ℕ, zero, suc, ◌+◌, ◌/◌, ◌%◌, ◌<◌, ◌≤◌, List, [], ◌∷◌, Bool, true, false, cond, length, inl, inr, refl, ap, sym, ◌∙◌, subst, arith}
+use Rattle.std.specs.Prelude.{Some, None, Option, is_some, nat_eq, nat_lt, not, ◌⊎◌, if◌then◌else◌, slice_set, IfSome, IsSome}
 use Rattle.std.specs.Option.{option_map}
 use Rattle.std.specs.List.{AllByRecursion, filter}
 use Rattle.std.specs.Ordering.{nat_cmp, eq_by_cmp}
-use Rattle.std.specs.FinMap.{find, put, nat_cmp-IsAntisymmetric}
+use Rattle.std.specs.FinMap.{put, nat_cmp-IsAntisymmetric}
 use Rattle.std.specs.FinMap.Entries.{find-put, find-where_key}
 use Rattle.std.proofs.lemmas.Cmp.{nat_cmp_total}
 use Rattle.std.proofs.lemmas.List.{length-set, length-replicate}
 use Rattle.execlist.specs.Lists.{Key, home, is_at, sequence, times}
 use Rattle.memlist.specs.declared.region.Region.{Region}
-use Rattle.memlist.specs.Blocks.{Blocks, block_at, freed, with_block}
+use Rattle.memlist.specs.Blocks.{Blocks, block_at, freed}
 use Rattle.memlist.specs.Fit.{fit, round}
 use Rattle.memlist.specs.Memory.{Memory, IsWellFormed, allocated, can_free, names, without_block}
 use Rattle.memlist.proofs.Addresses.{fitted_fresh}

@@ -1,10 +1,10 @@
 -- Tags: what is written is read, and what is read was written.
 use Rattle.std.proofs.Common.{◌≡◌, ℕ, zero, suc, ◌+◌, ◌*◌, ◌/◌, ◌%◌, ◌<◌, Bool, true, false, cond, refl, ap, sym, ◌∙◌, arith}
-use Rattle.std.specs.Prelude.{Option, None, Some, is_some, nat_eq, ◌&&◌, ◌≢◌, if◌then◌else◌}
+use Rattle.std.specs.Prelude.{None, Some, is_some, nat_eq, ◌&&◌, ◌≢◌, if◌then◌else◌}
 use Rattle.memlist.proofs.Answered.{nat_eq-other, nat_eq-same}
 use Rattle.memlist.proofs.Headers.{from_eq}
 use Rattle.execheap.specs.Roster.{place}
-use Rattle.execheap.specs.Tags.{tag_of, number_of, is_of}
+use Rattle.execheap.specs.Tags.{tag_of, number_of}
 use Rattle.execheap.specs.Numbered.{Numbered, contents, object_of, shown_object, place_of_tag, roster}
 
 pub kind_read : (kind number : ℕ) → kind < 8 → (kind + 8 * number) % 8 ≡ kind

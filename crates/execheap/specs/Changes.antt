@@ -5,7 +5,7 @@ use Rattle.execlist.specs.Lists.{Key, blank, home, last, pri_of, put_after, sequ
 use Rattle.memlist.specs.declared.region.Region.{Region}
 use Rattle.memlist.specs.Fit.{fit}
 use Rattle.memlist.specs.Memory.{allocated, untouched, without_block}
-use Rattle.execheap.specs.Roster.{Rostered, all_free, enrolled, next_number, released}
+use Rattle.execheap.specs.Roster.{all_free, enrolled, next_number, released}
 use Rattle.execheap.specs.Tags.{tag_of}
 use Rattle.execheap.specs.Numbered.{Numbered}
 

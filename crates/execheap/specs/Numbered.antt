@@ -1,5 +1,5 @@
 -- Objects by number, and the memory that they stand for: the objects by address.
-use Rattle.std.specs.Prelude.{◌≡◌, ℕ, zero, suc, ◌+◌, ◌*◌, ◌/◌, ◌%◌, ◌≤◌, if◌then◌else◌, IsSome, List, [], filter, length, map, slice_index_or, Option, None, Some, unwrap_or}
+use Rattle.std.specs.Prelude.{◌≡◌, ℕ, zero, suc, ◌/◌, ◌%◌, ◌≤◌, if◌then◌else◌, IsSome, List, [], filter, length, map, slice_index_or, Option, None, Some, unwrap_or}
 use Rattle.std.specs.Option.{option_map, option_and_then}
 use Rattle.std.specs.List.{AllByRecursion}
 use Rattle.execlist.specs.Lists.{Key, blank, sequence, home, is_at, times}
@@ -7,7 +7,7 @@ use Rattle.memlist.specs.Memory as table
 use Rattle.memlist.specs.Blocks.{Blocks, block_at}
 use Rattle.execmodel.specs.State.{Object, Plain, ListHead, Node, Block, Heap, Memory}
 use Rattle.execheap.specs.Roster.{Rostered, place, taken}
-use Rattle.execheap.specs.Tags.{number_of, is_of, tag_of}
+use Rattle.execheap.specs.Tags.{number_of, is_of}
 
 -- the blocks with their tags; for each kind the addresses of its objects by number; and what the lists and the nodes hold, by number
 pub record Numbered : Type 0 where
