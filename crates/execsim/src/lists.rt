@@ -1,4 +1,5 @@
 //! Lists and nodes: how they are made and freed, linked, unlinked and scanned. An object is named by the address of its block.
+//! The calls of `Heap` have the effects; a word hands its arguments on, and ends as the answer says.
 ghost use Rattle.std.specs.Prelude.{◌≡◌, ◌<◌, [], length, IfOk, IsTrue};
 ghost use Rattle.std.specs.Int.{cast_signed, w32};
 ghost use Rattle.std.specs.Option.{option_map, unwrap_or};
@@ -89,7 +90,7 @@ impl<S: ListSpace> Kernel<S> {
         self.memory.new_node(pri.cast_signed() as i8, name)
     }
 
-    /// NewList (autodoc amiga.lib/NewList).
+    /// NewList: answers the address of a new empty list, or 0 (autodoc amiga.lib/NewList; that it takes the memory: own choice).
     pub(crate) fn new_list<W: Sink>(&mut self, t: TaskId, call: &Call, out: &mut W)
         requires { t < length self.old.scripts.programs }
         ensures { Follows (does_new_list t (call_view call.now)) self.old self.new (W.tape out.old) (W.tape out.new) }
@@ -98,7 +99,7 @@ impl<S: ListSpace> Kernel<S> {
         self.answered(t, call, list.unwrap_or(0), out);
     }
 
-    /// FreeList list (own choice).
+    /// FreeList list: frees an empty list. HANDLE where no list begins there, LINK where it has nodes (own choice).
     pub(crate) fn free_list<W: Sink>(&mut self, t: TaskId, call: &Call, out: &mut W)
         requires { t < length self.old.scripts.programs }
         ensures { Follows (does_free_list t (call_view call.now)) self.old self.new (W.tape out.old) (W.tape out.new) }
@@ -108,7 +109,8 @@ impl<S: ListSpace> Kernel<S> {
         self.concluded(tried, t, call, out);
     }
 
-    /// NewNode pri name (own choice).
+    /// NewNode pri name: answers the address of a new node, which is not linked, or 0. VALUE where the priority, read as a signed word, is
+    /// not in -128 to 127 (own choice).
     pub(crate) fn new_node<W: Sink>(&mut self, t: TaskId, call: &Call, out: &mut W)
         requires { t < length self.old.scripts.programs }
         ensures { Follows (does_new_node t (call_view call.now)) self.old self.new (W.tape out.old) (W.tape out.new) }
@@ -122,7 +124,7 @@ impl<S: ListSpace> Kernel<S> {
         }
     }
 
-    /// FreeNode node (own choice).
+    /// FreeNode node: frees a node. HANDLE where none begins there, LINK where it is linked (own choice).
     pub(crate) fn free_node<W: Sink>(&mut self, t: TaskId, call: &Call, out: &mut W)
         requires { t < length self.old.scripts.programs }
         ensures { Follows (does_free_node t (call_view call.now)) self.old self.new (W.tape out.old) (W.tape out.new) }
@@ -134,7 +136,8 @@ impl<S: ListSpace> Kernel<S> {
 
     // ---- linked
 
-    /// AddHead list node (autodoc exec.library/AddHead).
+    /// AddHead list node: puts the node first. HANDLE where either is none, LINK where the node is linked (autodoc
+    /// exec.library/AddHead; the alerts: own choice).
     pub(crate) fn add_head<W: Sink>(&mut self, t: TaskId, call: &Call, out: &mut W)
         requires { t < length self.old.scripts.programs }
         ensures { Follows (does_add_head t (call_view call.now)) self.old self.new (W.tape out.old) (W.tape out.new) }
@@ -145,7 +148,7 @@ impl<S: ListSpace> Kernel<S> {
         self.concluded(tried, t, call, out);
     }
 
-    /// AddTail list node (autodoc exec.library/AddTail).
+    /// AddTail list node: puts the node last. The alerts are those of AddHead (autodoc exec.library/AddTail).
     pub(crate) fn add_tail<W: Sink>(&mut self, t: TaskId, call: &Call, out: &mut W)
         requires { t < length self.old.scripts.programs }
         ensures { Follows (does_add_tail t (call_view call.now)) self.old self.new (W.tape out.old) (W.tape out.new) }
@@ -156,7 +159,8 @@ impl<S: ListSpace> Kernel<S> {
         self.concluded(tried, t, call, out);
     }
 
-    /// Enqueue list node (autodoc exec.library/Enqueue).
+    /// Enqueue list node: puts the node before the first one of lower priority, or last. The alerts are those of AddHead (autodoc
+    /// exec.library/Enqueue).
     pub(crate) fn enqueue<W: Sink>(&mut self, t: TaskId, call: &Call, out: &mut W)
         requires { t < length self.old.scripts.programs }
         ensures { Follows (does_enqueue t (call_view call.now)) self.old self.new (W.tape out.old) (W.tape out.new) }
@@ -167,7 +171,8 @@ impl<S: ListSpace> Kernel<S> {
         self.concluded(tried, t, call, out);
     }
 
-    /// Insert list node pred (autodoc exec.library/Insert).
+    /// Insert list node pred: puts the node after pred, or first where pred is 0. HANDLE where one of them is none, LINK where the node is
+    /// linked or pred does not stand in the list (autodoc exec.library/Insert; the alerts: own choice).
     pub(crate) fn insert<W: Sink>(&mut self, t: TaskId, call: &Call, out: &mut W)
         requires { t < length self.old.scripts.programs }
         ensures { Follows (does_insert t (call_view call.now)) self.old self.new (W.tape out.old) (W.tape out.new) }
@@ -181,7 +186,8 @@ impl<S: ListSpace> Kernel<S> {
 
     // ---- unlinked
 
-    /// Remove node (autodoc exec.library/Remove).
+    /// Remove node: takes the node out of its list. HANDLE where none begins there, LINK where it is not linked (autodoc
+    /// exec.library/Remove; the alerts: own choice).
     pub(crate) fn remove<W: Sink>(&mut self, t: TaskId, call: &Call, out: &mut W)
         requires { t < length self.old.scripts.programs }
         ensures { Follows (does_remove t (call_view call.now)) self.old self.new (W.tape out.old) (W.tape out.new) }
@@ -191,7 +197,8 @@ impl<S: ListSpace> Kernel<S> {
         self.concluded(tried, t, call, out);
     }
 
-    /// RemHead list (autodoc exec.library/RemHead).
+    /// RemHead list: takes the first node out and answers it, or 0 for an empty list. HANDLE where no list begins there (autodoc
+    /// exec.library/RemHead; the alert: own choice).
     pub(crate) fn rem_head<W: Sink>(&mut self, t: TaskId, call: &Call, out: &mut W)
         requires { t < length self.old.scripts.programs }
         ensures { Follows (does_rem_head t (call_view call.now)) self.old self.new (W.tape out.old) (W.tape out.new) }
@@ -201,7 +208,8 @@ impl<S: ListSpace> Kernel<S> {
         self.concluded_with(tried, t, call, out);
     }
 
-    /// RemTail list (autodoc exec.library/RemTail).
+    /// RemTail list: takes the last node out and answers it, or 0 for an empty list. HANDLE where no list begins there (autodoc
+    /// exec.library/RemTail; the alert: own choice).
     pub(crate) fn rem_tail<W: Sink>(&mut self, t: TaskId, call: &Call, out: &mut W)
         requires { t < length self.old.scripts.programs }
         ensures { Follows (does_rem_tail t (call_view call.now)) self.old self.new (W.tape out.old) (W.tape out.new) }
@@ -213,7 +221,8 @@ impl<S: ListSpace> Kernel<S> {
 
     // ---- scanned
 
-    /// First list (RKM Libraries, Exec Lists and Queues: scanning a list).
+    /// First list: answers the first node, or 0 for an empty list. HANDLE where no list begins there (RKM Libraries, Exec Lists and
+    /// Queues: scanning a list; the alert: own choice).
     pub(crate) fn first<W: Sink>(&mut self, t: TaskId, call: &Call, out: &mut W)
         requires { t < length self.old.scripts.programs }
         ensures { Follows (does_first t (call_view call.now)) self.old self.new (W.tape out.old) (W.tape out.new) }
@@ -223,7 +232,8 @@ impl<S: ListSpace> Kernel<S> {
         self.concluded_with(tried, t, call, out);
     }
 
-    /// Last list (RKM Libraries, Exec Lists and Queues: scanning a list).
+    /// Last list: answers the last node, or 0 for an empty list. HANDLE where no list begins there (RKM Libraries, Exec Lists and
+    /// Queues: scanning a list; the alert: own choice).
     pub(crate) fn last<W: Sink>(&mut self, t: TaskId, call: &Call, out: &mut W)
         requires { t < length self.old.scripts.programs }
         ensures { Follows (does_last t (call_view call.now)) self.old self.new (W.tape out.old) (W.tape out.new) }
@@ -233,7 +243,8 @@ impl<S: ListSpace> Kernel<S> {
         self.concluded_with(tried, t, call, out);
     }
 
-    /// Succ node (RKM Libraries, Exec Lists and Queues: `ln_Succ`).
+    /// Succ node: answers the node after a linked one, or 0. HANDLE where none begins there, LINK where it is not linked (RKM Libraries,
+    /// Exec Lists and Queues: `ln_Succ`; the alerts: own choice).
     pub(crate) fn succ<W: Sink>(&mut self, t: TaskId, call: &Call, out: &mut W)
         requires { t < length self.old.scripts.programs }
         ensures { Follows (does_succ t (call_view call.now)) self.old self.new (W.tape out.old) (W.tape out.new) }
@@ -243,7 +254,8 @@ impl<S: ListSpace> Kernel<S> {
         self.concluded_with(tried, t, call, out);
     }
 
-    /// Pred node (RKM Libraries, Exec Lists and Queues: `ln_Pred`).
+    /// Pred node: answers the node before a linked one, or 0. HANDLE where none begins there, LINK where it is not linked (RKM Libraries,
+    /// Exec Lists and Queues: `ln_Pred`; the alerts: own choice).
     pub(crate) fn pred<W: Sink>(&mut self, t: TaskId, call: &Call, out: &mut W)
         requires { t < length self.old.scripts.programs }
         ensures { Follows (does_pred t (call_view call.now)) self.old self.new (W.tape out.old) (W.tape out.new) }
@@ -264,7 +276,8 @@ impl<S: ListSpace> Kernel<S> {
         }
     }
 
-    /// FindName start name (autodoc exec.library/FindName).
+    /// FindName start name: answers the first node of that name in a list, or after a linked node, or 0. HANDLE where neither begins at
+    /// the start, LINK where the node is not linked (autodoc exec.library/FindName; the alerts: own choice).
     pub(crate) fn find_name<W: Sink>(&mut self, t: TaskId, call: &Call, out: &mut W)
         requires { t < length self.old.scripts.programs }
         ensures { Follows (does_find_name t (call_view call.now)) self.old self.new (W.tape out.old) (W.tape out.new) }

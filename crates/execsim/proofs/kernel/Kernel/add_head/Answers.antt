@@ -6,5 +6,5 @@ use Rattle.execsim.proofs.kernel.Kernel.add_head.Goals as goal
 pub returns : goal.returns
 unfolding does_add_head
 returns g c = rw (← c.self.view_is) (follows_changed _ _ (λ memory. link_alert _ _ memory.heap) (on_heap (added_head _ _)) _ _
-    (rw (c.number-list.ensures, c.number-node.ensures) at c.add_head-tried.ensures.alert) (rw (c.number-list.ensures, c.number-node.ensures) at c.add_head-tried.ensures.next)
-    c.add_head-tried.ensures.kept c.concluded.ensures)
+    (rw (c.number-list.ensures, c.number-node.ensures) at c.add_head-tried.ensures.alert)
+    (rw (c.number-list.ensures, c.number-node.ensures) at c.add_head-tried.ensures.next) c.add_head-tried.ensures.kept c.concluded.ensures)

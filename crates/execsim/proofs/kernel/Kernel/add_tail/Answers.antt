@@ -6,5 +6,5 @@ use Rattle.execsim.proofs.kernel.Kernel.add_tail.Goals as goal
 pub returns : goal.returns
 unfolding does_add_tail
 returns g c = rw (← c.self.view_is) (follows_changed _ _ (λ memory. link_alert _ _ memory.heap) (on_heap (added_tail _ _)) _ _
-    (rw (c.number-list.ensures, c.number-node.ensures) at c.add_tail-tried.ensures.alert) (rw (c.number-list.ensures, c.number-node.ensures) at c.add_tail-tried.ensures.next)
-    c.add_tail-tried.ensures.kept c.concluded.ensures)
+    (rw (c.number-list.ensures, c.number-node.ensures) at c.add_tail-tried.ensures.alert)
+    (rw (c.number-list.ensures, c.number-node.ensures) at c.add_tail-tried.ensures.next) c.add_tail-tried.ensures.kept c.concluded.ensures)

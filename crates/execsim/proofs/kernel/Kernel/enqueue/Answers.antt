@@ -6,5 +6,5 @@ use Rattle.execsim.proofs.kernel.Kernel.enqueue.Goals as goal
 pub returns : goal.returns
 unfolding does_enqueue
 returns g c = rw (← c.self.view_is) (follows_changed _ _ (λ memory. link_alert _ _ memory.heap) (on_heap (enqueued _ _)) _ _
-    (rw (c.number-list.ensures, c.number-node.ensures) at c.enqueue-tried.ensures.alert) (rw (c.number-list.ensures, c.number-node.ensures) at c.enqueue-tried.ensures.next)
-    c.enqueue-tried.ensures.kept c.concluded.ensures)
+    (rw (c.number-list.ensures, c.number-node.ensures) at c.enqueue-tried.ensures.alert)
+    (rw (c.number-list.ensures, c.number-node.ensures) at c.enqueue-tried.ensures.next) c.enqueue-tried.ensures.kept c.concluded.ensures)

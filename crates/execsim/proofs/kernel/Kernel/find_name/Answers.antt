@@ -7,6 +7,7 @@ use Rattle.execsim.proofs.kernel.Kernel.find_name.Goals as goal
 
 pub returns : goal.returns
 unfolding does_find_name
-returns g c = follows_read _ _ (λ memory. find_alert _ memory.heap) (λ memory. found_node _ (unwrap_or (name_argument 1 (call_view c.args.call.now)) []) memory.heap) _
+returns g c = follows_read _ _ (λ memory. find_alert _ memory.heap)
+    (λ memory. found_node _ (unwrap_or (name_argument 1 (call_view c.args.call.now)) []) memory.heap) _
     (rw c.number-start.ensures at c.find-tried.ensures.alert) (rw (c.number-start.ensures, c.name.ensures) at c.find-tried.ensures.answer)
     c.concluded_with.ensures

@@ -6,5 +6,5 @@ use Rattle.execsim.proofs.kernel.Kernel.free_list.Goals as goal
 pub returns : goal.returns
 unfolding does_free_list
 returns g c = rw (← c.self.view_is) (follows_changed _ _ (λ memory. free_list_alert _ memory.heap) (freed _) _ _
-    (rw c.number-list.ensures at c.free_list-tried.ensures.alert) (rw c.number-list.ensures at c.free_list-tried.ensures.next)
-    c.free_list-tried.ensures.kept c.concluded.ensures)
+    (rw c.number-list.ensures at c.free_list-tried.ensures.alert)
+    (rw c.number-list.ensures at c.free_list-tried.ensures.next) c.free_list-tried.ensures.kept c.concluded.ensures)

@@ -6,5 +6,5 @@ use Rattle.execsim.proofs.kernel.Kernel.free_node.Goals as goal
 pub returns : goal.returns
 unfolding does_free_node
 returns g c = rw (← c.self.view_is) (follows_changed _ _ (λ memory. free_node_alert _ memory.heap) (freed _) _ _
-    (rw c.number-node.ensures at c.free_node-tried.ensures.alert) (rw c.number-node.ensures at c.free_node-tried.ensures.next)
-    c.free_node-tried.ensures.kept c.concluded.ensures)
+    (rw c.number-node.ensures at c.free_node-tried.ensures.alert)
+    (rw c.number-node.ensures at c.free_node-tried.ensures.next) c.free_node-tried.ensures.kept c.concluded.ensures)
