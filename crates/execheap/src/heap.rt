@@ -35,8 +35,8 @@ impl<S: ListSpace> Model for Heap<S> {
 }
 
 impl<S: ListSpace> Heap<S> {
-    /// The memory of these regions, which `check_regions` accepts, with nothing allocated; of each kind as many objects may live as
-    /// `pool` says. An error means that memory of the host is lacking.
+    /// The memory of these regions with nothing allocated; of each kind as many objects may live as `pool` says. An error means that memory
+    /// of the host is lacking, or that `check_regions` refuses the regions, which no machine file's are.
     pub fn new(alloc: Global, regions: &[Region], pool: u32) -> Result<Self, AllocError>
         requires { pool ≤ 1024 }
         ensures { IfOk result (λ h. h ≡ record { regions = regions.now; pool = pool; heap = [] }) }
@@ -166,8 +166,8 @@ impl<S: ListSpace> Heap<S> {
         }
     }
 
-    /// Puts a node before the first node of lower priority in a list, or last where there is none. It is refused where no list or no node begins at its address (Handle), and where the
-    /// node is linked (Link). Autodoc exec.library/Enqueue; the refusals: own choice.
+    /// Puts a node before the first node of lower priority in a list, or last where there is none. It is refused where no list or no node
+    /// begins at its address (Handle), and where the node is linked (Link). Autodoc exec.library/Enqueue; the refusals: own choice.
     pub fn enqueue(&mut self, list: u32, node: u32) -> Result<(), Refusal>
         ensures alert { alert_of result ≡ link_alert list node self.old.heap }
         ensures next { OnOk result (self.new ≡ on_heap (enqueued list node) self.old) }
@@ -183,8 +183,9 @@ impl<S: ListSpace> Heap<S> {
         }
     }
 
-    /// Puts a node after a node of a list, or first for address 0. It is refused where no list or no node begins at its address (Handle), and
-    /// where the node is linked or its predecessor does not stand in the list (Link). Autodoc exec.library/Insert; the refusals: own choice.
+    /// Puts a node after a node of a list, or first for address 0. It is refused where no list or no node begins at its address
+    /// (Handle), and where the node is linked or its predecessor does not stand in the list (Link). Autodoc exec.library/Insert; the
+    /// refusals: own choice.
     pub fn insert(&mut self, list: u32, node: u32, pred: u32) -> Result<(), Refusal>
         ensures alert { alert_of result ≡ insert_alert list node pred self.old.heap }
         ensures next { OnOk result (self.new ≡ on_heap (inserted list node pred) self.old) }
