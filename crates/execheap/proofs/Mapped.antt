@@ -88,11 +88,6 @@ all_of_part_after P n (x ∷ xs) holds = by_case (x == n) (all_of_part_after P n
   by_case true rest = holds.1
   by_case false rest = rest
 
-pub find-map_part_after : {B : Type 0} (f : ℕ → B) (other : B → Bool) (wanted : ℕ → Bool) (n : ℕ) (xs : List ℕ)
-    → AllByRecursion (λ x. other (f x) ≡ wanted x) xs → find other (map f (part_after n xs)) ≡ option_map f (find wanted (part_after n xs))
-find-map_part_after f other wanted n xs same =
-    find-map f other wanted (part_after n xs) (all_of_part_after (λ x. other (f x) ≡ wanted x) n xs same)
-
 -- ---- whether a node stands in a sequence
 
 pub stands-map : (f : ℕ → ℕ) (n : ℕ) (xs : List ℕ) → Alike f n xs

@@ -27,9 +27,9 @@ abbrev pub made_at : ℕ → Option ℕ → Numbered → Option ℕ
 made_at size None s = None
 made_at size (Some number) s = fit s.memory.regions s.memory.blocks size 1
 
--- the key of a node
-abbrev pub key_of : ℤ → Option (List ℕ) → Key
-key_of pri name = record { pri = pri; name = name }
+-- the key of a node with that priority, and that name or none
+abbrev pub key_with : ℤ → Option (List ℕ) → Key
+key_with pri name = record { pri = pri; name = name }
 
 -- the next number of the lists, if there is one, is given to a list at an address, if there is one
 abbrev pub list_numbered : ℕ → Option ℕ → Option ℕ → Numbered → Numbered

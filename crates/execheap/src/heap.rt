@@ -6,7 +6,7 @@ ghost use Rattle.execmodel.specs.Memory.{block_at, can_be_asked, extents, freed,
 ghost use Rattle.execmodel.specs.Objects.{place_for_object};
 ghost use Rattle.execmodel.specs.Lists.{is_list, is_node, free_list_alert, free_node_alert, link_alert, insert_alert, linked_alert, list_alert, find_alert};
 ghost use Rattle.execmodel.specs.Lists.{added_head, added_tail, enqueued, inserted, unlinked, removed_head, removed_tail, first_of, last_of, succ_of, pred_of, found_node};
-ghost use Rattle.execheap.specs.Changes.{key_of};
+ghost use Rattle.execheap.specs.Changes.{key_with};
 ghost use Rattle.execheap.specs.Refusals.{alert_of};
 
 use crate::objects::Objects;
@@ -92,7 +92,7 @@ impl<S: ListSpace> Heap<S> {
     /// node left or its block fits nowhere (own choice).
     pub fn new_node(&mut self, pri: i8, name: Option<Name>) -> Option<u32>
         ensures address { result ≡ place_for_object is_node 14 self.old }
-        ensures next { self.new ≡ placed 14 (Node (key_of pri (option_map (λ text. text.bytes) name))) result self.old }
+        ensures next { self.new ≡ placed 14 (Node (key_with pri (option_map (λ text. text.bytes) name))) result self.old }
     {
         self.objects.facts();
         self.objects.make_node(pri, name)

@@ -9,7 +9,7 @@ ghost use Rattle.memlist.specs.Memory.{IsWellFormed, allocated, can_free, untouc
 ghost use Rattle.execheap.specs.Roster.{IsStocked, next_number, place};
 ghost use Rattle.execheap.specs.Tags.{kind_code};
 ghost use Rattle.execheap.specs.Numbered.{IsSound, IsSpace, number_at, roster};
-ghost use Rattle.execheap.specs.Changes.{unused, made_at, key_of, list_numbered, list_made, list_freed, node_numbered, node_made, node_freed, at_head, at_tail, queued, put, taken_out, head_taken, tail_taken};
+ghost use Rattle.execheap.specs.Changes.{unused, made_at, key_with, list_numbered, list_made, list_freed, node_numbered, node_made, node_freed, at_head, at_tail, queued, put, taken_out, head_taken, tail_taken};
 
 #[cfg(test)]
 mod tests;
@@ -181,7 +181,7 @@ impl<S: ListSpace> Objects<S> {
     /// A new node with that key, if the pool has one left and its block fits: its address.
     pub fn make_node(&mut self, pri: i8, name: Option<Name>) -> Option<u32>
         ensures answer { result ≡ made_at 14 (next_number self.old.nodes) self.old }
-        ensures next { self.new ≡ node_made 14 (key_of pri (option_map (λ text. text.bytes) name)) result self.old }
+        ensures next { self.new ≡ node_made 14 (key_with pri (option_map (λ text. text.bytes) name)) result self.old }
     {
         match self.nodes.next() {
             Some(number) => self.place_node(number, pri, name),
@@ -193,7 +193,7 @@ impl<S: ListSpace> Objects<S> {
     fn place_node(&mut self, number: NodeId, pri: i8, name: Option<Name>) -> Option<u32>
         requires { next_number self.old.nodes ≡ Some number }
         ensures answer { result ≡ fit self.old.memory.regions self.old.memory.blocks 14 1 }
-        ensures next { self.new ≡ node_numbered 14 (key_of pri (option_map (λ text. text.bytes) name)) (Some number) result self.old }
+        ensures next { self.new ≡ node_numbered 14 (key_with pri (option_map (λ text. text.bytes) name)) (Some number) result self.old }
     {
         self.memory.is_well_formed();
         self.nodes.facts();

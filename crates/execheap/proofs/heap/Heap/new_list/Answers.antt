@@ -1,5 +1,5 @@
 -- A list is made where it is shown to fit, and is shown where it is made.
-use Rattle.std.proofs.Common.{[], ap, refl, sym, ◌∙◌, arith}
+use Rattle.std.proofs.Common.{[], ap, refl, sym, ◌∙◌}
 use Rattle.execmodel.specs.State.{ListHead}
 use Rattle.execmodel.specs.Memory.{placed}
 use Rattle.execmodel.specs.Objects.{place_for_object}
@@ -7,8 +7,7 @@ use Rattle.execmodel.specs.Lists.{is_list}
 use Rattle.execheap.specs.Roster.{next_number}
 use Rattle.execheap.specs.Numbered.{shown_memory}
 use Rattle.execheap.proofs.Making.{list_made_at, list_made_shown}
-use Rattle.execheap.proofs.Rosters.{taken_below}
-use Rattle.execheap.proofs.SoundObjects.{ahead_of}
+use Rattle.execheap.proofs.SoundObjects.{ahead_of, lists_full, lists_left}
 use Rattle.execheap.proofs.heap.Heap.new_list.Goals as goal
 
 pub returns-clause-address : goal.returns-clause-address
@@ -16,8 +15,7 @@ returns-clause-address g c =
     let f = c.facts.ensures in
     let s = c.self.inside.objects in
     c.make_list.ensures.answer
-    ∙ sym (list_made_at s (λ none. f.sound.count 0 ∙ f.lists.full none)
-    (λ n next. let a = ahead_of s.lists n f.lists next in omega (arith, f.sound.count 0, taken_below s.lists.places n a.vacant a.known)))
+    ∙ sym (list_made_at s (lists_full f.sound f.lists) (λ n next. lists_left f.sound n f.lists next))
     ∙ ap (place_for_object is_list 14) c.self.view_is
 
 pub returns-clause-next : goal.returns-clause-next

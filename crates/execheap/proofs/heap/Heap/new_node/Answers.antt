@@ -7,11 +7,10 @@ use Rattle.execmodel.specs.Memory.{placed}
 use Rattle.execmodel.specs.Objects.{place_for_object}
 use Rattle.execmodel.specs.Lists.{is_node}
 use Rattle.execheap.specs.Roster.{next_number}
-use Rattle.execheap.specs.Changes.{key_of, node_made}
+use Rattle.execheap.specs.Changes.{key_with, node_made}
 use Rattle.execheap.specs.Numbered.{shown_memory}
 use Rattle.execheap.proofs.Making.{node_made_at, node_made_shown}
-use Rattle.execheap.proofs.Rosters.{taken_below}
-use Rattle.execheap.proofs.SoundObjects.{ahead_of}
+use Rattle.execheap.proofs.SoundObjects.{ahead_of, nodes_full, nodes_left}
 use Rattle.execheap.proofs.heap.Heap.new_node.Goals as goal
 use mir.Syntax.{w8}
 use mir.Val.{SFits}
@@ -21,18 +20,18 @@ returns-clause-address g c =
     let f = c.facts.ensures in
     let s = c.self.inside.objects in
     c.make_node.ensures.answer
-    ∙ sym (node_made_at s (λ none. f.sound.count 1 ∙ f.nodes.full none ∙ f.sound.one_pool)
-    (λ n next. let a = ahead_of s.nodes n f.nodes next in omega (arith, f.sound.count 1, f.sound.one_pool, taken_below s.nodes.places n a.vacant a.known)))
+    ∙ sym (node_made_at s (λ none. nodes_full f.sound f.nodes none ∙ f.sound.one_pool)
+    (λ n next. omega (arith, nodes_left f.sound n f.nodes next, f.sound.one_pool)))
     ∙ ap (place_for_object is_node 14) c.self.view_is
 
 pub returns-clause-next : goal.returns-clause-next
 returns-clause-next g c =
     let f = c.facts.ensures in
     let s = c.self.inside.objects in
-    let key = key_of c.args.pri (option_map (λ text. text.bytes) c.args.name) in
+    let key = key_with c.args.pri (option_map (λ text. text.bytes) c.args.name) in
     let fits : SFits w8 c.args.pri = search rules in
     ap shown_memory c.make_node.ensures.next
-    ∙ ap (λ pri. shown_memory (node_made 14 (key_of pri (option_map (λ text. text.bytes) c.args.name)) c.make_node.result s)) (to_z-of_z w8 c.args.pri fits)
+    ∙ ap (λ pri. shown_memory (node_made 14 (key_with pri (option_map (λ text. text.bytes) c.args.name)) c.make_node.result s)) (to_z-of_z w8 c.args.pri fits)
     ∙ node_made_shown f.sound f.space (next_number s.nodes) c.make_node.result key refl c.make_node.ensures.answer (λ n next. (ahead_of s.nodes n f.nodes next).vacant)
     (λ n next. omega (arith, f.space.keyed, f.sound.each_node, (ahead_of s.nodes n f.nodes next).known))
     ∙ ap (placed 14 (Node key) c.make_node.result) c.self.view_is
