@@ -54,7 +54,8 @@ impl MachineFile {
         self.quantum
     }
 
-    /// The number that stands at `pool`: 1 to 1,024, or 64 where none stands. No word asks for it (own choice).
+    /// The number that stands at `pool`: 1 to 1,024, or 64 where none stands. So many lists may live at once, and so many
+    /// nodes (own choice).
     pub fn pool(&self) -> u32
         ensures pool { result ≡ self.now.pool }
         ensures machine { IsMachine self.now }
