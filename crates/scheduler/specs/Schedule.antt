@@ -191,6 +191,10 @@ come_for mask sets = if nat_eq (taken_signals mask sets) 0 then None else Some (
 abbrev pub after_wait : ℕ → ℕ → Schedule → Schedule
 after_wait t mask s = if nat_eq (taken_signals mask (signals_of s t)) 0 then waits_for t mask s else takes t mask s
 
+-- the running task clears the signals of the mask that it has received, and waits for new ones (own choice)
+abbrev pub clears_and_waits : ℕ → ℕ → Schedule → Schedule
+clears_and_waits t mask s = waits_for t mask (takes t mask s)
+
 -- task t allocates signal n, or for -1 the highest free one, if it is given
 unfoldable pub allocates : ℕ → ℤ → Schedule → Schedule
 allocates t n s = with_signals t (after_grant (grant n (signals_of s t)) (signals_of s t)) s

@@ -10,7 +10,7 @@ ghost use Rattle.signals.specs.Signals.{taken_signals, after_post, grant, grant_
 ghost use Rattle.forbid.specs.Nesting.{may_switch, may_interrupt, after_forbid, after_permit, after_disable, after_enable};
 ghost use Rattle.scheduler.specs.Schedule.{task_count, name_of, priority_of, status_of, signals_of, nesting_of, unstarted, is_absent, leaves, removed, found};
 ghost use Rattle.scheduler.specs.Schedule.{is_switching_allowed, is_interrupting_allowed, switch_for, IsToOneOf, takes_over, begins, renewed, ticked, nested, nest_answer};
-ghost use Rattle.scheduler.specs.Schedule.{awaits, come_for, after_wait, takes, waits_for, allocates, sets_signals, frees, with_signals};
+ghost use Rattle.scheduler.specs.Schedule.{awaits, come_for, after_wait, clears_and_waits, takes, waits_for, allocates, sets_signals, frees, with_signals};
 ghost use Rattle.scheduler.specs.Dispatch.{arrives, displaced, switch_of, after_switch, rescheduled, added, signalled, reprioritized};
 ghost use Rattle.scheduler.specs.Sound.{is_stopped, IsToReady};
 ghost use Rattle.scheduler.specs.Lending.{lends_signals, lends_nesting};
@@ -409,6 +409,23 @@ impl<S: ListSpace> Sched<S> {
             self.sleep(t, mask);
             None
         }
+    }
+
+    /// Clears the signals of the mask that the running task has received, and lets it wait for new ones: no task
+    /// runs then, and a signal that came before is lost. As after `wait`, Forbid and Disable of the waiting task
+    /// hold again when it runs again.
+    ///
+    /// Source: autodoc exec.library/WaitPort and device input/output (RKM Libraries, Exec Messages and Ports).
+    /// Own choice: a call that waits at a port first clears the port's signal.
+    #[tactic(auto, unfolding(crate::specs::Schedule::takes))]
+    pub fn wait_clear(&mut self, mask: u32)
+        requires { IsSome self.old.running }
+        ensures next { IfSome self.old.running (λ t. self.new ≡ clears_and_waits t mask self.old) }
+        ensures tasks { task_count self.new ≡ task_count self.old }
+    {
+        let t = self.runner();
+        self.take(t, mask);
+        self.sleep(t, mask);
     }
 
     // Whether the task has received a signal of the mask.

@@ -55,6 +55,13 @@ impl<S: ListSpace> Driver<S> {
         self.schedule.wait(mask)
     }
 
+    // A task that waits gives way at once.
+    fn wait_clear(&mut self, mask: u32) -> Option<()> {
+        self.schedule.running()?;
+        self.schedule.wait_clear(mask);
+        Some(())
+    }
+
     fn signal(&mut self, t: TaskId, mask: u32) {
         if t < self.tasks {
             self.schedule.signal(t, mask);
@@ -180,6 +187,21 @@ fn wait_takes_only_the_signals_of_its_mask(rt: HostRuntime) -> Result<(), Fail> 
     assert_eq!(rt; d.wait(0x3000), Some(0x2000));
     assert_eq!(rt; d.wait(0x3000), None);
     assert_eq!(rt; d.running(), None);
+    Ok(())
+}
+
+#[test]
+fn wait_clear_waits_for_a_new_signal(rt: HostRuntime) -> Result<(), Fail> {
+    let mut d: Driver<PlainSpace> = three(&rt, rt.alloc(), 4, 1)?;
+    assert_eq!(rt; d.reschedule(), Some(Switch::To(A)));
+    d.signal(A, 0x3000);
+    assert_eq!(rt; d.wait_clear(0x1000), Some(()));
+    assert_eq!(rt; d.running(), None);
+    assert_eq!(rt; d.reschedule(), Some(Switch::Idle));
+    d.signal(A, 0x1000);
+    assert_eq!(rt; d.reschedule(), Some(Switch::To(A)));
+    // The signal that is not of the mask was kept.
+    assert_eq!(rt; d.wait(0x3000), Some(0x3000));
     Ok(())
 }
 
