@@ -8,7 +8,7 @@ use Rattle.execmodel.specs.State.{Heap}
 use Rattle.execmodel.specs.Lists.{find_alert, free_list_alert, free_node_alert, insert_alert, link_alert, linked_alert, list_alert}
 use Rattle.execmodel.specs.Lists.{is_linked, is_list_at, is_node_at, is_pred_at, is_pred_in, nodes_of, pred_alert, predecessor}
 use Rattle.execmodel.specs.Lists.{searched, sequence_with, stands_in}
-use Rattle.execheap.specs.Roster.{place}
+use Rattle.execlist.specs.Pool.{slot}
 use Rattle.execheap.specs.Numbered.{Numbered, IsSound, IsSpace, address_in, number_at, shown_heap}
 use Rattle.execheap.specs.Refusals.{is_none_or_in}
 use Rattle.execheap.proofs.Linked.{is_linked_shown, sequence_shown, some_is, stands_shown, told_apart}
@@ -69,8 +69,8 @@ module _ (s : Numbered) (list h : ℕ) (found : number_at 0 list s ≡ Some h) w
   has_first : is_some (first (nodes_of list (shown_heap s))) ≡ is_some (first (sequence s.sequences h))
   has_first =
       ap (λ nodes. is_some (first nodes)) (nodes_shown s list h found)
-      ∙ ap is_some (first-map (address_in s.nodes.places) (sequence s.sequences h))
-      ∙ is_some_map (address_in s.nodes.places) (first (sequence s.sequences h))
+      ∙ ap is_some (first-map (address_in s.nodes.slots) (sequence s.sequences h))
+      ∙ is_some_map (address_in s.nodes.slots) (first (sequence s.sequences h))
 
   -- a list that is to be freed is refused where it holds a node
   pub free_list_found : {held : Option ℕ} → first (sequence s.sequences h) ≡ held
@@ -190,7 +190,7 @@ module _ (s : Numbered) (list node pred : ℕ) (listed : list_alert list (shown_
       pub insert_by_link : {h : ℕ} → home s.homes n ≡ Some h → insert_alert list node pred (shown_heap s) ≡ Some (codes "LINK")
       insert_by_link linked = past_link linked
 
-module _ {s : Numbered} (sound : IsSound s) (space : IsSpace s) (list h : ℕ) (placed : place s.lists.places h ≡ Some list) where
+module _ {s : Numbered} (sound : IsSound s) (space : IsSpace s) (list h : ℕ) (placed : slot s.lists.slots h ≡ Some list) where
   -- what begins at the address of a list is that list
   list_numbered : list_alert list (shown_heap s) ≡ None → number_at 0 list s ≡ Some h
   list_numbered listed = elim (number_at 0 list s) as (λ o. number_at 0 list s ≡ o → o ≡ Some h) [
@@ -199,20 +199,20 @@ module _ {s : Numbered} (sound : IsSound s) (space : IsSpace s) (list h : ℕ) (
   ] refl
 
   -- a predecessor stands in the list of that address where it stands in the list of its number
-  pred_in_shown : (p : Option ℕ) → number_at 0 list s ≡ Some h → ForSome p (λ m. IsSome (place s.nodes.places m))
-      → is_pred_in (option_map (address_in s.nodes.places) p) list (shown_heap s) ≡ is_none_or_in p h s.homes
+  pred_in_shown : (p : Option ℕ) → number_at 0 list s ≡ Some h → ForSome p (λ m. IsSome (slot s.nodes.slots m))
+      → is_pred_in (option_map (address_in s.nodes.slots) p) list (shown_heap s) ≡ is_none_or_in p h s.homes
   pred_in_shown None found live = refl
   pred_in_shown (Some m) found live =
-      let lives = some_is (place s.nodes.places m) (live m refl) in
-      ap (stands_in (address_in s.nodes.places m)) (nodes_shown s list h found)
-      ∙ ap (λ a. stands_in a (map (address_in s.nodes.places) (sequence s.sequences h))) (ap (λ o. unwrap_or o 0) lives.1)
+      let lives = some_is (slot s.nodes.slots m) (live m refl) in
+      ap (stands_in (address_in s.nodes.slots m)) (nodes_shown s list h found)
+      ∙ ap (λ a. stands_in a (map (address_in s.nodes.slots) (sequence s.sequences h))) (ap (λ o. unwrap_or o 0) lives.1)
       ∙ stands_shown sound space h m lives.0 lives.1
 
   -- where the list, the node and the predecessor are there, and the node is not linked, the predecessor has to stand in the list
   pub insert_found : (node pred : ℕ) {n : ℕ} (p : Option ℕ) {stands : Bool} → list_alert list (shown_heap s) ≡ None
       → number_at 1 node s ≡ Some n → pred_alert (predecessor pred) (shown_heap s) ≡ None
-      → option_map (address_in s.nodes.places) p ≡ predecessor pred
-      → ForSome p (λ m. IsSome (place s.nodes.places m)) → home s.homes n ≡ None → is_none_or_in p h s.homes ≡ stands
+      → option_map (address_in s.nodes.slots) p ≡ predecessor pred
+      → ForSome p (λ m. IsSome (slot s.nodes.slots m)) → home s.homes n ≡ None → is_none_or_in p h s.homes ≡ stands
       → insert_alert list node pred (shown_heap s) ≡ link_unless stands
   insert_found node pred p listed found preceded is live unlinked stands =
       past_link s list node pred listed found preceded sound space unlinked
@@ -229,7 +229,7 @@ module _ (s : Numbered) (start h : ℕ) (found : number_at 0 start s ≡ Some h)
   unfolding find_alert
   find_list = ap (λ b. if b then None else linked_alert start (shown_heap s)) (list_there s start h found)
 
-  pub searched_list : searched start (shown_heap s) ≡ map (address_in s.nodes.places) (sequence s.sequences h)
+  pub searched_list : searched start (shown_heap s) ≡ map (address_in s.nodes.slots) (sequence s.sequences h)
   unfolding searched
   searched_list =
       ap (λ b. if b then nodes_of start (shown_heap s) else searched_after start (shown_heap s)) (list_there s start h found)
@@ -241,11 +241,11 @@ unfolding find_alert
 find_node s start none = ap (λ b. if b then None else linked_alert start (shown_heap s)) (no_list s start none)
 
 pub searched_node : {s : Numbered} → IsSound s → IsSpace s → (start n h : ℕ) → number_at 0 start s ≡ None
-    → place s.nodes.places n ≡ Some start → home s.homes n ≡ Some h
-    → searched start (shown_heap s) ≡ map (address_in s.nodes.places) (part_after n (sequence s.sequences h))
+    → slot s.nodes.slots n ≡ Some start → home s.homes n ≡ Some h
+    → searched start (shown_heap s) ≡ map (address_in s.nodes.slots) (part_after n (sequence s.sequences h))
 unfolding searched
 searched_node {s} sound space start n h none placed linked =
     ap (λ b. if b then nodes_of start (shown_heap s) else searched_after start (shown_heap s)) (no_list s start none)
     ∙ ap (part_after start) (sequence_shown sound space n start h placed linked)
-    ∙ ap (λ a. part_after a (map (address_in s.nodes.places) (sequence s.sequences h))) (sym (ap (λ o. unwrap_or o 0) placed))
-    ∙ part_after-map (address_in s.nodes.places) n (sequence s.sequences h) (told_apart sound space h n start placed)
+    ∙ ap (λ a. part_after a (map (address_in s.nodes.slots) (sequence s.sequences h))) (sym (ap (λ o. unwrap_or o 0) placed))
+    ∙ part_after-map (address_in s.nodes.slots) n (sequence s.sequences h) (told_apart sound space h n start placed)

@@ -6,7 +6,6 @@ pub mod Linking
 pub mod Making
 pub mod Mapped
 pub mod Relisted
-pub mod Rosters
 pub mod Shown
 pub mod SoundLinks
 pub mod SoundObjects

@@ -9,7 +9,7 @@ use Rattle.execlist.specs.Lists.{home, is_at, sequence}
 use Rattle.memlist.specs.Blocks.{Blocks}
 use Rattle.memlist.proofs.Answered.{nat_eq-other, nat_eq-same}
 use Rattle.execmodel.specs.Lists.{is_linked, nodes_in, sequence_with, stands_in}
-use Rattle.execheap.specs.Roster.{place}
+use Rattle.execlist.specs.Pool.{slot}
 use Rattle.execheap.specs.Tags.{tag_of}
 use Rattle.execheap.specs.Numbered.{Numbered, contents, IsSound, IsSpace, address_in, object_of, shown_object, shown_entry, shown_heap, tag_at}
 use Rattle.execheap.proofs.Entries.{some_same}
@@ -73,61 +73,61 @@ module _ {s : Numbered} (sound : IsSound s) (space : IsSpace s) where
   at_home (Some k) h e = refl
 
   -- a node that stands in a sequence lives
-  pub standing_lives : (h n : ℕ) → list_any (λ other. other == n) (sequence s.sequences h) ≡ true → IsSome (place s.nodes.places n)
+  pub standing_lives : (h n : ℕ) → list_any (λ other. other == n) (sequence s.sequences h) ≡ true → IsSome (slot s.nodes.slots n)
   standing_lives h n stands = sound.live_nodes n (at_home (home s.homes n) h (sym (stands_at h n) ∙ stands))
 
   -- the address of a live node is that of no other node that lives
-  apart : (n m a : ℕ) → place s.nodes.places n ≡ Some a → IsSome (place s.nodes.places m) → address_in s.nodes.places m ≡ address_in s.nodes.places n → m ≡ n
+  apart : (n m a : ℕ) → slot s.nodes.slots n ≡ Some a → IsSome (slot s.nodes.slots m) → address_in s.nodes.slots m ≡ address_in s.nodes.slots n → m ≡ n
   apart n m a here there same =
-      let other = some_is (place s.nodes.places m) there in
+      let other = some_is (slot s.nodes.slots m) there in
       number_same sound 1 m n a (lit≤ tt) (other.1 ∙ ap Some (ap (λ o. unwrap_or o 0) (sym other.1) ∙ same ∙ ap (λ o. unwrap_or o 0) here)) here
 
   -- the members of a sequence are told from a live node by their addresses
-  pub told_apart : (h n a : ℕ) → place s.nodes.places n ≡ Some a → Alike (address_in s.nodes.places) n (sequence s.sequences h)
-  told_apart h n a here = alike_apart (address_in s.nodes.places) n (sequence s.sequences h)
+  pub told_apart : (h n a : ℕ) → slot s.nodes.slots n ≡ Some a → Alike (address_in s.nodes.slots) n (sequence s.sequences h)
+  told_apart h n a here = alike_apart (address_in s.nodes.slots) n (sequence s.sequences h)
       (λ m stands same. apart n m a here (standing_lives h m stands) same)
 
   -- ---- nodes by address
 
   -- an address stands in the nodes of a list where the node's home is that list
-  pub stands_shown : (h n a : ℕ) → place s.nodes.places n ≡ Some a
-      → stands_in a (map (address_in s.nodes.places) (sequence s.sequences h)) ≡ is_at (home s.homes n) h
+  pub stands_shown : (h n a : ℕ) → slot s.nodes.slots n ≡ Some a
+      → stands_in a (map (address_in s.nodes.slots) (sequence s.sequences h)) ≡ is_at (home s.homes n) h
   stands_shown h n a here =
-      ap (λ x. stands_in x (map (address_in s.nodes.places) (sequence s.sequences h))) (sym (ap (λ o. unwrap_or o 0) here))
-      ∙ stands-map (address_in s.nodes.places) n (sequence s.sequences h) (told_apart h n a here) ∙ stands_at h n
+      ap (λ x. stands_in x (map (address_in s.nodes.slots) (sequence s.sequences h))) (sym (ap (λ o. unwrap_or o 0) here))
+      ∙ stands-map (address_in s.nodes.slots) n (sequence s.sequences h) (told_apart h n a here) ∙ stands_at h n
 
   -- what an object holds has the address where it is the list that is the node's home
-  stands_of : (n a : ℕ) → place s.nodes.places n ≡ Some a → (k m : ℕ) → stands_in a (nodes_in (object_of k m (contents s))) ≡ (nat_eq k 0 && is_at (home s.homes n) m)
+  stands_of : (n a : ℕ) → slot s.nodes.slots n ≡ Some a → (k m : ℕ) → stands_in a (nodes_in (object_of k m (contents s))) ≡ (nat_eq k 0 && is_at (home s.homes n) m)
   stands_of n a here zero m = stands_shown m n a here
   stands_of n a here (suc zero) m = refl
   stands_of n a here (suc (suc k)) m = sym (ap (λ b. b && is_at (home s.homes n) m) (nat_eq-other (suc (suc k)) 0 (omega arith)))
 
-  stands_nowhere : (n a : ℕ) → place s.nodes.places n ≡ Some a → home s.homes n ≡ None → (tag : ℕ) → stands_in a (nodes_in (shown_object (contents s) tag)) ≡ false
+  stands_nowhere : (n a : ℕ) → slot s.nodes.slots n ≡ Some a → home s.homes n ≡ None → (tag : ℕ) → stands_in a (nodes_in (shown_object (contents s) tag)) ≡ false
   stands_nowhere n a here none zero = refl
   stands_nowhere n a here none (suc j) = stands_of n a here (j % 8) (j / 8) ∙ ap (λ o. nat_eq (j % 8) 0 && is_at o (j / 8)) none ∙ and_false (nat_eq (j % 8) 0)
 
-  stands_there : (n a h : ℕ) → place s.nodes.places n ≡ Some a → home s.homes n ≡ Some h → (tag : ℕ) → stands_in a (nodes_in (shown_object (contents s) tag)) ≡ nat_eq tag (tag_of 0 h)
+  stands_there : (n a h : ℕ) → slot s.nodes.slots n ≡ Some a → home s.homes n ≡ Some h → (tag : ℕ) → stands_in a (nodes_in (shown_object (contents s) tag)) ≡ nat_eq tag (tag_of 0 h)
   stands_there n a h here there zero = sym (nat_eq-other 0 (tag_of 0 h) (omega arith))
   stands_there n a h here there (suc j) =
       stands_of n a here (j % 8) (j / 8) ∙ ap (λ o. nat_eq (j % 8) 0 && is_at o (j / 8)) there
       ∙ ap (λ b. nat_eq (j % 8) 0 && b) (turned h (j / 8)) ∙ sym (tag_parts 0 h j (lit≤ tt))
 
   -- a node that stands nowhere is in no list that is shown
-  pub nowhere_shown : (n a : ℕ) → place s.nodes.places n ≡ Some a → home s.homes n ≡ None → sequence_with a (shown_heap s) ≡ []
+  pub nowhere_shown : (n a : ℕ) → slot s.nodes.slots n ≡ Some a → home s.homes n ≡ None → sequence_with a (shown_heap s) ≡ []
   unfolding shown_heap
   nowhere_shown n a here none = in_no_list s a (stands_nowhere n a here none) s.memory.blocks
 
   -- the list that has a node is shown with it
-  pub sequence_shown : (n a h : ℕ) → place s.nodes.places n ≡ Some a → home s.homes n ≡ Some h
-      → sequence_with a (shown_heap s) ≡ map (address_in s.nodes.places) (sequence s.sequences h)
+  pub sequence_shown : (n a h : ℕ) → slot s.nodes.slots n ≡ Some a → home s.homes n ≡ Some h
+      → sequence_with a (shown_heap s) ≡ map (address_in s.nodes.slots) (sequence s.sequences h)
   unfolding shown_heap
   sequence_shown n a h here there =
-      let list = some_is (place s.lists.places h) (sound.live_lists n h there) in
+      let list = some_is (slot s.lists.slots h) (sound.live_lists n h there) in
       in_one_list s a (tag_of 0 h) (stands_there n a h here there) s.memory.blocks
       ∙ ap (λ b. if b then nodes_in (shown_object (contents s) (tag_of 0 h)) else []) (any_found list.0 (tag_of 0 h) s.memory.blocks (tag_live sound 0 h list.0 (lit≤ tt) list.1))
       ∙ ap nodes_in (shown_tag s 0 h (lit≤ tt))
 
-  pub is_linked_shown : (n a : ℕ) → place s.nodes.places n ≡ Some a → is_linked a (shown_heap s) ≡ is_some (home s.homes n)
+  pub is_linked_shown : (n a : ℕ) → slot s.nodes.slots n ≡ Some a → is_linked a (shown_heap s) ≡ is_some (home s.homes n)
   is_linked_shown n a here = elim (home s.homes n) as (λ o. home s.homes n ≡ o → is_linked a (shown_heap s) ≡ is_some o) [
     | None ↦ λ none. ap (stands_in a) (nowhere_shown n a here none)
     | Some h ↦ λ there. ap (stands_in a) (sequence_shown n a h here there) ∙ stands_shown h n a here ∙ ap (λ o. is_at o h) there ∙ nat_eq-same h

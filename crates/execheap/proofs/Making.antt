@@ -19,15 +19,15 @@ use Rattle.execmodel.specs.State.{Object, ListHead, Node, Block}
 use Rattle.execmodel.specs.Memory.{freed, placed, place_for}
 use Rattle.execmodel.specs.Objects.{live, place_for_object}
 use Rattle.execmodel.specs.Lists.{is_list, is_node}
-use Rattle.execheap.specs.Roster.{enrolled, given, next_number, place}
+use Rattle.execlist.specs.Pool.{given, given_at, next_number, slot}
 use Rattle.execheap.specs.Tags.{is_of, tag_of}
-use Rattle.execheap.specs.Numbered.{Numbered, Contents, contents, IsSound, IsSpace, address_in, counted, object_of, place_or, roster, shown_block, shown_object, shown_entry, shown_heap, shown_memory}
+use Rattle.execheap.specs.Numbered.{Numbered, Contents, contents, IsSound, IsSpace, address_in, counted, object_of, place_or, slots_of, shown_block, shown_object, shown_entry, shown_heap, shown_memory}
 use Rattle.execheap.specs.Changes as numbered
 use Rattle.execheap.proofs.Blocks.{fit_shown}
 use Rattle.execheap.proofs.Entries.{all_then, map_same, put_shown, where_key_shown}
 use Rattle.execheap.proofs.Mapped.{map_agree, members}
 use Rattle.execheap.proofs.Linked.{stands_at, standing_lives}
-use Rattle.execheap.proofs.Rosters.{place_other}
+use Rattle.execlist.proofs.Pools.{slot_other}
 use Rattle.execheap.proofs.Shown.{is_list_shown, is_node_shown}
 use Rattle.execheap.proofs.Tagging.{either_number, kind_read, number_read, shown_tag}
 
@@ -59,29 +59,29 @@ nodes_counted s = counted_of s is_node 1 (is_node_shown s) s.memory.blocks
 
 -- a number is left where fewer live than the pool allows
 made_shown : (s : Numbered) (test : Object → Bool) (kind size : ℕ) (next : Option ℕ) → live test (shown_heap s) ≡ counted kind s.memory.blocks
-    → (next ≡ None → counted kind s.memory.blocks ≡ length s.lists.places) → ((n : ℕ) → next ≡ Some n → counted kind s.memory.blocks < length s.lists.places)
+    → (next ≡ None → counted kind s.memory.blocks ≡ length s.lists.slots) → ((n : ℕ) → next ≡ Some n → counted kind s.memory.blocks < length s.lists.slots)
     → place_for_object test size (shown_memory s) ≡ numbered.made_at size next s
 unfolding place_for_object
 made_shown s test kind size None counts full free =
-    ap (λ b. if b then place_for size 1 (shown_memory s) else None) (le-ltb (live test (shown_heap s)) (length s.lists.places) (omega (arith, counts, full refl)))
+    ap (λ b. if b then place_for size 1 (shown_memory s) else None) (le-ltb (live test (shown_heap s)) (length s.lists.slots) (omega (arith, counts, full refl)))
 made_shown s test kind size (Some n) counts full free =
-    ap (λ b. if b then place_for size 1 (shown_memory s) else None) (lt-ltb (live test (shown_heap s)) (length s.lists.places) (omega (arith, counts, free n refl)))
+    ap (λ b. if b then place_for size 1 (shown_memory s) else None) (lt-ltb (live test (shown_heap s)) (length s.lists.slots) (omega (arith, counts, free n refl)))
     ∙ fit_shown s size 1
 
-pub list_made_at : (s : Numbered) → (next_number s.lists ≡ None → counted 0 s.memory.blocks ≡ length s.lists.places)
-    → ((n : ℕ) → next_number s.lists ≡ Some n → counted 0 s.memory.blocks < length s.lists.places)
+pub list_made_at : (s : Numbered) → (next_number s.lists ≡ None → counted 0 s.memory.blocks ≡ length s.lists.slots)
+    → ((n : ℕ) → next_number s.lists ≡ Some n → counted 0 s.memory.blocks < length s.lists.slots)
     → place_for_object is_list 14 (shown_memory s) ≡ numbered.made_at 14 (next_number s.lists) s
 list_made_at s full free = made_shown s is_list 0 14 (next_number s.lists) (lists_counted s) full free
 
-pub node_made_at : (s : Numbered) → (next_number s.nodes ≡ None → counted 1 s.memory.blocks ≡ length s.lists.places)
-    → ((n : ℕ) → next_number s.nodes ≡ Some n → counted 1 s.memory.blocks < length s.lists.places)
+pub node_made_at : (s : Numbered) → (next_number s.nodes ≡ None → counted 1 s.memory.blocks ≡ length s.lists.slots)
+    → ((n : ℕ) → next_number s.nodes ≡ Some n → counted 1 s.memory.blocks < length s.lists.slots)
     → place_for_object is_node 14 (shown_memory s) ≡ numbered.made_at 14 (next_number s.nodes) s
 node_made_at s full free = made_shown s is_node 1 14 (next_number s.nodes) (nodes_counted s) full free
 
 -- ---- the objects beside one that is made or freed
 
 -- the same memory, with one block more
-block_put : (s new : Numbered) (a size tag : ℕ) (object : Object) → length new.lists.places ≡ length s.lists.places
+block_put : (s new : Numbered) (a size tag : ℕ) (object : Object) → length new.lists.slots ≡ length s.lists.slots
     → new.memory ≡ record s.memory { blocks = with_block a (round size) tag s.memory.blocks }
     → AllByRecursion (λ (entry : ℕ × (ℕ × ℕ)). shown_object (contents new) entry.1.1 ≡ shown_object (contents s) entry.1.1) s.memory.blocks
     → shown_object (contents new) tag ≡ object
@@ -100,7 +100,7 @@ block_put s new a size tag object pool memory same here = λ i. record {
 }
 
 -- the same memory, with one block less
-block_freed : (s new : Numbered) (a : ℕ) → length new.lists.places ≡ length s.lists.places → new.memory ≡ without_block a s.memory
+block_freed : (s new : Numbered) (a : ℕ) → length new.lists.slots ≡ length s.lists.slots → new.memory ≡ without_block a s.memory
     → ((tag : ℕ) → shown_object (contents new) tag ≡ shown_object (contents s) tag)
     → shown_memory new ≡ freed a (shown_memory s)
 unfolding shown_heap
@@ -120,7 +120,7 @@ none_there (x ∷ xs) none = let more : suc (times x xs) ≡ 0 = sym (ap (λ b. 
 
 module _ {s : Numbered} (sound : IsSound s) (space : IsSpace s) where
   -- a list whose number is free has no nodes
-  free_is_empty : (h : ℕ) → place s.lists.places h ≡ None → sequence s.sequences h ≡ []
+  free_is_empty : (h : ℕ) → slot s.lists.slots h ≡ None → sequence s.sequences h ≡ []
   free_is_empty h free = none_there (sequence s.sequences h) (λ n. space.stands h n ∙ ap (λ b. if b then 1 else 0) (elsewhere n (home s.homes n) refl))
     where
       elsewhere : (n : ℕ) (o : Option ℕ) → home s.homes n ≡ o → is_at o h ≡ false
@@ -129,21 +129,21 @@ module _ {s : Numbered} (sound : IsSound s) (space : IsSpace s) where
           (λ same. let bad : true ≡ false = sym (sound.live_lists n h (there ∙ ap Some same)) ∙ ap is_some free in cc)
           (λ other. refl)
 
-  list_here : (h : ℕ) → place s.lists.places h ≡ None → shown_object (contents s) (tag_of 0 h) ≡ ListHead []
-  list_here h free = shown_tag s 0 h (lit≤ tt) ∙ ap (λ nodes. ListHead (map (address_in s.nodes.places) nodes)) (free_is_empty h free)
+  list_here : (h : ℕ) → slot s.lists.slots h ≡ None → shown_object (contents s) (tag_of 0 h) ≡ ListHead []
+  list_here h free = shown_tag s 0 h (lit≤ tt) ∙ ap (λ nodes. ListHead (map (address_in s.nodes.slots) nodes)) (free_is_empty h free)
 
   -- ---- lists
 
-  list_at : (n a : ℕ) → next_number s.lists ≡ Some n → place s.lists.places n ≡ None
+  list_at : (n a : ℕ) → next_number s.lists ≡ Some n → slot s.lists.slots n ≡ None
       → shown_memory (numbered.list_numbered 14 (Some n) (Some a) s) ≡ placed 14 (ListHead []) (Some a) (shown_memory s)
   list_at n a next free = block_put s (numbered.list_numbered 14 (Some n) (Some a) s) a 14 (tag_of 0 n) (ListHead [])
-      (ap (λ o. length (given o a s.lists).places) next ∙ length-set s.lists.places n (Some a)) refl (all_same s.memory.blocks) (list_here n free)
+      (ap (λ o. length (given_at o a s.lists).slots) next ∙ length-set s.lists.slots n (Some a)) refl (all_same s.memory.blocks) (list_here n free)
     where
       all_same : (blocks : Blocks) → AllByRecursion (λ (entry : ℕ × (ℕ × ℕ)). shown_object (contents s) entry.1.1 ≡ shown_object (contents s) entry.1.1) blocks
       all_same [] = tt
       all_same (block ∷ rest) = (refl, all_same rest)
 
-  pub list_made_shown : (next at : Option ℕ) → next_number s.lists ≡ next → at ≡ numbered.made_at 14 next s → ((n : ℕ) → next ≡ Some n → place s.lists.places n ≡ None)
+  pub list_made_shown : (next at : Option ℕ) → next_number s.lists ≡ next → at ≡ numbered.made_at 14 next s → ((n : ℕ) → next ≡ Some n → slot s.lists.slots n ≡ None)
       → shown_memory (numbered.list_numbered 14 next at s) ≡ placed 14 (ListHead []) at (shown_memory s)
   list_made_shown None None is fits free = refl
   list_made_shown None (Some a) is fits free = let bad : true ≡ false = ap is_some fits in cc
@@ -151,47 +151,47 @@ module _ {s : Numbered} (sound : IsSound s) (space : IsSpace s) where
   list_made_shown (Some n) (Some a) is fits free = list_at n a is (free n refl)
 
   pub list_freed_shown : (h a : ℕ) → shown_memory (numbered.list_freed h a s) ≡ freed a (shown_memory s)
-  list_freed_shown h a = block_freed s (numbered.list_freed h a s) a (length-set s.lists.places h None) refl (λ tag. refl)
+  list_freed_shown h a = block_freed s (numbered.list_freed h a s) a (length-set s.lists.slots h None) refl (λ tag. refl)
 
   -- ---- nodes
 
   -- the members of a sequence keep their addresses where another number's changes
   addresses_kept : (h n : ℕ) (p : Option ℕ) → ((m : ℕ) → list_any (λ other. other == m) (sequence s.sequences h) ≡ true → m ≢ n)
-      → map (address_in (slice_set s.nodes.places n p)) (sequence s.sequences h) ≡ map (address_in s.nodes.places) (sequence s.sequences h)
-  addresses_kept h n p other = map_agree (address_in (slice_set s.nodes.places n p)) (address_in s.nodes.places) (sequence s.sequences h)
-      (members (λ m. address_in (slice_set s.nodes.places n p) m ≡ address_in s.nodes.places m) (sequence s.sequences h)
-      (λ m stands. ap (λ o. unwrap_or o 0) (place_other s.nodes.places n m p (other m stands))))
+      → map (address_in (slice_set s.nodes.slots n p)) (sequence s.sequences h) ≡ map (address_in s.nodes.slots) (sequence s.sequences h)
+  addresses_kept h n p other = map_agree (address_in (slice_set s.nodes.slots n p)) (address_in s.nodes.slots) (sequence s.sequences h)
+      (members (λ m. address_in (slice_set s.nodes.slots n p) m ≡ address_in s.nodes.slots m) (sequence s.sequences h)
+      (λ m stands. ap (λ o. unwrap_or o 0) (slot_other s.nodes.slots n m p (other m stands))))
 
-  free_elsewhere : (h n : ℕ) → place s.nodes.places n ≡ None → (m : ℕ) → list_any (λ other. other == m) (sequence s.sequences h) ≡ true → m ≢ n
+  free_elsewhere : (h n : ℕ) → slot s.nodes.slots n ≡ None → (m : ℕ) → list_any (λ other. other == m) (sequence s.sequences h) ≡ true → m ≢ n
   free_elsewhere h n free m stands same =
-      let bad : true ≡ false = sym (standing_lives sound space h m stands) ∙ ap (λ k. is_some (place s.nodes.places k)) same ∙ ap is_some free in cc
+      let bad : true ≡ false = sym (standing_lives sound space h m stands) ∙ ap (λ k. is_some (slot s.nodes.slots k)) same ∙ ap is_some free in cc
 
   unlinked_elsewhere : (h n : ℕ) → home s.homes n ≡ None → (m : ℕ) → list_any (λ other. other == m) (sequence s.sequences h) ≡ true → m ≢ n
   unlinked_elsewhere h n none m stands same =
       let bad : true ≡ false = sym stands ∙ stands_at sound space h m ∙ ap (λ k. is_at (home s.homes k) h) same ∙ ap (λ o. is_at o h) none in cc
 
-  object_beside : (n : ℕ) (p : Option ℕ) (key : Key) → place s.nodes.places n ≡ None → (k m a : ℕ) → place (roster k s) m ≡ Some a
-      → object_of k m (record { places = slice_set s.nodes.places n p; sequences = s.sequences; keys = slice_set s.keys n key }) ≡ object_of k m (contents s)
+  object_beside : (n : ℕ) (p : Option ℕ) (key : Key) → slot s.nodes.slots n ≡ None → (k m a : ℕ) → slot (slots_of k s) m ≡ Some a
+      → object_of k m (record { places = slice_set s.nodes.slots n p; sequences = s.sequences; keys = slice_set s.keys n key }) ≡ object_of k m (contents s)
   object_beside n p key free zero m a live = ap ListHead (addresses_kept m n p (free_elsewhere m n free))
-  object_beside n p key free (suc zero) m a live = ap Node (get_or-set_other s.keys n m key blank (λ same. let bad : true ≡ false = ap is_some (sym live ∙ ap (place s.nodes.places) same ∙ free) in cc))
+  object_beside n p key free (suc zero) m a live = ap Node (get_or-set_other s.keys n m key blank (λ same. let bad : true ≡ false = ap is_some (sym live ∙ ap (slot s.nodes.slots) same ∙ free) in cc))
   object_beside n p key free (suc (suc k)) m a live = refl
 
-  shown_beside : (n : ℕ) (p : Option ℕ) (key : Key) → place s.nodes.places n ≡ None → (tag a : ℕ) → place_or tag a s ≡ Some a
-      → shown_object (record { places = slice_set s.nodes.places n p; sequences = s.sequences; keys = slice_set s.keys n key }) tag ≡ shown_object (contents s) tag
+  shown_beside : (n : ℕ) (p : Option ℕ) (key : Key) → slot s.nodes.slots n ≡ None → (tag a : ℕ) → place_or tag a s ≡ Some a
+      → shown_object (record { places = slice_set s.nodes.slots n p; sequences = s.sequences; keys = slice_set s.keys n key }) tag ≡ shown_object (contents s) tag
   shown_beside n p key free zero a live = refl
   shown_beside n p key free (suc j) a live = object_beside n p key free (j % 8) (j / 8) a live
 
   node_here : (n : ℕ) (p : Option ℕ) (key : Key) → n < length s.keys
-      → shown_object (record { places = slice_set s.nodes.places n p; sequences = s.sequences; keys = slice_set s.keys n key }) (tag_of 1 n) ≡ Node key
+      → shown_object (record { places = slice_set s.nodes.slots n p; sequences = s.sequences; keys = slice_set s.keys n key }) (tag_of 1 n) ≡ Node key
   node_here n p key known =
-      let c : Contents = record { places = slice_set s.nodes.places n p; sequences = s.sequences; keys = slice_set s.keys n key } in
+      let c : Contents = record { places = slice_set s.nodes.slots n p; sequences = s.sequences; keys = slice_set s.keys n key } in
       ap (λ k. object_of k ((1 + 8 * n) / 8) c) (kind_read 1 n (lit≤ tt)) ∙ ap (λ m. object_of 1 m c) (number_read 1 n (lit≤ tt))
       ∙ ap Node (get_or-set_at s.keys n n key blank refl known)
 
-  node_at : (n a : ℕ) (key : Key) → next_number s.nodes ≡ Some n → place s.nodes.places n ≡ None → n < length s.keys
+  node_at : (n a : ℕ) (key : Key) → next_number s.nodes ≡ Some n → slot s.nodes.slots n ≡ None → n < length s.keys
       → shown_memory (numbered.node_numbered 14 key (Some n) (Some a) s) ≡ placed 14 (Node key) (Some a) (shown_memory s)
   node_at n a key next free known =
-      let places : (enrolled a s.nodes).places ≡ slice_set s.nodes.places n (Some a) = ap (λ o. (given o a s.nodes).places) next in
+      let places : (given a s.nodes).slots ≡ slice_set s.nodes.slots n (Some a) = ap (λ o. (given_at o a s.nodes).slots) next in
       let new = numbered.node_numbered 14 key (Some n) (Some a) s in
       block_put s new a 14 (tag_of 1 n) (Node key) refl refl
       (all_then (λ (entry : ℕ × (ℕ × ℕ)) tagged.
@@ -199,7 +199,7 @@ module _ {s : Numbered} (sound : IsSound s) (space : IsSpace s) where
       ∙ shown_beside n (Some a) key free entry.1.1 entry.0 tagged) s.memory.blocks sound.tagged)
       (ap (λ ps. shown_object (record { places = ps; sequences = s.sequences; keys = slice_set s.keys n key }) (tag_of 1 n)) places ∙ node_here n (Some a) key known)
 
-  pub node_made_shown : (next at : Option ℕ) (key : Key) → next_number s.nodes ≡ next → at ≡ numbered.made_at 14 next s → ((n : ℕ) → next ≡ Some n → place s.nodes.places n ≡ None)
+  pub node_made_shown : (next at : Option ℕ) (key : Key) → next_number s.nodes ≡ next → at ≡ numbered.made_at 14 next s → ((n : ℕ) → next ≡ Some n → slot s.nodes.slots n ≡ None)
       → ((n : ℕ) → next ≡ Some n → n < length s.keys)
       → shown_memory (numbered.node_numbered 14 key next at s) ≡ placed 14 (Node key) at (shown_memory s)
   node_made_shown None None key is fits free known = refl
@@ -208,13 +208,13 @@ module _ {s : Numbered} (sound : IsSound s) (space : IsSpace s) where
   node_made_shown (Some n) (Some a) key is fits free known = node_at n a key is (free n refl) (known n refl)
 
   object_kept : (n : ℕ) → home s.homes n ≡ None → (k m : ℕ)
-      → object_of k m (record { places = slice_set s.nodes.places n None; sequences = s.sequences; keys = s.keys }) ≡ object_of k m (contents s)
+      → object_of k m (record { places = slice_set s.nodes.slots n None; sequences = s.sequences; keys = s.keys }) ≡ object_of k m (contents s)
   object_kept n none zero m = ap ListHead (addresses_kept m n None (unlinked_elsewhere m n none))
   object_kept n none (suc zero) m = refl
   object_kept n none (suc (suc k)) m = refl
 
   shown_kept : (n : ℕ) → home s.homes n ≡ None → (tag : ℕ)
-      → shown_object (record { places = slice_set s.nodes.places n None; sequences = s.sequences; keys = s.keys }) tag ≡ shown_object (contents s) tag
+      → shown_object (record { places = slice_set s.nodes.slots n None; sequences = s.sequences; keys = s.keys }) tag ≡ shown_object (contents s) tag
   shown_kept n none zero = refl
   shown_kept n none (suc j) = object_kept n none (j % 8) (j / 8)
 

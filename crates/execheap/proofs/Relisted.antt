@@ -9,7 +9,7 @@ use Rattle.memlist.specs.Memory.{IsWellFormed}
 use Rattle.memlist.proofs.Answered.{nat_eq-other}
 use Rattle.execmodel.specs.State.{Object, Plain, ListHead, Node, Block}
 use Rattle.execmodel.specs.Lists.{relisted, with_nodes}
-use Rattle.execheap.specs.Roster.{Rostered, place}
+use Rattle.execlist.specs.Pool.{Pooled, slot}
 use Rattle.execheap.specs.Tags.{tag_of}
 use Rattle.execheap.specs.Numbered.{Numbered, contents, IsSound, address_in, key_at, object_of, shown_object, shown_entry, shown_heap}
 use Rattle.execheap.proofs.Entries.{all_then, map_same}
@@ -35,7 +35,7 @@ relisted_entry old new list nodes tag shows entry told =
     either false = refl
 
 pub with_nodes_shown : {s : Numbered} → IsSound s → IsWellFormed s.memory.regions s.memory.blocks → (new : Numbered) (list h : ℕ) (nodes : List ℕ)
-    → place s.lists.places h ≡ Some list → new.memory ≡ s.memory → Shows s new (tag_of 0 h) (ListHead nodes)
+    → slot s.lists.slots h ≡ Some list → new.memory ≡ s.memory → Shows s new (tag_of 0 h) (ListHead nodes)
     → shown_heap new ≡ with_nodes list nodes (shown_heap s)
 unfolding shown_heap with_nodes
 with_nodes_shown {s} sound formed new list h nodes live same shows =
@@ -59,16 +59,16 @@ either_object false f nodes rest = refl
 -- the objects where the nodes of list h are set
 module _ (old new : Numbered) (h : ℕ) (nodes : List ℕ) (known : h < length old.sequences) (set : new.sequences ≡ slice_set old.sequences h nodes)
     (keys : new.keys ≡ old.keys) (places : new.nodes ≡ old.nodes) where
-  object_set : (k m : ℕ) → object_of k m (contents new) ≡ (if nat_eq k 0 && nat_eq m h then ListHead (map (address_in old.nodes.places) nodes) else object_of k m (contents old))
+  object_set : (k m : ℕ) → object_of k m (contents new) ≡ (if nat_eq k 0 && nat_eq m h then ListHead (map (address_in old.nodes.slots) nodes) else object_of k m (contents old))
   object_set zero m =
-      ap (λ (roster : Rostered). ListHead (map (address_in roster.places) (sequence new.sequences m))) places
-      ∙ ap (λ all. ListHead (map (address_in old.nodes.places) (sequence all m))) set
-      ∙ ap (λ seq. ListHead (map (address_in old.nodes.places) seq)) (sequence_set old.sequences h nodes m known)
-      ∙ either_object (nat_eq m h) (map (address_in old.nodes.places)) nodes (sequence old.sequences m)
+      ap (λ (numbers : Pooled ℕ). ListHead (map (address_in numbers.slots) (sequence new.sequences m))) places
+      ∙ ap (λ all. ListHead (map (address_in old.nodes.slots) (sequence all m))) set
+      ∙ ap (λ seq. ListHead (map (address_in old.nodes.slots) seq)) (sequence_set old.sequences h nodes m known)
+      ∙ either_object (nat_eq m h) (map (address_in old.nodes.slots)) nodes (sequence old.sequences m)
   object_set (suc zero) m = ap (λ all. Node (key_at all m)) keys
-  object_set (suc (suc k)) m = sym (ap (λ b. if b && nat_eq m h then ListHead (map (address_in old.nodes.places) nodes) else Plain) (nat_eq-other (suc (suc k)) 0 (omega arith)))
+  object_set (suc (suc k)) m = sym (ap (λ b. if b && nat_eq m h then ListHead (map (address_in old.nodes.slots) nodes) else Plain) (nat_eq-other (suc (suc k)) 0 (omega arith)))
 
-  pub shows_nodes : Shows old new (tag_of 0 h) (ListHead (map (address_in old.nodes.places) nodes))
-  shows_nodes zero = sym (ap (λ b. if b then ListHead (map (address_in old.nodes.places) nodes) else Plain) (nat_eq-other 0 (tag_of 0 h) (omega arith)))
+  pub shows_nodes : Shows old new (tag_of 0 h) (ListHead (map (address_in old.nodes.slots) nodes))
+  shows_nodes zero = sym (ap (λ b. if b then ListHead (map (address_in old.nodes.slots) nodes) else Plain) (nat_eq-other 0 (tag_of 0 h) (omega arith)))
   shows_nodes (suc n) = object_set (n % 8) (n / 8)
-      ∙ ap (λ b. if b then ListHead (map (address_in old.nodes.places) nodes) else shown_object (contents old) (suc n)) (sym (tag_parts 0 h n (lit≤ tt)))
+      ∙ ap (λ b. if b then ListHead (map (address_in old.nodes.slots) nodes) else shown_object (contents old) (suc n)) (sym (tag_parts 0 h n (lit≤ tt)))

@@ -12,9 +12,9 @@ use Rattle.execmodel.specs.State.{Object, Block}
 use Rattle.execmodel.specs.Memory as model
 use Rattle.execmodel.specs.Objects.{object_at, is_kind}
 use Rattle.execmodel.specs.Lists.{is_list, is_node, is_list_at, is_node_at, nodes_of, nodes_of_object, key_of, key_of_object}
-use Rattle.execheap.specs.Roster.{place}
+use Rattle.execlist.specs.Pool.{slot}
 use Rattle.execheap.specs.Tags.{tag_of, number_of, is_of}
-use Rattle.execheap.specs.Numbered.{Numbered, contents, IsSound, IsTagged, place_or, roster, number_at, tag_at, address_in, key_at, object_of, shown_object, shown_block, shown_heap}
+use Rattle.execheap.specs.Numbered.{Numbered, contents, IsSound, IsTagged, place_or, slots_of, number_at, tag_at, address_in, key_at, object_of, shown_object, shown_block, shown_heap}
 use Rattle.execheap.proofs.Entries.{IsFound, all_found, all_with, at_found, find_shown, some_same}
 use Rattle.execheap.proofs.Tagging.{number_tag, place_tag, shown_tag, tag_named}
 
@@ -79,7 +79,7 @@ node_at_shown s a = ap (is_kind is_node) (object_at_shown s a) ∙ kind_found s 
 
 -- ---- what it holds
 
-pub nodes_shown : (s : Numbered) (a h : ℕ) → number_at 0 a s ≡ Some h → nodes_of a (shown_heap s) ≡ map (address_in s.nodes.places) (sequence s.sequences h)
+pub nodes_shown : (s : Numbered) (a h : ℕ) → number_at 0 a s ≡ Some h → nodes_of a (shown_heap s) ≡ map (address_in s.nodes.slots) (sequence s.sequences h)
 unfolding nodes_of
 nodes_shown s a h is = ap nodes_of_object (object_shown s 0 a h (lit≤ tt) is)
 
@@ -100,25 +100,25 @@ alike a b c d there back = elim (nat_eq a b) as (λ x. nat_eq a b ≡ x → x �
 
 module _ {s : Numbered} (sound : IsSound s) where
   -- a number of a kind that has an address is what begins there
-  pub tag_live : (kind number address : ℕ) → kind < 8 → place (roster kind s) number ≡ Some address → tag_at address s.memory.blocks ≡ Some (tag_of kind number)
+  pub tag_live : (kind number address : ℕ) → kind < 8 → slot (slots_of kind s) number ≡ Some address → tag_at address s.memory.blocks ≡ Some (tag_of kind number)
   tag_live kind number address few live = sound.complete (kind + 8 * number) address (place_tag s kind number few ∙ live)
 
   place_found : (kind number address : ℕ) (block : ℕ × ℕ) → kind < 8 → block_at address s.memory.blocks ≡ Some block → number_of kind block.1 ≡ Some number
-      → place (roster kind s) number ≡ Some address
+      → slot (slots_of kind s) number ≡ Some address
   place_found kind number address block few found named =
       sym (place_tag s kind number few) ∙ ap (λ tag. place_or tag address s) (sym (tag_named kind block.1 number named))
       ∙ at_found (IsTagged s) address s.memory.blocks block sound.tagged found
 
   -- and what begins at an address has it
-  pub number_placed : (kind number address : ℕ) → kind < 8 → number_at kind address s ≡ Some number → place (roster kind s) number ≡ Some address
+  pub number_placed : (kind number address : ℕ) → kind < 8 → number_at kind address s ≡ Some number → slot (slots_of kind s) number ≡ Some address
   number_placed kind number address few is = elim (block_at address s.memory.blocks)
-      as (λ found. block_at address s.memory.blocks ≡ found → option_and_then (λ (block : ℕ × ℕ). number_of kind block.1) found ≡ Some number → place (roster kind s) number ≡ Some address) [
+      as (λ found. block_at address s.memory.blocks ≡ found → option_and_then (λ (block : ℕ × ℕ). number_of kind block.1) found ≡ Some number → slot (slots_of kind s) number ≡ Some address) [
         | None ↦ λ found e. let bad : false ≡ true = ap is_some e in cc
         | Some block ↦ λ found e. place_found kind number address block few found e
       ] refl is
 
   -- and a number that has an address is at it
-  pub number_live : (kind number address : ℕ) → kind < 8 → place (roster kind s) number ≡ Some address → number_at kind address s ≡ Some number
+  pub number_live : (kind number address : ℕ) → kind < 8 → slot (slots_of kind s) number ≡ Some address → number_at kind address s ≡ Some number
   number_live kind number address few live = elim (block_at address s.memory.blocks)
       as (λ found. option_map (λ (block : ℕ × ℕ). block.1) found ≡ Some (tag_of kind number) → option_and_then (λ (block : ℕ × ℕ). number_of kind block.1) found ≡ Some number) [
         | None ↦ λ e. let bad : false ≡ true = ap is_some e in cc
@@ -126,19 +126,19 @@ module _ {s : Numbered} (sound : IsSound s) where
       ] (tag_live kind number address few live)
 
   -- two numbers of a kind have no one address
-  pub number_same : (kind n m address : ℕ) → kind < 8 → place (roster kind s) n ≡ Some address → place (roster kind s) m ≡ Some address → n ≡ m
+  pub number_same : (kind n m address : ℕ) → kind < 8 → slot (slots_of kind s) n ≡ Some address → slot (slots_of kind s) m ≡ Some address → n ≡ m
   number_same kind n m address few here there =
       let same : tag_of kind n ≡ tag_of kind m = some_same (sym (tag_live kind n address few here) ∙ tag_live kind m address few there) in omega (arith, same)
 
   module _ (formed : IsWellFormed s.memory.regions s.memory.blocks) where
-    told : (kind number address : ℕ) (entry : ℕ × (ℕ × ℕ)) → kind < 8 → place (roster kind s) number ≡ Some address → IsFound s.memory.blocks entry → IsTagged s entry
+    told : (kind number address : ℕ) (entry : ℕ × (ℕ × ℕ)) → kind < 8 → slot (slots_of kind s) number ≡ Some address → IsFound s.memory.blocks entry → IsTagged s entry
         → nat_eq entry.0 address ≡ nat_eq entry.1.1 (tag_of kind number)
     told kind number address entry few live found tagged = alike entry.0 address entry.1.1 (tag_of kind number)
         (λ here. some_same (ap (option_map (λ (block : ℕ × ℕ). block.1)) (sym (ap (λ a. block_at a s.memory.blocks) (sym here) ∙ found)) ∙ tag_live kind number address few live))
         (λ tag. some_same (sym tagged ∙ ap (λ t. place_or t entry.0 s) tag ∙ place_tag s kind number few ∙ live))
 
     -- just the block at the address of an object has its tag
-    pub tells : (kind number address : ℕ) → kind < 8 → place (roster kind s) number ≡ Some address
+    pub tells : (kind number address : ℕ) → kind < 8 → slot (slots_of kind s) number ≡ Some address
         → AllByRecursion (λ entry. nat_eq entry.0 address ≡ nat_eq entry.1.1 (tag_of kind number)) s.memory.blocks
     tells kind number address few live =
         all_with (λ entry found tagged. told kind number address entry few live found tagged) s.memory.blocks (all_found s.memory.blocks formed.in_order) sound.tagged

@@ -3,11 +3,11 @@ use Rattle.std.proofs.Common.{◌≡◌, ℕ, zero, suc, ◌/◌, ◌%◌, ◌<�
 use Rattle.std.specs.Prelude.{Some, None, Option, is_some, IsSome, MatchOption}
 use Rattle.std.proofs.lemmas.List.{get_or-set_same, get_or-set_other, length-set}
 use Rattle.execlist.specs.Lists.{Key, home}
-use Rattle.execheap.specs.Roster.{place, taken}
-use Rattle.execheap.specs.Numbered.{Numbered, IsSound, place_or, roster}
+use Rattle.execlist.specs.Pool.{slot, taken}
+use Rattle.execheap.specs.Numbered.{Numbered, IsSound, place_or, slots_of}
 use Rattle.execheap.proofs.Entries.{all_then, some_same}
 use Rattle.execheap.proofs.Linked.{some_is}
-use Rattle.execheap.proofs.Rosters.{place_known}
+use Rattle.execlist.proofs.Pools.{slot_known}
 use Rattle.execheap.proofs.Tagging.{either_number}
 
 -- what lists and nodes hold is other, and their blocks and numbers are the same
@@ -31,19 +31,19 @@ home_either P homes n o set here there m = either_number m n (λ b. P m (home (s
 
 -- a node has a home only where both live
 abbrev IsHomed : Numbered → ℕ → Option ℕ → Type 0
-IsHomed s n o = (h : ℕ) → o ≡ Some h → IsSome (place s.nodes.places n) × IsSome (place s.lists.places h)
+IsHomed s n o = (h : ℕ) → o ≡ Some h → IsSome (slot s.nodes.slots n) × IsSome (slot s.lists.slots h)
 
 module _ {s : Numbered} (sound : IsSound s) where
   -- ---- what does not look at the lists
 
-  roster_kept : (sequences : List (List ℕ)) (homes : List (Option ℕ)) (keys : List Key) (kind : ℕ) → roster kind (relinked s sequences homes keys) ≡ roster kind s
-  roster_kept sequences homes keys zero = refl
-  roster_kept sequences homes keys (suc zero) = refl
-  roster_kept sequences homes keys (suc (suc kind)) = refl
+  slots_kept : (sequences : List (List ℕ)) (homes : List (Option ℕ)) (keys : List Key) (kind : ℕ) → slots_of kind (relinked s sequences homes keys) ≡ slots_of kind s
+  slots_kept sequences homes keys zero = refl
+  slots_kept sequences homes keys (suc zero) = refl
+  slots_kept sequences homes keys (suc (suc kind)) = refl
 
   place_kept : (sequences : List (List ℕ)) (homes : List (Option ℕ)) (keys : List Key) (tag a : ℕ) → place_or tag a (relinked s sequences homes keys) ≡ place_or tag a s
   place_kept sequences homes keys zero a = refl
-  place_kept sequences homes keys (suc n) a = ap (λ places. place places (n / 8)) (roster_kept sequences homes keys (n % 8))
+  place_kept sequences homes keys (suc n) a = ap (λ places. slot places (n / 8)) (slots_kept sequences homes keys (n % 8))
 
   homed : (n : ℕ) → IsHomed s n (home s.homes n)
   homed n h is = (sound.live_nodes n (ap is_some is), sound.live_lists n h is)
@@ -53,7 +53,7 @@ module _ {s : Numbered} (sound : IsSound s) where
   relinked_sound sequences homes keys lists nodes both = record {
     tagged = all_then (λ entry told. place_kept sequences homes keys entry.1.1 entry.0 ∙ told) s.memory.blocks sound.tagged;
     complete = λ n a is. sound.complete n a (sym (place_kept sequences homes keys (suc n) a) ∙ is);
-    count = λ kind. sound.count kind ∙ ap taken (sym (roster_kept sequences homes keys kind));
+    count = λ kind. sound.count kind ∙ ap taken (sym (slots_kept sequences homes keys kind));
     live_nodes = λ n there. (both n (some_is (home homes n) there).0 (some_is (home homes n) there).1).0;
     live_lists = λ n h is. (both n h is).1;
     each_list = lists ∙ sound.each_list;
@@ -72,17 +72,17 @@ module _ {s : Numbered} (sound : IsSound s) where
   -- a live node is linked into a live list
   pub linked_sound : {now new : Numbered} (h n : ℕ) (nodes : List ℕ) → s ≡ now → new.sequences ≡ slice_set s.sequences h nodes → new.homes ≡ slice_set s.homes n (Some h)
       → new.memory ≡ s.memory → new.lists ≡ s.lists → new.nodes ≡ s.nodes
-      → IsSome (place now.lists.places h) → IsSome (place now.nodes.places n) → IsSound new
+      → IsSome (slot now.lists.slots h) → IsSome (slot now.nodes.slots n) → IsSound new
   linked_sound {now} {new} h n nodes same placed set memory lists places list node =
-      let lives : IsSome (place s.nodes.places n) = subst (λ (t : Numbered). IsSome (place t.nodes.places n)) (sym same) node in
-      let has : IsSome (place s.lists.places h) = subst (λ (t : Numbered). IsSome (place t.lists.places h)) (sym same) list in
-      let at = some_is (place s.nodes.places n) lives in
-      let known : n < length s.homes = omega (arith, place_known s.nodes.places n at.0 at.1, sound.each_node) in
+      let lives : IsSome (slot s.nodes.slots n) = subst (λ (t : Numbered). IsSome (slot t.nodes.slots n)) (sym same) node in
+      let has : IsSome (slot s.lists.slots h) = subst (λ (t : Numbered). IsSome (slot t.lists.slots h)) (sym same) list in
+      let at = some_is (slot s.nodes.slots n) lives in
+      let known : n < length s.homes = omega (arith, slot_known s.nodes.slots n at.0 at.1, sound.each_node) in
       kept_sound memory lists places (relinked_sound new.sequences new.homes new.keys
       (ap length placed ∙ length-set s.sequences h nodes) (ap length set ∙ length-set s.homes n (Some h))
       (λ m. subst (λ homes. IsHomed s m (home homes m)) (sym set)
       (home_either (IsHomed s) s.homes n (Some h) (get_or-set_same s.homes n (Some h) None known)
-      (λ k is. (lives, subst (λ j. IsSome (place s.lists.places j)) (some_same is) has)) homed m)))
+      (λ k is. (lives, subst (λ j. IsSome (slot s.lists.slots j)) (some_same is) has)) homed m)))
 
   -- a node leaves its list
   pub left_sound : {new : Numbered} (n : ℕ) → length new.sequences ≡ length s.sequences → new.homes ≡ slice_set s.homes n None

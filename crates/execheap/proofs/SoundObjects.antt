@@ -20,12 +20,12 @@ use Rattle.memlist.proofs.Headers.{and_left, from_eq}
 use Rattle.memlist.proofs.Keeping.{rising_sorted}
 use Rattle.memlist.proofs.Merged.{IsRising, cases_order, put_same}
 use Rattle.memlist.proofs.Slots.{AllFrom, freed_none}
-use Rattle.execheap.specs.Roster.{Rostered, IsStocked, next_number, place, taken}
+use Rattle.execlist.specs.Pool.{Pooled, IsStocked, next_number, slot, taken}
 use Rattle.execheap.specs.Tags.{is_of, tag_of}
-use Rattle.execheap.specs.Numbered.{Numbered, IsSound, IsTagged, counted, number_at, place_of_tag, place_or, roster, tag_at}
+use Rattle.execheap.specs.Numbered.{Numbered, IsSound, IsTagged, counted, number_at, place_of_tag, place_or, slots_of, tag_at}
 use Rattle.execheap.specs.Changes.{list_freed, list_numbered, node_freed, node_numbered, unused}
 use Rattle.execheap.proofs.Entries.{all_then, some_same}
-use Rattle.execheap.proofs.Rosters.{place_known, place_new, place_other, place_same, taken_below, taken_enrolled, taken_new, taken_released, enrolled_places}
+use Rattle.execlist.proofs.Pools.{slot_known, slot_new, slot_other, slot_same, taken_below, taken_given, taken_new, taken_released, given_slots}
 use Rattle.execheap.proofs.Shown.{number_placed, tag_live}
 use Rattle.execheap.proofs.Tagging.{kind_read, place_tag}
 
@@ -106,21 +106,21 @@ module _ {P Q : ℕ × (ℕ × ℕ) → Type 0} where
 record IsMatched (s : Numbered) : Type 0 where
   tagged : AllByRecursion (IsTagged s) s.memory.blocks
   complete : (n address : ℕ) → place_of_tag (suc n) s ≡ Some address → tag_at address s.memory.blocks ≡ Some (suc n)
-  count : (kind : ℕ) → counted kind s.memory.blocks ≡ taken (roster kind s)
+  count : (kind : ℕ) → counted kind s.memory.blocks ≡ taken (slots_of kind s)
 
 -- what a tag names gets an address, and nothing else
 record IsGiven (a tag : ℕ) (s t : Numbered) : Type 0 where
   mine : place_or tag a t ≡ Some a
   kept : (other b : ℕ) → place_or other b s ≡ Some b → place_or other b t ≡ Some b
   only : (n b : ℕ) → place_of_tag (suc n) t ≡ Some b → (place_of_tag (suc n) s ≡ Some b) ⊎ ((suc n ≡ tag) × (b ≡ a))
-  more : (kind : ℕ) → taken (roster kind t) ≡ tally kind tag + taken (roster kind s)
+  more : (kind : ℕ) → taken (slots_of kind t) ≡ tally kind tag + taken (slots_of kind s)
 
 -- what a tag names at an address has none, and nothing else
 record IsTaken (a tag : ℕ) (s t : Numbered) : Type 0 where
   kept : (other b : ℕ) → b ≢ a → place_or other b s ≡ Some b → place_or other b t ≡ Some b
   left : (n b : ℕ) → place_of_tag (suc n) t ≡ Some b → place_of_tag (suc n) s ≡ Some b
   gone : (n b : ℕ) → place_of_tag (suc n) t ≡ Some b → suc n ≢ tag
-  less : (kind : ℕ) → tally kind tag + taken (roster kind t) ≡ taken (roster kind s)
+  less : (kind : ℕ) → tally kind tag + taken (slots_of kind t) ≡ taken (slots_of kind s)
 
 -- the tag of a block that was found, or of none
 abbrev tag_in : Option (ℕ × ℕ) → Option ℕ
@@ -173,9 +173,9 @@ module _ {s t : Numbered} (sound : IsSound s) (a : ℕ) where
 
 -- ---- a plain block
 
-module _ {s t : Numbered} (same : (kind : ℕ) → roster kind t ≡ roster kind s) where
+module _ {s t : Numbered} (same : (kind : ℕ) → slots_of kind t ≡ slots_of kind s) where
   tag_kept : (n : ℕ) → place_of_tag (suc n) t ≡ place_of_tag (suc n) s
-  tag_kept n = ap (λ ps. place ps (n / 8)) (same (n % 8))
+  tag_kept n = ap (λ ps. slot ps (n / 8)) (same (n % 8))
 
   plain_kept : (tag b : ℕ) → place_or tag b t ≡ place_or tag b s
   plain_kept zero b = refl
@@ -202,9 +202,9 @@ module _ {s t : Numbered} (same : (kind : ℕ) → roster kind t ≡ roster kind
 -- the address of a number of a kind becomes another, or none, and no other does
 record IsReset (kind number : ℕ) (p : Option ℕ) (s t : Numbered) : Type 0 where
   few : kind < 8
-  known : number < length (roster kind s)
-  set : roster kind t ≡ slice_set (roster kind s) number p
-  same : (other : ℕ) → other ≢ kind → roster other t ≡ roster other s
+  known : number < length (slots_of kind s)
+  set : slots_of kind t ≡ slice_set (slots_of kind s) number p
+  same : (other : ℕ) → other ≢ kind → slots_of other t ≡ slots_of other s
 
 tally_own : (kind number : ℕ) → kind < 8 → tally kind (tag_of kind number) ≡ 1
 tally_own kind number few = ap (λ b. cond b 1 0) (ap (λ k. nat_eq k kind) (kind_read kind number few) ∙ nat_eq-same kind)
@@ -214,18 +214,18 @@ tally_other kind other number few ne =
     ap (λ b. cond b 1 0) (ap (λ k. nat_eq k other) (kind_read kind number few) ∙ nat_eq-other kind other (λ e. ne (sym e)))
 
 module _ {kind number : ℕ} {p : Option ℕ} {s t : Numbered} (reset : IsReset kind number p s t) where
-  reset_here : place (roster kind t) number ≡ p
-  reset_here = ap (λ ps. place ps number) reset.set ∙ place_same (roster kind s) number p reset.known
+  reset_here : slot (slots_of kind t) number ≡ p
+  reset_here = ap (λ ps. slot ps number) reset.set ∙ slot_same (slots_of kind s) number p reset.known
 
-  reset_other : (other m : ℕ) → (other ≡ kind → m ≢ number) → place (roster other t) m ≡ place (roster other s) m
+  reset_other : (other m : ℕ) → (other ≡ kind → m ≢ number) → slot (slots_of other t) m ≡ slot (slots_of other s) m
   reset_other other m ne = cases_eq other kind
-      (λ e. subst (λ k. place (roster k t) m ≡ place (roster k s) m) (sym e)
-      (ap (λ ps. place ps m) reset.set ∙ place_other (roster kind s) number m p (ne e)))
-      (λ e. ap (λ ps. place ps m) (reset.same other e))
+      (λ e. subst (λ k. slot (slots_of k t) m ≡ slot (slots_of k s) m) (sym e)
+      (ap (λ ps. slot ps m) reset.set ∙ slot_other (slots_of kind s) number m p (ne e)))
+      (λ e. ap (λ ps. slot ps m) (reset.same other e))
 
-  reset_length : (other : ℕ) → length (roster other t) ≡ length (roster other s)
+  reset_length : (other : ℕ) → length (slots_of other t) ≡ length (slots_of other s)
   reset_length other = cases_eq other kind
-      (λ e. subst (λ k. length (roster k t) ≡ length (roster k s)) (sym e) (ap length reset.set ∙ length-set (roster kind s) number p))
+      (λ e. subst (λ k. length (slots_of k t) ≡ length (slots_of k s)) (sym e) (ap length reset.set ∙ length-set (slots_of kind s) number p))
       (λ e. ap length (reset.same other e))
 
   tag_here : place_of_tag (tag_of kind number) t ≡ p
@@ -234,7 +234,7 @@ module _ {kind number : ℕ} {p : Option ℕ} {s t : Numbered} (reset : IsReset 
   tag_other : (n : ℕ) → suc n ≢ tag_of kind number → place_of_tag (suc n) t ≡ place_of_tag (suc n) s
   tag_other n ne = reset_other (n % 8) (n / 8) (λ k m. ne (let same : suc n ≡ tag_of kind number = omega (arith, k, m) in same))
 
-module _ {kind number a : ℕ} {s t : Numbered} (reset : IsReset kind number (Some a) s t) (vacant : place (roster kind s) number ≡ None) where
+module _ {kind number a : ℕ} {s t : Numbered} (reset : IsReset kind number (Some a) s t) (vacant : slot (slots_of kind s) number ≡ None) where
   was_none : {A : Type 0} (n b : ℕ) → suc n ≡ tag_of kind number → place_of_tag (suc n) s ≡ Some b → A
   was_none n b same was =
       let bad : false ≡ true = ap is_some (sym (ap (λ tag. place_of_tag tag s) same ∙ place_tag s kind number reset.few ∙ vacant) ∙ was) in cc
@@ -250,13 +250,13 @@ module _ {kind number a : ℕ} {s t : Numbered} (reset : IsReset kind number (So
         (λ same. inr (same, some_same (sym now ∙ ap (λ tag. place_of_tag tag t) same ∙ tag_here reset)))
         (λ other. inl (sym (tag_other reset n other) ∙ now))
 
-    more : (other : ℕ) → taken (roster other t) ≡ tally other (tag_of kind number) + taken (roster other s)
+    more : (other : ℕ) → taken (slots_of other t) ≡ tally other (tag_of kind number) + taken (slots_of other s)
     more other = cases_eq other kind
-        (λ e. subst (λ k. taken (roster k t) ≡ tally k (tag_of kind number) + taken (roster k s)) (sym e)
-        (omega (arith, ap taken reset.set, taken_enrolled (roster kind s) number a vacant reset.known, tally_own kind number reset.few)))
+        (λ e. subst (λ k. taken (slots_of k t) ≡ tally k (tag_of kind number) + taken (slots_of k s)) (sym e)
+        (omega (arith, ap taken reset.set, taken_given (slots_of kind s) number a vacant reset.known, tally_own kind number reset.few)))
         (λ e. omega (arith, ap taken (reset.same other e), tally_other kind other number reset.few e))
 
-module _ {kind number a : ℕ} {s t : Numbered} (reset : IsReset kind number None s t) (live : place (roster kind s) number ≡ Some a) where
+module _ {kind number a : ℕ} {s t : Numbered} (reset : IsReset kind number None s t) (live : slot (slots_of kind s) number ≡ Some a) where
   number_taken : IsTaken a (tag_of kind number) s t
   number_taken = record { kept = kept; left = left; gone = gone; less = less } where
     here : place_of_tag (tag_of kind number) s ≡ Some a
@@ -274,22 +274,22 @@ module _ {kind number a : ℕ} {s t : Numbered} (reset : IsReset kind number Non
     left : (n b : ℕ) → place_of_tag (suc n) t ≡ Some b → place_of_tag (suc n) s ≡ Some b
     left n b now = sym (tag_other reset n (gone n b now)) ∙ now
 
-    less : (other : ℕ) → tally other (tag_of kind number) + taken (roster other t) ≡ taken (roster other s)
+    less : (other : ℕ) → tally other (tag_of kind number) + taken (slots_of other t) ≡ taken (slots_of other s)
     less other = cases_eq other kind
-        (λ e. subst (λ k. tally k (tag_of kind number) + taken (roster k t) ≡ taken (roster k s)) (sym e)
-        (omega (arith, ap taken reset.set, taken_released (roster kind s) number a live, tally_own kind number reset.few)))
+        (λ e. subst (λ k. tally k (tag_of kind number) + taken (slots_of k t) ≡ taken (slots_of k s)) (sym e)
+        (omega (arith, ap taken reset.set, taken_released (slots_of kind s) number a live, tally_own kind number reset.few)))
         (λ e. omega (arith, ap taken (reset.same other e), tally_other kind other number reset.few e))
 
 -- ---- objects at first
 
-nothing : (regions : List Region) (pool kind number : ℕ) → place (roster kind (unused regions pool)) number ≡ None
-nothing regions pool zero number = place_new pool number
-nothing regions pool (suc zero) number = place_new pool number
+nothing : (regions : List Region) (pool kind number : ℕ) → slot (slots_of kind (unused regions pool)) number ≡ None
+nothing regions pool zero number = slot_new ℕ pool number
+nothing regions pool (suc zero) number = slot_new ℕ pool number
 nothing regions pool (suc (suc kind)) number = refl
 
-none_taken : (regions : List Region) (pool kind : ℕ) → 0 ≡ taken (roster kind (unused regions pool))
-none_taken regions pool zero = sym (taken_new pool)
-none_taken regions pool (suc zero) = sym (taken_new pool)
+none_taken : (regions : List Region) (pool kind : ℕ) → 0 ≡ taken (slots_of kind (unused regions pool))
+none_taken regions pool zero = sym (taken_new ℕ pool)
+none_taken regions pool (suc zero) = sym (taken_new ℕ pool)
 none_taken regions pool (suc (suc kind)) = refl
 
 pub sound_unused : (regions : List Region) (pool : ℕ) → pool ≤ 1024 → IsSound (unused regions pool)
@@ -297,8 +297,8 @@ sound_unused regions pool small = record {
   tagged = tt;
   complete = λ n a live. (let bad : false ≡ true = ap is_some (sym (nothing regions pool (n % 8) (n / 8)) ∙ live) in cc);
   count = none_taken regions pool;
-  live_nodes = λ n linked. (let bad : false ≡ true = ap is_some (sym (place_new pool n)) ∙ linked in cc);
-  live_lists = λ n h linked. (let bad : false ≡ true = ap is_some (sym (place_new pool n) ∙ linked) in cc);
+  live_nodes = λ n linked. (let bad : false ≡ true = ap is_some (sym (slot_new ℕ pool n)) ∙ linked in cc);
+  live_lists = λ n h linked. (let bad : false ≡ true = ap is_some (sym (slot_new ℕ pool n) ∙ linked) in cc);
   each_list = length-replicate pool [] ∙ sym (length-replicate pool None);
   each_node = refl;
   one_pool = refl;
@@ -307,10 +307,10 @@ sound_unused regions pool small = record {
 
 -- ---- plain blocks put and freed
 
-roster_kept : (s : Numbered) (memory : Memory) (kind : ℕ) → roster kind (record s { memory = memory }) ≡ roster kind s
-roster_kept s memory zero = refl
-roster_kept s memory (suc zero) = refl
-roster_kept s memory (suc (suc kind)) = refl
+slots_kept : (s : Numbered) (memory : Memory) (kind : ℕ) → slots_of kind (record s { memory = memory }) ≡ slots_of kind s
+slots_kept s memory zero = refl
+slots_kept s memory (suc zero) = refl
+slots_kept s memory (suc (suc kind)) = refl
 
 plain_block : {A : Type 0} (size : ℕ) (found : Option (ℕ × ℕ)) → names size found ≡ true
     → ((block : ℕ × ℕ) → found ≡ Some block → block.1 ≡ 0 → A) → A
@@ -337,53 +337,53 @@ module _ {s : Numbered} (sound : IsSound s) where
     sound_allocated size reqs None is = sound
     sound_allocated size reqs (Some a) is = plain_sound (allocated size 0 (Some a) s.memory)
         (matched_put sound a (round size, 0) (fitted_fresh s.memory.regions s.memory.blocks size reqs a formed (sym is)) refl
-        (plain_given (roster_kept s (allocated size 0 (Some a) s.memory)) a))
+        (plain_given (slots_kept s (allocated size 0 (Some a) s.memory)) a))
 
     pub sound_freed : (a size : ℕ) → can_free a size s.memory.blocks ≡ true → IsSound (record s { memory = without_block a s.memory })
     sound_freed a size can = plain_block size (block_at a s.memory.blocks) can (λ block found plain. plain_sound (without_block a s.memory)
         (matched_freed sound a block (rising_sorted s.memory.blocks formed.in_order) found refl
         (subst (λ tag. IsTaken a tag s (record s { memory = without_block a s.memory })) (sym plain)
-        (plain_taken (roster_kept s (without_block a s.memory)) a))))
+        (plain_taken (slots_kept s (without_block a s.memory)) a))))
 
 -- ---- objects made and freed
 
 -- what lives goes on living where one more object does
-lives_on : {kind number a : ℕ} {s t : Numbered} → IsReset kind number (Some a) s t → (other m : ℕ) → IsSome (place (roster other s) m)
-    → IsSome (place (roster other t) m)
+lives_on : {kind number a : ℕ} {s t : Numbered} → IsReset kind number (Some a) s t → (other m : ℕ) → IsSome (slot (slots_of other s) m)
+    → IsSome (slot (slots_of other t) m)
 lives_on {kind} {number} {a} {s} {t} reset other m lives = cases_eq other kind
     (λ k. cases_eq m number
-    (λ n. subst (λ x. IsSome (place (roster x t) m)) (sym k)
-    (subst (λ y. IsSome (place (roster kind t) y)) (sym n) (ap is_some (reset_here reset))))
+    (λ n. subst (λ x. IsSome (slot (slots_of x t) m)) (sym k)
+    (subst (λ y. IsSome (slot (slots_of kind t) y)) (sym n) (ap is_some (reset_here reset))))
     (λ n. ap is_some (reset_other reset other m (λ e. n)) ∙ lives))
     (λ k. ap is_some (reset_other reset other m (λ e. absurd (k e))) ∙ lives)
 
-list_reset : {s t : Numbered} (number : ℕ) (p : Option ℕ) → number < length s.lists.places
-    → t.lists.places ≡ slice_set s.lists.places number p → t.nodes.places ≡ s.nodes.places → IsReset 0 number p s t
+list_reset : {s t : Numbered} (number : ℕ) (p : Option ℕ) → number < length s.lists.slots
+    → t.lists.slots ≡ slice_set s.lists.slots number p → t.nodes.slots ≡ s.nodes.slots → IsReset 0 number p s t
 list_reset {s} {t} number p known set nodes = record { few = omega arith; known = known; set = set; same = same } where
-  same : (other : ℕ) → other ≢ 0 → roster other t ≡ roster other s
+  same : (other : ℕ) → other ≢ 0 → slots_of other t ≡ slots_of other s
   same zero other = absurd (other refl)
   same (suc zero) other = nodes
   same (suc (suc kind)) other = refl
 
-node_reset : {s t : Numbered} (number : ℕ) (p : Option ℕ) → number < length s.nodes.places
-    → t.nodes.places ≡ slice_set s.nodes.places number p → t.lists.places ≡ s.lists.places → IsReset 1 number p s t
+node_reset : {s t : Numbered} (number : ℕ) (p : Option ℕ) → number < length s.nodes.slots
+    → t.nodes.slots ≡ slice_set s.nodes.slots number p → t.lists.slots ≡ s.lists.slots → IsReset 1 number p s t
 node_reset {s} {t} number p known set lists = record { few = omega arith; known = known; set = set; same = same } where
-  same : (other : ℕ) → other ≢ 1 → roster other t ≡ roster other s
+  same : (other : ℕ) → other ≢ 1 → slots_of other t ≡ slots_of other s
   same zero other = lists
   same (suc zero) other = absurd (other refl)
   same (suc (suc kind)) other = refl
 
 -- the number that is next is known, and free
-pub record IsAhead (r : Rostered) (number : ℕ) : Type 0 where
+pub record IsAhead (r : Pooled ℕ) (number : ℕ) : Type 0 where
   pub next : next_number r ≡ Some number
-  pub known : number < length r.places
-  pub vacant : place r.places number ≡ None
+  pub known : number < length r.slots
+  pub vacant : slot r.slots number ≡ None
 
-pub ahead_of : (r : Rostered) (number : ℕ) → IsStocked r → next_number r ≡ Some number → IsAhead r number
+pub ahead_of : (r : Pooled ℕ) (number : ℕ) → IsStocked r → next_number r ≡ Some number → IsAhead r number
 ahead_of r number stocked next = record {
   next = next;
-  known = subst (λ o. IfSome o (λ n. n < length r.places)) next stocked.known;
-  vacant = subst (λ o. IfSome o (λ n. place r.places n ≡ None)) next stocked.free;
+  known = subst (λ o. IfSome o (λ n. n < length r.slots)) next stocked.known;
+  vacant = subst (λ o. IfSome o (λ n. slot r.slots n ≡ None)) next stocked.free;
 }
 
 module _ {s t : Numbered} (number : ℕ) (is : s ≡ t) where
@@ -412,7 +412,7 @@ module _ {s : Numbered} (sound : IsSound s) (formed : IsWellFormed s.memory.regi
     t = list_numbered size (Some number) (Some a) s
 
     reset : IsReset 0 number (Some a) s t
-    reset = list_reset number (Some a) ahead.known (enrolled_places a number s.lists ahead.next) refl
+    reset = list_reset number (Some a) ahead.known (given_slots a number s.lists ahead.next) refl
 
     matched : IsMatched t
     matched = matched_put sound a (round size, tag_of 0 number)
@@ -436,14 +436,14 @@ module _ {s : Numbered} (sound : IsSound s) (formed : IsWellFormed s.memory.regi
     t = node_numbered size key (Some number) (Some a) s
 
     reset : IsReset 1 number (Some a) s t
-    reset = node_reset number (Some a) ahead.known (enrolled_places a number s.nodes ahead.next) refl
+    reset = node_reset number (Some a) ahead.known (given_slots a number s.nodes ahead.next) refl
 
     matched : IsMatched t
     matched = matched_put sound a (round size, tag_of 1 number)
         (fitted_fresh s.memory.regions s.memory.blocks size 1 a formed (sym is)) refl (number_given reset ahead.vacant)
 
   -- the block of an object that lives, and whose number is then free
-  matched_released : {t : Numbered} (kind number a : ℕ) → kind < 8 → place (roster kind s) number ≡ Some a
+  matched_released : {t : Numbered} (kind number a : ℕ) → kind < 8 → slot (slots_of kind s) number ≡ Some a
       → t.memory.blocks ≡ freed a s.memory.blocks → IsReset kind number None s t → IsMatched t
   matched_released {t} kind number a few live is reset = block_of (block_at a s.memory.blocks) refl
     where
@@ -455,7 +455,7 @@ module _ {s : Numbered} (sound : IsSound s) (formed : IsWellFormed s.memory.regi
           (subst (λ n. IsTaken a n s t) (sym tag) (number_taken reset live))
 
   -- a list that no node has as its home
-  pub sound_list_freed : (h a : ℕ) → place s.lists.places h ≡ Some a → sequence s.sequences h ≡ []
+  pub sound_list_freed : (h a : ℕ) → slot s.lists.slots h ≡ Some a → sequence s.sequences h ≡ []
       → ((n : ℕ) → times n (sequence s.sequences h) ≡ (if is_at (home s.homes n) h then 1 else 0)) → IsSound (list_freed h a s)
   sound_list_freed h a live empty stands = record {
     tagged = matched.tagged;
@@ -472,7 +472,7 @@ module _ {s : Numbered} (sound : IsSound s) (formed : IsWellFormed s.memory.regi
     t = list_freed h a s
 
     reset : IsReset 0 h None s t
-    reset = list_reset h None (place_known s.lists.places h a live) refl refl
+    reset = list_reset h None (slot_known s.lists.slots h a live) refl refl
 
     matched : IsMatched t
     matched = matched_released 0 h a (omega arith) live refl reset
@@ -485,7 +485,7 @@ module _ {s : Numbered} (sound : IsSound s) (formed : IsWellFormed s.memory.regi
         omega (arith, none, once)
 
   -- a node that has no home
-  pub sound_node_freed : (n a : ℕ) → place s.nodes.places n ≡ Some a → home s.homes n ≡ None → IsSound (node_freed n a s)
+  pub sound_node_freed : (n a : ℕ) → slot s.nodes.slots n ≡ Some a → home s.homes n ≡ None → IsSound (node_freed n a s)
   sound_node_freed n a live unlinked = record {
     tagged = matched.tagged;
     complete = matched.complete;
@@ -501,7 +501,7 @@ module _ {s : Numbered} (sound : IsSound s) (formed : IsWellFormed s.memory.regi
     t = node_freed n a s
 
     reset : IsReset 1 n None s t
-    reset = node_reset n None (place_known s.nodes.places n a live) refl refl
+    reset = node_reset n None (slot_known s.nodes.slots n a live) refl refl
 
     matched : IsMatched t
     matched = matched_released 1 n a (omega arith) live refl reset
@@ -514,12 +514,12 @@ module _ {s : Numbered} (sound : IsSound s) (formed : IsWellFormed s.memory.regi
 module _ {s : Numbered} (sound : IsSound s) where
   -- what begins at an address lives
   pub number_lives : (kind address : ℕ) (o : Option ℕ) → kind < 8 → o ≡ number_at kind address s
-      → IfSome o (λ n. place (roster kind s) n ≡ Some address)
+      → IfSome o (λ n. slot (slots_of kind s) n ≡ Some address)
   number_lives kind address None few is = tt
   number_lives kind address (Some n) few is = number_placed sound kind n address few (sym is)
 
   -- and what lives begins there
-  pub live_block : (kind number a : ℕ) → kind < 8 → place (roster kind s) number ≡ Some a → IsSome (block_at a s.memory.blocks)
+  pub live_block : (kind number a : ℕ) → kind < 8 → slot (slots_of kind s) number ≡ Some a → IsSome (block_at a s.memory.blocks)
   live_block kind number a few live = some_block (block_at a s.memory.blocks) (tag_live sound kind number a few live)
     where
       some_block : (found : Option (ℕ × ℕ)) → tag_in found ≡ Some (tag_of kind number) → IsSome found
@@ -527,10 +527,10 @@ module _ {s : Numbered} (sound : IsSound s) where
       some_block (Some block) is = refl
 
   -- a number that is free has no home
-  pub free_unlinked : (n : ℕ) → place s.nodes.places n ≡ None → home s.homes n ≡ None
+  pub free_unlinked : (n : ℕ) → slot s.nodes.slots n ≡ None → home s.homes n ≡ None
   free_unlinked n free = none_of (home s.homes n) (λ linked. sound.live_nodes n linked)
     where
-      none_of : (o : Option ℕ) → (IsSome o → IsSome (place s.nodes.places n)) → o ≡ None
+      none_of : (o : Option ℕ) → (IsSome o → IsSome (slot s.nodes.slots n)) → o ≡ None
       none_of None lives = refl
       none_of (Some h) lives = let bad : false ≡ true = ap is_some (sym free) ∙ lives refl in cc
 
@@ -538,16 +538,16 @@ module _ {s : Numbered} (sound : IsSound s) where
 
 module _ {s : Numbered} (sound : IsSound s) where
   -- where no number of a list is left, as many blocks are lists as there are numbers
-  pub lists_full : IsStocked s.lists → next_number s.lists ≡ None → counted 0 s.memory.blocks ≡ length s.lists.places
+  pub lists_full : IsStocked s.lists → next_number s.lists ≡ None → counted 0 s.memory.blocks ≡ length s.lists.slots
   lists_full stocked none = sound.count 0 ∙ stocked.full none
 
-  pub lists_left : (n : ℕ) → IsStocked s.lists → next_number s.lists ≡ Some n → counted 0 s.memory.blocks < length s.lists.places
+  pub lists_left : (n : ℕ) → IsStocked s.lists → next_number s.lists ≡ Some n → counted 0 s.memory.blocks < length s.lists.slots
   lists_left n stocked next = let there = ahead_of s.lists n stocked next in
-      omega (arith, sound.count 0, taken_below s.lists.places n there.vacant there.known)
+      omega (arith, sound.count 0, taken_below s.lists.slots n there.vacant there.known)
 
-  pub nodes_full : IsStocked s.nodes → next_number s.nodes ≡ None → counted 1 s.memory.blocks ≡ length s.nodes.places
+  pub nodes_full : IsStocked s.nodes → next_number s.nodes ≡ None → counted 1 s.memory.blocks ≡ length s.nodes.slots
   nodes_full stocked none = sound.count 1 ∙ stocked.full none
 
-  pub nodes_left : (n : ℕ) → IsStocked s.nodes → next_number s.nodes ≡ Some n → counted 1 s.memory.blocks < length s.nodes.places
+  pub nodes_left : (n : ℕ) → IsStocked s.nodes → next_number s.nodes ≡ Some n → counted 1 s.memory.blocks < length s.nodes.slots
   nodes_left n stocked next = let there = ahead_of s.nodes n stocked next in
-      omega (arith, sound.count 1, taken_below s.nodes.places n there.vacant there.known)
+      omega (arith, sound.count 1, taken_below s.nodes.slots n there.vacant there.known)

@@ -3,9 +3,9 @@ use Rattle.std.proofs.Common.{◌≡◌, ℕ, zero, suc, ◌+◌, ◌*◌, ◌/�
 use Rattle.std.specs.Prelude.{None, Some, is_some, nat_eq, ◌&&◌, ◌≢◌, if◌then◌else◌}
 use Rattle.memlist.proofs.Answered.{nat_eq-other, nat_eq-same}
 use Rattle.memlist.proofs.Headers.{from_eq}
-use Rattle.execheap.specs.Roster.{place}
+use Rattle.execlist.specs.Pool.{slot}
 use Rattle.execheap.specs.Tags.{tag_of, number_of}
-use Rattle.execheap.specs.Numbered.{Numbered, contents, object_of, shown_object, place_of_tag, roster}
+use Rattle.execheap.specs.Numbered.{Numbered, contents, object_of, shown_object, place_of_tag, slots_of}
 
 pub kind_read : (kind number : ℕ) → kind < 8 → (kind + 8 * number) % 8 ≡ kind
 kind_read kind number few = omega (arith, few)
@@ -17,9 +17,9 @@ number_read kind number few = omega (arith, few)
 pub shown_tag : (s : Numbered) (kind number : ℕ) → kind < 8 → shown_object (contents s) (tag_of kind number) ≡ object_of kind number (contents s)
 shown_tag s kind number few = ap (λ k. object_of k ((kind + 8 * number) / 8) (contents s)) (kind_read kind number few) ∙ ap (λ n. object_of kind n (contents s)) (number_read kind number few)
 
-pub place_tag : (s : Numbered) (kind number : ℕ) → kind < 8 → place_of_tag (tag_of kind number) s ≡ place (roster kind s) number
+pub place_tag : (s : Numbered) (kind number : ℕ) → kind < 8 → place_of_tag (tag_of kind number) s ≡ slot (slots_of kind s) number
 place_tag s kind number few =
-    ap (λ k. place (roster k s) ((kind + 8 * number) / 8)) (kind_read kind number few) ∙ ap (λ n. place (roster kind s) n) (number_read kind number few)
+    ap (λ k. slot (slots_of k s) ((kind + 8 * number) / 8)) (kind_read kind number few) ∙ ap (λ n. slot (slots_of kind s) n) (number_read kind number few)
 
 -- the tag of a kind and a number names that number
 pub number_tag : (kind number : ℕ) → kind < 8 → number_of kind (tag_of kind number) ≡ Some number

@@ -5,7 +5,7 @@ use Rattle.execlist.specs.Lists.{Key, blank, home, last, pri_of, put_after, sequ
 use Rattle.memlist.specs.declared.region.Region.{Region}
 use Rattle.memlist.specs.Fit.{fit}
 use Rattle.memlist.specs.Memory.{allocated, untouched, without_block}
-use Rattle.execheap.specs.Roster.{all_free, enrolled, next_number, released}
+use Rattle.execlist.specs.Pool.{all_free, given, next_number, released}
 use Rattle.execheap.specs.Tags.{tag_of}
 use Rattle.execheap.specs.Numbered.{Numbered}
 
@@ -37,7 +37,7 @@ list_numbered size None place s = s
 list_numbered size (Some number) None s = s
 list_numbered size (Some number) (Some address) s = record s {
   memory = allocated size (tag_of 0 number) (Some address) s.memory;
-  lists = enrolled address s.lists;
+  lists = given address s.lists;
 }
 
 abbrev pub list_made : ℕ → Option ℕ → Numbered → Numbered
@@ -49,7 +49,7 @@ node_numbered size key None place s = s
 node_numbered size key (Some number) None s = s
 node_numbered size key (Some number) (Some address) s = record s {
   memory = allocated size (tag_of 1 number) (Some address) s.memory;
-  nodes = enrolled address s.nodes;
+  nodes = given address s.nodes;
   keys = slice_set s.keys number key;
 }
 

@@ -1,4 +1,3 @@
-pub mod Roster
 pub mod Tags
 pub mod Numbered
 pub mod Changes

@@ -6,23 +6,23 @@ use Rattle.execlist.specs.Lists.{Key, blank, sequence, home, is_at, times}
 use Rattle.memlist.specs.Memory as table
 use Rattle.memlist.specs.Blocks.{Blocks, block_at}
 use Rattle.execmodel.specs.State.{Object, Plain, ListHead, Node, Block, Heap, Memory}
-use Rattle.execheap.specs.Roster.{Rostered, place, taken}
+use Rattle.execlist.specs.Pool.{Pooled, slot, taken}
 use Rattle.execheap.specs.Tags.{number_of, is_of}
 
 -- the blocks with their tags; for each kind the addresses of its objects by number; and what the lists and the nodes hold, by number
 pub record Numbered : Type 0 where
   pub memory : table.Memory
-  pub lists : Rostered
-  pub nodes : Rostered
+  pub lists : Pooled ℕ
+  pub nodes : Pooled ℕ
   pub sequences : List (List ℕ)
   pub homes : List (Option ℕ)
   pub keys : List Key
 
 -- the addresses of the objects of a kind, by number
-abbrev pub roster : ℕ → Numbered → List (Option ℕ)
-roster zero s = s.lists.places
-roster (suc zero) s = s.nodes.places
-roster (suc (suc kind)) s = []
+abbrev pub slots_of : ℕ → Numbered → List (Option ℕ)
+slots_of zero s = s.lists.slots
+slots_of (suc zero) s = s.nodes.slots
+slots_of (suc (suc kind)) s = []
 
 -- the number of the object of a kind that begins at an address
 abbrev pub number_at : ℕ → ℕ → Numbered → Option ℕ
@@ -32,7 +32,7 @@ number_at kind address s = option_and_then (λ (block : ℕ × ℕ). number_of k
 
 -- the address of a node, by its number
 abbrev pub address_in : List (Option ℕ) → ℕ → ℕ
-address_in places n = unwrap_or (place places n) 0
+address_in places n = unwrap_or (slot places n) 0
 
 -- the key of a node, by its number
 abbrev pub key_at : List Key → ℕ → Key
@@ -45,7 +45,7 @@ pub record Contents : Type 0 where
   pub keys : List Key
 
 abbrev pub contents : Numbered → Contents
-contents s = record { places = s.nodes.places; sequences = s.sequences; keys = s.keys }
+contents s = record { places = s.nodes.slots; sequences = s.sequences; keys = s.keys }
 
 -- the object of a kind and a number
 abbrev pub object_of : ℕ → ℕ → Contents → Object
@@ -69,14 +69,14 @@ shown_heap s = map (shown_entry (contents s)) s.memory.blocks
 
 -- the memory that objects by number stand for
 abbrev pub shown_memory : Numbered → Memory
-shown_memory s = record { regions = s.memory.regions; pool = length s.lists.places; heap = shown_heap s }
+shown_memory s = record { regions = s.memory.regions; pool = length s.lists.slots; heap = shown_heap s }
 
 -- ---- what always holds
 
 -- the address of the object that a tag names
 abbrev pub place_of_tag : ℕ → Numbered → Option ℕ
 place_of_tag zero s = None
-place_of_tag (suc n) s = place (roster (n % 8) s) (n / 8)
+place_of_tag (suc n) s = slot (slots_of (n % 8) s) (n / 8)
 
 -- the address of what a tag names, where a plain block is anywhere
 abbrev pub place_or : ℕ → ℕ → Numbered → Option ℕ
@@ -101,13 +101,13 @@ counted kind blocks = length (filter (λ (entry : ℕ × (ℕ × ℕ)). is_of ki
 pub record IsSound (s : Numbered) : Type 0 where
   pub tagged : AllByRecursion (IsTagged s) s.memory.blocks
   pub complete : (n address : ℕ) → place_of_tag (suc n) s ≡ Some address → tag_at address s.memory.blocks ≡ Some (suc n)
-  pub count : (kind : ℕ) → counted kind s.memory.blocks ≡ taken (roster kind s)
-  pub live_nodes : (n : ℕ) → IsSome (home s.homes n) → IsSome (place s.nodes.places n)
-  pub live_lists : (n h : ℕ) → home s.homes n ≡ Some h → IsSome (place s.lists.places h)
-  pub each_list : length s.sequences ≡ length s.lists.places
-  pub each_node : length s.homes ≡ length s.nodes.places
-  pub one_pool : length s.nodes.places ≡ length s.lists.places
-  pub small_pool : length s.lists.places ≤ 1024
+  pub count : (kind : ℕ) → counted kind s.memory.blocks ≡ taken (slots_of kind s)
+  pub live_nodes : (n : ℕ) → IsSome (home s.homes n) → IsSome (slot s.nodes.slots n)
+  pub live_lists : (n h : ℕ) → home s.homes n ≡ Some h → IsSome (slot s.lists.slots h)
+  pub each_list : length s.sequences ≡ length s.lists.slots
+  pub each_node : length s.homes ≡ length s.nodes.slots
+  pub one_pool : length s.nodes.slots ≡ length s.lists.slots
+  pub small_pool : length s.lists.slots ≤ 1024
 
 -- what every list space tells of sequences, homes and keys
 pub record IsSpace (s : Numbered) : Type 0 where

@@ -6,17 +6,17 @@ ghost use Rattle.execlist.specs.Order.{first};
 ghost use Rattle.execlist.specs.Lists.{home, is_named, last, part_after, part_before, part_from, sequence};
 ghost use Rattle.memlist.specs.Fit.{asks, avail, fit};
 ghost use Rattle.memlist.specs.Memory.{IsWellFormed, allocated, can_free, untouched, without_block};
-ghost use Rattle.execheap.specs.Roster.{IsStocked, next_number, place};
+ghost use Rattle.execlist.specs.Pool.{IsStocked, next_number, slot};
 ghost use Rattle.execheap.specs.Tags.{kind_code};
-ghost use Rattle.execheap.specs.Numbered.{IsSound, IsSpace, number_at, roster};
+ghost use Rattle.execheap.specs.Numbered.{IsSound, IsSpace, number_at, slots_of};
 ghost use Rattle.execheap.specs.Changes.{unused, made_at, key_with, list_numbered, list_made, list_freed, node_numbered, node_made, node_freed, at_head, at_tail, queued, put, taken_out, head_taken, tail_taken};
 
 #[cfg(test)]
 mod tests;
 
 use crate::kind::{Kind, number_of, tag_of};
-use crate::roster::Roster;
 use execlist::key::Name;
+use execlist::pool::Pool;
 use execlist::space::{HeaderId, ListSpace, NodeId};
 use memlist::{MemList, Region};
 use std::alloc::{AllocError, Global};
@@ -35,8 +35,8 @@ const NODE_SIZE: u32 = 14;
 #[derive(Drop)]
 pub struct Objects<S: ListSpace> {
     memory: MemList,
-    lists: Roster,
-    nodes: Roster,
+    lists: Pool<u32>,
+    nodes: Pool<u32>,
     space: S,
 }
 
@@ -72,8 +72,8 @@ impl<S: ListSpace> Objects<S> {
     {
         let pool = pool as usize;
         let memory = memory_of(alloc, regions)?;
-        let lists = Roster::new(alloc, pool)?;
-        let nodes = Roster::new(alloc, pool)?;
+        let lists = Pool::new(alloc, pool)?;
+        let nodes = Pool::new(alloc, pool)?;
         let space = S::new(alloc, pool, pool)?;
         Ok(Objects {
             memory,
@@ -131,7 +131,7 @@ impl<S: ListSpace> Objects<S> {
     /// The number of the object of a kind that begins at an address, if one does.
     pub fn number_at(&self, kind: Kind, address: u32) -> Option<usize>
         ensures value { result ≡ number_at (kind_code kind) address self.now }
-        ensures live { IfSome result (λ n. place (roster (kind_code kind) self.now) n ≡ Some address) }
+        ensures live { IfSome result (λ n. slot (slots_of (kind_code kind) self.now) n ≡ Some address) }
     {
         match self.memory.block_at(address) {
             Some((_, tag)) => number_of(kind, tag),
@@ -141,10 +141,10 @@ impl<S: ListSpace> Objects<S> {
 
     /// The address of a live node.
     pub fn address_of(&self, n: NodeId) -> u32
-        requires { IsSome (place self.now.nodes.places n) }
-        ensures { place self.now.nodes.places n ≡ Some result }
+        requires { IsSome (slot self.now.nodes.slots n) }
+        ensures { slot self.now.nodes.slots n ≡ Some result }
     {
-        self.nodes.place(n).unwrap()
+        self.nodes.get(n).unwrap()
     }
 
     // ---- objects made and freed
@@ -171,7 +171,7 @@ impl<S: ListSpace> Objects<S> {
         let tag = tag_of(Kind::List, number);
         match self.memory.alloc_mem(LIST_SIZE, MEMF_PUBLIC, tag) {
             Some(address) => {
-                self.lists.enroll(address);
+                self.lists.give(address);
                 Some(address)
             }
             None => None,
@@ -201,7 +201,7 @@ impl<S: ListSpace> Objects<S> {
         match self.memory.alloc_mem(NODE_SIZE, MEMF_PUBLIC, tag) {
             Some(address) => {
                 self.space.set_key(number, pri, name);
-                self.nodes.enroll(address);
+                self.nodes.give(address);
                 Some(address)
             }
             None => None,
@@ -210,7 +210,7 @@ impl<S: ListSpace> Objects<S> {
 
     /// Frees an empty list.
     pub fn free_list(&mut self, h: HeaderId, address: u32)
-        requires live { place self.old.lists.places h ≡ Some address }
+        requires live { slot self.old.lists.slots h ≡ Some address }
         requires empty { sequence self.old.sequences h ≡ [] }
         ensures { self.new ≡ list_freed h address self.old }
     {
@@ -221,7 +221,7 @@ impl<S: ListSpace> Objects<S> {
 
     /// Frees a node that is not linked.
     pub fn free_node(&mut self, n: NodeId, address: u32)
-        requires live { place self.old.nodes.places n ≡ Some address }
+        requires live { slot self.old.nodes.slots n ≡ Some address }
         requires unlinked { home self.old.homes n ≡ None }
         ensures { self.new ≡ node_freed n address self.old }
     {
@@ -234,7 +234,7 @@ impl<S: ListSpace> Objects<S> {
 
     /// The list that has a live node, if one has.
     pub fn home(&self, n: NodeId) -> Option<HeaderId>
-        requires { IsSome (place self.now.nodes.places n) }
+        requires { IsSome (slot self.now.nodes.slots n) }
         ensures { result ≡ home self.now.homes n }
     {
         self.space.home(n)
@@ -242,8 +242,8 @@ impl<S: ListSpace> Objects<S> {
 
     /// Puts an unlinked node first.
     pub fn add_head(&mut self, h: HeaderId, n: NodeId)
-        requires list { IsSome (place self.old.lists.places h) }
-        requires node { IsSome (place self.old.nodes.places n) }
+        requires list { IsSome (slot self.old.lists.slots h) }
+        requires node { IsSome (slot self.old.nodes.slots n) }
         requires unlinked { home self.old.homes n ≡ None }
         ensures { self.new ≡ at_head h n self.old }
     {
@@ -252,8 +252,8 @@ impl<S: ListSpace> Objects<S> {
 
     /// Puts an unlinked node last.
     pub fn add_tail(&mut self, h: HeaderId, n: NodeId)
-        requires list { IsSome (place self.old.lists.places h) }
-        requires node { IsSome (place self.old.nodes.places n) }
+        requires list { IsSome (slot self.old.lists.slots h) }
+        requires node { IsSome (slot self.old.nodes.slots n) }
         requires unlinked { home self.old.homes n ≡ None }
         ensures { self.new ≡ at_tail h n self.old }
     {
@@ -262,8 +262,8 @@ impl<S: ListSpace> Objects<S> {
 
     /// Puts an unlinked node before the first node of lower priority.
     pub fn enqueue(&mut self, h: HeaderId, n: NodeId)
-        requires list { IsSome (place self.old.lists.places h) }
-        requires node { IsSome (place self.old.nodes.places n) }
+        requires list { IsSome (slot self.old.lists.slots h) }
+        requires node { IsSome (slot self.old.nodes.slots n) }
         requires unlinked { home self.old.homes n ≡ None }
         ensures { self.new ≡ queued h n self.old }
     {
@@ -272,8 +272,8 @@ impl<S: ListSpace> Objects<S> {
 
     /// Puts an unlinked node after a node of the list, or first for none.
     pub fn insert(&mut self, h: HeaderId, n: NodeId, pred: Option<NodeId>)
-        requires list { IsSome (place self.old.lists.places h) }
-        requires node { IsSome (place self.old.nodes.places n) }
+        requires list { IsSome (slot self.old.lists.slots h) }
+        requires node { IsSome (slot self.old.nodes.slots n) }
         requires unlinked { home self.old.homes n ≡ None }
         requires pred_in { ForSome pred (λ p. home self.old.homes p ≡ Some h) }
         ensures { self.new ≡ put h n pred self.old }
@@ -291,9 +291,9 @@ impl<S: ListSpace> Objects<S> {
 
     /// Takes the first node out of a list, if it has one.
     pub fn rem_head(&mut self, h: HeaderId) -> Option<NodeId>
-        requires { IsSome (place self.old.lists.places h) }
+        requires { IsSome (slot self.old.lists.slots h) }
         ensures value { result ≡ first (sequence self.old.sequences h) }
-        ensures live { IfSome result (λ n. IsSome (place self.new.nodes.places n)) }
+        ensures live { IfSome result (λ n. IsSome (slot self.new.nodes.slots n)) }
         ensures next { self.new ≡ head_taken h self.old }
     {
         self.space.rem_head(h)
@@ -301,9 +301,9 @@ impl<S: ListSpace> Objects<S> {
 
     /// Takes the last node out of a list, if it has one.
     pub fn rem_tail(&mut self, h: HeaderId) -> Option<NodeId>
-        requires { IsSome (place self.old.lists.places h) }
+        requires { IsSome (slot self.old.lists.slots h) }
         ensures value { result ≡ last (sequence self.old.sequences h) }
-        ensures live { IfSome result (λ n. IsSome (place self.new.nodes.places n)) }
+        ensures live { IfSome result (λ n. IsSome (slot self.new.nodes.slots n)) }
         ensures next { self.new ≡ tail_taken h self.old }
     {
         self.space.rem_tail(h)
@@ -313,18 +313,18 @@ impl<S: ListSpace> Objects<S> {
 
     /// The first node of a list, if it has one.
     pub fn first(&self, h: HeaderId) -> Option<NodeId>
-        requires { IsSome (place self.now.lists.places h) }
+        requires { IsSome (slot self.now.lists.slots h) }
         ensures value { result ≡ first (sequence self.now.sequences h) }
-        ensures live { IfSome result (λ n. IsSome (place self.now.nodes.places n)) }
+        ensures live { IfSome result (λ n. IsSome (slot self.now.nodes.slots n)) }
     {
         self.space.first(h)
     }
 
     /// The last node of a list, if it has one.
     pub fn last(&self, h: HeaderId) -> Option<NodeId>
-        requires { IsSome (place self.now.lists.places h) }
+        requires { IsSome (slot self.now.lists.slots h) }
         ensures value { result ≡ last (sequence self.now.sequences h) }
-        ensures live { IfSome result (λ n. IsSome (place self.now.nodes.places n)) }
+        ensures live { IfSome result (λ n. IsSome (slot self.now.nodes.slots n)) }
     {
         self.space.last(h)
     }
@@ -333,7 +333,7 @@ impl<S: ListSpace> Objects<S> {
     pub fn succ(&self, n: NodeId) -> Option<NodeId>
         requires { IsSome (home self.now.homes n) }
         ensures value { ForSome (home self.now.homes n) (λ h. result ≡ first (part_after n (sequence self.now.sequences h))) }
-        ensures live { IfSome result (λ m. IsSome (place self.now.nodes.places m)) }
+        ensures live { IfSome result (λ m. IsSome (slot self.now.nodes.slots m)) }
     {
         self.space.succ(n)
     }
@@ -342,17 +342,17 @@ impl<S: ListSpace> Objects<S> {
     pub fn pred(&self, n: NodeId) -> Option<NodeId>
         requires { IsSome (home self.now.homes n) }
         ensures value { ForSome (home self.now.homes n) (λ h. result ≡ last (part_before n (sequence self.now.sequences h))) }
-        ensures live { IfSome result (λ m. IsSome (place self.now.nodes.places m)) }
+        ensures live { IfSome result (λ m. IsSome (slot self.now.nodes.slots m)) }
     {
         self.space.pred(n)
     }
 
     /// The first node of a name in a list, or after a node of it.
     pub fn find_name(&self, h: HeaderId, after: Option<NodeId>, name: &str) -> Option<NodeId>
-        requires list { IsSome (place self.now.lists.places h) }
+        requires list { IsSome (slot self.now.lists.slots h) }
         requires after_in { ForSome after (λ n. home self.now.homes n ≡ Some h) }
         ensures value { result ≡ find (is_named self.now.keys name.now) (part_from after (sequence self.now.sequences h)) }
-        ensures live { IfSome result (λ n. IsSome (place self.now.nodes.places n)) }
+        ensures live { IfSome result (λ n. IsSome (slot self.now.nodes.slots n)) }
     {
         self.space.find_name(h, after, name)
     }

@@ -1,4 +1,5 @@
 pub mod OrderLaws
+pub mod Pools
 mod PlainLemmas
 mod Walks
 mod Computed

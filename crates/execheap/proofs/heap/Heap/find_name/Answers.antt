@@ -11,6 +11,6 @@ pub returns-in-Ok-clause-answer : goal.returns-in-Ok-clause-answer
 returns-in-Ok-clause-answer g c =
     let f = c.facts.ensures in
     let s = c.self.inside.objects in
-    c.address_or_0.ensures ∙ ap (λ n. or_none (option_map (address_in s.nodes.places) n)) c.find_name.ensures.value
+    c.address_or_0.ensures ∙ ap (λ n. or_none (option_map (address_in s.nodes.slots) n)) c.find_name.ensures.value
     ∙ sym (found_shown f.sound f.space c.args.name.now c.args.start c.in-Ok.h c.in-Ok.after c.in-Ok.ensures.searched)
     ∙ ap (λ (m : Memory). found_node c.args.start c.args.name.now m.heap) c.self.view_is

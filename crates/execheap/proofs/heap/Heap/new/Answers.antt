@@ -1,4 +1,4 @@
--- No block is shown, and the pool is as long as its rosters.
+-- No block is shown, and the pool is as large as that of its numbers.
 use Rattle.std.proofs.Common.{ap, ◌∙◌}
 use Rattle.execheap.specs.Numbered.{shown_memory}
 use Rattle.execheap.proofs.Making.{unused_shown}

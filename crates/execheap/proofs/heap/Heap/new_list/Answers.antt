@@ -4,7 +4,7 @@ use Rattle.execmodel.specs.State.{ListHead}
 use Rattle.execmodel.specs.Memory.{placed}
 use Rattle.execmodel.specs.Objects.{place_for_object}
 use Rattle.execmodel.specs.Lists.{is_list}
-use Rattle.execheap.specs.Roster.{next_number}
+use Rattle.execlist.specs.Pool.{next_number}
 use Rattle.execheap.specs.Numbered.{shown_memory}
 use Rattle.execheap.proofs.Making.{list_made_at, list_made_shown}
 use Rattle.execheap.proofs.SoundObjects.{ahead_of, lists_full, lists_left}

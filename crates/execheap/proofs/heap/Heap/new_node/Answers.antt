@@ -6,7 +6,7 @@ use Rattle.execmodel.specs.State.{Node}
 use Rattle.execmodel.specs.Memory.{placed}
 use Rattle.execmodel.specs.Objects.{place_for_object}
 use Rattle.execmodel.specs.Lists.{is_node}
-use Rattle.execheap.specs.Roster.{next_number}
+use Rattle.execlist.specs.Pool.{next_number}
 use Rattle.execheap.specs.Changes.{key_with, node_made}
 use Rattle.execheap.specs.Numbered.{shown_memory}
 use Rattle.execheap.proofs.Making.{node_made_at, node_made_shown}

@@ -12,5 +12,5 @@ returns-in-Ok-clause-answer g c =
     let f = c.facts.ensures in
     let e = c.in-Ok.ensures in
     let s = c.self.inside.objects in
-    c.address_or_0.ensures ∙ ap (λ n. or_none (option_map (address_in s.nodes.places) n)) (c.succ.ensures.value _ e.linked)
+    c.address_or_0.ensures ∙ ap (λ n. or_none (option_map (address_in s.nodes.slots) n)) (c.succ.ensures.value _ e.linked)
     ∙ sym (succ_shown f.sound f.space _ c.in-Ok.n c.args.node e.found e.linked) ∙ ap (λ (m : Memory). succ_of c.args.node m.heap) c.self.view_is

@@ -12,5 +12,5 @@ pub invariant_of-self : goal.invariant_of-self
 invariant_of-self g c =
     let next = list_ahead c.args.number c.self.view_is c.facts.ensures c.requires in
     let put = c.in-Some.ensures in
-    rw (put.allocated, c.enroll.ensures, c.tag_of-tag.ensures)
+    rw (put.allocated, c.give.ensures, c.tag_of-tag.ensures)
     (sound_list_placed c.self.invariant c.is_well_formed.ensures 14 c.args.number (Some c.in-Some.address) next put.address)

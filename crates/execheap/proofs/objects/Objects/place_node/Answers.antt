@@ -23,5 +23,5 @@ invariant_of-self g c =
     let next = node_ahead c.args.number c.self.view_is c.facts.ensures c.requires in
     let put = c.in-Some.ensures in
     let keyed = c.set_key.ensures in
-    rw (put.allocated, c.enroll.ensures, c.tag_of-tag.ensures, keyed.sequences, keyed.homes, keyed.keys)
+    rw (put.allocated, c.give.ensures, c.tag_of-tag.ensures, keyed.sequences, keyed.homes, keyed.keys)
     (sound_node_placed c.self.invariant c.is_well_formed.ensures 14 c.args.number _ (Some c.in-Some.address) next put.address)
