@@ -3,7 +3,7 @@ use crate::running::runs;
 use execsim::End;
 use std::test::*;
 
-const ROTATES: &str = r#"quantum = 1
+pub(crate) const ROTATES: &str = r#"quantum = 1
 [[task]]
 name = "a"
 pri = 0
@@ -21,14 +21,31 @@ code = ["Wait $1000", "Print 9"]
 
 "#;
 
+pub(crate) const ROTATES_EVENTS: &str = "run 2\ntick 1\nrun 6\n";
+
+pub(crate) const ROTATES_TRACE: &str = "switch c\n\
+     c Wait $00001000 waits\n\
+     switch a\n\
+     a Print $00000001\n\
+     serve VERTB\n\
+     switch b\n\
+     b Print $00000004\n\
+     b Signal $00000003 $00001000\n\
+     switch c\n\
+     c Wait $00001000 -> $00001000\n\
+     c Print $00000009\n\
+     c RemTask $00000000\n\
+     switch a\n\
+     a Print $00000002\n";
+
 #[test]
 fn a_task_whose_quantum_has_ended_stands_behind_its_equals(rt: HostRuntime) {
     runs(
         &rt,
         rt.alloc(),
         ROTATES,
-        "run 2\ntick 1\nrun 6\n",
-        "switch c\nc Wait $00001000 waits\nswitch a\na Print $00000001\nserve VERTB\nswitch b\nb Print $00000004\nb Signal $00000003 $00001000\nswitch c\nc Wait $00001000 -> $00001000\nc Print $00000009\nc RemTask $00000000\nswitch a\na Print $00000002\n",
+        ROTATES_EVENTS,
+        ROTATES_TRACE,
         End::Ran,
     );
 }
