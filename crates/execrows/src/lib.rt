@@ -8,6 +8,8 @@ mod lists;
 #[cfg(test)]
 mod memory;
 #[cfg(test)]
+mod nesting;
+#[cfg(test)]
 mod not_simulated;
 #[cfg(test)]
 mod quantum;

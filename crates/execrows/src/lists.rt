@@ -704,3 +704,82 @@ fn objects_belong_to_no_task(rt: HostRuntime) {
         End::Ran,
     );
 }
+
+#[test]
+fn a_linked_node_is_not_linked_again(rt: HostRuntime) -> Result<(), Fail> {
+    for (line, word) in [
+        ("AddHead l n", "AddHead"),
+        ("AddTail l n", "AddTail"),
+        ("Enqueue l n", "Enqueue"),
+        ("Insert l n 0", "Insert"),
+        ("Insert l n m", "Insert"),
+    ] {
+        let lines = format!(in rt.alloc();
+            "'l = NewList', 'm = NewNode 0 0', 'n = NewNode 0 0', 'AddTail l m', 'AddTail l n', '{line}'"
+        )?;
+        let trace = format!(in rt.alloc();
+            "switch a\n\
+             a NewList -> $00001000\n\
+             a NewNode $00000000 $00000000 -> $00001010\n\
+             a NewNode $00000000 $00000000 -> $00001020\n\
+             a AddTail $00001000 $00001010\n\
+             a AddTail $00001000 $00001020\n\
+             alert LINK a {word}\n"
+        )?;
+        task_runs(
+            &rt,
+            rt.alloc(),
+            lines.as_str(),
+            "run 6\n",
+            trace.as_str(),
+            End::Alerted,
+        )?;
+    }
+    Ok(())
+}
+
+#[test]
+fn a_node_leaves_the_one_list_that_has_it(rt: HostRuntime) -> Result<(), Fail> {
+    task_runs(
+        &rt,
+        rt.alloc(),
+        "'k = NewList', 'l = NewList', 'm = NewNode 0 0', 'n = NewNode 0 0', 'o = NewNode 0 0', 'AddTail k m', 'AddTail l n', \
+         'AddTail l o', 'Remove n', 'First k', 'First l', 'AddTail k n', 'RemTail k', 'AddHead l n', 'Succ n', 'RemHead l', 'FreeNode n'",
+        "run 17\n",
+        "switch a\n\
+         a NewList -> $00001000\n\
+         a NewList -> $00001010\n\
+         a NewNode $00000000 $00000000 -> $00001020\n\
+         a NewNode $00000000 $00000000 -> $00001030\n\
+         a NewNode $00000000 $00000000 -> $00001040\n\
+         a AddTail $00001000 $00001020\n\
+         a AddTail $00001010 $00001030\n\
+         a AddTail $00001010 $00001040\n\
+         a Remove $00001030\n\
+         a First $00001000 -> $00001020\n\
+         a First $00001010 -> $00001040\n\
+         a AddTail $00001000 $00001030\n\
+         a RemTail $00001000 -> $00001030\n\
+         a AddHead $00001010 $00001030\n\
+         a Succ $00001030 -> $00001040\n\
+         a RemHead $00001010 -> $00001030\n\
+         a FreeNode $00001030\n",
+        End::Ran,
+    )
+}
+
+#[test]
+fn a_priority_is_judged_before_the_pool(rt: HostRuntime) -> Result<(), Fail> {
+    pool_runs(
+        &rt,
+        rt.alloc(),
+        1,
+        "'NewNode 0 0', 'NewNode 0 0', 'NewNode 128 0'",
+        "run 3\n",
+        "switch a\n\
+         a NewNode $00000000 $00000000 -> $00001000\n\
+         a NewNode $00000000 $00000000 -> $00000000\n\
+         alert VALUE a NewNode\n",
+        End::Alerted,
+    )
+}

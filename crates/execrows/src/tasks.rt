@@ -189,3 +189,258 @@ fn a_signal_to_a_task_that_was_ended_does_nothing(rt: HostRuntime) {
         End::Alerted,
     );
 }
+
+const ENDS_OTHERS: &str = r#"
+[[task]]
+name = "a"
+code = ["RemTask 2", "RemTask 3", "Signal 3 $1000", "FindTask \"c\""]
+
+[[task]]
+name = "b"
+code = ["Print 2"]
+
+[[task]]
+name = "c"
+pri = 5
+code = ["Wait $1000", "Print 3"]
+"#;
+
+#[test]
+fn a_task_that_was_ended_neither_stays_ready_nor_waits(rt: HostRuntime) {
+    runs(
+        &rt,
+        rt.alloc(),
+        ENDS_OTHERS,
+        "run 6\n",
+        "switch c\n\
+         c Wait $00001000 waits\n\
+         switch a\n\
+         a RemTask $00000002\n\
+         a RemTask $00000003\n\
+         a Signal $00000003 $00001000\n\
+         a FindTask \"c\" -> $00000000\n\
+         a RemTask $00000000\n\
+         idle\n",
+        End::Ran,
+    );
+}
+
+const ADDS_A_HIGHER_ONE: &str = r#"
+[[task]]
+name = "a"
+code = ["AddTask 1", "AddTask 2", "Print 1"]
+
+[[task]]
+name = "b"
+pri = 1
+start = false
+code = ["AddTask 1", "Print 2"]
+"#;
+
+#[test]
+fn a_task_that_is_added_runs_at_once_where_its_priority_is_higher(rt: HostRuntime) {
+    runs(
+        &rt,
+        rt.alloc(),
+        ADDS_A_HIGHER_ONE,
+        "run 6\n",
+        "switch a\n\
+         a AddTask $00000001 -> $00000000\n\
+         a AddTask $00000002 -> $00000002\n\
+         switch b\n\
+         b AddTask $00000001 -> $00000000\n\
+         b Print $00000002\n\
+         b RemTask $00000000\n\
+         switch a\n\
+         a Print $00000001\n",
+        End::Ran,
+    );
+}
+
+const LOWERS_ITSELF: &str = r#"
+[[task]]
+name = "a"
+pri = 1
+code = ["SetTaskPri 1 0", "SetTaskPri 1 -1", "Print 1"]
+
+[[task]]
+name = "b"
+code = ["Print 2"]
+"#;
+
+#[test]
+fn a_task_that_lowers_its_priority_gives_way_to_a_higher_one_alone(rt: HostRuntime) {
+    runs(
+        &rt,
+        rt.alloc(),
+        LOWERS_ITSELF,
+        "run 5\n",
+        "switch a\n\
+         a SetTaskPri $00000001 $00000000 -> $00000001\n\
+         a SetTaskPri $00000001 $FFFFFFFF -> $00000000\n\
+         switch b\n\
+         b Print $00000002\n\
+         b RemTask $00000000\n\
+         switch a\n\
+         a Print $00000001\n",
+        End::Ran,
+    );
+}
+
+const LOWERS_A_WAITING_ONE: &str = r#"
+[[task]]
+name = "a"
+pri = 1
+code = ["Wait $1000", "Print 1"]
+
+[[task]]
+name = "b"
+code = ["SetTaskPri 1 -1", "Signal 1 $1000", "Print 2"]
+"#;
+
+#[test]
+fn a_waiting_task_keeps_waiting_with_its_new_priority(rt: HostRuntime) {
+    runs(
+        &rt,
+        rt.alloc(),
+        LOWERS_A_WAITING_ONE,
+        "run 6\n",
+        "switch a\n\
+         a Wait $00001000 waits\n\
+         switch b\n\
+         b SetTaskPri $00000001 $FFFFFFFF -> $00000001\n\
+         b Signal $00000001 $00001000\n\
+         b Print $00000002\n\
+         b RemTask $00000000\n\
+         switch a\n\
+         a Wait $00001000 -> $00001000\n",
+        End::Ran,
+    );
+}
+
+const PRIORITIES: &str = r#"
+[[task]]
+name = "a"
+code = ["SetTaskPri 1 127", "SetTaskPri 1 -128", "SetTaskPri 1 $FFFFFFFF", "SetTaskPri 1 0"]
+"#;
+
+#[test]
+fn a_priority_lies_from_minus_128_to_127(rt: HostRuntime) {
+    runs(
+        &rt,
+        rt.alloc(),
+        PRIORITIES,
+        "run 4\n",
+        "switch a\n\
+         a SetTaskPri $00000001 $0000007F -> $00000000\n\
+         a SetTaskPri $00000001 $FFFFFF80 -> $0000007F\n\
+         a SetTaskPri $00000001 $FFFFFFFF -> $FFFFFF80\n\
+         a SetTaskPri $00000001 $00000000 -> $FFFFFFFF\n",
+        End::Ran,
+    );
+}
+
+#[test]
+fn a_task_is_judged_before_its_priority(rt: HostRuntime) -> Result<(), Fail> {
+    for (line, code, word) in [
+        ("SetTaskPri 0 0", "HANDLE", "SetTaskPri"),
+        ("SetTaskPri 3 0", "HANDLE", "SetTaskPri"),
+        ("SetTaskPri 2 0", "HANDLE", "SetTaskPri"),
+        ("SetTaskPri 2 128", "HANDLE", "SetTaskPri"),
+        ("SetTaskPri $FFFFFFFF 0", "HANDLE", "SetTaskPri"),
+        ("SetTaskPri 1 128", "VALUE", "SetTaskPri"),
+        ("SetTaskPri 1 255", "VALUE", "SetTaskPri"),
+        ("SetTaskPri 1 -129", "VALUE", "SetTaskPri"),
+        ("SetTaskPri 1 $80000000", "VALUE", "SetTaskPri"),
+        ("AddTask 0", "HANDLE", "AddTask"),
+        ("AddTask 3", "HANDLE", "AddTask"),
+        ("AddTask $FFFFFFFF", "HANDLE", "AddTask"),
+        ("RemTask 2", "HANDLE", "RemTask"),
+        ("RemTask 3", "HANDLE", "RemTask"),
+        ("RemTask $FFFFFFFF", "HANDLE", "RemTask"),
+    ] {
+        let machine = format!(in rt.alloc();
+            "[[task]]\nname = \"a\"\ncode = [\"{line}\"]\n[[task]]\nname = \"b\"\nstart = false\ncode = []\n"
+        )?;
+        let trace = format!(in rt.alloc(); "switch a\nalert {code} a {word}\n")?;
+        runs(
+            &rt,
+            rt.alloc(),
+            machine.as_str(),
+            "run 1\n",
+            trace.as_str(),
+            End::Alerted,
+        );
+    }
+    Ok(())
+}
+
+const LOOKS_FOR_TASKS: &str = r#"
+[[task]]
+name = "a"
+code = ["FindTask \"a\"", "FindTask \"A\"", "FindTask \"b\"", "FindTask \"c\"", "RemTask 2", "FindTask \"b\"", "FindTask \"d\""]
+
+[[task]]
+name = "b"
+code = ["Print 2"]
+
+[[task]]
+name = "c"
+start = false
+code = ["Print 3"]
+"#;
+
+#[test]
+fn names_of_tasks_are_compared_byte_for_byte(rt: HostRuntime) {
+    runs(
+        &rt,
+        rt.alloc(),
+        LOOKS_FOR_TASKS,
+        "run 7\n",
+        "switch a\n\
+         a FindTask \"a\" -> $00000001\n\
+         a FindTask \"A\" -> $00000000\n\
+         a FindTask \"b\" -> $00000002\n\
+         a FindTask \"c\" -> $00000000\n\
+         a RemTask $00000002\n\
+         a FindTask \"b\" -> $00000000\n\
+         a FindTask \"d\" -> $00000000\n",
+        End::Ran,
+    );
+}
+
+const LEAVES_MEMORY: &str = r#"
+[[region]]
+base = 4096
+size = 4096
+
+[[task]]
+name = "a"
+pri = 1
+code = ["@l = NewList", "@x = AllocMem 8 1"]
+
+[[task]]
+name = "b"
+code = ["First @l", "AvailMem 1", "FreeMem @x 8", "FreeList @l", "AvailMem 1"]
+"#;
+
+#[test]
+fn what_a_task_allocated_stays_when_it_ends(rt: HostRuntime) {
+    runs(
+        &rt,
+        rt.alloc(),
+        LEAVES_MEMORY,
+        "run 8\n",
+        "switch a\n\
+         a NewList -> $00001000\n\
+         a AllocMem $00000008 $00000001 -> $00001010\n\
+         a RemTask $00000000\n\
+         switch b\n\
+         b First $00001000 -> $00000000\n\
+         b AvailMem $00000001 -> $00000FE8\n\
+         b FreeMem $00001010 $00000008\n\
+         b FreeList $00001000\n\
+         b AvailMem $00000001 -> $00001000\n",
+        End::Ran,
+    );
+}

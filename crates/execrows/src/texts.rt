@@ -32,6 +32,33 @@ fn a_refused_machine_file_is_its_first_fault(rt: HostRuntime) {
 }
 
 #[test]
+fn each_fault_of_a_machine_file_is_answered(rt: HostRuntime) {
+    let cases: [(&[u8], FileFault); 6] = [
+        (
+            b"[[region]]\nbase = 4096\nsize = 12\n",
+            FileFault::BadRegions,
+        ),
+        (b"quantum = 256\n", FileFault::BadValue),
+        (b"[[task]]\nname = \"a\"\n", FileFault::MissingKey),
+        (
+            b"[[task]]\nname = \"a\"\ncode = []\n[[task]]\nname = \"a\"\ncode = []\n",
+            FileFault::NameTwice,
+        ),
+        (
+            b"[[task]]\nname = \"a\"\ncode = [\"l:\", \"l:\"]\n",
+            FileFault::BadLabel,
+        ),
+        (
+            b"[[task]]\nname = \"a\"\ncode = [\"v = Forbid\"]\n",
+            FileFault::BadCommand,
+        ),
+    ];
+    for (machine, fault) in cases {
+        refuses(&rt, rt.alloc(), machine, b"run 1\n", SimFault::File(fault));
+    }
+}
+
+#[test]
 fn a_refused_event_text_is_its_first_fault(rt: HostRuntime) {
     refuses(
         &rt,

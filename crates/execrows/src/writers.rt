@@ -1,4 +1,5 @@
 //! Writers that take little, take nothing or fail.
+use crate::quantum::{ROTATES, ROTATES_EVENTS, ROTATES_TRACE};
 use execsim::{End, SimFault, simulate};
 use exectrace::{Sink, SinkState, WriteSink};
 use std::alloc::Global;
@@ -6,12 +7,6 @@ use std::io;
 use std::io::Write;
 use std::process::Abort;
 use std::test::*;
-
-const MACHINE: &str = "[[task]]\nname = \"a\"\ncode = [\"Print 1\"]\n";
-
-const EVENTS: &str = "run 2\n";
-
-const TRACE: &str = "switch a\na Print $00000001\na RemTask $00000000\nidle\n";
 
 #[derive(Clone, Copy)]
 enum Habit {
@@ -65,13 +60,18 @@ fn writes(
         habit,
         calls: 0,
     });
-    let given = simulate(alloc, MACHINE.as_bytes(), EVENTS.as_bytes(), &mut out);
+    let given = simulate(
+        alloc,
+        ROTATES.as_bytes(),
+        ROTATES_EVENTS.as_bytes(),
+        &mut out,
+    );
     assert_eq!(rt; given, answer, "{count}");
     assert_eq!(rt; out.state(), state, "{count}");
     let writer = out.into_inner();
     assert_eq!(rt;
         Some(writer.held.as_slice()),
-        TRACE.as_bytes().get(..count),
+        ROTATES_TRACE.as_bytes().get(..count),
         "{count}"
     );
     writer.calls
@@ -97,9 +97,9 @@ fn a_writer_that_takes_one_byte_a_call_gets_the_whole_trace(rt: HostRuntime) {
         Habit::OneByte,
         Ok(End::Ran),
         SinkState::Good,
-        TRACE.len(),
+        ROTATES_TRACE.len(),
     );
-    assert_eq!(rt; calls, TRACE.len());
+    assert_eq!(rt; calls, ROTATES_TRACE.len());
 }
 
 #[test]
@@ -117,7 +117,7 @@ fn a_writer_that_takes_nothing_is_given_up_after_sixteen_turns(rt: HostRuntime) 
 
 #[test]
 fn a_writer_that_fails_or_stops_at_any_byte_holds_a_part_of_the_trace(rt: HostRuntime) {
-    for end in 0..TRACE.len() {
+    for end in 0..ROTATES_TRACE.len() {
         writes(
             &rt,
             rt.alloc(),
