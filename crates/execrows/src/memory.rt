@@ -422,3 +422,32 @@ fn a_machine_without_regions_has_no_memory(rt: HostRuntime) {
         End::Alerted,
     );
 }
+
+const GREATEST: &str = r#"
+pool = 1024
+region = [{ base = 2146435072, size = 524288 }, { base = 2146959360, size = 524288, pri = -1 }]
+
+[[task]]
+name = "a"
+code = ["AvailMem 1", "x = AllocMem $80001 1", "x = AllocMem $80000 1", "y = AllocMem $7FFF9 1", "AllocMem 1 1", "FreeMem x $80000", "FreeMem y $80000", "AvailMem $20001"]
+"#;
+
+#[test]
+fn a_machine_of_the_greatest_memory_runs(rt: HostRuntime) {
+    runs(
+        &rt,
+        rt.alloc(),
+        GREATEST,
+        "run 8\n",
+        "switch a\n\
+         a AvailMem $00000001 -> $00100000\n\
+         a AllocMem $00080001 $00000001 -> $00000000\n\
+         a AllocMem $00080000 $00000001 -> $7FF00000\n\
+         a AllocMem $0007FFF9 $00000001 -> $7FF80000\n\
+         a AllocMem $00000001 $00000001 -> $00000000\n\
+         a FreeMem $7FF00000 $00080000\n\
+         a FreeMem $7FF80000 $00080000\n\
+         a AvailMem $00020001 -> $00080000\n",
+        End::Ran,
+    );
+}
