@@ -1,0 +1,11 @@
+-- As many numbers hold an item as before, and the same ones.
+use Rattle.std.proofs.Common.{ap}
+use Rattle.std.specs.Prelude.{IsSome}
+use Rattle.msgport.specs.Pool.{slot}
+use Rattle.msgport.proofs.Pools.{item_of, written}
+use Rattle.msgport.proofs.pool.Pool.set.Goals as goal
+
+pub invariant_of-self : goal.invariant_of-self
+invariant_of-self g c =
+    let was : IsSome (slot c.self.inside.slots.items c.args.n) = rw (ap (λ p. p.slots) c.self.view_is) c.requires in
+    written _ _ _ _ _ c.self.invariant (item_of _ was).1 c.args.other

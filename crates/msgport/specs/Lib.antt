@@ -1,0 +1,4 @@
+pub mod Faults
+pub mod Pool
+pub mod Port
+pub mod Ports

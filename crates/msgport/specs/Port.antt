@@ -1,0 +1,33 @@
+-- One port beside its messages, and what it does when one arrives (RKM Libraries, Exec Messages and Ports).
+use Rattle.std.specs.Prelude.{ℕ, ◌^◌, ◌==◌, if◌then◌else◌, Option, Some, None}
+use Rattle.msgport.specs.declared.action.Action.{Action}
+use Rattle.msgport.specs.declared.action.Action.TheVariants as action
+use Rattle.msgport.specs.declared.action.PortAction.{PortAction}
+use Rattle.msgport.specs.declared.action.PortAction.TheVariants.{Signal, Ignore}
+
+-- the task of a port, the number of its signal, and its action
+pub record Port : Type 0 where
+  pub task : ℕ
+  pub bit : ℕ
+  pub action : PortAction
+
+-- a port that signals its task
+abbrev pub new_port : ℕ → ℕ → Port
+new_port task bit = record { task = task; bit = bit; action = Signal }
+
+-- what is to be done for a message that arrives at a port with that action
+abbrev pub acting_by : PortAction → Port → Action
+acting_by Signal port = action.Signal port.task (2 ^ port.bit)
+acting_by Ignore port = action.Nothing
+
+abbrev pub acting : Port → Action
+acting port = acting_by port.action port
+
+-- the signal of that number, at a port of the task
+abbrev pub wait_bit_by : PortAction → ℕ → Port → Option ℕ
+wait_bit_by Signal task port = if port.task == task then Some port.bit else None
+wait_bit_by Ignore task port = None
+
+-- the number of the signal that the task waits for at the port, if the port signals that task
+abbrev pub wait_bit : ℕ → Port → Option ℕ
+wait_bit task port = wait_bit_by port.action task port

@@ -1,0 +1,22 @@
+//! What a port does for a message that arrives, and what that comes to.
+
+/// The number of a task, from 0.
+pub type TaskId = usize;
+
+/// What a port does when a message arrives. RKM Libraries, Exec Messages and Ports: `mp_Flags`.
+#[derive(Clone, Copy, Debug, PartialEq, Eq)]
+pub enum PortAction {
+    /// PA_SIGNAL: it signals its task.
+    Signal,
+    /// PA_IGNORE: it does nothing.
+    Ignore,
+}
+
+/// What is to be done for a message that has arrived. The ports do not do it themselves.
+#[derive(Clone, Copy, Debug, PartialEq, Eq)]
+pub enum Action {
+    /// The task of this number gets the signals of this mask.
+    Signal(TaskId, u32),
+    /// There is nothing to be done.
+    Nothing,
+}
