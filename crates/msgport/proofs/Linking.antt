@@ -5,9 +5,9 @@ use Rattle.std.proofs.lemmas.Bool.{cond-true, cond-false, eq-eqb, ne_eqb, cases_
 use Rattle.std.proofs.lemmas.List.{length-set}
 use Rattle.execlist.specs.Order.{first}
 use Rattle.execlist.specs.Lists.{sequence, home, is_at, times}
-use Rattle.msgport.specs.Pool.{slot}
+use Rattle.execlist.specs.Pool.{slot}
 use Rattle.msgport.specs.Ports.{MessagePorts, IsHeld, port_freed}
-use Rattle.msgport.proofs.Pools.{slot_other}
+use Rattle.execlist.proofs.Pools.{slot_other}
 
 -- how often a node of that home stands in header h
 abbrev standing : Option ℕ → ℕ → ℕ

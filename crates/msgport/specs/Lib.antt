@@ -1,4 +1,3 @@
 pub mod Faults
-pub mod Pool
 pub mod Port
 pub mod Ports

@@ -6,7 +6,7 @@ use Rattle.execlist.specs.Lists.{Key, blank, sequence, home, is_at, pri_of, time
 use Rattle.msgport.specs.declared.fault.PortFault.{PortFault}
 use Rattle.msgport.specs.declared.fault.PortFault.TheVariants.{NotEmpty, Link, Unknown}
 use Rattle.msgport.specs.declared.message.Message.{Message}
-use Rattle.msgport.specs.Pool.{Pooled, all_free, given, released, slot, written}
+use Rattle.execlist.specs.Pool.{Pooled, all_free, given, released, slot, written}
 use Rattle.msgport.specs.Port.{Port, new_port}
 
 -- the ports, the messages, and how they are linked

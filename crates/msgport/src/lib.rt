@@ -5,6 +5,5 @@
 pub mod action;
 pub mod fault;
 pub mod message;
-pub mod pool;
 mod port;
 pub mod ports;

@@ -2,7 +2,7 @@
 ghost use Rattle.std.specs.Prelude.{◌≡◌, ◌<◌, ◌≤◌, not, find, is_ok, Some, None, IfOk, IfSome, IsSome, IsTrue};
 ghost use Rattle.execlist.specs.Order.{first};
 ghost use Rattle.execlist.specs.Lists.{home, is_named};
-ghost use Rattle.msgport.specs.Pool.{IsStocked, next_number};
+ghost use Rattle.execlist.specs.Pool.{IsStocked, next_number};
 ghost use Rattle.msgport.specs.Port.{acting, wait_bit};
 ghost use Rattle.msgport.specs.Ports.{IsSound, is_port, is_message, is_linked, is_public, has_messages, port_at, message_at, messages_of};
 ghost use Rattle.msgport.specs.Faults.{fault_or, kept_or, number_or_full};
@@ -12,9 +12,9 @@ ghost use Rattle.msgport.specs.Ports.{no_ports, port_made, message_made, port_fr
 use crate::action::{Action, PortAction, TaskId};
 use crate::fault::PortFault;
 use crate::message::{Message, NT_FREEMSG, NT_MESSAGE, NT_REPLYMSG, NT_UNKNOWN};
-use crate::pool::Pool;
 use crate::port::Port;
 use execlist::key::Name;
+use execlist::pool::Pool;
 use execlist::space::ListSpace;
 use std::alloc::{AllocError, Global};
 use std::marker::Model;
