@@ -1,3 +1,4 @@
+pub mod Keeping
 pub mod ListTraces
 pub mod MemoryTraces
 pub mod QuantumTraces

@@ -10,6 +10,7 @@ pub mod Objects
 pub mod Lists
 pub mod Interrupts
 pub mod Step
+pub mod Keeping
 pub mod Runs
 pub mod MemoryRuns
 pub mod ListRuns

@@ -1,7 +1,9 @@
 -- Small machines of lists and nodes and their whole traces, as the definitions compute them.
 use Rattle.std.specs.Prelude.{◌≡◌, ℕ, pos, List, [], ◌∷◌, codes}
 use Rattle.exectrace.specs.Trace.{printed}
-use Rattle.taskscript.specs.declared.word.Word.TheVariants.{NewList, FreeList, NewNode, FreeNode, AddHead, AddTail, Enqueue, Insert, Remove, RemHead, RemTail, First, Last, Succ, Pred, FindName, FreeMem, AvailMem}
+use Rattle.taskscript.specs.declared.word.Word.TheVariants.{Lists, Memory}
+use Rattle.taskscript.specs.declared.word.lists.ListWord.TheVariants.{NewList, FreeList, NewNode, FreeNode, AddHead, AddTail, Enqueue, Insert, Remove, RemHead, RemTail, First, Last, Succ, Pred, FindName}
+use Rattle.taskscript.specs.declared.word.memory.MemoryWord.TheVariants.{FreeMem, AvailMem}
 use Rattle.taskscript.specs.declared.variable.Variable.TheVariants.{Private}
 use Rattle.taskscript.specs.declared.event.Event.{Event}
 use Rattle.taskscript.specs.declared.event.Event.TheVariants.{Run}
@@ -23,94 +25,94 @@ trace_with pool code list = printed (run (record (machine_in room_for_four code)
 
 abbrev pub sorts_by_priority : List CommandData
 sorts_by_priority =
-    into 0 NewList []
-    ∷ into 1 NewNode (number 0 ∷ number 0 ∷ [])
-    ∷ into 2 NewNode (number 5 ∷ number 0 ∷ [])
-    ∷ into 3 NewNode (number 0 ∷ number 0 ∷ [])
-    ∷ command Enqueue (variable (Private 0) ∷ variable (Private 1) ∷ [])
-    ∷ command Enqueue (variable (Private 0) ∷ variable (Private 2) ∷ [])
-    ∷ command Enqueue (variable (Private 0) ∷ variable (Private 3) ∷ [])
-    ∷ command First (variable (Private 0) ∷ [])
-    ∷ command Succ (variable (Private 2) ∷ [])
-    ∷ command Succ (variable (Private 1) ∷ [])
-    ∷ command Succ (variable (Private 3) ∷ []) ∷ []
+    into 0 (Lists NewList) []
+    ∷ into 1 (Lists NewNode) (number 0 ∷ number 0 ∷ [])
+    ∷ into 2 (Lists NewNode) (number 5 ∷ number 0 ∷ [])
+    ∷ into 3 (Lists NewNode) (number 0 ∷ number 0 ∷ [])
+    ∷ command (Lists Enqueue) (variable (Private 0) ∷ variable (Private 1) ∷ [])
+    ∷ command (Lists Enqueue) (variable (Private 0) ∷ variable (Private 2) ∷ [])
+    ∷ command (Lists Enqueue) (variable (Private 0) ∷ variable (Private 3) ∷ [])
+    ∷ command (Lists First) (variable (Private 0) ∷ [])
+    ∷ command (Lists Succ) (variable (Private 2) ∷ [])
+    ∷ command (Lists Succ) (variable (Private 1) ∷ [])
+    ∷ command (Lists Succ) (variable (Private 3) ∷ []) ∷ []
 
 abbrev pub puts_and_takes : List CommandData
 puts_and_takes =
-    into 0 NewList []
-    ∷ into 1 NewNode (number 0 ∷ number 0 ∷ [])
-    ∷ into 2 NewNode (number 0 ∷ number 0 ∷ [])
-    ∷ into 3 NewNode (number 3 ∷ number 0 ∷ [])
-    ∷ command AddHead (variable (Private 0) ∷ variable (Private 1) ∷ [])
-    ∷ command AddTail (variable (Private 0) ∷ variable (Private 2) ∷ [])
-    ∷ command Insert (variable (Private 0) ∷ variable (Private 3) ∷ variable (Private 1) ∷ [])
-    ∷ command Pred (variable (Private 2) ∷ [])
-    ∷ command Pred (variable (Private 1) ∷ [])
-    ∷ command RemTail (variable (Private 0) ∷ [])
-    ∷ command Remove (variable (Private 1) ∷ [])
-    ∷ command RemHead (variable (Private 0) ∷ [])
-    ∷ command RemTail (variable (Private 0) ∷ [])
-    ∷ command First (variable (Private 0) ∷ [])
-    ∷ command FreeList (variable (Private 0) ∷ []) ∷ []
+    into 0 (Lists NewList) []
+    ∷ into 1 (Lists NewNode) (number 0 ∷ number 0 ∷ [])
+    ∷ into 2 (Lists NewNode) (number 0 ∷ number 0 ∷ [])
+    ∷ into 3 (Lists NewNode) (number 3 ∷ number 0 ∷ [])
+    ∷ command (Lists AddHead) (variable (Private 0) ∷ variable (Private 1) ∷ [])
+    ∷ command (Lists AddTail) (variable (Private 0) ∷ variable (Private 2) ∷ [])
+    ∷ command (Lists Insert) (variable (Private 0) ∷ variable (Private 3) ∷ variable (Private 1) ∷ [])
+    ∷ command (Lists Pred) (variable (Private 2) ∷ [])
+    ∷ command (Lists Pred) (variable (Private 1) ∷ [])
+    ∷ command (Lists RemTail) (variable (Private 0) ∷ [])
+    ∷ command (Lists Remove) (variable (Private 1) ∷ [])
+    ∷ command (Lists RemHead) (variable (Private 0) ∷ [])
+    ∷ command (Lists RemTail) (variable (Private 0) ∷ [])
+    ∷ command (Lists First) (variable (Private 0) ∷ [])
+    ∷ command (Lists FreeList) (variable (Private 0) ∷ []) ∷ []
 
 -- a node goes first for 0, but not behind a node that is not in the list
 abbrev pub inserts_after_a_stranger : List CommandData
 inserts_after_a_stranger =
-    into 0 NewList []
-    ∷ into 1 NewNode (number 0 ∷ number 0 ∷ [])
-    ∷ into 2 NewNode (number 0 ∷ number 0 ∷ [])
-    ∷ into 3 NewNode (number 0 ∷ number 0 ∷ [])
-    ∷ command Insert (variable (Private 0) ∷ variable (Private 1) ∷ number 0 ∷ [])
-    ∷ command Insert (variable (Private 0) ∷ variable (Private 2) ∷ number 0 ∷ [])
-    ∷ command First (variable (Private 0) ∷ [])
-    ∷ command Remove (variable (Private 1) ∷ [])
-    ∷ command Insert (variable (Private 0) ∷ variable (Private 3) ∷ variable (Private 1) ∷ []) ∷ []
+    into 0 (Lists NewList) []
+    ∷ into 1 (Lists NewNode) (number 0 ∷ number 0 ∷ [])
+    ∷ into 2 (Lists NewNode) (number 0 ∷ number 0 ∷ [])
+    ∷ into 3 (Lists NewNode) (number 0 ∷ number 0 ∷ [])
+    ∷ command (Lists Insert) (variable (Private 0) ∷ variable (Private 1) ∷ number 0 ∷ [])
+    ∷ command (Lists Insert) (variable (Private 0) ∷ variable (Private 2) ∷ number 0 ∷ [])
+    ∷ command (Lists First) (variable (Private 0) ∷ [])
+    ∷ command (Lists Remove) (variable (Private 1) ∷ [])
+    ∷ command (Lists Insert) (variable (Private 0) ∷ variable (Private 3) ∷ variable (Private 1) ∷ []) ∷ []
 
 abbrev pub searches : List CommandData
 searches =
-    into 0 NewList []
-    ∷ into 1 NewNode (number 0 ∷ quoted (codes "x") ∷ [])
-    ∷ into 2 NewNode (number 0 ∷ quoted (codes "x") ∷ [])
-    ∷ command AddTail (variable (Private 0) ∷ variable (Private 1) ∷ [])
-    ∷ command AddTail (variable (Private 0) ∷ variable (Private 2) ∷ [])
-    ∷ command FindName (variable (Private 0) ∷ quoted (codes "x") ∷ [])
-    ∷ command FindName (variable (Private 1) ∷ quoted (codes "x") ∷ [])
-    ∷ command FindName (variable (Private 2) ∷ quoted (codes "x") ∷ [])
-    ∷ command FindName (variable (Private 0) ∷ quoted (codes "X") ∷ [])
-    ∷ command Remove (variable (Private 1) ∷ [])
-    ∷ command FindName (variable (Private 1) ∷ quoted (codes "x") ∷ []) ∷ []
+    into 0 (Lists NewList) []
+    ∷ into 1 (Lists NewNode) (number 0 ∷ quoted (codes "x") ∷ [])
+    ∷ into 2 (Lists NewNode) (number 0 ∷ quoted (codes "x") ∷ [])
+    ∷ command (Lists AddTail) (variable (Private 0) ∷ variable (Private 1) ∷ [])
+    ∷ command (Lists AddTail) (variable (Private 0) ∷ variable (Private 2) ∷ [])
+    ∷ command (Lists FindName) (variable (Private 0) ∷ quoted (codes "x") ∷ [])
+    ∷ command (Lists FindName) (variable (Private 1) ∷ quoted (codes "x") ∷ [])
+    ∷ command (Lists FindName) (variable (Private 2) ∷ quoted (codes "x") ∷ [])
+    ∷ command (Lists FindName) (variable (Private 0) ∷ quoted (codes "X") ∷ [])
+    ∷ command (Lists Remove) (variable (Private 1) ∷ [])
+    ∷ command (Lists FindName) (variable (Private 1) ∷ quoted (codes "x") ∷ []) ∷ []
 
 abbrev pub frees_a_list_in_use : List CommandData
 frees_a_list_in_use =
-    into 0 NewList []
-    ∷ into 1 NewNode (number 0 ∷ number 0 ∷ [])
-    ∷ command AddHead (variable (Private 0) ∷ variable (Private 1) ∷ [])
-    ∷ command Last (variable (Private 0) ∷ [])
-    ∷ command FreeList (variable (Private 0) ∷ []) ∷ []
+    into 0 (Lists NewList) []
+    ∷ into 1 (Lists NewNode) (number 0 ∷ number 0 ∷ [])
+    ∷ command (Lists AddHead) (variable (Private 0) ∷ variable (Private 1) ∷ [])
+    ∷ command (Lists Last) (variable (Private 0) ∷ [])
+    ∷ command (Lists FreeList) (variable (Private 0) ∷ []) ∷ []
 
 abbrev pub frees_an_object_as_memory : List CommandData
 frees_an_object_as_memory =
-    into 0 NewList []
-    ∷ command AvailMem (number 1 ∷ [])
-    ∷ command FreeMem (variable (Private 0) ∷ number 14 ∷ []) ∷ []
+    into 0 (Lists NewList) []
+    ∷ command (Memory AvailMem) (number 1 ∷ [])
+    ∷ command (Memory FreeMem) (variable (Private 0) ∷ number 14 ∷ []) ∷ []
 
 -- the node is freed, and a list begins at its address
 abbrev pub uses_an_address_again : List CommandData
 uses_an_address_again =
-    into 0 NewNode (number 0 ∷ number 0 ∷ [])
-    ∷ command FreeNode (variable (Private 0) ∷ [])
-    ∷ command NewList []
-    ∷ command First (variable (Private 0) ∷ [])
-    ∷ command Remove (variable (Private 0) ∷ []) ∷ []
+    into 0 (Lists NewNode) (number 0 ∷ number 0 ∷ [])
+    ∷ command (Lists FreeNode) (variable (Private 0) ∷ [])
+    ∷ command (Lists NewList) []
+    ∷ command (Lists First) (variable (Private 0) ∷ [])
+    ∷ command (Lists Remove) (variable (Private 0) ∷ []) ∷ []
 
 -- one list and one node at most
 abbrev pub fills_the_pool : List CommandData
 fills_the_pool =
-    command NewList []
-    ∷ command NewList []
-    ∷ command NewNode (number 0xffffffff ∷ number 0 ∷ [])
-    ∷ command NewNode (number 0 ∷ number 0 ∷ [])
-    ∷ command NewNode (number 128 ∷ number 0 ∷ []) ∷ []
+    command (Lists NewList) []
+    ∷ command (Lists NewList) []
+    ∷ command (Lists NewNode) (number 0xffffffff ∷ number 0 ∷ [])
+    ∷ command (Lists NewNode) (number 0 ∷ number 0 ∷ [])
+    ∷ command (Lists NewNode) (number 128 ∷ number 0 ∷ []) ∷ []
 
 -- ---- statements
 

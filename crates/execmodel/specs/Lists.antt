@@ -6,6 +6,8 @@ use Rattle.std.specs.List.{list_any}
 use Rattle.std.specs.Int.{cast_signed, w32}
 use Rattle.execlist.specs.Order.{enqueue, first, without}
 use Rattle.execlist.specs.Lists.{Key, blank, last, name_is, part_after, part_before, put_after}
+use Rattle.taskscript.specs.declared.word.lists.ListWord.{ListWord}
+use Rattle.taskscript.specs.declared.word.lists.ListWord.TheVariants as word
 use Rattle.execmodel.specs.State.{Call, Object, Plain, ListHead, Node, Block, Heap, State, Outcome, on_memory, on_heap}
 use Rattle.execmodel.specs.Calls.{argument, name_argument, done, answered, alerted}
 use Rattle.execmodel.specs.Memory.{allocates, freed}
@@ -320,3 +322,23 @@ does_find_name t call s =
     let start = argument 0 call in
     unless (find_alert start s.memory.heap) t call
     (λ s. answered t call (found_node start (unwrap_or (name_argument 1 call) []) s.memory.heap) s) s
+
+-- ---- the words of this group
+
+abbrev pub does_lists : ListWord → ℕ → Call → State → Outcome
+does_lists word.NewList t call s = does_new_list t call s
+does_lists word.FreeList t call s = does_free_list t call s
+does_lists word.NewNode t call s = does_new_node t call s
+does_lists word.FreeNode t call s = does_free_node t call s
+does_lists word.AddHead t call s = does_add_head t call s
+does_lists word.AddTail t call s = does_add_tail t call s
+does_lists word.Enqueue t call s = does_enqueue t call s
+does_lists word.Insert t call s = does_insert t call s
+does_lists word.Remove t call s = does_remove t call s
+does_lists word.RemHead t call s = does_rem_head t call s
+does_lists word.RemTail t call s = does_rem_tail t call s
+does_lists word.First t call s = does_first t call s
+does_lists word.Last t call s = does_last t call s
+does_lists word.Succ t call s = does_succ t call s
+does_lists word.Pred t call s = does_pred t call s
+does_lists word.FindName t call s = does_find_name t call s

@@ -7,6 +7,8 @@ use Rattle.std.specs.FinMap.{find, put}
 use Rattle.std.specs.FinMap.Entries.{where_key}
 use Rattle.memlist.specs.Blocks.{Blocks}
 use Rattle.memlist.specs.Fit.{fit, avail, asks, round}
+use Rattle.taskscript.specs.declared.word.memory.MemoryWord.{MemoryWord}
+use Rattle.taskscript.specs.declared.word.memory.MemoryWord.TheVariants as word
 use Rattle.execmodel.specs.State.{Call, Object, Plain, ListHead, Node, Block, Heap, Memory, State, Outcome, on_memory}
 use Rattle.execmodel.specs.Calls.{argument, done, answered, alerted}
 
@@ -95,3 +97,10 @@ does_avail_mem t call s =
     let reqs = argument 0 call in
     if not (can_be_asked reqs) then alerted (codes "VALUE") t call s
     else answered t call (avail s.memory.regions (extents s.memory.heap) reqs) s
+
+-- ---- the words of this group
+
+abbrev pub does_memory : MemoryWord → ℕ → Call → State → Outcome
+does_memory word.AllocMem t call s = does_alloc_mem t call s
+does_memory word.FreeMem t call s = does_free_mem t call s
+does_memory word.AvailMem t call s = does_avail_mem t call s

@@ -2,7 +2,8 @@
 use Rattle.std.specs.Prelude.{◌≡◌, ℕ, pos, List, [], ◌∷◌, Some, codes}
 use Rattle.exectrace.specs.Trace.{printed}
 use Rattle.taskscript.specs.declared.word.Word.{Word}
-use Rattle.taskscript.specs.declared.word.Word.TheVariants.{AllocMem, FreeMem, AvailMem}
+use Rattle.taskscript.specs.declared.word.Word.TheVariants.{Memory}
+use Rattle.taskscript.specs.declared.word.memory.MemoryWord.TheVariants.{AllocMem, FreeMem, AvailMem}
 use Rattle.taskscript.specs.declared.variable.Variable.TheVariants.{Private}
 use Rattle.taskscript.specs.declared.event.Event.{Event}
 use Rattle.taskscript.specs.declared.event.Event.TheVariants.{Run}
@@ -38,42 +39,42 @@ public_and_chip =
 
 abbrev pub takes_all : List CommandData
 takes_all =
-    command AllocMem (number 7 ∷ number 1 ∷ [])
-    ∷ command AllocMem (number 0 ∷ number 1 ∷ [])
-    ∷ command AllocMem (number 8 ∷ number 1 ∷ [])
-    ∷ command AllocMem (number 9 ∷ number 1 ∷ [])
-    ∷ command AvailMem (number 1 ∷ [])
-    ∷ command AllocMem (number 1 ∷ number 1 ∷ []) ∷ []
+    command (Memory AllocMem) (number 7 ∷ number 1 ∷ [])
+    ∷ command (Memory AllocMem) (number 0 ∷ number 1 ∷ [])
+    ∷ command (Memory AllocMem) (number 8 ∷ number 1 ∷ [])
+    ∷ command (Memory AllocMem) (number 9 ∷ number 1 ∷ [])
+    ∷ command (Memory AvailMem) (number 1 ∷ [])
+    ∷ command (Memory AllocMem) (number 1 ∷ number 1 ∷ []) ∷ []
 
 abbrev pub frees_around_a_block : List CommandData
 frees_around_a_block =
-    into 0 AllocMem (number 8 ∷ number 1 ∷ [])
-    ∷ into 1 AllocMem (number 8 ∷ number 1 ∷ [])
-    ∷ into 2 AllocMem (number 8 ∷ number 1 ∷ [])
-    ∷ command FreeMem (variable (Private 0) ∷ number 8 ∷ [])
-    ∷ command FreeMem (variable (Private 2) ∷ number 8 ∷ [])
-    ∷ command AvailMem (number 1 ∷ [])
-    ∷ command AvailMem (number 0x20001 ∷ [])
-    ∷ command FreeMem (variable (Private 1) ∷ number 8 ∷ [])
-    ∷ command AvailMem (number 0x20001 ∷ [])
-    ∷ command AvailMem (number 0x80001 ∷ []) ∷ []
+    into 0 (Memory AllocMem) (number 8 ∷ number 1 ∷ [])
+    ∷ into 1 (Memory AllocMem) (number 8 ∷ number 1 ∷ [])
+    ∷ into 2 (Memory AllocMem) (number 8 ∷ number 1 ∷ [])
+    ∷ command (Memory FreeMem) (variable (Private 0) ∷ number 8 ∷ [])
+    ∷ command (Memory FreeMem) (variable (Private 2) ∷ number 8 ∷ [])
+    ∷ command (Memory AvailMem) (number 1 ∷ [])
+    ∷ command (Memory AvailMem) (number 0x20001 ∷ [])
+    ∷ command (Memory FreeMem) (variable (Private 1) ∷ number 8 ∷ [])
+    ∷ command (Memory AvailMem) (number 0x20001 ∷ [])
+    ∷ command (Memory AvailMem) (number 0x80001 ∷ []) ∷ []
 
 abbrev pub frees_twice : List CommandData
 frees_twice =
-    into 0 AllocMem (number 8 ∷ number 1 ∷ [])
-    ∷ command FreeMem (variable (Private 0) ∷ number 8 ∷ [])
-    ∷ command FreeMem (variable (Private 0) ∷ number 8 ∷ []) ∷ []
+    into 0 (Memory AllocMem) (number 8 ∷ number 1 ∷ [])
+    ∷ command (Memory FreeMem) (variable (Private 0) ∷ number 8 ∷ [])
+    ∷ command (Memory FreeMem) (variable (Private 0) ∷ number 8 ∷ []) ∷ []
 
 abbrev pub asks_by_attributes : List CommandData
 asks_by_attributes =
-    command AllocMem (number 8 ∷ number 1 ∷ [])
-    ∷ command AllocMem (number 16 ∷ number 1 ∷ [])
-    ∷ command AllocMem (number 8 ∷ number 2 ∷ [])
-    ∷ command AllocMem (number 8 ∷ number 4 ∷ [])
-    ∷ command AllocMem (number 0xffffffff ∷ number 1 ∷ [])
-    ∷ command AvailMem (number 1 ∷ [])
-    ∷ command AvailMem (number 0x80002 ∷ [])
-    ∷ command AvailMem (number 0xa0000 ∷ []) ∷ []
+    command (Memory AllocMem) (number 8 ∷ number 1 ∷ [])
+    ∷ command (Memory AllocMem) (number 16 ∷ number 1 ∷ [])
+    ∷ command (Memory AllocMem) (number 8 ∷ number 2 ∷ [])
+    ∷ command (Memory AllocMem) (number 8 ∷ number 4 ∷ [])
+    ∷ command (Memory AllocMem) (number 0xffffffff ∷ number 1 ∷ [])
+    ∷ command (Memory AvailMem) (number 1 ∷ [])
+    ∷ command (Memory AvailMem) (number 0x80002 ∷ [])
+    ∷ command (Memory AvailMem) (number 0xa0000 ∷ []) ∷ []
 
 -- ---- statements
 

@@ -4,6 +4,8 @@ use Rattle.std.specs.Prelude.{ℕ, Bool, if◌then◌else◌, Option, codes}
 use Rattle.std.specs.Option.{is_some}
 use Rattle.forbid.specs.Nesting.{Nesting, after_forbid, after_permit, after_disable, after_enable}
 use Rattle.scheduler.specs.Schedule.{nesting_of, nested}
+use Rattle.taskscript.specs.declared.word.nesting.NestingWord.{NestingWord}
+use Rattle.taskscript.specs.declared.word.nesting.NestingWord.TheVariants as word
 use Rattle.execmodel.specs.State.{Call, State, Outcome, on_schedule}
 use Rattle.execmodel.specs.Calls.{done, alerted}
 
@@ -30,3 +32,11 @@ does_disable t call s = counted t call (after_disable (nesting_of s.schedule t))
 -- Enable: takes back one Disable (autodoc exec.library/Enable)
 unfoldable pub does_enable : ℕ → Call → State → Outcome
 does_enable t call s = counted t call (after_enable (nesting_of s.schedule t)) s
+
+-- ---- the words of this group
+
+abbrev pub does_nesting : NestingWord → ℕ → Call → State → Outcome
+does_nesting word.Forbid t call s = does_forbid t call s
+does_nesting word.Permit t call s = does_permit t call s
+does_nesting word.Disable t call s = does_disable t call s
+does_nesting word.Enable t call s = does_enable t call s

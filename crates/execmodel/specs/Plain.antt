@@ -1,5 +1,7 @@
 -- Plain words: they set variables, calculate, jump and print, and ask nothing of Exec (own choice).
 use Rattle.std.specs.Prelude.{ℕ, ◌+◌, ◌-◌, ◌%◌, ◌^◌, if◌then◌else◌, nat_eq, bit_and, bit_or}
+use Rattle.taskscript.specs.declared.word.plain.PlainWord.{PlainWord}
+use Rattle.taskscript.specs.declared.word.plain.PlainWord.TheVariants as word
 use Rattle.execmodel.specs.State.{Call, State, Outcome, quiet, on_scripts}
 use Rattle.execmodel.specs.Calls.{argument, done, silent, goes_on}
 
@@ -46,3 +48,16 @@ does_jump_zero t call s = jumps t (if nat_eq (argument 0 call) 0 then argument 1
 -- JumpNZ a l: goes on at l if a is not 0
 unfoldable pub does_jump_not_zero : ℕ → Call → State → Outcome
 does_jump_not_zero t call s = jumps t (if nat_eq (argument 0 call) 0 then call.next else argument 1 call) s
+
+-- ---- the words of this group
+
+abbrev pub does_plain : PlainWord → ℕ → Call → State → Outcome
+does_plain word.Set t call s = does_set t call s
+does_plain word.Add t call s = does_add t call s
+does_plain word.Sub t call s = does_sub t call s
+does_plain word.And t call s = does_and t call s
+does_plain word.Or t call s = does_or t call s
+does_plain word.Jump t call s = does_jump t call s
+does_plain word.JumpZ t call s = does_jump_zero t call s
+does_plain word.JumpNZ t call s = does_jump_not_zero t call s
+does_plain word.Print t call s = does_print t call s

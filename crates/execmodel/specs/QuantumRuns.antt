@@ -2,7 +2,11 @@
 -- compute them.
 use Rattle.std.specs.Prelude.{◌≡◌, ℕ, false, pos, List, [], ◌∷◌, codes}
 use Rattle.exectrace.specs.Trace.{printed}
-use Rattle.taskscript.specs.declared.word.Word.TheVariants.{Print, Signal, Wait, Forbid, Permit, Disable, Enable, SetTaskPri, AddTask, FindTask}
+use Rattle.taskscript.specs.declared.word.Word.TheVariants.{Plain, Signals, Nesting, Tasks}
+use Rattle.taskscript.specs.declared.word.plain.PlainWord.TheVariants.{Print}
+use Rattle.taskscript.specs.declared.word.task_signals.SignalWord.TheVariants.{Signal, Wait}
+use Rattle.taskscript.specs.declared.word.nesting.NestingWord.TheVariants.{Forbid, Permit, Disable, Enable}
+use Rattle.taskscript.specs.declared.word.tasks.TaskWord.TheVariants.{SetTaskPri, AddTask, FindTask}
 use Rattle.taskscript.specs.declared.event.Event.{Event}
 use Rattle.taskscript.specs.declared.event.Event.TheVariants.{Run, Tick}
 use Rattle.taskscript.specs.Commands.{number, quoted}
@@ -18,30 +22,30 @@ trace_by quantum tasks list = printed (run (record { quantum = quantum; pool = 6
 
 abbrev pub shares_the_processor : List TaskData
 shares_the_processor =
-    task (codes "a") (pos 0) (command Print (number 1 ∷ []) ∷ command Print (number 2 ∷ []) ∷ command Print (number 3 ∷ []) ∷ [])
-    ∷ task (codes "b") (pos 0) (command Print (number 4 ∷ []) ∷ command Signal (number 3 ∷ number 0x1000 ∷ []) ∷ command Print (number 5 ∷ []) ∷ [])
-    ∷ task (codes "c") (pos 1) (command Wait (number 0x1000 ∷ []) ∷ command Print (number 9 ∷ []) ∷ []) ∷ []
+    task (codes "a") (pos 0) (command (Plain Print) (number 1 ∷ []) ∷ command (Plain Print) (number 2 ∷ []) ∷ command (Plain Print) (number 3 ∷ []) ∷ [])
+    ∷ task (codes "b") (pos 0) (command (Plain Print) (number 4 ∷ []) ∷ command (Signals Signal) (number 3 ∷ number 0x1000 ∷ []) ∷ command (Plain Print) (number 5 ∷ []) ∷ [])
+    ∷ task (codes "c") (pos 1) (command (Signals Wait) (number 0x1000 ∷ []) ∷ command (Plain Print) (number 9 ∷ []) ∷ []) ∷ []
 
 abbrev pub disables : List TaskData
-disables = task (codes "a") (pos 0) (command Disable [] ∷ command Enable [] ∷ command Print (number 1 ∷ []) ∷ []) ∷ []
+disables = task (codes "a") (pos 0) (command (Nesting Disable) [] ∷ command (Nesting Enable) [] ∷ command (Plain Print) (number 1 ∷ []) ∷ []) ∷ []
 
 abbrev pub forbids : List TaskData
 forbids =
-    task (codes "a") (pos 0) (command Forbid [] ∷ command Print (number 1 ∷ []) ∷ command Permit [] ∷ [])
-    ∷ task (codes "b") (pos 0) (command Print (number 2 ∷ []) ∷ []) ∷ []
+    task (codes "a") (pos 0) (command (Nesting Forbid) [] ∷ command (Plain Print) (number 1 ∷ []) ∷ command (Nesting Permit) [] ∷ [])
+    ∷ task (codes "b") (pos 0) (command (Plain Print) (number 2 ∷ []) ∷ []) ∷ []
 
 abbrev pub adds_another : List TaskData
 adds_another =
-    task (codes "a") (pos 0) (command AddTask (number 2 ∷ []) ∷ command AddTask (number 2 ∷ []) ∷ [])
-    ∷ record (task (codes "b") (pos 0) (command Print (number 7 ∷ []) ∷ [])) { start = false } ∷ []
+    task (codes "a") (pos 0) (command (Tasks AddTask) (number 2 ∷ []) ∷ command (Tasks AddTask) (number 2 ∷ []) ∷ [])
+    ∷ record (task (codes "b") (pos 0) (command (Plain Print) (number 7 ∷ []) ∷ [])) { start = false } ∷ []
 
 -- looks for another task before it is added, and after it has ended
 abbrev pub finds_another : List TaskData
 finds_another =
     task (codes "a") (pos 0)
-    (command FindTask (quoted (codes "b") ∷ []) ∷ command AddTask (number 2 ∷ []) ∷ command AddTask (number 2 ∷ []) ∷ command FindTask (quoted (codes "b") ∷ [])
-    ∷ command SetTaskPri (number 2 ∷ number 1 ∷ []) ∷ command FindTask (number 0 ∷ []) ∷ command AddTask (number 2 ∷ []) ∷ command SetTaskPri (number 2 ∷ number 0 ∷ []) ∷ [])
-    ∷ record (task (codes "b") (pos 0) (command Print (number 7 ∷ []) ∷ [])) { start = false } ∷ []
+    (command (Tasks FindTask) (quoted (codes "b") ∷ []) ∷ command (Tasks AddTask) (number 2 ∷ []) ∷ command (Tasks AddTask) (number 2 ∷ []) ∷ command (Tasks FindTask) (quoted (codes "b") ∷ [])
+    ∷ command (Tasks SetTaskPri) (number 2 ∷ number 1 ∷ []) ∷ command (Tasks FindTask) (number 0 ∷ []) ∷ command (Tasks AddTask) (number 2 ∷ []) ∷ command (Tasks SetTaskPri) (number 2 ∷ number 0 ∷ []) ∷ [])
+    ∷ record (task (codes "b") (pos 0) (command (Plain Print) (number 7 ∷ []) ∷ [])) { start = false } ∷ []
 
 -- ---- statements
 

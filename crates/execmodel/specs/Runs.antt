@@ -2,7 +2,11 @@
 use Rattle.std.specs.Prelude.{◌≡◌, ℕ, ℤ, true, pos, List, [], ◌∷◌, None, Some, codes}
 use Rattle.exectrace.specs.Trace.{printed}
 use Rattle.taskscript.specs.declared.word.Word.{Word}
-use Rattle.taskscript.specs.declared.word.Word.TheVariants.{Set, Add, Sub, And, Jump, JumpZ, Print, AllocSignal, FreeSignal, Signal, Wait, Forbid, Permit, SetTaskPri, AddTask, RemTask}
+use Rattle.taskscript.specs.declared.word.Word.TheVariants.{Plain, Signals, Nesting, Tasks}
+use Rattle.taskscript.specs.declared.word.plain.PlainWord.TheVariants.{Set, Add, Sub, And, Jump, JumpZ, Print}
+use Rattle.taskscript.specs.declared.word.task_signals.SignalWord.TheVariants.{AllocSignal, FreeSignal, Signal, Wait}
+use Rattle.taskscript.specs.declared.word.nesting.NestingWord.TheVariants.{Forbid, Permit}
+use Rattle.taskscript.specs.declared.word.tasks.TaskWord.TheVariants.{SetTaskPri, AddTask, RemTask}
 use Rattle.taskscript.specs.declared.variable.Variable.TheVariants.{Private, Shared}
 use Rattle.taskscript.specs.declared.event.Event.{Event}
 use Rattle.taskscript.specs.declared.event.Event.TheVariants.{Run}
@@ -27,42 +31,42 @@ trace_of tasks events = printed (run (machine tasks) events).lines
 -- ---- machines
 
 abbrev pub prints_once : List TaskData
-prints_once = task (codes "a") (pos 0) (command Print (number 1 ∷ []) ∷ []) ∷ []
+prints_once = task (codes "a") (pos 0) (command (Plain Print) (number 1 ∷ []) ∷ []) ∷ []
 
 abbrev pub signals_nobody : List TaskData
 signals_nobody =
-    task (codes "a") (pos 0) (command Signal (number 3 ∷ number 0x1000 ∷ []) ∷ [])
-    ∷ task (codes "b") (pos 0) (command Print (number 1 ∷ []) ∷ []) ∷ []
+    task (codes "a") (pos 0) (command (Signals Signal) (number 3 ∷ number 0x1000 ∷ []) ∷ [])
+    ∷ task (codes "b") (pos 0) (command (Plain Print) (number 1 ∷ []) ∷ []) ∷ []
 
 abbrev pub waits_for_a_signal_of_exec : List TaskData
-waits_for_a_signal_of_exec = task (codes "a") (pos 0) (command Wait (number 0x800 ∷ []) ∷ []) ∷ []
+waits_for_a_signal_of_exec = task (codes "a") (pos 0) (command (Signals Wait) (number 0x800 ∷ []) ∷ []) ∷ []
 
 abbrev pub wakes_a_higher_one : List TaskData
 wakes_a_higher_one =
-    task (codes "a") (pos 0) (command Signal (number 2 ∷ number 0x1000 ∷ []) ∷ command Print (number 1 ∷ []) ∷ [])
-    ∷ task (codes "b") (pos 5) (command Wait (number 0x1000 ∷ []) ∷ []) ∷ []
+    task (codes "a") (pos 0) (command (Signals Signal) (number 2 ∷ number 0x1000 ∷ []) ∷ command (Plain Print) (number 1 ∷ []) ∷ [])
+    ∷ task (codes "b") (pos 5) (command (Signals Wait) (number 0x1000 ∷ []) ∷ []) ∷ []
 
 abbrev pub wakes_an_equal : List TaskData
 wakes_an_equal =
-    task (codes "a") (pos 0) (command Wait (number 0x1000 ∷ []) ∷ [])
-    ∷ task (codes "b") (pos 0) (command Signal (number 1 ∷ number 0x1000 ∷ []) ∷ command Print (number 2 ∷ []) ∷ []) ∷ []
+    task (codes "a") (pos 0) (command (Signals Wait) (number 0x1000 ∷ []) ∷ [])
+    ∷ task (codes "b") (pos 0) (command (Signals Signal) (number 1 ∷ number 0x1000 ∷ []) ∷ command (Plain Print) (number 2 ∷ []) ∷ []) ∷ []
 
 abbrev pub is_preempted_among_equals : List TaskData
 is_preempted_among_equals =
-    task (codes "a") (pos 0) (command Signal (number 3 ∷ number 0x1000 ∷ []) ∷ command Print (number 1 ∷ []) ∷ [])
-    ∷ task (codes "b") (pos 0) (command Print (number 2 ∷ []) ∷ [])
-    ∷ task (codes "c") (pos 1) (command Wait (number 0x1000 ∷ []) ∷ []) ∷ []
+    task (codes "a") (pos 0) (command (Signals Signal) (number 3 ∷ number 0x1000 ∷ []) ∷ command (Plain Print) (number 1 ∷ []) ∷ [])
+    ∷ task (codes "b") (pos 0) (command (Plain Print) (number 2 ∷ []) ∷ [])
+    ∷ task (codes "c") (pos 1) (command (Signals Wait) (number 0x1000 ∷ []) ∷ []) ∷ []
 
 -- the mask of a Wait stands in a shared variable, which another task changes while the Wait waits
 abbrev pub waits_for_what_was_asked : List TaskData
 waits_for_what_was_asked =
     task (codes "a") (pos 1)
-    (record { word = Set; target = Some (Shared 0); arguments = number 0x1000 ∷ [] }
-    ∷ record { word = Wait; target = Some (Private 0); arguments = variable (Shared 0) ∷ [] }
-    ∷ command Print (variable (Private 0) ∷ []) ∷ [])
+    (record { word = (Plain Set); target = Some (Shared 0); arguments = number 0x1000 ∷ [] }
+    ∷ record { word = (Signals Wait); target = Some (Private 0); arguments = variable (Shared 0) ∷ [] }
+    ∷ command (Plain Print) (variable (Private 0) ∷ []) ∷ [])
     ∷ task (codes "b") (pos 0)
-    (record { word = Set; target = Some (Shared 0); arguments = number 0x2000 ∷ [] }
-    ∷ command Signal (number 1 ∷ number 0x1000 ∷ []) ∷ []) ∷ []
+    (record { word = (Plain Set); target = Some (Shared 0); arguments = number 0x2000 ∷ [] }
+    ∷ command (Signals Signal) (number 1 ∷ number 0x1000 ∷ []) ∷ []) ∷ []
 
 -- a command whose answer goes into a variable of its task
 abbrev pub into : ℕ → Word → List ArgumentData → CommandData
@@ -71,53 +75,53 @@ into k word arguments = record { word = word; target = Some (Private k); argumen
 -- 0 less 1, and 1 more, is 0 again, so the jump is made, past a command; then the lower bits are masked
 abbrev pub calculates_and_jumps : List TaskData
 calculates_and_jumps = task (codes "a") (pos 0)
-    (into 0 Sub (number 0 ∷ number 1 ∷ [])
-    ∷ into 1 Add (variable (Private 0) ∷ number 1 ∷ [])
-    ∷ command JumpZ (variable (Private 1) ∷ place 4 ∷ [])
-    ∷ command Print (variable (Private 0) ∷ [])
-    ∷ into 2 And (variable (Private 0) ∷ number 0xf0 ∷ [])
-    ∷ command Print (variable (Private 2) ∷ []) ∷ []) ∷ []
+    (into 0 (Plain Sub) (number 0 ∷ number 1 ∷ [])
+    ∷ into 1 (Plain Add) (variable (Private 0) ∷ number 1 ∷ [])
+    ∷ command (Plain JumpZ) (variable (Private 1) ∷ place 4 ∷ [])
+    ∷ command (Plain Print) (variable (Private 0) ∷ [])
+    ∷ into 2 (Plain And) (variable (Private 0) ∷ number 0xf0 ∷ [])
+    ∷ command (Plain Print) (variable (Private 2) ∷ []) ∷ []) ∷ []
 
 abbrev pub allocates_signals : List TaskData
 allocates_signals = task (codes "a") (pos 0)
-    (command AllocSignal (number 16 ∷ []) ∷ command AllocSignal (number 16 ∷ []) ∷ command AllocSignal (number 3 ∷ [])
-    ∷ command FreeSignal (number 16 ∷ []) ∷ command AllocSignal (number 16 ∷ [])
-    ∷ command FreeSignal (number 0xffffffff ∷ []) ∷ command FreeSignal (number 15 ∷ []) ∷ []) ∷ []
+    (command (Signals AllocSignal) (number 16 ∷ []) ∷ command (Signals AllocSignal) (number 16 ∷ []) ∷ command (Signals AllocSignal) (number 3 ∷ [])
+    ∷ command (Signals FreeSignal) (number 16 ∷ []) ∷ command (Signals AllocSignal) (number 16 ∷ [])
+    ∷ command (Signals FreeSignal) (number 0xffffffff ∷ []) ∷ command (Signals FreeSignal) (number 15 ∷ []) ∷ []) ∷ []
 
 -- a loop
 abbrev pub allocates_the_highest : List TaskData
 allocates_the_highest = task (codes "a") (pos 0)
-    (command AllocSignal (number 0xffffffff ∷ []) ∷ command Jump (place 0 ∷ []) ∷ []) ∷ []
+    (command (Signals AllocSignal) (number 0xffffffff ∷ []) ∷ command (Plain Jump) (place 0 ∷ []) ∷ []) ∷ []
 
 -- the higher task is signalled under Forbid
 abbrev pub signals_under_forbid : List TaskData
 signals_under_forbid =
     task (codes "a") (pos 0)
-    (command Forbid [] ∷ command Signal (number 2 ∷ number 0x1000 ∷ []) ∷ command Print (number 1 ∷ []) ∷ command Permit [] ∷ [])
-    ∷ task (codes "b") (pos 5) (command Wait (number 0x1000 ∷ []) ∷ []) ∷ []
+    (command (Nesting Forbid) [] ∷ command (Signals Signal) (number 2 ∷ number 0x1000 ∷ []) ∷ command (Plain Print) (number 1 ∷ []) ∷ command (Nesting Permit) [] ∷ [])
+    ∷ task (codes "b") (pos 5) (command (Signals Wait) (number 0x1000 ∷ []) ∷ []) ∷ []
 
 abbrev pub waits_under_forbid : List TaskData
 waits_under_forbid =
-    task (codes "a") (pos 1) (command Forbid [] ∷ command Wait (number 0x1000 ∷ []) ∷ command Permit [] ∷ command Permit [] ∷ [])
-    ∷ task (codes "b") (pos 0) (command Signal (number 1 ∷ number 0x1000 ∷ []) ∷ command Print (number 1 ∷ []) ∷ []) ∷ []
+    task (codes "a") (pos 1) (command (Nesting Forbid) [] ∷ command (Signals Wait) (number 0x1000 ∷ []) ∷ command (Nesting Permit) [] ∷ command (Nesting Permit) [] ∷ [])
+    ∷ task (codes "b") (pos 0) (command (Signals Signal) (number 1 ∷ number 0x1000 ∷ []) ∷ command (Plain Print) (number 1 ∷ []) ∷ []) ∷ []
 
 -- a ready task is given the priority that it has
 abbrev pub gives_the_same_priority : List TaskData
 gives_the_same_priority =
-    task (codes "a") (pos 1) (command SetTaskPri (number 2 ∷ number 0 ∷ []) ∷ command RemTask (number 1 ∷ []) ∷ [])
-    ∷ task (codes "b") (pos 0) (command Print (number 2 ∷ []) ∷ [])
-    ∷ task (codes "c") (pos 0) (command Print (number 3 ∷ []) ∷ []) ∷ []
+    task (codes "a") (pos 1) (command (Tasks SetTaskPri) (number 2 ∷ number 0 ∷ []) ∷ command (Tasks RemTask) (number 1 ∷ []) ∷ [])
+    ∷ task (codes "b") (pos 0) (command (Plain Print) (number 2 ∷ []) ∷ [])
+    ∷ task (codes "c") (pos 0) (command (Plain Print) (number 3 ∷ []) ∷ []) ∷ []
 
 -- -5 is the word $FFFFFFFB
 abbrev pub gives_itself_priorities : List TaskData
 gives_itself_priorities =
     task (codes "a") (pos 0)
-    (command SetTaskPri (number 1 ∷ number 0xfffffffb ∷ []) ∷ command SetTaskPri (number 1 ∷ number 0 ∷ []) ∷ command SetTaskPri (number 1 ∷ number 128 ∷ []) ∷ []) ∷ []
+    (command (Tasks SetTaskPri) (number 1 ∷ number 0xfffffffb ∷ []) ∷ command (Tasks SetTaskPri) (number 1 ∷ number 0 ∷ []) ∷ command (Tasks SetTaskPri) (number 1 ∷ number 128 ∷ []) ∷ []) ∷ []
 
 abbrev pub adds_an_ended_one : List TaskData
 adds_an_ended_one =
-    task (codes "a") (pos 0) (command RemTask (number 2 ∷ []) ∷ command AddTask (number 2 ∷ []) ∷ command RemTask (number 2 ∷ []) ∷ [])
-    ∷ task (codes "b") (pos 0) (command Print (number 7 ∷ []) ∷ []) ∷ []
+    task (codes "a") (pos 0) (command (Tasks RemTask) (number 2 ∷ []) ∷ command (Tasks AddTask) (number 2 ∷ []) ∷ command (Tasks RemTask) (number 2 ∷ []) ∷ [])
+    ∷ task (codes "b") (pos 0) (command (Plain Print) (number 7 ∷ []) ∷ []) ∷ []
 
 -- ---- statements
 

@@ -3,6 +3,8 @@ use Rattle.std.specs.Prelude.{ℕ, ◌-◌, Bool, not, ◌&&◌, if◌then◌els
 use Rattle.std.specs.Int.{cast_signed, cast_unsigned, w32}
 use Rattle.signals.specs.Signals.{grant, grant_number, is_own_signal}
 use Rattle.scheduler.specs.Schedule.{signals_of, come_for, after_wait, allocates, frees, sets_signals}
+use Rattle.taskscript.specs.declared.word.task_signals.SignalWord.{SignalWord}
+use Rattle.taskscript.specs.declared.word.task_signals.SignalWord.TheVariants as word
 use Rattle.execmodel.specs.State.{Call, Scripts, State, Outcome, on_schedule}
 use Rattle.execmodel.specs.Scheduling.{signalled}
 use Rattle.execmodel.specs.Calls.{argument, done, answered, waiting, alerted}
@@ -64,3 +66,12 @@ does_wait t call s =
     let mask = argument 0 call in
     if not (is_mask mask) then alerted (codes "MASK") t call s
     else waited t call (come_for mask (signals_of s.schedule t)) (on_schedule (after_wait t mask) s)
+
+-- ---- the words of this group
+
+abbrev pub does_signals : SignalWord → ℕ → Call → State → Outcome
+does_signals word.AllocSignal t call s = does_alloc_signal t call s
+does_signals word.FreeSignal t call s = does_free_signal t call s
+does_signals word.SetSignal t call s = does_set_signal t call s
+does_signals word.Signal t call s = does_signal t call s
+does_signals word.Wait t call s = does_wait t call s

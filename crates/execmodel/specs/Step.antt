@@ -3,7 +3,7 @@ use Rattle.std.specs.Prelude.{ℕ, zero, suc, true, if◌then◌else◌, List, [
 use Rattle.exectrace.specs.Trace.{Value, Done, Switch, Idle}
 use Rattle.exectrace.specs.Trace as trace
 use Rattle.taskscript.specs.declared.word.Word.{Word}
-use Rattle.taskscript.specs.declared.word.Word.TheVariants as word
+use Rattle.taskscript.specs.declared.word.Word.TheVariants.{Plain, Signals, Nesting, Tasks, Lists, Memory}
 use Rattle.taskscript.specs.declared.event.Event.{Event}
 use Rattle.taskscript.specs.declared.event.Event.TheVariants.{Run, Tick}
 use Rattle.taskscript.specs.File.{MachineData}
@@ -14,12 +14,12 @@ use Rattle.execmodel.specs.State.{Call, Scripts, State, Outcome, quiet, says, an
 use Rattle.execmodel.specs.Scheduling.{switch_of, rescheduled, added}
 use Rattle.execmodel.specs.Interrupts.{on_latch, interrupts}
 use Rattle.execmodel.specs.Calls.{next_call}
-use Rattle.execmodel.specs.Plain.{does_set, does_add, does_sub, does_and, does_or, does_jump, does_jump_zero, does_jump_not_zero, does_print}
-use Rattle.execmodel.specs.Signals.{does_alloc_signal, does_free_signal, does_set_signal, does_signal, does_wait}
-use Rattle.execmodel.specs.Nesting.{does_forbid, does_permit, does_disable, does_enable}
-use Rattle.execmodel.specs.Tasks.{does_set_task_pri, does_add_task, does_rem_task, does_find_task}
-use Rattle.execmodel.specs.Lists.{does_new_list, does_free_list, does_new_node, does_free_node, does_add_head, does_add_tail, does_enqueue, does_insert, does_remove, does_rem_head, does_rem_tail, does_first, does_last, does_succ, does_pred, does_find_name}
-use Rattle.execmodel.specs.Memory.{does_alloc_mem, does_free_mem, does_avail_mem}
+use Rattle.execmodel.specs.Plain.{does_plain}
+use Rattle.execmodel.specs.Signals.{does_signals}
+use Rattle.execmodel.specs.Nesting.{does_nesting}
+use Rattle.execmodel.specs.Tasks.{does_tasks}
+use Rattle.execmodel.specs.Lists.{does_lists}
+use Rattle.execmodel.specs.Memory.{does_memory}
 
 -- ---- settle
 
@@ -39,49 +39,14 @@ settle s = if s.stopped then quiet s else andthen interrupts switches s
 
 -- ---- step
 
--- a call of task t, by its word
+-- a call of task t, by the group of its word
 abbrev pub does_word : Word → ℕ → Call → State → Outcome
-does_word word.Set t call s = does_set t call s
-does_word word.Add t call s = does_add t call s
-does_word word.Sub t call s = does_sub t call s
-does_word word.And t call s = does_and t call s
-does_word word.Or t call s = does_or t call s
-does_word word.Jump t call s = does_jump t call s
-does_word word.JumpZ t call s = does_jump_zero t call s
-does_word word.JumpNZ t call s = does_jump_not_zero t call s
-does_word word.Print t call s = does_print t call s
-does_word word.AllocSignal t call s = does_alloc_signal t call s
-does_word word.FreeSignal t call s = does_free_signal t call s
-does_word word.SetSignal t call s = does_set_signal t call s
-does_word word.Signal t call s = does_signal t call s
-does_word word.Wait t call s = does_wait t call s
-does_word word.Forbid t call s = does_forbid t call s
-does_word word.Permit t call s = does_permit t call s
-does_word word.Disable t call s = does_disable t call s
-does_word word.Enable t call s = does_enable t call s
-does_word word.SetTaskPri t call s = does_set_task_pri t call s
-does_word word.AddTask t call s = does_add_task t call s
-does_word word.RemTask t call s = does_rem_task t call s
-does_word word.FindTask t call s = does_find_task t call s
-does_word word.NewList t call s = does_new_list t call s
-does_word word.FreeList t call s = does_free_list t call s
-does_word word.NewNode t call s = does_new_node t call s
-does_word word.FreeNode t call s = does_free_node t call s
-does_word word.AddHead t call s = does_add_head t call s
-does_word word.AddTail t call s = does_add_tail t call s
-does_word word.Enqueue t call s = does_enqueue t call s
-does_word word.Insert t call s = does_insert t call s
-does_word word.Remove t call s = does_remove t call s
-does_word word.RemHead t call s = does_rem_head t call s
-does_word word.RemTail t call s = does_rem_tail t call s
-does_word word.First t call s = does_first t call s
-does_word word.Last t call s = does_last t call s
-does_word word.Succ t call s = does_succ t call s
-does_word word.Pred t call s = does_pred t call s
-does_word word.FindName t call s = does_find_name t call s
-does_word word.AllocMem t call s = does_alloc_mem t call s
-does_word word.FreeMem t call s = does_free_mem t call s
-does_word word.AvailMem t call s = does_avail_mem t call s
+does_word (Plain word) t call s = does_plain word t call s
+does_word (Signals word) t call s = does_signals word t call s
+does_word (Nesting word) t call s = does_nesting word t call s
+does_word (Tasks word) t call s = does_tasks word t call s
+does_word (Lists word) t call s = does_lists word t call s
+does_word (Memory word) t call s = does_memory word t call s
 
 unfoldable pub does : ℕ → Call → State → Outcome
 does t call s = does_word call.word t call s

@@ -3,6 +3,8 @@ use Rattle.std.specs.Prelude.{ℕ, ◌+◌, ◌-◌, ℤ, pos, negsuc, Bool, not
 use Rattle.std.specs.Int.{cast_signed, cast_unsigned, w32}
 use Rattle.taskq.specs.Tasks.{is_live}
 use Rattle.scheduler.specs.Schedule.{Schedule, status_of, priority_of, is_absent, leaves, removed, found}
+use Rattle.taskscript.specs.declared.word.tasks.TaskWord.{TaskWord}
+use Rattle.taskscript.specs.declared.word.tasks.TaskWord.TheVariants as word
 use Rattle.execmodel.specs.State.{Call, Scripts, State, Outcome, on_schedule}
 use Rattle.execmodel.specs.Scheduling.{added, reprioritized}
 use Rattle.execmodel.specs.Calls.{argument, name_argument, done, answered, alerted}
@@ -59,3 +61,11 @@ found_number t (Some name) s = number_or_none (found name s)
 -- FindTask name: answers the number of the live task of that name, or 0; for 0 the caller (autodoc exec.library/FindTask)
 unfoldable pub does_find_task : ℕ → Call → State → Outcome
 does_find_task t call s = answered t call (found_number t (name_argument 0 call) s.schedule) s
+
+-- ---- the words of this group
+
+abbrev pub does_tasks : TaskWord → ℕ → Call → State → Outcome
+does_tasks word.SetTaskPri t call s = does_set_task_pri t call s
+does_tasks word.AddTask t call s = does_add_task t call s
+does_tasks word.RemTask t call s = does_rem_task t call s
+does_tasks word.FindTask t call s = does_find_task t call s

@@ -1,6 +1,7 @@
-//! Laws of whole runs: functions without effect whose contracts say what the definitions amount to.
+//! Laws of whole runs and of words: functions without effect whose contracts say what the definitions amount to.
 ghost use Rattle.std.specs.Prelude.{◌≡◌, true, List};
 ghost use Rattle.taskscript.specs.declared.event.Event.{Event};
+ghost use Rattle.execmodel.specs.Keeping.{PlainWordsChangeScripts, SignalWordsChangeTheSchedule, NestingWordsChangeTheSchedule, TaskWordsChangeTheSchedule, ListWordsChangeTheMemory, MemoryWordsChangeTheMemory};
 ghost use Rattle.execmodel.specs.State.{State, quiet};
 ghost use Rattle.execmodel.specs.Step.{event, events};
 
@@ -10,4 +11,17 @@ ghost use Rattle.execmodel.specs.Step.{event, events};
 pub fn an_alert_ends_all()
     ensures event { (e : Event) (s : State) → s.stopped ≡ true → event e s ≡ quiet s }
     ensures events { (list : List Event) (s : State) → s.stopped ≡ true → events list s ≡ quiet s }
+{}
+
+/// The words of a group change their part of the state, and leave the others as they are: plain words change what tasks execute and
+/// the variables; words of signals, nesting and tasks the schedule too, and words of lists and memory the memory.
+///
+/// Source: own choice.
+pub fn each_group_keeps_to_its_part()
+    ensures plain { PlainWordsChangeScripts }
+    ensures signals { SignalWordsChangeTheSchedule }
+    ensures nesting { NestingWordsChangeTheSchedule }
+    ensures tasks { TaskWordsChangeTheSchedule }
+    ensures lists { ListWordsChangeTheMemory }
+    ensures memory { MemoryWordsChangeTheMemory }
 {}

@@ -8,7 +8,7 @@ ghost use Rattle.execmodel.specs.Calls.{alerted};
 ghost use Rattle.execmodel.specs.Memory.{placed};
 ghost use Rattle.execmodel.specs.Objects.{place_for_object};
 ghost use Rattle.execmodel.specs.Tasks.{is_priority};
-ghost use Rattle.execmodel.specs.Lists.{find_alert, found_node, is_list, is_node, list_size, node_size};
+ghost use Rattle.execmodel.specs.Lists.{find_alert, found_node, is_list, is_node, list_size, node_size, does_lists};
 ghost use Rattle.execmodel.specs.Lists.{does_new_list, does_free_list, does_new_node, does_free_node, does_add_head, does_add_tail, does_enqueue, does_insert};
 ghost use Rattle.execmodel.specs.Lists.{does_remove, does_rem_head, does_rem_tail, does_first, does_last, does_succ, does_pred, does_find_name};
 ghost use Rattle.execheap.specs.Refusals.{alert_of, code_of};
@@ -23,6 +23,7 @@ use execheap::Refusal;
 use execlist::space::ListSpace;
 use exectrace::{Name, Sink};
 use taskq::TaskId;
+use taskscript::ListWord;
 
 impl<S: ListSpace> Kernel<S> {
     // ---- how a call on an object ends
@@ -91,7 +92,7 @@ impl<S: ListSpace> Kernel<S> {
     }
 
     /// NewList: answers the address of a new empty list, or 0 (autodoc amiga.lib/NewList; that it takes the memory: own choice).
-    pub(crate) fn new_list<W: Sink>(&mut self, t: TaskId, call: &Call, out: &mut W)
+    fn new_list<W: Sink>(&mut self, t: TaskId, call: &Call, out: &mut W)
         requires { t < length self.old.scripts.programs }
         ensures { Follows (does_new_list t (call_view call.now)) self.old self.new (W.tape out.old) (W.tape out.new) }
     {
@@ -100,7 +101,7 @@ impl<S: ListSpace> Kernel<S> {
     }
 
     /// FreeList list: frees an empty list. HANDLE where no list begins there, LINK where it has nodes (own choice).
-    pub(crate) fn free_list<W: Sink>(&mut self, t: TaskId, call: &Call, out: &mut W)
+    fn free_list<W: Sink>(&mut self, t: TaskId, call: &Call, out: &mut W)
         requires { t < length self.old.scripts.programs }
         ensures { Follows (does_free_list t (call_view call.now)) self.old self.new (W.tape out.old) (W.tape out.new) }
     {
@@ -111,7 +112,7 @@ impl<S: ListSpace> Kernel<S> {
 
     /// NewNode pri name: answers the address of a new node, which is not linked, or 0. VALUE where the priority, read as a signed word, is
     /// not in -128 to 127 (own choice).
-    pub(crate) fn new_node<W: Sink>(&mut self, t: TaskId, call: &Call, out: &mut W)
+    fn new_node<W: Sink>(&mut self, t: TaskId, call: &Call, out: &mut W)
         requires { t < length self.old.scripts.programs }
         ensures { Follows (does_new_node t (call_view call.now)) self.old self.new (W.tape out.old) (W.tape out.new) }
     {
@@ -125,7 +126,7 @@ impl<S: ListSpace> Kernel<S> {
     }
 
     /// FreeNode node: frees a node. HANDLE where none begins there, LINK where it is linked (own choice).
-    pub(crate) fn free_node<W: Sink>(&mut self, t: TaskId, call: &Call, out: &mut W)
+    fn free_node<W: Sink>(&mut self, t: TaskId, call: &Call, out: &mut W)
         requires { t < length self.old.scripts.programs }
         ensures { Follows (does_free_node t (call_view call.now)) self.old self.new (W.tape out.old) (W.tape out.new) }
     {
@@ -138,7 +139,7 @@ impl<S: ListSpace> Kernel<S> {
 
     /// AddHead list node: puts the node first. HANDLE where either is none, LINK where the node is linked (autodoc
     /// exec.library/AddHead; the alerts: own choice).
-    pub(crate) fn add_head<W: Sink>(&mut self, t: TaskId, call: &Call, out: &mut W)
+    fn add_head<W: Sink>(&mut self, t: TaskId, call: &Call, out: &mut W)
         requires { t < length self.old.scripts.programs }
         ensures { Follows (does_add_head t (call_view call.now)) self.old self.new (W.tape out.old) (W.tape out.new) }
     {
@@ -149,7 +150,7 @@ impl<S: ListSpace> Kernel<S> {
     }
 
     /// AddTail list node: puts the node last. The alerts are those of AddHead (autodoc exec.library/AddTail).
-    pub(crate) fn add_tail<W: Sink>(&mut self, t: TaskId, call: &Call, out: &mut W)
+    fn add_tail<W: Sink>(&mut self, t: TaskId, call: &Call, out: &mut W)
         requires { t < length self.old.scripts.programs }
         ensures { Follows (does_add_tail t (call_view call.now)) self.old self.new (W.tape out.old) (W.tape out.new) }
     {
@@ -161,7 +162,7 @@ impl<S: ListSpace> Kernel<S> {
 
     /// Enqueue list node: puts the node before the first one of lower priority, or last. The alerts are those of AddHead (autodoc
     /// exec.library/Enqueue).
-    pub(crate) fn enqueue<W: Sink>(&mut self, t: TaskId, call: &Call, out: &mut W)
+    fn enqueue<W: Sink>(&mut self, t: TaskId, call: &Call, out: &mut W)
         requires { t < length self.old.scripts.programs }
         ensures { Follows (does_enqueue t (call_view call.now)) self.old self.new (W.tape out.old) (W.tape out.new) }
     {
@@ -173,7 +174,7 @@ impl<S: ListSpace> Kernel<S> {
 
     /// Insert list node pred: puts the node after pred, or first where pred is 0. HANDLE where one of them is none, LINK where the node is
     /// linked or pred does not stand in the list (autodoc exec.library/Insert; the alerts: own choice).
-    pub(crate) fn insert<W: Sink>(&mut self, t: TaskId, call: &Call, out: &mut W)
+    fn insert<W: Sink>(&mut self, t: TaskId, call: &Call, out: &mut W)
         requires { t < length self.old.scripts.programs }
         ensures { Follows (does_insert t (call_view call.now)) self.old self.new (W.tape out.old) (W.tape out.new) }
     {
@@ -188,7 +189,7 @@ impl<S: ListSpace> Kernel<S> {
 
     /// Remove node: takes the node out of its list. HANDLE where none begins there, LINK where it is not linked (autodoc
     /// exec.library/Remove; the alerts: own choice).
-    pub(crate) fn remove<W: Sink>(&mut self, t: TaskId, call: &Call, out: &mut W)
+    fn remove<W: Sink>(&mut self, t: TaskId, call: &Call, out: &mut W)
         requires { t < length self.old.scripts.programs }
         ensures { Follows (does_remove t (call_view call.now)) self.old self.new (W.tape out.old) (W.tape out.new) }
     {
@@ -199,7 +200,7 @@ impl<S: ListSpace> Kernel<S> {
 
     /// RemHead list: takes the first node out and answers it, or 0 for an empty list. HANDLE where no list begins there (autodoc
     /// exec.library/RemHead; the alert: own choice).
-    pub(crate) fn rem_head<W: Sink>(&mut self, t: TaskId, call: &Call, out: &mut W)
+    fn rem_head<W: Sink>(&mut self, t: TaskId, call: &Call, out: &mut W)
         requires { t < length self.old.scripts.programs }
         ensures { Follows (does_rem_head t (call_view call.now)) self.old self.new (W.tape out.old) (W.tape out.new) }
     {
@@ -210,7 +211,7 @@ impl<S: ListSpace> Kernel<S> {
 
     /// RemTail list: takes the last node out and answers it, or 0 for an empty list. HANDLE where no list begins there (autodoc
     /// exec.library/RemTail; the alert: own choice).
-    pub(crate) fn rem_tail<W: Sink>(&mut self, t: TaskId, call: &Call, out: &mut W)
+    fn rem_tail<W: Sink>(&mut self, t: TaskId, call: &Call, out: &mut W)
         requires { t < length self.old.scripts.programs }
         ensures { Follows (does_rem_tail t (call_view call.now)) self.old self.new (W.tape out.old) (W.tape out.new) }
     {
@@ -223,7 +224,7 @@ impl<S: ListSpace> Kernel<S> {
 
     /// First list: answers the first node, or 0 for an empty list. HANDLE where no list begins there (RKM Libraries, Exec Lists and
     /// Queues: scanning a list; the alert: own choice).
-    pub(crate) fn first<W: Sink>(&mut self, t: TaskId, call: &Call, out: &mut W)
+    fn first<W: Sink>(&mut self, t: TaskId, call: &Call, out: &mut W)
         requires { t < length self.old.scripts.programs }
         ensures { Follows (does_first t (call_view call.now)) self.old self.new (W.tape out.old) (W.tape out.new) }
     {
@@ -234,7 +235,7 @@ impl<S: ListSpace> Kernel<S> {
 
     /// Last list: answers the last node, or 0 for an empty list. HANDLE where no list begins there (RKM Libraries, Exec Lists and
     /// Queues: scanning a list; the alert: own choice).
-    pub(crate) fn last<W: Sink>(&mut self, t: TaskId, call: &Call, out: &mut W)
+    fn last<W: Sink>(&mut self, t: TaskId, call: &Call, out: &mut W)
         requires { t < length self.old.scripts.programs }
         ensures { Follows (does_last t (call_view call.now)) self.old self.new (W.tape out.old) (W.tape out.new) }
     {
@@ -245,7 +246,7 @@ impl<S: ListSpace> Kernel<S> {
 
     /// Succ node: answers the node after a linked one, or 0. HANDLE where none begins there, LINK where it is not linked (RKM Libraries,
     /// Exec Lists and Queues: `ln_Succ`; the alerts: own choice).
-    pub(crate) fn succ<W: Sink>(&mut self, t: TaskId, call: &Call, out: &mut W)
+    fn succ<W: Sink>(&mut self, t: TaskId, call: &Call, out: &mut W)
         requires { t < length self.old.scripts.programs }
         ensures { Follows (does_succ t (call_view call.now)) self.old self.new (W.tape out.old) (W.tape out.new) }
     {
@@ -256,7 +257,7 @@ impl<S: ListSpace> Kernel<S> {
 
     /// Pred node: answers the node before a linked one, or 0. HANDLE where none begins there, LINK where it is not linked (RKM Libraries,
     /// Exec Lists and Queues: `ln_Pred`; the alerts: own choice).
-    pub(crate) fn pred<W: Sink>(&mut self, t: TaskId, call: &Call, out: &mut W)
+    fn pred<W: Sink>(&mut self, t: TaskId, call: &Call, out: &mut W)
         requires { t < length self.old.scripts.programs }
         ensures { Follows (does_pred t (call_view call.now)) self.old self.new (W.tape out.old) (W.tape out.new) }
     {
@@ -278,12 +279,43 @@ impl<S: ListSpace> Kernel<S> {
 
     /// FindName start name: answers the first node of that name in a list, or after a linked node, or 0. HANDLE where neither begins at
     /// the start, LINK where the node is not linked (autodoc exec.library/FindName; the alerts: own choice).
-    pub(crate) fn find_name<W: Sink>(&mut self, t: TaskId, call: &Call, out: &mut W)
+    fn find_name<W: Sink>(&mut self, t: TaskId, call: &Call, out: &mut W)
         requires { t < length self.old.scripts.programs }
         ensures { Follows (does_find_name t (call_view call.now)) self.old self.new (W.tape out.old) (W.tape out.new) }
     {
         let start = call.number(0);
         let tried = self.find(start, call.name(1));
         self.concluded_with(tried, t, call, out);
+    }
+
+    /// A call of task t on lists and nodes, by its word.
+    pub(crate) fn does_lists<W: Sink>(
+        &mut self,
+        word: ListWord,
+        t: TaskId,
+        call: &Call,
+        out: &mut W,
+    )
+        requires { t < length self.old.scripts.programs }
+        ensures { Follows (does_lists word t (call_view call.now)) self.old self.new (W.tape out.old) (W.tape out.new) }
+    {
+        match word {
+            ListWord::NewList => self.new_list(t, call, out),
+            ListWord::FreeList => self.free_list(t, call, out),
+            ListWord::NewNode => self.new_node(t, call, out),
+            ListWord::FreeNode => self.free_node(t, call, out),
+            ListWord::AddHead => self.add_head(t, call, out),
+            ListWord::AddTail => self.add_tail(t, call, out),
+            ListWord::Enqueue => self.enqueue(t, call, out),
+            ListWord::Insert => self.insert(t, call, out),
+            ListWord::Remove => self.remove(t, call, out),
+            ListWord::RemHead => self.rem_head(t, call, out),
+            ListWord::RemTail => self.rem_tail(t, call, out),
+            ListWord::First => self.first(t, call, out),
+            ListWord::Last => self.last(t, call, out),
+            ListWord::Succ => self.succ(t, call, out),
+            ListWord::Pred => self.pred(t, call, out),
+            ListWord::FindName => self.find_name(t, call, out),
+        }
     }
 }

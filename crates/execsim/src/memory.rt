@@ -2,7 +2,7 @@
 ghost use Rattle.std.specs.Prelude.{◌≡◌, ◌<◌, length, true, false};
 ghost use Rattle.memlist.specs.Fit.{avail};
 ghost use Rattle.execmodel.specs.State.{Plain};
-ghost use Rattle.execmodel.specs.Memory.{block_at, can_be_asked, does_alloc_mem, does_avail_mem, does_free_mem, extents, freed, has_only, is_named, place_for, placed};
+ghost use Rattle.execmodel.specs.Memory.{block_at, can_be_asked, does_alloc_mem, does_avail_mem, does_free_mem, extents, freed, has_only, is_named, place_for, placed, does_memory};
 ghost use Rattle.execsim.specs.Agreement.{Follows};
 ghost use Rattle.execsim.specs.Views.{call_view};
 
@@ -11,6 +11,7 @@ use crate::program::Call;
 use execlist::space::ListSpace;
 use exectrace::Sink;
 use taskq::TaskId;
+use taskscript::MemoryWord;
 
 /// MEMF_PUBLIC, MEMF_CHIP, MEMF_FAST and MEMF_CLEAR.
 const ALLOC_BITS: u32 = 0x1_0007;
@@ -64,7 +65,7 @@ impl<S: ListSpace> Kernel<S> {
     }
 
     /// AllocMem size reqs (autodoc exec.library/AllocMem).
-    pub(crate) fn alloc_mem<W: Sink>(&mut self, t: TaskId, call: &Call, out: &mut W)
+    fn alloc_mem<W: Sink>(&mut self, t: TaskId, call: &Call, out: &mut W)
         requires { t < length self.old.scripts.programs }
         ensures { Follows (does_alloc_mem t (call_view call.now)) self.old self.new (W.tape out.old) (W.tape out.new) }
     {
@@ -79,7 +80,7 @@ impl<S: ListSpace> Kernel<S> {
     }
 
     /// FreeMem addr size (autodoc exec.library/FreeMem).
-    pub(crate) fn free_mem<W: Sink>(&mut self, t: TaskId, call: &Call, out: &mut W)
+    fn free_mem<W: Sink>(&mut self, t: TaskId, call: &Call, out: &mut W)
         requires { t < length self.old.scripts.programs }
         ensures { Follows (does_free_mem t (call_view call.now)) self.old self.new (W.tape out.old) (W.tape out.new) }
     {
@@ -93,7 +94,7 @@ impl<S: ListSpace> Kernel<S> {
     }
 
     /// AvailMem reqs (autodoc exec.library/AvailMem).
-    pub(crate) fn avail_mem<W: Sink>(&mut self, t: TaskId, call: &Call, out: &mut W)
+    fn avail_mem<W: Sink>(&mut self, t: TaskId, call: &Call, out: &mut W)
         requires { t < length self.old.scripts.programs }
         ensures { Follows (does_avail_mem t (call_view call.now)) self.old self.new (W.tape out.old) (W.tape out.new) }
     {
@@ -103,6 +104,24 @@ impl<S: ListSpace> Kernel<S> {
         } else {
             let answer = self.available(reqs);
             self.answered(t, call, answer, out);
+        }
+    }
+
+    /// A call of task t on memory, by its word.
+    pub(crate) fn does_memory<W: Sink>(
+        &mut self,
+        word: MemoryWord,
+        t: TaskId,
+        call: &Call,
+        out: &mut W,
+    )
+        requires { t < length self.old.scripts.programs }
+        ensures { Follows (does_memory word t (call_view call.now)) self.old self.new (W.tape out.old) (W.tape out.new) }
+    {
+        match word {
+            MemoryWord::AllocMem => self.alloc_mem(t, call, out),
+            MemoryWord::FreeMem => self.free_mem(t, call, out),
+            MemoryWord::AvailMem => self.avail_mem(t, call, out),
         }
     }
 }

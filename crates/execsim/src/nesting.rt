@@ -3,7 +3,7 @@ ghost use Rattle.std.specs.Prelude.{◌≡◌, ◌<◌, length, Some};
 ghost use Rattle.std.specs.Option.{is_some};
 ghost use Rattle.forbid.specs.Nesting.{after_forbid, after_permit, after_disable, after_enable};
 ghost use Rattle.scheduler.specs.Schedule.{nesting_of, nested};
-ghost use Rattle.execmodel.specs.Nesting.{done_or_nest, does_forbid, does_permit, does_disable, does_enable};
+ghost use Rattle.execmodel.specs.Nesting.{done_or_nest, does_forbid, does_permit, does_disable, does_enable, does_nesting};
 ghost use Rattle.execsim.specs.Agreement.{Follows};
 ghost use Rattle.execsim.specs.Views.{call_view};
 
@@ -12,6 +12,7 @@ use crate::program::Call;
 use execlist::space::ListSpace;
 use exectrace::Sink;
 use taskq::TaskId;
+use taskscript::NestingWord;
 
 impl<S: ListSpace> Kernel<S> {
     /// Counts one more Forbid of the running task, and answers whether its count has room for it.
@@ -63,7 +64,7 @@ impl<S: ListSpace> Kernel<S> {
     }
 
     /// Forbid (autodoc exec.library/Forbid).
-    pub(crate) fn forbid<W: Sink>(&mut self, t: TaskId, call: &Call, out: &mut W)
+    fn forbid<W: Sink>(&mut self, t: TaskId, call: &Call, out: &mut W)
         requires known { t < length self.old.scripts.programs }
         requires runs { self.old.schedule.running ≡ Some t }
         ensures { Follows (does_forbid t (call_view call.now)) self.old self.new (W.tape out.old) (W.tape out.new) }
@@ -73,7 +74,7 @@ impl<S: ListSpace> Kernel<S> {
     }
 
     /// Permit (autodoc exec.library/Permit).
-    pub(crate) fn permit<W: Sink>(&mut self, t: TaskId, call: &Call, out: &mut W)
+    fn permit<W: Sink>(&mut self, t: TaskId, call: &Call, out: &mut W)
         requires known { t < length self.old.scripts.programs }
         requires runs { self.old.schedule.running ≡ Some t }
         ensures { Follows (does_permit t (call_view call.now)) self.old self.new (W.tape out.old) (W.tape out.new) }
@@ -83,7 +84,7 @@ impl<S: ListSpace> Kernel<S> {
     }
 
     /// Disable (autodoc exec.library/Disable).
-    pub(crate) fn disable<W: Sink>(&mut self, t: TaskId, call: &Call, out: &mut W)
+    fn disable<W: Sink>(&mut self, t: TaskId, call: &Call, out: &mut W)
         requires known { t < length self.old.scripts.programs }
         requires runs { self.old.schedule.running ≡ Some t }
         ensures { Follows (does_disable t (call_view call.now)) self.old self.new (W.tape out.old) (W.tape out.new) }
@@ -93,12 +94,32 @@ impl<S: ListSpace> Kernel<S> {
     }
 
     /// Enable (autodoc exec.library/Enable).
-    pub(crate) fn enable<W: Sink>(&mut self, t: TaskId, call: &Call, out: &mut W)
+    fn enable<W: Sink>(&mut self, t: TaskId, call: &Call, out: &mut W)
         requires known { t < length self.old.scripts.programs }
         requires runs { self.old.schedule.running ≡ Some t }
         ensures { Follows (does_enable t (call_view call.now)) self.old self.new (W.tape out.old) (W.tape out.new) }
     {
         let fits = self.count_enable(t);
         self.counted(fits, t, call, out);
+    }
+
+    /// A call of task t on its nesting, by its word.
+    pub(crate) fn does_nesting<W: Sink>(
+        &mut self,
+        word: NestingWord,
+        t: TaskId,
+        call: &Call,
+        out: &mut W,
+    )
+        requires known { t < length self.old.scripts.programs }
+        requires runs { self.old.schedule.running ≡ Some t }
+        ensures { Follows (does_nesting word t (call_view call.now)) self.old self.new (W.tape out.old) (W.tape out.new) }
+    {
+        match word {
+            NestingWord::Forbid => self.forbid(t, call, out),
+            NestingWord::Permit => self.permit(t, call, out),
+            NestingWord::Disable => self.disable(t, call, out),
+            NestingWord::Enable => self.enable(t, call, out),
+        }
     }
 }

@@ -1,7 +1,7 @@
 //! Plain words: they set variables, calculate, jump and print, and ask nothing of Exec.
 ghost use Rattle.std.specs.Prelude.{◌≡◌, ◌<◌, length, if◌then◌else◌};
 ghost use Rattle.exectrace.specs.Sink.{Tape};
-ghost use Rattle.execmodel.specs.Plain.{does_set, does_add, does_sub, does_and, does_or, jumps, does_jump, does_jump_zero, does_jump_not_zero, does_print};
+ghost use Rattle.execmodel.specs.Plain.{does_set, does_add, does_sub, does_and, does_or, jumps, does_jump, does_jump_zero, does_jump_not_zero, does_print, does_plain};
 ghost use Rattle.execsim.specs.Agreement.{Follows};
 ghost use Rattle.execsim.specs.Views.{call_view};
 
@@ -10,6 +10,7 @@ use crate::program::Call;
 use execlist::space::ListSpace;
 use exectrace::Sink;
 use taskq::TaskId;
+use taskscript::PlainWord;
 
 /// One of two places, by a test.
 fn place_if(test: bool, there: usize, here: usize) -> usize
@@ -20,7 +21,7 @@ fn place_if(test: bool, there: usize, here: usize) -> usize
 
 impl<S: ListSpace> Kernel<S> {
     /// Set a: answers a.
-    pub(crate) fn set(&mut self, t: TaskId, call: &Call)
+    fn set(&mut self, t: TaskId, call: &Call)
         requires { t < length self.old.scripts.programs }
         ensures { (tape : Tape) → Follows (does_set t (call_view call.now)) self.old self.new tape tape }
     {
@@ -28,7 +29,7 @@ impl<S: ListSpace> Kernel<S> {
     }
 
     /// Add a b: answers the sum.
-    pub(crate) fn add_words(&mut self, t: TaskId, call: &Call)
+    fn add_words(&mut self, t: TaskId, call: &Call)
         requires { t < length self.old.scripts.programs }
         ensures { (tape : Tape) → Follows (does_add t (call_view call.now)) self.old self.new tape tape }
     {
@@ -36,7 +37,7 @@ impl<S: ListSpace> Kernel<S> {
     }
 
     /// Sub a b: answers the difference.
-    pub(crate) fn sub_words(&mut self, t: TaskId, call: &Call)
+    fn sub_words(&mut self, t: TaskId, call: &Call)
         requires { t < length self.old.scripts.programs }
         ensures { (tape : Tape) → Follows (does_sub t (call_view call.now)) self.old self.new tape tape }
     {
@@ -44,7 +45,7 @@ impl<S: ListSpace> Kernel<S> {
     }
 
     /// And a b: answers the bits that both have.
-    pub(crate) fn and_words(&mut self, t: TaskId, call: &Call)
+    fn and_words(&mut self, t: TaskId, call: &Call)
         requires { t < length self.old.scripts.programs }
         ensures { (tape : Tape) → Follows (does_and t (call_view call.now)) self.old self.new tape tape }
     {
@@ -52,7 +53,7 @@ impl<S: ListSpace> Kernel<S> {
     }
 
     /// Or a b: answers the bits that either has.
-    pub(crate) fn or_words(&mut self, t: TaskId, call: &Call)
+    fn or_words(&mut self, t: TaskId, call: &Call)
         requires { t < length self.old.scripts.programs }
         ensures { (tape : Tape) → Follows (does_or t (call_view call.now)) self.old self.new tape tape }
     {
@@ -68,7 +69,7 @@ impl<S: ListSpace> Kernel<S> {
     }
 
     /// Jump l: goes on at l.
-    pub(crate) fn jump(&mut self, t: TaskId, call: &Call)
+    fn jump(&mut self, t: TaskId, call: &Call)
         requires { t < length self.old.scripts.programs }
         ensures { (tape : Tape) → Follows (does_jump t (call_view call.now)) self.old self.new tape tape }
     {
@@ -76,7 +77,7 @@ impl<S: ListSpace> Kernel<S> {
     }
 
     /// JumpZ a l: goes on at l if a is 0.
-    pub(crate) fn jump_zero(&mut self, t: TaskId, call: &Call)
+    fn jump_zero(&mut self, t: TaskId, call: &Call)
         requires { t < length self.old.scripts.programs }
         ensures { (tape : Tape) → Follows (does_jump_zero t (call_view call.now)) self.old self.new tape tape }
     {
@@ -85,7 +86,7 @@ impl<S: ListSpace> Kernel<S> {
     }
 
     /// JumpNZ a l: goes on at l if a is not 0.
-    pub(crate) fn jump_not_zero(&mut self, t: TaskId, call: &Call)
+    fn jump_not_zero(&mut self, t: TaskId, call: &Call)
         requires { t < length self.old.scripts.programs }
         ensures { (tape : Tape) → Follows (does_jump_not_zero t (call_view call.now)) self.old self.new tape tape }
     {
@@ -95,10 +96,34 @@ impl<S: ListSpace> Kernel<S> {
 
     /// Print a: its line shows the value.
     #[tactic(auto, unfolding(execmodel::specs::Plain::does_print))]
-    pub(crate) fn print<W: Sink>(&mut self, t: TaskId, call: &Call, out: &mut W)
+    fn print<W: Sink>(&mut self, t: TaskId, call: &Call, out: &mut W)
         requires { t < length self.old.scripts.programs }
         ensures { Follows (does_print t (call_view call.now)) self.old self.new (W.tape out.old) (W.tape out.new) }
     {
         self.done(t, call, out);
+    }
+
+    /// A call of task t, by its word: a plain one.
+    pub(crate) fn does_plain<W: Sink>(
+        &mut self,
+        word: PlainWord,
+        t: TaskId,
+        call: &Call,
+        out: &mut W,
+    )
+        requires { t < length self.old.scripts.programs }
+        ensures { Follows (does_plain word t (call_view call.now)) self.old self.new (W.tape out.old) (W.tape out.new) }
+    {
+        match word {
+            PlainWord::Set => self.set(t, call),
+            PlainWord::Add => self.add_words(t, call),
+            PlainWord::Sub => self.sub_words(t, call),
+            PlainWord::And => self.and_words(t, call),
+            PlainWord::Or => self.or_words(t, call),
+            PlainWord::Jump => self.jump(t, call),
+            PlainWord::JumpZ => self.jump_zero(t, call),
+            PlainWord::JumpNZ => self.jump_not_zero(t, call),
+            PlainWord::Print => self.print(t, call, out),
+        }
     }
 }

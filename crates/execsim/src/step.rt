@@ -69,7 +69,7 @@ impl<S: ListSpace> Kernel<S> {
 
     // ---- step
 
-    /// A call of task t, by its word.
+    /// A call of task t, by the group of its word.
     #[tactic(auto, unfolding(execmodel::specs::Step::does))]
     fn does<W: Sink>(&mut self, t: TaskId, call: &Call, out: &mut W)
         requires known { t < length self.old.scripts.programs }
@@ -77,47 +77,12 @@ impl<S: ListSpace> Kernel<S> {
         ensures { Follows (does t (call_view call.now)) self.old self.new (W.tape out.old) (W.tape out.new) }
     {
         match call.word {
-            Word::Set => self.set(t, call),
-            Word::Add => self.add_words(t, call),
-            Word::Sub => self.sub_words(t, call),
-            Word::And => self.and_words(t, call),
-            Word::Or => self.or_words(t, call),
-            Word::Jump => self.jump(t, call),
-            Word::JumpZ => self.jump_zero(t, call),
-            Word::JumpNZ => self.jump_not_zero(t, call),
-            Word::Print => self.print(t, call, out),
-            Word::AllocSignal => self.alloc_signal(t, call, out),
-            Word::FreeSignal => self.free_signal(t, call, out),
-            Word::SetSignal => self.set_signal(t, call, out),
-            Word::Signal => self.signal(t, call, out),
-            Word::Wait => self.wait(t, call, out),
-            Word::Forbid => self.forbid(t, call, out),
-            Word::Permit => self.permit(t, call, out),
-            Word::Disable => self.disable(t, call, out),
-            Word::Enable => self.enable(t, call, out),
-            Word::SetTaskPri => self.set_task_pri(t, call, out),
-            Word::AddTask => self.add_task(t, call, out),
-            Word::RemTask => self.rem_task(t, call, out),
-            Word::FindTask => self.find_task(t, call, out),
-            Word::NewList => self.new_list(t, call, out),
-            Word::FreeList => self.free_list(t, call, out),
-            Word::NewNode => self.new_node(t, call, out),
-            Word::FreeNode => self.free_node(t, call, out),
-            Word::AddHead => self.add_head(t, call, out),
-            Word::AddTail => self.add_tail(t, call, out),
-            Word::Enqueue => self.enqueue(t, call, out),
-            Word::Insert => self.insert(t, call, out),
-            Word::Remove => self.remove(t, call, out),
-            Word::RemHead => self.rem_head(t, call, out),
-            Word::RemTail => self.rem_tail(t, call, out),
-            Word::First => self.first(t, call, out),
-            Word::Last => self.last(t, call, out),
-            Word::Succ => self.succ(t, call, out),
-            Word::Pred => self.pred(t, call, out),
-            Word::FindName => self.find_name(t, call, out),
-            Word::AllocMem => self.alloc_mem(t, call, out),
-            Word::FreeMem => self.free_mem(t, call, out),
-            Word::AvailMem => self.avail_mem(t, call, out),
+            Word::Plain(word) => self.does_plain(word, t, call, out),
+            Word::Signals(word) => self.does_signals(word, t, call, out),
+            Word::Nesting(word) => self.does_nesting(word, t, call, out),
+            Word::Tasks(word) => self.does_tasks(word, t, call, out),
+            Word::Lists(word) => self.does_lists(word, t, call, out),
+            Word::Memory(word) => self.does_memory(word, t, call, out),
         }
     }
 

@@ -4,7 +4,7 @@ ghost use Rattle.std.specs.Int.{cast_signed, cast_unsigned, w32};
 ghost use Rattle.scheduler.specs.Dispatch.{signalled as signalled_in_order};
 ghost use Rattle.scheduler.specs.Schedule.{signals_of, come_for, after_wait, allocates, frees, sets_signals};
 ghost use Rattle.signals.specs.Signals.{grant, grant_number, is_own_signal};
-ghost use Rattle.execmodel.specs.Signals.{is_mask, does_alloc_signal, does_free_signal, does_set_signal, does_signal, does_wait};
+ghost use Rattle.execmodel.specs.Signals.{is_mask, does_alloc_signal, does_free_signal, does_set_signal, does_signal, does_wait, does_signals};
 ghost use Rattle.execsim.specs.Agreement.{Follows};
 ghost use Rattle.execsim.specs.Views.{call_view};
 
@@ -13,6 +13,7 @@ use crate::program::Call;
 use execlist::space::ListSpace;
 use exectrace::Sink;
 use taskq::TaskId;
+use taskscript::SignalWord;
 
 /// Whether the mask holds only signals that scripts may name: 12 to 31.
 fn is_mask(mask: u32) -> bool
@@ -64,7 +65,7 @@ impl<S: ListSpace> Kernel<S> {
     }
 
     /// AllocSignal a (autodoc exec.library/AllocSignal).
-    pub(crate) fn alloc_signal<W: Sink>(&mut self, t: TaskId, call: &Call, out: &mut W)
+    fn alloc_signal<W: Sink>(&mut self, t: TaskId, call: &Call, out: &mut W)
         requires known { t < length self.old.scripts.programs }
         requires runs { self.old.schedule.running ≡ Some t }
         ensures { Follows (does_alloc_signal t (call_view call.now)) self.old self.new (W.tape out.old) (W.tape out.new) }
@@ -74,7 +75,7 @@ impl<S: ListSpace> Kernel<S> {
     }
 
     /// FreeSignal a (autodoc exec.library/FreeSignal).
-    pub(crate) fn free_signal<W: Sink>(&mut self, t: TaskId, call: &Call, out: &mut W)
+    fn free_signal<W: Sink>(&mut self, t: TaskId, call: &Call, out: &mut W)
         requires { t < length self.old.scripts.programs }
         ensures { Follows (does_free_signal t (call_view call.now)) self.old self.new (W.tape out.old) (W.tape out.new) }
     {
@@ -90,7 +91,7 @@ impl<S: ListSpace> Kernel<S> {
     }
 
     /// SetSignal new mask (autodoc exec.library/SetSignal).
-    pub(crate) fn set_signal<W: Sink>(&mut self, t: TaskId, call: &Call, out: &mut W)
+    fn set_signal<W: Sink>(&mut self, t: TaskId, call: &Call, out: &mut W)
         requires known { t < length self.old.scripts.programs }
         requires runs { self.old.schedule.running ≡ Some t }
         ensures { Follows (does_set_signal t (call_view call.now)) self.old self.new (W.tape out.old) (W.tape out.new) }
@@ -123,7 +124,7 @@ impl<S: ListSpace> Kernel<S> {
     }
 
     /// Signal t mask (autodoc exec.library/Signal).
-    pub(crate) fn signal<W: Sink>(&mut self, t: TaskId, call: &Call, out: &mut W)
+    fn signal<W: Sink>(&mut self, t: TaskId, call: &Call, out: &mut W)
         requires { t < length self.old.scripts.programs }
         ensures { Follows (does_signal t (call_view call.now)) self.old self.new (W.tape out.old) (W.tape out.new) }
     {
@@ -140,7 +141,7 @@ impl<S: ListSpace> Kernel<S> {
     }
 
     /// Wait mask (autodoc exec.library/Wait).
-    pub(crate) fn wait<W: Sink>(&mut self, t: TaskId, call: &Call, out: &mut W)
+    fn wait<W: Sink>(&mut self, t: TaskId, call: &Call, out: &mut W)
         requires known { t < length self.old.scripts.programs }
         requires runs { self.old.schedule.running ≡ Some t }
         ensures { Follows (does_wait t (call_view call.now)) self.old self.new (W.tape out.old) (W.tape out.new) }
@@ -153,6 +154,27 @@ impl<S: ListSpace> Kernel<S> {
                 Some(common) => self.answered(t, call, common, out),
                 None => self.waiting(t, call, out),
             }
+        }
+    }
+
+    /// A call of task t on signals, by its word.
+    pub(crate) fn does_signals<W: Sink>(
+        &mut self,
+        word: SignalWord,
+        t: TaskId,
+        call: &Call,
+        out: &mut W,
+    )
+        requires known { t < length self.old.scripts.programs }
+        requires runs { self.old.schedule.running ≡ Some t }
+        ensures { Follows (does_signals word t (call_view call.now)) self.old self.new (W.tape out.old) (W.tape out.new) }
+    {
+        match word {
+            SignalWord::AllocSignal => self.alloc_signal(t, call, out),
+            SignalWord::FreeSignal => self.free_signal(t, call, out),
+            SignalWord::SetSignal => self.set_signal(t, call, out),
+            SignalWord::Signal => self.signal(t, call, out),
+            SignalWord::Wait => self.wait(t, call, out),
         }
     }
 }

@@ -6,7 +6,7 @@ ghost use Rattle.execlist.specs.Lists.{times};
 ghost use Rattle.taskq.specs.Tasks.{is_live, is_ready};
 ghost use Rattle.scheduler.specs.Dispatch as dispatch;
 ghost use Rattle.scheduler.specs.Schedule.{status_of, priority_of, is_absent, leaves, removed};
-ghost use Rattle.execmodel.specs.Tasks.{is_live_task, is_priority, is_caller, found_number, does_set_task_pri, does_add_task, does_rem_task, does_find_task};
+ghost use Rattle.execmodel.specs.Tasks.{is_live_task, is_priority, is_caller, found_number, does_set_task_pri, does_add_task, does_rem_task, does_find_task, does_tasks};
 ghost use Rattle.execsim.specs.Agreement.{Follows};
 ghost use Rattle.execsim.specs.Views.{call_view};
 
@@ -15,6 +15,7 @@ use crate::program::Call;
 use execlist::space::ListSpace;
 use exectrace::{Name, Sink};
 use taskq::TaskId;
+use taskscript::TaskWord;
 
 /// Whether a task may have the priority that the word is, read as a signed one.
 pub(crate) fn is_priority(word: u32) -> bool
@@ -86,7 +87,7 @@ impl<S: ListSpace> Kernel<S> {
     }
 
     /// SetTaskPri task pri (autodoc exec.library/SetTaskPri).
-    pub(crate) fn set_task_pri<W: Sink>(&mut self, t: TaskId, call: &Call, out: &mut W)
+    fn set_task_pri<W: Sink>(&mut self, t: TaskId, call: &Call, out: &mut W)
         requires { t < length self.old.scripts.programs }
         ensures { Follows (does_set_task_pri t (call_view call.now)) self.old self.new (W.tape out.old) (W.tape out.new) }
     {
@@ -103,7 +104,7 @@ impl<S: ListSpace> Kernel<S> {
     }
 
     /// AddTask task (autodoc exec.library/AddTask).
-    pub(crate) fn add_task<W: Sink>(&mut self, t: TaskId, call: &Call, out: &mut W)
+    fn add_task<W: Sink>(&mut self, t: TaskId, call: &Call, out: &mut W)
         requires { t < length self.old.scripts.programs }
         ensures { Follows (does_add_task t (call_view call.now)) self.old self.new (W.tape out.old) (W.tape out.new) }
     {
@@ -117,7 +118,7 @@ impl<S: ListSpace> Kernel<S> {
     }
 
     /// RemTask task (autodoc exec.library/RemTask).
-    pub(crate) fn rem_task<W: Sink>(&mut self, t: TaskId, call: &Call, out: &mut W)
+    fn rem_task<W: Sink>(&mut self, t: TaskId, call: &Call, out: &mut W)
         requires known { t < length self.old.scripts.programs }
         requires runs { self.old.schedule.running ≡ Some t }
         ensures { Follows (does_rem_task t (call_view call.now)) self.old self.new (W.tape out.old) (W.tape out.new) }
@@ -149,11 +150,31 @@ impl<S: ListSpace> Kernel<S> {
     }
 
     /// FindTask name (autodoc exec.library/FindTask).
-    pub(crate) fn find_task<W: Sink>(&mut self, t: TaskId, call: &Call, out: &mut W)
+    fn find_task<W: Sink>(&mut self, t: TaskId, call: &Call, out: &mut W)
         requires { t < length self.old.scripts.programs }
         ensures { Follows (does_find_task t (call_view call.now)) self.old self.new (W.tape out.old) (W.tape out.new) }
     {
         let answer = self.found_number(t, call.name(0));
         self.answered(t, call, answer, out);
+    }
+
+    /// A call of task t on tasks, by its word.
+    pub(crate) fn does_tasks<W: Sink>(
+        &mut self,
+        word: TaskWord,
+        t: TaskId,
+        call: &Call,
+        out: &mut W,
+    )
+        requires known { t < length self.old.scripts.programs }
+        requires runs { self.old.schedule.running ≡ Some t }
+        ensures { Follows (does_tasks word t (call_view call.now)) self.old self.new (W.tape out.old) (W.tape out.new) }
+    {
+        match word {
+            TaskWord::SetTaskPri => self.set_task_pri(t, call, out),
+            TaskWord::AddTask => self.add_task(t, call, out),
+            TaskWord::RemTask => self.rem_task(t, call, out),
+            TaskWord::FindTask => self.find_task(t, call, out),
+        }
     }
 }

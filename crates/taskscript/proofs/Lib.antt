@@ -22,5 +22,6 @@ pub mod Sound
 pub mod TaskTurns
 pub mod Turns
 pub mod Whole
+pub mod WordGroups
 pub mod WordTable
 pub mod Worked

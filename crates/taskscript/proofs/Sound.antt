@@ -4,8 +4,8 @@ use Rattle.std.specs.Option.{option_or}
 use Rattle.std.proofs.lemmas.Option.{same_Some}
 use Rattle.std.proofs.lemmas.Slice.Eq.{bytes_eq-Decides}
 use Rattle.taskscript.specs.declared.word.Word.{Word}
-use Rattle.taskscript.specs.declared.word.Kind.{Kind}
-use Rattle.taskscript.specs.declared.word.Kind.TheVariants.{Value, Label, Name, NameOrNone}
+use Rattle.taskscript.specs.declared.word.row.Kind.{Kind}
+use Rattle.taskscript.specs.declared.word.row.Kind.TheVariants.{Value, Label, Name, NameOrNone}
 use Rattle.taskscript.specs.Identifiers.{is_identifier}
 use Rattle.taskscript.specs.Numbers.{number_of}
 use Rattle.taskscript.specs.Words.{word_text, word_of, all_words, answers, kinds}

@@ -1,7 +1,7 @@
 -- What a line says, as a relation between its fields and a command.
 use Rattle.std.specs.Prelude.{◌≡◌, ℕ, Bool, true, codes, List, [], ◌∷◌, ◌++◌, Option, Some, None}
-use Rattle.taskscript.specs.declared.word.Kind.{Kind}
-use Rattle.taskscript.specs.declared.word.Kind.TheVariants.{Value, Label, Name, NameOrNone}
+use Rattle.taskscript.specs.declared.word.row.Kind.{Kind}
+use Rattle.taskscript.specs.declared.word.row.Kind.TheVariants.{Value, Label, Name, NameOrNone}
 use Rattle.taskscript.specs.Identifiers.{is_identifier}
 use Rattle.taskscript.specs.Names.{is_name}
 use Rattle.taskscript.specs.Numbers.{number_of}

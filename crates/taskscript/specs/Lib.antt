@@ -8,10 +8,17 @@ pub mod Identifiers
 pub mod Labels
 pub mod Law
 pub mod Lines
+pub mod ListWords
 pub mod Machines
+pub mod MemoryWords
 pub mod Names
+pub mod NestingWords
 pub mod Numbering
 pub mod Numbers
+pub mod PlainWords
 pub mod Records
+pub mod Rows
+pub mod SignalWords
+pub mod TaskWords
 pub mod Tree
 pub mod Words

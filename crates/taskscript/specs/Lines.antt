@@ -5,8 +5,8 @@ use Rattle.std.specs.Option.{option_or}
 use Rattle.taskscript.specs.declared.fault.FileFault.{FileFault}
 use Rattle.taskscript.specs.declared.fault.FileFault.TheVariants.{BadCommand, OutOfMemory}
 use Rattle.taskscript.specs.declared.word.Word.{Word}
-use Rattle.taskscript.specs.declared.word.Kind.{Kind}
-use Rattle.taskscript.specs.declared.word.Kind.TheVariants.{Value, Label, Name, NameOrNone}
+use Rattle.taskscript.specs.declared.word.row.Kind.{Kind}
+use Rattle.taskscript.specs.declared.word.row.Kind.TheVariants.{Value, Label, Name, NameOrNone}
 use Rattle.taskscript.specs.declared.variable.NamedVariable.{NamedVariable}
 use Rattle.taskscript.specs.declared.named.NamedArgument.{NamedArgument}
 use Rattle.taskscript.specs.declared.named.NamedArgument.TheVariants as argument

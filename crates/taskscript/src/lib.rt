@@ -40,4 +40,6 @@ pub use laws::{
 pub use name::Name;
 pub use reading::read_machine;
 pub use variable::{Variable, VariableName};
-pub use word::{ALL, Kind, Word, word_of};
+pub use word::{
+    Kind, ListWord, MemoryWord, NestingWord, PlainWord, SignalWord, TaskWord, Word, word_of,
+};

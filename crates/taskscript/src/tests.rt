@@ -82,7 +82,7 @@ fn a_machine_file_gives_its_parts_in_order(rt: HostRuntime) -> Result<(), Fail> 
     assert_eq!(rt; tasks[1].pri, 0);
     assert!(rt; tasks[1].start);
     assert_eq!(rt; tasks[1].code.len(), 2);
-    assert!(rt; tasks[1].code[1].word == Word::Wait);
+    assert!(rt; tasks[1].code[1].word == Word::Signals(SignalWord::Wait));
     Ok(())
 }
 

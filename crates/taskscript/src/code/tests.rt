@@ -2,7 +2,7 @@
 use super::*;
 use crate::command::Argument;
 use crate::variable::Variable;
-use crate::word::Word;
+use crate::word::{ListWord, SignalWord, Word};
 use std::test::*;
 
 /// The code of a body with these lines.
@@ -99,27 +99,27 @@ fn a_line_of_another_form_is_no_command(rt: HostRuntime) {
 #[test]
 fn each_word_of_lists_and_nodes_is_read(rt: HostRuntime) -> Result<(), Fail> {
     let cases = [
-        ("l = NewList", Word::NewList),
-        ("FreeList l", Word::FreeList),
-        ("n = NewNode -128 \"x\"", Word::NewNode),
-        ("FreeNode n", Word::FreeNode),
-        ("AddHead l n", Word::AddHead),
-        ("AddTail @l $1010", Word::AddTail),
-        ("Enqueue l n", Word::Enqueue),
-        ("Insert l n 0", Word::Insert),
-        ("Remove n", Word::Remove),
-        ("n = RemHead l", Word::RemHead),
-        ("n = RemTail l", Word::RemTail),
-        ("n = First l", Word::First),
-        ("@n = Last l", Word::Last),
-        ("n = Succ n", Word::Succ),
-        ("n = Pred n", Word::Pred),
-        ("n = FindName l \"x\"", Word::FindName),
+        ("l = NewList", ListWord::NewList),
+        ("FreeList l", ListWord::FreeList),
+        ("n = NewNode -128 \"x\"", ListWord::NewNode),
+        ("FreeNode n", ListWord::FreeNode),
+        ("AddHead l n", ListWord::AddHead),
+        ("AddTail @l $1010", ListWord::AddTail),
+        ("Enqueue l n", ListWord::Enqueue),
+        ("Insert l n 0", ListWord::Insert),
+        ("Remove n", ListWord::Remove),
+        ("n = RemHead l", ListWord::RemHead),
+        ("n = RemTail l", ListWord::RemTail),
+        ("n = First l", ListWord::First),
+        ("@n = Last l", ListWord::Last),
+        ("n = Succ n", ListWord::Succ),
+        ("n = Pred n", ListWord::Pred),
+        ("n = FindName l \"x\"", ListWord::FindName),
     ];
     for (line, word) in cases {
         let code = code_of(&rt, &[line], &mut IndexSet::new(rt.alloc()))?;
         assert_eq!(rt; code.len(), 1, "at {line}");
-        assert!(rt; code[0].word == word, "at {line}");
+        assert!(rt; code[0].word == Word::Lists(word), "at {line}");
     }
     Ok(())
 }
@@ -315,7 +315,7 @@ fn variables_are_numbered_in_order_of_first_sight(rt: HostRuntime) -> Result<(),
     let lines = ["b = Wait a", "@a = Set b", "Signal c @b", "Set @a"];
     let code = code_of(&rt, &lines, &mut shared)?;
     assert_eq!(rt; code.len(), 4);
-    assert!(rt; code[0].word == Word::Wait);
+    assert!(rt; code[0].word == Word::Signals(SignalWord::Wait));
     assert!(rt; code[0].target == Some(Variable::Private(0)));
     assert!(rt; variable_at(&code, 0, 0) == Some(Variable::Private(1)));
     assert!(rt; code[1].target == Some(Variable::Shared(0)));

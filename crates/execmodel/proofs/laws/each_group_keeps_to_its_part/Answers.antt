@@ -1,0 +1,20 @@
+use Rattle.execmodel.proofs.Keeping.{plain_words_change_scripts, signal_words_change_the_schedule, nesting_words_change_the_schedule, task_words_change_the_schedule, list_words_change_the_memory, memory_words_change_the_memory}
+use Rattle.execmodel.proofs.laws.each_group_keeps_to_its_part.Goals as goal
+
+pub returns-clause-plain : goal.returns-clause-plain
+returns-clause-plain c = plain_words_change_scripts
+
+pub returns-clause-signals : goal.returns-clause-signals
+returns-clause-signals c = signal_words_change_the_schedule
+
+pub returns-clause-nesting : goal.returns-clause-nesting
+returns-clause-nesting c = nesting_words_change_the_schedule
+
+pub returns-clause-tasks : goal.returns-clause-tasks
+returns-clause-tasks c = task_words_change_the_schedule
+
+pub returns-clause-lists : goal.returns-clause-lists
+returns-clause-lists c = list_words_change_the_memory
+
+pub returns-clause-memory : goal.returns-clause-memory
+returns-clause-memory c = memory_words_change_the_memory
