@@ -147,7 +147,7 @@ fn take_all(rt: &impl Abort, heap: &mut Heap<PlainSpace>, steps: &[Step]) {
     }
 }
 
-/// Takes steps on a heap with nothing in it, and with a pool of so many objects of each kind.
+/// Takes the steps that make what a test needs, and then its own, on a heap with a pool of so many objects of each kind.
 fn on_new(
     rt: &impl Abort,
     alloc: Global,
@@ -187,7 +187,7 @@ fn a_plain_block_is_rounded_up_and_freed_by_a_size_that_names_it(
         Frees(0x1000, 8, false),
         Leaves(256),
     ];
-    on_one(&rt, rt.alloc(), &STEPS)
+    on_new(&rt, rt.alloc(), 0, &[], &STEPS)
 }
 
 #[test]

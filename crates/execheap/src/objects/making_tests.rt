@@ -1,9 +1,9 @@
 //! Tests of plain blocks, and of lists and nodes that are made and freed. A test is a table of steps: calls, each with what it must answer.
 ghost use Rattle.std.specs.Prelude.{◌≤◌};
 
+use super::tests::same;
 use super::*;
 use execlist::plain::PlainSpace;
-use std::fmt::Debug;
 use std::process::Abort;
 use std::test::Fail;
 
@@ -79,11 +79,6 @@ fn address_at(objects: &Objects<PlainSpace>, address: u32) -> Option<u32> {
     }
 }
 
-/// The answer of the step of that number, counted from 0, is the one that is wanted.
-fn same<T: PartialEq + Debug + Copy>(rt: &impl Abort, number: usize, answer: T, wanted: T) {
-    assert_eq!(rt; answer, wanted, "in step {number}");
-}
-
 fn take(rt: &impl Abort, objects: &mut Objects<PlainSpace>, number: usize, step: Step) {
     match step {
         MakesList(wanted) => same(rt, number, objects.make_list(), wanted),
@@ -105,7 +100,7 @@ fn take(rt: &impl Abort, objects: &mut Objects<PlainSpace>, number: usize, step:
     }
 }
 
-/// Takes steps on memory of a size, and with a pool of two objects of each kind or one.
+/// Takes steps on memory of a size in bytes, and with a pool of so many objects of each kind.
 fn on_small(
     rt: &impl Abort,
     alloc: Global,

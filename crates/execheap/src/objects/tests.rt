@@ -156,7 +156,12 @@ fn named(objects: &Small, list: u32, start: Option<u32>, name: &str) -> Option<u
 }
 
 /// The answer of the step of that number, counted from 0, is the one that is wanted.
-fn same<T: PartialEq + Debug + Copy>(rt: &impl Abort, number: usize, answer: T, wanted: T) {
+pub(super) fn same<T: PartialEq + Debug + Copy>(
+    rt: &impl Abort,
+    number: usize,
+    answer: T,
+    wanted: T,
+) {
     assert_eq!(rt; answer, wanted, "in step {number}");
 }
 
