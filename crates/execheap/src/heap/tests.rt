@@ -1,5 +1,5 @@
 //! Tests of the memory and its objects by address, over a list space in vectors: each call where it succeeds, and what is refused.
-//! A test is a table of steps: calls, each with what it must answer.
+//! A test is a table of steps: calls, each with what it must answer. It is a `static`, so that what is proved of a test does not grow with it.
 ghost use Rattle.std.specs.Prelude.{◌≤◌};
 
 use super::*;
@@ -71,7 +71,7 @@ const B: u32 = 0x1020;
 const C: u32 = 0x1030;
 
 /// A list, and nodes of the names a, b and a, and of the priorities 0, 5 and 0, which are not linked.
-const THREE: [Step; 4] = [
+static THREE: [Step; 4] = [
     Makes(NewList, Some(LIST)),
     Makes(NewNode(0, Some("a")), Some(A)),
     Makes(NewNode(5, Some("b")), Some(B)),
@@ -177,7 +177,7 @@ fn on_three(rt: &impl Abort, alloc: Global, steps: &[Step]) -> Result<(), Fail> 
 fn a_plain_block_is_rounded_up_and_freed_by_a_size_that_names_it(
     rt: HostRuntime,
 ) -> Result<(), Fail> {
-    const STEPS: [Step; 8] = [
+    static STEPS: [Step; 8] = [
         Makes(AllocMem(5, 1), Some(0x1000)),
         Makes(AllocMem(0, 1), None),
         Makes(AllocMem(249, 1), None),
@@ -194,7 +194,7 @@ fn a_plain_block_is_rounded_up_and_freed_by_a_size_that_names_it(
 fn the_fourteen_bytes_of_an_object_take_sixteen_from_the_front(
     rt: HostRuntime,
 ) -> Result<(), Fail> {
-    const STEPS: [Step; 6] = [
+    static STEPS: [Step; 6] = [
         Makes(NewList, Some(0x1000)),
         Makes(NewNode(0, None), Some(0x1010)),
         Leaves(224),
@@ -207,7 +207,7 @@ fn the_fourteen_bytes_of_an_object_take_sixteen_from_the_front(
 
 #[test]
 fn a_pool_that_is_used_up_gives_an_object_once_one_is_freed(rt: HostRuntime) -> Result<(), Fail> {
-    const STEPS: [Step; 8] = [
+    static STEPS: [Step; 8] = [
         Makes(NewList, Some(0x1000)),
         Makes(NewList, None),
         Makes(NewNode(0, None), Some(0x1010)),
@@ -222,7 +222,7 @@ fn a_pool_that_is_used_up_gives_an_object_once_one_is_freed(rt: HostRuntime) -> 
 
 #[test]
 fn free_mem_of_the_block_of_a_list_answers_false(rt: HostRuntime) -> Result<(), Fail> {
-    const STEPS: [Step; 5] = [
+    static STEPS: [Step; 5] = [
         Makes(NewList, Some(0x1000)),
         Frees(0x1000, 14, false),
         Frees(0x1000, 16, false),
@@ -234,7 +234,7 @@ fn free_mem_of_the_block_of_a_list_answers_false(rt: HostRuntime) -> Result<(), 
 
 #[test]
 fn nodes_stand_where_they_are_put(rt: HostRuntime) -> Result<(), Fail> {
-    const STEPS: [Step; 11] = [
+    static STEPS: [Step; 11] = [
         Does(AddHead(LIST, A), Ok(())),
         Does(AddTail(LIST, B), Ok(())),
         Does(Insert(LIST, C, A), Ok(())),
@@ -252,7 +252,7 @@ fn nodes_stand_where_they_are_put(rt: HostRuntime) -> Result<(), Fail> {
 
 #[test]
 fn a_node_that_was_removed_is_inserted_first(rt: HostRuntime) -> Result<(), Fail> {
-    const STEPS: [Step; 8] = [
+    static STEPS: [Step; 8] = [
         Does(AddHead(LIST, A), Ok(())),
         Does(AddTail(LIST, B), Ok(())),
         Does(Insert(LIST, C, A), Ok(())),
@@ -267,7 +267,7 @@ fn a_node_that_was_removed_is_inserted_first(rt: HostRuntime) -> Result<(), Fail
 
 #[test]
 fn a_node_is_enqueued_behind_its_equals_and_found_by_name(rt: HostRuntime) -> Result<(), Fail> {
-    const STEPS: [Step; 10] = [
+    static STEPS: [Step; 10] = [
         Does(Enqueue(LIST, A), Ok(())),
         Does(Enqueue(LIST, B), Ok(())),
         Does(Enqueue(LIST, C), Ok(())),
@@ -284,7 +284,7 @@ fn a_node_is_enqueued_behind_its_equals_and_found_by_name(rt: HostRuntime) -> Re
 
 #[test]
 fn the_ends_are_taken_until_the_list_is_empty(rt: HostRuntime) -> Result<(), Fail> {
-    const STEPS: [Step; 9] = [
+    static STEPS: [Step; 9] = [
         Does(AddTail(LIST, A), Ok(())),
         Does(AddTail(LIST, B), Ok(())),
         Does(AddTail(LIST, C), Ok(())),
@@ -302,7 +302,7 @@ fn the_ends_are_taken_until_the_list_is_empty(rt: HostRuntime) -> Result<(), Fai
 fn an_address_inside_a_block_and_one_of_another_kind_are_refused(
     rt: HostRuntime,
 ) -> Result<(), Fail> {
-    const STEPS: [Step; 9] = [
+    static STEPS: [Step; 9] = [
         Does(AddHead(LIST, B), Ok(())),
         Finds(First(0x1008), Err(NO_HANDLE)),
         Finds(First(A), Err(NO_HANDLE)),
@@ -318,7 +318,7 @@ fn an_address_inside_a_block_and_one_of_another_kind_are_refused(
 
 #[test]
 fn what_is_linked_is_not_linked_again_nor_freed(rt: HostRuntime) -> Result<(), Fail> {
-    const STEPS: [Step; 11] = [
+    static STEPS: [Step; 11] = [
         Does(AddHead(LIST, A), Ok(())),
         Does(AddTail(LIST, A), Err(LINKED)),
         Does(Insert(LIST, B, B), Err(LINKED)),

@@ -119,7 +119,7 @@ fn on_small(
 
 #[test]
 fn an_object_takes_sixteen_bytes_and_is_found_as_its_kind(rt: HostRuntime) -> Result<(), Fail> {
-    const STEPS: [Step; 9] = [
+    static STEPS: [Step; 9] = [
         MakesList(Some(0x1000)),
         MakesNode(3, Some(0x1010)),
         Knows(Kind::List, 0x1000, true),
@@ -135,7 +135,7 @@ fn an_object_takes_sixteen_bytes_and_is_found_as_its_kind(rt: HostRuntime) -> Re
 
 #[test]
 fn no_more_objects_of_a_kind_live_than_the_pool_has(rt: HostRuntime) -> Result<(), Fail> {
-    const STEPS: [Step; 10] = [
+    static STEPS: [Step; 10] = [
         MakesList(Some(0x1000)),
         MakesList(None),
         MakesNode(0, Some(0x1010)),
@@ -152,7 +152,7 @@ fn no_more_objects_of_a_kind_live_than_the_pool_has(rt: HostRuntime) -> Result<(
 
 #[test]
 fn an_object_that_does_not_fit_takes_no_number(rt: HostRuntime) -> Result<(), Fail> {
-    const STEPS: [Step; 5] = [
+    static STEPS: [Step; 5] = [
         Allocates(16, Some(0x1000)),
         MakesList(None),
         MakesNode(0, None),
@@ -164,7 +164,7 @@ fn an_object_that_does_not_fit_takes_no_number(rt: HostRuntime) -> Result<(), Fa
 
 #[test]
 fn only_a_plain_block_is_freed_by_its_size(rt: HostRuntime) -> Result<(), Fail> {
-    const STEPS: [Step; 7] = [
+    static STEPS: [Step; 7] = [
         MakesList(Some(0x1000)),
         Frees(0x1000, 16, false),
         Allocates(5, Some(0x1010)),
