@@ -1,7 +1,9 @@
 //! Tests of the calls on lists and nodes, over a list space in vectors. Lists and nodes are named by address; what a call asks of their
-//! numbers is tested first, and a call that may not be made answers none.
+//! numbers is tested first, and a call that may not be made answers none. A test is a table of steps: calls, each with what it must answer.
 use super::*;
 use execlist::plain::PlainSpace;
+use std::fmt::Debug;
+use std::process::Abort;
 use std::test::Fail;
 
 /// Objects over a list space in vectors.
@@ -17,15 +19,38 @@ enum Place {
     After(u32),
 }
 
-/// A list, and three nodes.
-struct Three {
-    objects: Small,
-    list: u32,
-    nodes: [u32; 3],
+/// A call on the list, and what it must answer.
+#[derive(Clone, Copy)]
+enum Step {
+    /// A node is put into the list.
+    Links(u32, Place, Option<()>),
+    /// A node is taken out.
+    Unlinks(u32, Option<()>),
+    /// The node at the head is taken out.
+    TakesHead(Option<u32>),
+    /// The node at the tail is taken out.
+    TakesTail(Option<u32>),
+    /// The first three nodes, from the head on.
+    ReadsForwards(Option<[Option<u32>; 3]>),
+    /// The last three nodes, from the tail on.
+    ReadsBackwards(Option<[Option<u32>; 3]>),
+    /// The first node of a name, or the first after a node.
+    FindsName(Option<u32>, &'static str, Option<u32>),
 }
 
+use Step::*;
+
+/// The list and the nodes of `make_three`.
+const LIST: u32 = 0x1000;
+
+const A: u32 = 0x1010;
+
+const B: u32 = 0x1020;
+
+const C: u32 = 0x1030;
+
 /// A list, and nodes of the names a, b and a, and of the priorities 0, 5 and 0.
-fn make_three(alloc: Global) -> Result<Three, Fail> {
+fn make_three(alloc: Global) -> Result<Small, AllocError> {
     let region = Region {
         base: 4096,
         size: 256,
@@ -33,17 +58,11 @@ fn make_three(alloc: Global) -> Result<Three, Fail> {
         pri: 0,
     };
     let mut objects: Small = Objects::new(alloc, &[region], 3)?;
-    let list = objects.make_list().unwrap_or(0);
-    let mut nodes = [0; 3];
-    for (i, (pri, name)) in [(0i8, "a"), (5, "b"), (0, "a")].iter().enumerate() {
-        let name = Some(Name::from(*name).unwrap_or_default());
-        nodes[i] = objects.make_node(*pri, name).unwrap_or(0);
+    objects.make_list();
+    for (pri, name) in [(0i8, "a"), (5, "b"), (0, "a")].iter() {
+        objects.make_node(*pri, Some(Name::from(*name).unwrap_or_default()));
     }
-    Ok(Three {
-        objects,
-        list,
-        nodes,
-    })
+    Ok(objects)
 }
 
 /// Puts an unlinked node into a list.
@@ -136,63 +155,87 @@ fn named(objects: &Small, list: u32, start: Option<u32>, name: &str) -> Option<u
     Some(objects.address_of(objects.find_name(h, from, name)?))
 }
 
+/// The answer of the step of that number, counted from 0, is the one that is wanted.
+pub(super) fn same<T: PartialEq + Debug + Copy>(
+    rt: &impl Abort,
+    number: usize,
+    answer: T,
+    wanted: T,
+) {
+    assert_eq!(rt; answer, wanted, "in step {number}");
+}
+
+fn take(rt: &impl Abort, objects: &mut Small, number: usize, step: Step) {
+    match step {
+        Links(node, place, wanted) => same(rt, number, link(objects, LIST, node, place), wanted),
+        Unlinks(node, wanted) => same(rt, number, unlink(objects, node), wanted),
+        TakesHead(wanted) => same(rt, number, take_head(objects, LIST), wanted),
+        TakesTail(wanted) => same(rt, number, take_tail(objects, LIST), wanted),
+        ReadsForwards(wanted) => same(rt, number, forwards(objects, LIST), wanted),
+        ReadsBackwards(wanted) => same(rt, number, backwards(objects, LIST), wanted),
+        FindsName(start, name, wanted) => same(
+            rt,
+            number,
+            named(objects, LIST, start, name),
+            wanted,
+        ),
+    }
+}
+
+/// Takes steps on a list and three nodes.
+fn on_three(rt: &impl Abort, alloc: Global, steps: &[Step]) -> Result<(), Fail> {
+    let mut objects = make_three(alloc)?;
+    for (number, step) in steps.iter().enumerate() {
+        take(rt, &mut objects, number, *step);
+    }
+    Ok(())
+}
+
 #[test]
 fn nodes_stand_where_they_are_put(rt: HostRuntime) -> Result<(), Fail> {
-    let Three {
-        mut objects,
-        list,
-        nodes: [a, b, c],
-    } = make_three(rt.alloc())?;
-    assert_eq!(rt; forwards(&objects, list), None);
-    assert_eq!(rt; link(&mut objects, list, a, Place::First), Some(()));
-    assert_eq!(rt; link(&mut objects, list, b, Place::First), Some(()));
-    assert_eq!(rt; link(&mut objects, list, c, Place::After(b)), Some(()));
-    assert_eq!(rt; forwards(&objects, list), Some([Some(b), Some(c), Some(a)]));
-    assert_eq!(rt;
-        backwards(&objects, list),
-        Some([Some(a), Some(c), Some(b)])
-    );
-    assert_eq!(rt; link(&mut objects, list, c, Place::Last), None);
-    assert_eq!(rt; unlink(&mut objects, b), Some(()));
-    assert_eq!(rt; unlink(&mut objects, b), None);
-    assert_eq!(rt; link(&mut objects, list, b, Place::Last), Some(()));
-    assert_eq!(rt; forwards(&objects, list), Some([Some(c), Some(a), Some(b)]));
-    Ok(())
+    const STEPS: [Step; 11] = [
+        ReadsForwards(None),
+        Links(A, Place::First, Some(())),
+        Links(B, Place::First, Some(())),
+        Links(C, Place::After(B), Some(())),
+        ReadsForwards(Some([Some(B), Some(C), Some(A)])),
+        ReadsBackwards(Some([Some(A), Some(C), Some(B)])),
+        Links(C, Place::Last, None),
+        Unlinks(B, Some(())),
+        Unlinks(B, None),
+        Links(B, Place::Last, Some(())),
+        ReadsForwards(Some([Some(C), Some(A), Some(B)])),
+    ];
+    on_three(&rt, rt.alloc(), &STEPS)
 }
 
 #[test]
 fn a_greater_priority_comes_first_and_equals_in_order(rt: HostRuntime) -> Result<(), Fail> {
-    let Three {
-        mut objects,
-        list,
-        nodes: [a, b, c],
-    } = make_three(rt.alloc())?;
-    for node in [a, b, c] {
-        assert_eq!(rt; link(&mut objects, list, node, Place::ByPriority), Some(()));
-    }
-    assert_eq!(rt; forwards(&objects, list), Some([Some(b), Some(a), Some(c)]));
-    assert_eq!(rt; named(&objects, list, None, "a"), Some(a));
-    assert_eq!(rt; named(&objects, list, Some(a), "a"), Some(c));
-    assert_eq!(rt; named(&objects, list, Some(c), "a"), None);
-    assert_eq!(rt; named(&objects, list, None, "c"), None);
-    Ok(())
+    const STEPS: [Step; 8] = [
+        Links(A, Place::ByPriority, Some(())),
+        Links(B, Place::ByPriority, Some(())),
+        Links(C, Place::ByPriority, Some(())),
+        ReadsForwards(Some([Some(B), Some(A), Some(C)])),
+        FindsName(None, "a", Some(A)),
+        FindsName(Some(A), "a", Some(C)),
+        FindsName(Some(C), "a", None),
+        FindsName(None, "c", None),
+    ];
+    on_three(&rt, rt.alloc(), &STEPS)
 }
 
 #[test]
 fn the_ends_are_taken_until_the_list_is_empty(rt: HostRuntime) -> Result<(), Fail> {
-    let Three {
-        mut objects,
-        list,
-        nodes: [a, b, c],
-    } = make_three(rt.alloc())?;
-    for node in [a, b, c] {
-        assert_eq!(rt; link(&mut objects, list, node, Place::Last), Some(()));
-    }
-    assert_eq!(rt; take_head(&mut objects, list), Some(a));
-    assert_eq!(rt; take_tail(&mut objects, list), Some(c));
-    assert_eq!(rt; unlink(&mut objects, a), None);
-    assert_eq!(rt; take_tail(&mut objects, list), Some(b));
-    assert_eq!(rt; take_head(&mut objects, list), None);
-    assert_eq!(rt; take_tail(&mut objects, list), None);
-    Ok(())
+    const STEPS: [Step; 9] = [
+        Links(A, Place::Last, Some(())),
+        Links(B, Place::Last, Some(())),
+        Links(C, Place::Last, Some(())),
+        TakesHead(Some(A)),
+        TakesTail(Some(C)),
+        Unlinks(A, None),
+        TakesTail(Some(B)),
+        TakesHead(None),
+        TakesTail(None),
+    ];
+    on_three(&rt, rt.alloc(), &STEPS)
 }
