@@ -8,7 +8,7 @@ use Rattle.execmodel.specs.Scheduling.{arrives, switch_of, rescheduled, added}
 use Rattle.execmodel.specs.Calls.{call_of, next_call, done, answered, silent, alerted}
 use Rattle.execmodel.specs.Memory.{does_alloc_mem, does_free_mem, does_avail_mem}
 use Rattle.execmodel.specs.Step.{switches, settle, does, ends, acting, acts, step, steps, all_added, starts, event, events, run}
-use Rattle.execmodel.specs.MemoryRuns.{SizesRoundUp, FreedBlocksJoin, FreeMemAsksForABlock, SuitableRegionsAreTriedByPriority}
+use Rattle.execmodel.specs.MemoryRuns.{SizesRoundUp, FreedBlocksJoin, FreeMemAsksForABlock, SuitableRegionsAreTriedByPriority, AllocMemAsksForKnownRequirements}
 
 pub sizes_round_up-computed : SizesRoundUp
 unfolding run andthen booted arrives begins switch_of rescheduled added leaves call_of next_call done answered silent alerted does_alloc_mem does_free_mem does_avail_mem fit avail gaps switches settle does ends acting acts step steps all_added starts event events
@@ -25,3 +25,7 @@ free_mem_asks_for_a_block-computed = refl
 pub suitable_regions_are_tried_by_priority-computed : SuitableRegionsAreTriedByPriority
 unfolding run andthen booted arrives begins switch_of rescheduled added leaves call_of next_call done answered silent alerted does_alloc_mem does_free_mem does_avail_mem fit avail gaps switches settle does ends acting acts step steps all_added starts event events
 suitable_regions_are_tried_by_priority-computed = refl
+
+pub alloc_mem_asks_for_known_requirements-computed : AllocMemAsksForKnownRequirements
+unfolding run andthen booted arrives begins switch_of rescheduled added leaves call_of next_call done answered silent alerted does_alloc_mem does_free_mem does_avail_mem fit avail gaps switches settle does ends acting acts step steps all_added starts event events
+alloc_mem_asks_for_known_requirements-computed = refl

@@ -10,7 +10,7 @@ use Rattle.execmodel.specs.Nesting.{does_forbid, does_permit, does_disable, does
 use Rattle.execmodel.specs.Tasks.{does_set_task_pri, does_add_task, does_find_task}
 use Rattle.execmodel.specs.Interrupts.{serves}
 use Rattle.execmodel.specs.Step.{switches, settle, does, ends, acting, acts, step, steps, tick, ticks, all_added, starts, event, events, run}
-use Rattle.execmodel.specs.QuantumRuns.{AnEndedQuantumLetsAnEqualRun, TicksUnderDisableAreServedOnce, AnEndedQuantumWaitsForPermit, ATaskThatDoesNotStartIsAdded, ALiveTaskIsFoundByItsName}
+use Rattle.execmodel.specs.QuantumRuns.{AnEndedQuantumLetsAnEqualRun, TicksUnderDisableAreServedOnce, AnEndedQuantumWaitsForPermit, ATaskThatDoesNotStartIsAdded, ALiveTaskIsFoundByItsName, AddTaskAsksForATask}
 
 pub an_ended_quantum_lets_an_equal_run-computed : AnEndedQuantumLetsAnEqualRun
 unfolding andthen booted arrives begins switch_of rescheduled added leaves signalled waits_for takes ticked call_of next_call done answered waiting does_print does_signal does_wait does_forbid does_permit does_disable does_enable does_add_task serves switches settle does ends acting acts step steps tick ticks all_added starts event events run
@@ -31,3 +31,7 @@ a_task_that_does_not_start_is_added-computed = refl
 pub a_live_task_is_found_by_its_name-computed : ALiveTaskIsFoundByItsName
 unfolding andthen booted arrives begins switch_of rescheduled added reprioritized leaves found call_of next_call done answered alerted does_print does_set_task_pri does_add_task does_find_task switches settle does ends acting acts step steps all_added starts event events run
 a_live_task_is_found_by_its_name-computed = refl
+
+pub add_task_asks_for_a_task-computed : AddTaskAsksForATask
+unfolding andthen booted arrives begins switch_of rescheduled added leaves signalled waits_for takes ticked call_of next_call done answered alerted waiting does_print does_signal does_wait does_forbid does_permit does_disable does_enable does_add_task serves switches settle does ends acting acts step steps tick ticks all_added starts event events run
+add_task_asks_for_a_task-computed = refl

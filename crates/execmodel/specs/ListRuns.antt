@@ -3,7 +3,7 @@ use Rattle.std.specs.Prelude.{◌≡◌, ℕ, pos, List, [], ◌∷◌, codes}
 use Rattle.exectrace.specs.Trace.{printed}
 use Rattle.taskscript.specs.declared.word.Word.TheVariants.{Lists, Memory}
 use Rattle.taskscript.specs.declared.word.lists.ListWord.TheVariants.{NewList, FreeList, NewNode, FreeNode, AddHead, AddTail, Enqueue, Insert, Remove, RemHead, RemTail, First, Last, Succ, Pred, FindName}
-use Rattle.taskscript.specs.declared.word.memory.MemoryWord.TheVariants.{FreeMem, AvailMem}
+use Rattle.taskscript.specs.declared.word.memory.MemoryWord.TheVariants.{AllocMem, FreeMem, AvailMem}
 use Rattle.taskscript.specs.declared.variable.Variable.TheVariants.{Private}
 use Rattle.taskscript.specs.declared.event.Event.{Event}
 use Rattle.taskscript.specs.declared.event.Event.TheVariants.{Run}
@@ -11,7 +11,7 @@ use Rattle.taskscript.specs.Commands.{number, variable, quoted, CommandData}
 use Rattle.memlist.specs.declared.region.Region.{Region}
 use Rattle.execmodel.specs.Step.{run}
 use Rattle.execmodel.specs.Runs.{command}
-use Rattle.execmodel.specs.MemoryRuns.{machine_in, into}
+use Rattle.execmodel.specs.MemoryRuns.{machine_in, trace_in, into}
 
 -- 64 bytes of public memory: room for four objects
 abbrev pub room_for_four : List Region
@@ -114,6 +114,15 @@ fills_the_pool =
     ∷ command (Lists NewNode) (number 0 ∷ number 0 ∷ [])
     ∷ command (Lists NewNode) (number 128 ∷ number 0 ∷ []) ∷ []
 
+-- chip memory that is not public
+abbrev pub chip_alone : List Region
+chip_alone = record { base = 8192; size = 16; attrs = 2; pri = pos 0 } ∷ []
+
+abbrev pub makes_a_list_in_any_memory : List CommandData
+makes_a_list_in_any_memory =
+    command (Lists NewList) []
+    ∷ command (Memory AllocMem) (number 14 ∷ number 0 ∷ []) ∷ []
+
 -- ---- statements
 
 abbrev pub EqualsStandInOrderOfArrival : Type 0
@@ -147,3 +156,7 @@ AnAddressNamesTheNewObject = trace_with 64 uses_an_address_again (Run 5 ∷ [])
 abbrev pub EachKindHasItsPool : Type 0
 EachKindHasItsPool = trace_with 1 fills_the_pool (Run 5 ∷ [])
     ≡ codes "switch a\na NewList -> $00001000\na NewList -> $00000000\na NewNode $FFFFFFFF $00000000 -> $00001010\na NewNode $00000000 $00000000 -> $00000000\nalert VALUE a NewNode\n"
+
+abbrev pub AnObjectTakesPublicMemory : Type 0
+AnObjectTakesPublicMemory = trace_in chip_alone makes_a_list_in_any_memory (Run 2 ∷ [])
+    ≡ codes "switch a\na NewList -> $00000000\na AllocMem $0000000E $00000000 -> $00002000\n"

@@ -76,6 +76,12 @@ asks_by_attributes =
     ∷ command (Memory AvailMem) (number 0x80002 ∷ [])
     ∷ command (Memory AvailMem) (number 0xa0000 ∷ []) ∷ []
 
+-- MEMF_CLEAR is known, and bit 3 is not, be the size 0 or not
+abbrev pub asks_for_an_unknown_bit : List CommandData
+asks_for_an_unknown_bit =
+    command (Memory AllocMem) (number 8 ∷ number 0x10001 ∷ [])
+    ∷ command (Memory AllocMem) (number 0 ∷ number 8 ∷ []) ∷ []
+
 -- ---- statements
 
 abbrev pub SizesRoundUp : Type 0
@@ -93,3 +99,7 @@ FreeMemAsksForABlock = trace_in small frees_twice (Run 3 ∷ Run 5 ∷ [])
 abbrev pub SuitableRegionsAreTriedByPriority : Type 0
 SuitableRegionsAreTriedByPriority = trace_in public_and_chip asks_by_attributes (Run 8 ∷ [])
     ≡ codes "switch a\na AllocMem $00000008 $00000001 -> $00002000\na AllocMem $00000010 $00000001 -> $00001000\na AllocMem $00000008 $00000002 -> $00002008\na AllocMem $00000008 $00000004 -> $00000000\na AllocMem $FFFFFFFF $00000001 -> $00000000\na AvailMem $00000001 -> $00000000\na AvailMem $00080002 -> $00000010\nalert VALUE a AvailMem\n"
+
+abbrev pub AllocMemAsksForKnownRequirements : Type 0
+AllocMemAsksForKnownRequirements = trace_in small asks_for_an_unknown_bit (Run 2 ∷ [])
+    ≡ codes "switch a\na AllocMem $00000008 $00010001 -> $00001000\nalert VALUE a AllocMem\n"

@@ -47,6 +47,9 @@ finds_another =
     ∷ command (Tasks SetTaskPri) (number 2 ∷ number 1 ∷ []) ∷ command (Tasks FindTask) (number 0 ∷ []) ∷ command (Tasks AddTask) (number 2 ∷ []) ∷ command (Tasks SetTaskPri) (number 2 ∷ number 0 ∷ []) ∷ [])
     ∷ record (task (codes "b") (pos 0) (command (Plain Print) (number 7 ∷ []) ∷ [])) { start = false } ∷ []
 
+abbrev pub adds_no_task : List TaskData
+adds_no_task = task (codes "a") (pos 0) (command (Tasks AddTask) (number 2 ∷ []) ∷ []) ∷ []
+
 -- ---- statements
 
 abbrev pub AnEndedQuantumLetsAnEqualRun : Type 0
@@ -68,3 +71,7 @@ ATaskThatDoesNotStartIsAdded = trace_by 4 adds_another (Run 4 ∷ [])
 abbrev pub ALiveTaskIsFoundByItsName : Type 0
 ALiveTaskIsFoundByItsName = trace_by 4 finds_another (Run 10 ∷ [])
     ≡ codes "switch a\na FindTask \"b\" -> $00000000\na AddTask $00000002 -> $00000002\na AddTask $00000002 -> $00000000\na FindTask \"b\" -> $00000002\na SetTaskPri $00000002 $00000001 -> $00000000\nswitch b\nb Print $00000007\nb RemTask $00000000\nswitch a\na FindTask $00000000 -> $00000001\na AddTask $00000002 -> $00000000\nalert HANDLE a SetTaskPri\n"
+
+abbrev pub AddTaskAsksForATask : Type 0
+AddTaskAsksForATask = trace_by 4 adds_no_task (Run 1 ∷ [])
+    ≡ codes "switch a\nalert HANDLE a AddTask\n"

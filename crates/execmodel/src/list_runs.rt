@@ -1,6 +1,6 @@
 //! Whole traces of small machines of lists and nodes, as the definitions compute them.
 
-ghost use Rattle.execmodel.specs.ListRuns.{EqualsStandInOrderOfArrival, NodesArePutAndTaken, APredecessorIsInTheList, ASearchBeginsBehindANode, AListInUseIsNotFreed, AnObjectIsNoPlainBlock, AnAddressNamesTheNewObject, EachKindHasItsPool};
+ghost use Rattle.execmodel.specs.ListRuns.{EqualsStandInOrderOfArrival, NodesArePutAndTaken, APredecessorIsInTheList, ASearchBeginsBehindANode, AListInUseIsNotFreed, AnObjectIsNoPlainBlock, AnAddressNamesTheNewObject, EachKindHasItsPool, AnObjectTakesPublicMemory};
 
 /// A node is enqueued before those of lower priority, and behind its equals.
 pub fn equals_stand_in_order_of_arrival()
@@ -40,4 +40,9 @@ pub fn an_address_names_the_new_object()
 /// So many objects of each kind may live at once; a priority past its range is the alert VALUE.
 pub fn each_kind_has_its_pool()
     ensures { EachKindHasItsPool }
+{}
+
+/// An object takes public memory alone, where AllocMem takes what it is asked for.
+pub fn an_object_takes_public_memory()
+    ensures { AnObjectTakesPublicMemory }
 {}

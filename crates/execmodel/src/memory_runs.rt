@@ -1,6 +1,6 @@
 //! Whole traces of small machines of memory, as the definitions compute them.
 
-ghost use Rattle.execmodel.specs.MemoryRuns.{SizesRoundUp, FreedBlocksJoin, FreeMemAsksForABlock, SuitableRegionsAreTriedByPriority};
+ghost use Rattle.execmodel.specs.MemoryRuns.{SizesRoundUp, FreedBlocksJoin, FreeMemAsksForABlock, SuitableRegionsAreTriedByPriority, AllocMemAsksForKnownRequirements};
 
 /// Sizes round up to a multiple of 8, and AllocMem answers 0 for size 0 and where nothing fits.
 pub fn sizes_round_up()
@@ -20,4 +20,9 @@ pub fn free_mem_asks_for_a_block()
 /// Of the regions with the attributes asked for, the one of greatest priority gives the memory.
 pub fn suitable_regions_are_tried_by_priority()
     ensures { SuitableRegionsAreTriedByPriority }
+{}
+
+/// Requirements that are not known are the alert VALUE, also for size 0; MEMF_CLEAR is known.
+pub fn alloc_mem_asks_for_known_requirements()
+    ensures { AllocMemAsksForKnownRequirements }
 {}

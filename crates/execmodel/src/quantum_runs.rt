@@ -1,6 +1,6 @@
 //! Whole traces of small machines whose tasks share the processor by their quantum, or do not all start.
 
-ghost use Rattle.execmodel.specs.QuantumRuns.{AnEndedQuantumLetsAnEqualRun, TicksUnderDisableAreServedOnce, AnEndedQuantumWaitsForPermit, ATaskThatDoesNotStartIsAdded, ALiveTaskIsFoundByItsName};
+ghost use Rattle.execmodel.specs.QuantumRuns.{AnEndedQuantumLetsAnEqualRun, TicksUnderDisableAreServedOnce, AnEndedQuantumWaitsForPermit, ATaskThatDoesNotStartIsAdded, ALiveTaskIsFoundByItsName, AddTaskAsksForATask};
 
 /// A task whose quantum has ended lets a ready one of its priority run, and stands behind it.
 pub fn an_ended_quantum_lets_an_equal_run()
@@ -25,4 +25,9 @@ pub fn a_task_that_does_not_start_is_added()
 /// A task is found by its name while it is live.
 pub fn a_live_task_is_found_by_its_name()
     ensures { ALiveTaskIsFoundByItsName }
+{}
+
+/// A number that is no task's is the alert HANDLE.
+pub fn add_task_asks_for_a_task()
+    ensures { AddTaskAsksForATask }
 {}
