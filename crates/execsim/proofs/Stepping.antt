@@ -6,7 +6,6 @@ use Rattle.exectrace.specs.Sink.{Tape, Puts}
 use Rattle.exectrace.specs.Trace.{TraceLine, printed_line, Switch, Idle, Value, Done}
 use Rattle.exectrace.specs.Trace as trace
 use Rattle.taskscript.specs.declared.event.Event.{Event}
-use Rattle.taskscript.specs.declared.word.Word.{Word}
 use Rattle.taskscript.specs.declared.event.Event.TheVariants.{Run, Tick}
 use Rattle.scheduler.specs.Schedule.{name_of, leaves}
 use Rattle.scheduler.specs.Dispatch as dispatch
@@ -16,7 +15,7 @@ use Rattle.execmodel.specs.State.{Call, Scripts, State, Outcome, Mark, quiet, an
 use Rattle.execmodel.specs.Scheduling.{rescheduled, added}
 use Rattle.execmodel.specs.Calls.{next_call}
 use Rattle.execmodel.specs.Interrupts.{on_latch, interrupts}
-use Rattle.execmodel.specs.Step.{announced, switches, settle, does_word, does, ends, call_step, task_step, acting, acts, step, steps, tick, ticks, started, all_added, starts, event, events}
+use Rattle.execmodel.specs.Step.{announced, switches, settle, ends, call_step, task_step, acting, acts, step, steps, tick, ticks, started, all_added, starts, event, events}
 use Rattle.execsim.specs.Agreement.{Seen, Follows, Moves}
 use Rattle.execsim.proofs.Following.{reads_schedule, reads_scripts, reads_stopped, moves_schedule, moves_latch, moves_nowhere, moves_then, follows_as, follows_nothing, follows_saying, follows_change, follows_then}
 use Rattle.execsim.proofs.Ordering.{by_test, switch_of-in_order, rescheduled-in_order, added-in_order, leaves-in_order}
@@ -60,11 +59,6 @@ unfolding ends
 ends_as {m} t is puts = follows_saying _
     (λ s e. ap (λ name. trace.Call name (codes "RemTask") (Value 0 ∷ []) Done) (reads_schedule (λ y. name_of y t) (λ y. refl) refl s e)) puts
     (moves_schedule (leaves t) (leaves t) (leaves-in_order t) is)
-
--- a call is done as its word says
-pub does_as : {m n : Seen} {a b : Tape} (t : ℕ) (call : Call) (word : Word) → call.word ≡ word → Follows (does_word word t call) m n a b → Follows (does t call) m n a b
-unfolding does
-does_as t call word is follows = follows_as {g = does_word word t call} (λ s e. ap (λ w. does_word w t call s) is) follows
 
 -- what runs does its next call
 pub acting_as : {m n : Seen} {a b : Tape} (running : Option ℕ) → m.schedule.running ≡ running → Follows (task_step running) m n a b → Follows acting m n a b
