@@ -283,6 +283,20 @@ impl<S: ListSpace> Ports<S> {
 
     // ---- one port or message
 
+    /// Answers whether there is a port of that number: whether the calls that ask for one may be made. Own choice.
+    pub fn is_port(&self, p: PortId) -> bool
+        ensures { result ≡ is_port p self.now }
+    {
+        self.ports.get(p).is_some()
+    }
+
+    /// Answers whether there is a message of that number: whether the calls that ask for one may be made. Own choice.
+    pub fn is_message(&self, m: MsgId) -> bool
+        ensures { result ≡ is_message m self.now }
+    {
+        self.messages.get(m).is_some()
+    }
+
     /// Gives a port another action. RKM Libraries, Exec Messages and Ports: `mp_Flags`.
     pub fn set_action(&mut self, p: PortId, action: PortAction)
         requires { IsTrue (is_port p self.old) }
@@ -364,20 +378,6 @@ impl<S: ListSpace> Ports<S> {
     }
 
     // ---- refusals
-
-    // Whether there is a port of that number.
-    fn is_port(&self, p: PortId) -> bool
-        ensures { result ≡ is_port p self.now }
-    {
-        self.ports.get(p).is_some()
-    }
-
-    // Whether there is a message of that number.
-    fn is_message(&self, m: MsgId) -> bool
-        ensures { result ≡ is_message m self.now }
-    {
-        self.messages.get(m).is_some()
-    }
 
     // Whether a port is public.
     fn is_public(&self, p: PortId) -> bool

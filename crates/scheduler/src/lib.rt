@@ -415,8 +415,8 @@ impl<S: ListSpace> Sched<S> {
     /// runs then, and a signal that came before is lost. As after `wait`, Forbid and Disable of the waiting task
     /// hold again when it runs again.
     ///
-    /// Source: autodoc exec.library/WaitPort and device input/output (RKM Libraries, Exec Messages and Ports).
-    /// Own choice: a call that waits at a port first clears the port's signal.
+    /// Source: autodoc exec.library/WaitPort. Own choice: a call that has to wait at a port clears the port's signal
+    /// first.
     #[tactic(auto, unfolding(crate::specs::Schedule::takes))]
     pub fn wait_clear(&mut self, mask: u32)
         requires { IsSome self.old.running }
