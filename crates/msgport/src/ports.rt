@@ -1,5 +1,5 @@
 //! The ports and the messages of a machine, by number.
-ghost use Rattle.std.specs.Prelude.{◌≡◌, ◌<◌, ◌≤◌, not, find, is_ok, Some, None, IfOk, IfSome, IsSome, IsTrue};
+ghost use Rattle.std.specs.Prelude.{◌≡◌, ◌<◌, ◌≤◌, length, not, find, is_ok, Some, None, IfOk, IfSome, IsSome, IsTrue};
 ghost use Rattle.execlist.specs.Order.{first};
 ghost use Rattle.execlist.specs.Lists.{home, is_named};
 ghost use Rattle.execlist.specs.Pool.{IsStocked, next_number};
@@ -101,7 +101,7 @@ impl<S: ListSpace> Ports<S> {
         ensures empty { IfOk result (λ p. IsTrue (not (has_messages p self.new))) }
         ensures private { IfOk result (λ p. IsTrue (not (is_public p self.new))) }
     {
-        match self.ports.next() {
+        match self.next_port() {
             Some(p) => {
                 self.ports.give(Port::new(task, bit));
                 Ok(p)
@@ -120,7 +120,7 @@ impl<S: ListSpace> Ports<S> {
         ensures live { IfOk result (λ m. IsTrue (is_message m self.new)) }
         ensures loose { IfOk result (λ m. IsTrue (not (is_linked m self.new))) }
     {
-        match self.messages.next() {
+        match self.next_message() {
             Some(m) => {
                 self.messages.give(Message {
                     kind: NT_UNKNOWN,
@@ -131,6 +131,28 @@ impl<S: ListSpace> Ports<S> {
             }
             None => Err(PortFault::PoolFull),
         }
+    }
+
+    /// Answers the number that `create_port` would give, or none where every port is in use.
+    ///
+    /// Own choice: a caller can ask before it makes a port.
+    pub fn next_port(&self) -> Option<PortId>
+        ensures value { result ≡ next_number self.now.ports }
+        ensures known { IfSome result (λ p. p < length self.now.ports.slots) }
+        ensures free { IfSome result (λ p. IsTrue (not (is_port p self.now))) }
+    {
+        self.ports.next()
+    }
+
+    /// Answers the number that `make_msg` would give, or none where every message is in use.
+    ///
+    /// Own choice: a caller can ask before it makes a message.
+    pub fn next_message(&self) -> Option<MsgId>
+        ensures value { result ≡ next_number self.now.messages }
+        ensures known { IfSome result (λ m. m < length self.now.messages.slots) }
+        ensures free { IfSome result (λ m. IsTrue (not (is_message m self.now))) }
+    {
+        self.messages.next()
     }
 
     /// Frees a port, and answers its task and the number of its signal.
@@ -366,6 +388,14 @@ impl<S: ListSpace> Ports<S> {
         self.queues.home(m).is_some()
     }
 
+    /// Answers whether a port is public. Own choice: Exec cannot tell.
+    pub fn is_public(&self, p: PortId) -> bool
+        requires { IsTrue (is_port p self.now) }
+        ensures { result ≡ is_public p self.now }
+    {
+        self.public.home(p).is_some()
+    }
+
     /// Does nothing: its clauses are what always holds of the ports and the messages, and of the numbers that are next.
     pub fn facts(&self)
         ensures sound { IsSound self.now }
@@ -378,14 +408,6 @@ impl<S: ListSpace> Ports<S> {
     }
 
     // ---- refusals
-
-    // Whether a port is public.
-    fn is_public(&self, p: PortId) -> bool
-        requires { IsTrue (is_port p self.now) }
-        ensures { result ≡ is_public p self.now }
-    {
-        self.public.home(p).is_some()
-    }
 
     // Why a message may not be freed or put anywhere, if it may not.
     fn loose_fault(&self, m: MsgId) -> Option<PortFault>

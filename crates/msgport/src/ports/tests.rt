@@ -54,6 +54,10 @@ impl<S: ListSpace> Driver<S> {
         }
     }
 
+    fn is_public(&self, p: PortId) -> bool {
+        self.ports.is_port(p) && self.ports.is_public(p)
+    }
+
     /// The type, the word and the reply port of a message, and whether a port has it.
     fn message(&self, m: MsgId) -> Option<(u8, u32, u32, bool)> {
         if self.ports.is_message(m) {
@@ -155,6 +159,31 @@ fn what_is_freed_is_given_again(rt: HostRuntime) -> Result<(), Fail> {
     assert_eq!(rt; d.ports.free_msg(0), Ok(()));
     assert_eq!(rt; d.message(0), None);
     assert_eq!(rt; d.ports.make_msg(0, 30), Ok(0));
+    Ok(())
+}
+
+#[test]
+fn the_next_number_is_the_one_that_is_given(rt: HostRuntime) -> Result<(), Fail> {
+    let mut d: Driver<PlainSpace> = one(&rt, rt.alloc())?;
+    assert_eq!(rt; d.ports.next_port(), Some(1));
+    assert_eq!(rt; d.create(7, 30), Ok(1));
+    assert_eq!(rt; d.create(7, 29), Ok(0));
+    assert_eq!(rt; d.ports.next_port(), None);
+    assert_eq!(rt; d.ports.next_message(), None);
+    assert_eq!(rt; d.ports.free_msg(1), Ok(()));
+    assert_eq!(rt; d.ports.next_message(), Some(1));
+    assert_eq!(rt; d.ports.make_msg(0, 30), Ok(1));
+    Ok(())
+}
+
+#[test]
+fn a_port_is_public_until_it_is_made_private(rt: HostRuntime) -> Result<(), Fail> {
+    let mut d: Driver<PlainSpace> = one(&rt, rt.alloc())?;
+    assert!(rt; !d.is_public(2));
+    assert_eq!(rt; d.ports.add_port(2, name("x"), 0), Ok(()));
+    assert!(rt; d.is_public(2));
+    assert_eq!(rt; d.ports.rem_port(2), Ok(()));
+    assert!(rt; !d.is_public(2));
     Ok(())
 }
 
