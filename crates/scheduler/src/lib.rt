@@ -2,7 +2,7 @@
 //! A `Sched` decides which task runs; what a task does while it runs is not kept here.
 #![tactic(auto)]
 
-ghost use Rattle.std.specs.Prelude.{◌≡◌, ◌≢◌, ℕ, ◌<◌, ◌≤◌, length, map, not, nat_eq, if◌then◌else◌, Some, None, IsTrue, IsSome, IfSome, IfOk};
+ghost use Rattle.std.specs.Prelude.{◌≡◌, ◌≢◌, ℕ, negsuc, ◌<◌, ◌≤◌, length, map, not, nat_eq, if◌then◌else◌, Some, None, IsTrue, IsSome, IfSome, IfOk};
 ghost use Rattle.std.specs.Borrow.{sem};
 ghost use Rattle.execlist.specs.Lists.{times};
 ghost use Rattle.taskq.specs.Tasks.{is_live, is_ready};
@@ -513,6 +513,21 @@ impl<S: ListSpace> Sched<S> {
     {
         let t = self.runner();
         self.signals[t].alloc_signal(n)
+    }
+
+    /// Answers the signal, from 16 to 31, that `alloc_signal(-1)` would give the running task, or none where all of 16
+    /// to 31 are allocated.
+    ///
+    /// Own choice: a caller can ask before it allocates.
+    pub fn next_signal(&self) -> Option<u32>
+        requires { IsSome self.now.running }
+        ensures value { IfSome self.now.running
+            (λ t. result ≡ grant (negsuc 0) (signals_of self.now t)) }
+        ensures at_least_16 { IfSome result (λ n. 16 ≤ n) }
+        ensures below_32 { IfSome result (λ n. n < 32) }
+    {
+        let t = self.runner();
+        self.signals[t].next_signal()
     }
 
     /// Leaves signal `n`, from 16 to 31, of a live task unallocated, whether it was allocated or not. It stays

@@ -97,6 +97,11 @@ impl<S: ListSpace> Driver<S> {
         Some(self.schedule.alloc_signal(n))
     }
 
+    fn next_signal(&self) -> Option<u32> {
+        self.schedule.running()?;
+        self.schedule.next_signal()
+    }
+
     fn free_signal(&mut self, t: TaskId, n: u32) {
         if t < self.tasks && 16 <= n && n <= 31 {
             self.schedule.free_signal(t, n);
@@ -329,6 +334,20 @@ fn a_ready_task_arrives_anew_with_its_priority(rt: HostRuntime) -> Result<(), Fa
     assert_eq!(rt; d.set_pri(A, 1), Some(0));
     assert_eq!(rt; d.reschedule(), Some(Switch::To(A)));
     assert_eq!(rt; d.set_pri(A, -128), Some(1));
+    Ok(())
+}
+
+#[test]
+fn the_next_signal_is_that_of_the_running_task(rt: HostRuntime) -> Result<(), Fail> {
+    let mut d: Driver<PlainSpace> = three(&rt, rt.alloc(), 4, 2)?;
+    assert_eq!(rt; d.next_signal(), None);
+    assert_eq!(rt; d.reschedule(), Some(Switch::To(A)));
+    assert_eq!(rt; d.next_signal(), Some(31));
+    assert_eq!(rt; d.alloc_signal(-1), Some(31));
+    assert_eq!(rt; d.next_signal(), Some(30));
+    assert_eq!(rt; d.wait(0x1000), None);
+    assert_eq!(rt; d.reschedule(), Some(Switch::To(B)));
+    assert_eq!(rt; d.next_signal(), Some(31));
     Ok(())
 }
 

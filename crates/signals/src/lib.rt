@@ -2,7 +2,7 @@
 //! Which task waits for which signals is not kept here.
 #![tactic(auto)]
 
-ghost use Rattle.std.specs.Prelude.{◌≡◌, ◌≤◌, Some, IfSome};
+ghost use Rattle.std.specs.Prelude.{◌≡◌, ◌<◌, ◌≤◌, negsuc, Some, IfSome};
 ghost use Rattle.signals.specs.Signals.{SignalSets, initial_sets, after_post, taken_signals, after_take, after_set, has_signal, highest_free, grant, grant_number, after_grant, after_free};
 
 use std::marker::Model;
@@ -70,6 +70,7 @@ impl SigState {
     // The signal that `alloc_signal(n)` gives, if any.
     fn granted_signal(&self, n: i32) -> Option<u32>
         ensures signal { result ≡ grant n self.now }
+        ensures at_least_16 { IfSome result (λ signal. 16 ≤ signal) }
         ensures at_most_31 { IfSome result (λ signal. signal ≤ 31) }
     {
         match n {
@@ -86,6 +87,17 @@ impl SigState {
     {
         self.received &= !(1 << signal);
         self.allocated |= 1 << signal;
+    }
+
+    /// Answers the signal, from 16 to 31, that `alloc_signal(-1)` would give, or none where all of 16 to 31 are allocated.
+    ///
+    /// Own choice: a caller can ask before it allocates.
+    pub fn next_signal(&self) -> Option<u32>
+        ensures value { result ≡ grant (negsuc 0) self.now }
+        ensures at_least_16 { IfSome result (λ n. 16 ≤ n) }
+        ensures below_32 { IfSome result (λ n. n < 32) }
+    {
+        self.granted_signal(-1)
     }
 
     /// Leaves signal `n`, from 16 to 31, unallocated, whether it was allocated or not. It stays received if it was.
@@ -154,6 +166,7 @@ fn holds(set: u32, signal: u32) -> bool
 // The highest of signals 16 to 31 that is not allocated.
 fn highest_free(allocated: u32) -> Option<u32>
     ensures signal { result ≡ highest_free allocated }
+    ensures at_least_16 { IfSome result (λ signal. 16 ≤ signal) }
     ensures at_most_31 { IfSome result (λ signal. signal ≤ 31) }
 {
     for signal in (16..32).rev() {
@@ -176,6 +189,20 @@ mod tests {
         ] {
             assert_eq!(rt; signals.alloc_signal(-1), expected);
         }
+    }
+
+    #[test]
+    fn the_next_signal_is_the_one_that_is_given(rt: HostRuntime) {
+        let mut signals = SigState::new();
+        assert_eq!(rt; signals.next_signal(), Some(31));
+        assert_eq!(rt; signals.alloc_signal(31), 31);
+        assert_eq!(rt; signals.next_signal(), Some(30));
+        for expected in (16..31).rev() {
+            assert_eq!(rt; signals.alloc_signal(-1), expected);
+        }
+        assert_eq!(rt; signals.next_signal(), None);
+        signals.free_signal(20);
+        assert_eq!(rt; signals.next_signal(), Some(20));
     }
 
     #[test]
