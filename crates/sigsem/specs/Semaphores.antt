@@ -1,0 +1,167 @@
+-- What calls on signal semaphores see: the semaphores by number, the tasks that wait at each, and where each task waits
+-- (RKM Libraries, Exec Semaphores).
+use Rattle.std.specs.Prelude.{◌≡◌, ℕ, ◌+◌, ◌-◌, ◌≤◌, ◌==◌, ◌&&◌, ◌||◌, nat_lt, Bool, not, is_some, IsTrue, MatchOption, if◌then◌else◌, List, [], ◌∷◌, ◌++◌, length, drop, replicate, slice_set, Option, Some, None, unwrap_or}
+use Rattle.execlist.specs.Order.{first, without}
+use Rattle.execlist.specs.Lists.{sequence, home, is_at, times}
+use Rattle.execlist.specs.Pool.{Pooled, all_free, given, released, slot, written}
+use Rattle.sigsem.specs.declared.fault.SemFault.{SemFault}
+use Rattle.sigsem.specs.declared.fault.SemFault.TheVariants.{NotOwner, TooDeep, Busy}
+use Rattle.sigsem.specs.declared.semaphore.Sem.{Sem}
+use Rattle.sigsem.specs.declared.semaphore.Obtained.{Obtained}
+use Rattle.sigsem.specs.declared.semaphore.Obtained.TheVariants.{Owner, Waits}
+
+-- the semaphores, and the tasks that wait at them
+pub record Semaphores : Type 0 where
+  -- each semaphore's owner and count, by its number
+  pub sems : Pooled Sem
+  -- the tasks that wait at each semaphore, in order of request
+  pub queues : List (List ℕ)
+  -- the semaphore at which each task waits, or none
+  pub places : List (Option ℕ)
+
+-- ---- one semaphore
+
+-- the greatest count (own choice: that of a signed word, as ss_NestCount is in exec/semaphores.h)
+abbrev pub deepest : ℕ
+deepest = 32767
+
+-- a semaphore that no task owns
+abbrev pub free_sem : Sem
+free_sem = record { owner = None; count = 0 }
+
+-- a semaphore that a task owns and has to release once
+abbrev pub owned_by : ℕ → Sem
+owned_by t = record { owner = Some t; count = 1 }
+
+-- a free semaphore has the count 0, an owned one a count from 1 to 32767
+abbrev pub IsCounted : Sem → Type 0
+IsCounted sem = MatchOption sem.owner (sem.count ≡ 0) (λ t. (1 ≤ sem.count) × (sem.count ≤ deepest))
+
+-- ---- parts
+
+-- there is a semaphore of number s
+abbrev pub is_sem : ℕ → Semaphores → Bool
+is_sem s m = is_some (slot m.sems.slots s)
+
+-- semaphore s
+abbrev pub sem_at : ℕ → Semaphores → Sem
+sem_at s m = unwrap_or (slot m.sems.slots s) free_sem
+
+-- the tasks that wait at semaphore s, in order of request
+abbrev pub waiters_of : ℕ → Semaphores → List ℕ
+waiters_of s m = sequence m.queues s
+
+-- the semaphore at which task t waits, or none
+abbrev pub waits_at : ℕ → Semaphores → Option ℕ
+waits_at t m = home m.places t
+
+-- some task owns semaphore s
+abbrev pub is_owned : ℕ → Semaphores → Bool
+is_owned s m = is_some (sem_at s m).owner
+
+-- task t owns semaphore s
+abbrev pub is_owner : (s t : ℕ) → Semaphores → Bool
+is_owner s t m = is_at (sem_at s m).owner t
+
+-- task t may have semaphore s at once: no other task owns it
+abbrev pub is_open : (s t : ℕ) → Semaphores → Bool
+is_open s t m = not (is_owned s m) || is_owner s t m
+
+-- ---- refusals
+
+-- semaphore s is to be owned by no task (own choice: Exec leaves the memory of semaphores to the program)
+abbrev pub free_fault : ℕ → Semaphores → Option SemFault
+free_fault s m = if is_owned s m then Some Busy else None
+
+-- where task t owns semaphore s, one more is not to take the count past the greatest (own choice)
+abbrev pub deep_fault : (s t : ℕ) → Semaphores → Option SemFault
+deep_fault s t m = if is_owner s t m && nat_lt deepest ((sem_at s m).count + 1) then Some TooDeep else None
+
+-- task t is to own semaphore s (own choice)
+abbrev pub release_fault : (s t : ℕ) → Semaphores → Option SemFault
+release_fault s t m = if is_owner s t m then None else Some NotOwner
+
+-- ---- answers
+
+-- a task that asks for semaphore s is its owner, or waits there
+abbrev pub outcome : (s t : ℕ) → Semaphores → Obtained
+outcome s t m = if is_open s t m then Owner else Waits
+
+-- the owner of semaphore s is to release it once more, and no more than that
+abbrev pub is_last : ℕ → Semaphores → Bool
+is_last s m = (sem_at s m).count == 1
+
+-- the task that a release makes owner of semaphore s: the last release the first one that waits, and else none
+abbrev pub heir : ℕ → Semaphores → Option ℕ
+heir s m = if is_last s m then first (waiters_of s m) else None
+
+-- ---- changes
+
+-- room for so many semaphores, of which there is none, and so many tasks, none of which waits
+abbrev pub no_sems : (sems tasks : ℕ) → Semaphores
+no_sems sems tasks = record { sems = all_free sems; queues = replicate sems []; places = replicate tasks None }
+
+-- the next number, if there is one, is that of a free semaphore
+abbrev pub sem_made : Semaphores → Semaphores
+sem_made m = record m { sems = given free_sem m.sems }
+
+-- the number of a semaphore is free again
+abbrev pub sem_freed : ℕ → Semaphores → Semaphores
+sem_freed s m = record m { sems = released s m.sems }
+
+-- semaphore s is another one
+abbrev pub with_sem : ℕ → Sem → Semaphores → Semaphores
+with_sem s sem m = record m { sems = written s sem m.sems }
+
+-- task t owns semaphore s, and has to release it once more than before
+abbrev pub entered : (s t : ℕ) → Semaphores → Semaphores
+entered s t m = with_sem s (record { owner = Some t; count = (sem_at s m).count + 1 }) m
+
+-- task t waits at semaphore s, behind those that wait there
+abbrev pub queued : (s t : ℕ) → Semaphores → Semaphores
+queued s t m = record m { queues = slice_set m.queues s (waiters_of s m ++ t ∷ []); places = slice_set m.places t (Some s) }
+
+-- task t has semaphore s at once, or waits for it (autodoc exec.library/ObtainSemaphore)
+abbrev pub obtained : (s t : ℕ) → Semaphores → Semaphores
+obtained s t m = if is_open s t m then entered s t m else queued s t m
+
+-- task t has semaphore s at once, or nothing changes (autodoc exec.library/AttemptSemaphore)
+abbrev pub attempted : (s t : ℕ) → Semaphores → Semaphores
+attempted s t m = if is_open s t m then entered s t m else m
+
+-- semaphore s is the first waiter's, who waits no more and has to release it once, or free where none waits
+abbrev pub handed_on : ℕ → Option ℕ → Semaphores → Semaphores
+handed_on s None m = with_sem s free_sem m
+handed_on s (Some t) m = with_sem s (owned_by t)
+    (record m { queues = slice_set m.queues s (drop 1 (waiters_of s m)); places = slice_set m.places t None })
+
+-- the owner of semaphore s has to release it once less; the last release hands it on (autodoc exec.library/ReleaseSemaphore)
+abbrev pub let_go : ℕ → Semaphores → Semaphores
+let_go s m =
+    if is_last s m then handed_on s (first (waiters_of s m)) m else with_sem s (record (sem_at s m) { count = (sem_at s m).count - 1 }) m
+
+-- task t waits at the semaphore no more, if it waits at one; the others keep their order (own choice)
+abbrev pub dropped_from : Option ℕ → ℕ → Semaphores → Semaphores
+dropped_from None t m = m
+dropped_from (Some s) t m = record m { queues = slice_set m.queues s (without t (waiters_of s m)); places = slice_set m.places t None }
+
+abbrev pub dropped : ℕ → Semaphores → Semaphores
+dropped t m = dropped_from (waits_at t m) t m
+
+-- ---- what always holds
+
+-- what the code keeps
+pub record IsHeld (m : Semaphores) : Type 0 where
+  pub each_queue : length m.queues ≡ length m.sems.slots
+  pub counted : (s : ℕ) → IsCounted (sem_at s m)
+  pub owned : (t s : ℕ) → waits_at t m ≡ Some s → IsTrue (is_owned s m)
+
+-- A task that waits stands once in the queue of the semaphore where it waits and in no other, and that semaphore lives and is owned: at a
+-- free one nobody waits. A free semaphore has the count 0, an owned one a count from 1 to 32767.
+pub record IsSound (m : Semaphores) : Type 0 where
+  pub stands : (s t : ℕ) → times t (waiters_of s m) ≡ (if is_at (waits_at t m) s then 1 else 0)
+  pub live : (t s : ℕ) → waits_at t m ≡ Some s → IsTrue (is_sem s m)
+  pub owned : (t s : ℕ) → waits_at t m ≡ Some s → IsTrue (is_owned s m)
+  pub unwanted : (s : ℕ) → IsTrue (not (is_owned s m)) → waiters_of s m ≡ []
+  pub counted : (s : ℕ) → IsCounted (sem_at s m)
+  pub each_queue : length m.queues ≡ length m.sems.slots

@@ -1,0 +1,21 @@
+//! One semaphore beside those that wait for it, and what comes of asking for it.
+
+/// The number of a task, from 0.
+pub type TaskId = usize;
+
+/// A semaphore beside its waiting tasks: its owner, and how often the owner has to release it. A free one has no owner and the count 0.
+/// RKM Libraries, Exec Semaphores: `ss_Owner` and `ss_NestCount`.
+#[derive(Clone, Copy, Debug)]
+pub struct Sem {
+    pub owner: Option<TaskId>,
+    pub count: u16,
+}
+
+/// What comes of asking for a semaphore. The semaphores do not make the task wait themselves.
+#[derive(Clone, Copy, Debug, PartialEq, Eq)]
+pub enum Obtained {
+    /// The task is the owner.
+    Owner,
+    /// The task waits until a release makes it the owner.
+    Waits,
+}
