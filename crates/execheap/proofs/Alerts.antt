@@ -18,11 +18,11 @@ use Rattle.execheap.proofs.Shown.{list_at_shown, node_at_shown, nodes_shown, num
 -- ---- one test of a call
 
 -- an object has to be there, and then come the other tests
-abbrev handle_unless : Bool → Option (List ℕ) → Option (List ℕ)
+abbrev pub handle_unless : Bool → Option (List ℕ) → Option (List ℕ)
 handle_unless there next = if not there then Some (codes "HANDLE") else next
 
 -- a node must not be linked, and then come the other tests
-abbrev link_if : Bool → Option (List ℕ) → Option (List ℕ)
+abbrev pub link_if : Bool → Option (List ℕ) → Option (List ℕ)
 link_if linked next = if linked then Some (codes "LINK") else next
 
 -- a node has to be linked
@@ -30,12 +30,12 @@ abbrev link_unless : Bool → Option (List ℕ)
 link_unless linked = if not linked then Some (codes "LINK") else None
 
 -- the test alone is not refused where the object is there
-is_there : (there : Bool) → handle_unless there None ≡ None → there ≡ true
+pub is_there : (there : Bool) → handle_unless there None ≡ None → there ≡ true
 is_there true e = refl
 is_there false e = let bad : true ≡ false = ap is_some e in cc
 
 -- and a call of which it is the first test is refused as it is
-refused_first : (there : Bool) {why : List ℕ} (next : Option (List ℕ)) → handle_unless there None ≡ Some why
+pub refused_first : (there : Bool) {why : List ℕ} (next : Option (List ℕ)) → handle_unless there None ≡ Some why
     → handle_unless there next ≡ Some why
 refused_first true next e = let bad : false ≡ true = ap is_some e in cc
 refused_first false next e = e
@@ -54,7 +54,7 @@ module _ (s : Numbered) (list : ℕ) (none : number_at 0 list s ≡ None) where
   unfolding free_list_alert
   free_list_refused = ap (λ b. handle_unless b (link_if (is_some (first (nodes_of list (shown_heap s)))) None)) no_list
 
-is_some_map : {A B : Type 0} (f : A → B) (o : Option A) → is_some (option_map f o) ≡ is_some o
+pub is_some_map : {A B : Type 0} (f : A → B) (o : Option A) → is_some (option_map f o) ≡ is_some o
 is_some_map f None = refl
 is_some_map f (Some a) = refl
 

@@ -15,7 +15,7 @@ use Rattle.execmodel.specs.Memory.{extents, place_for, placed, freed, is_named, 
 use Rattle.execmodel.specs.Memory as model
 use Rattle.memlist.proofs.Answered.{nat_eq-other}
 use Rattle.execlist.specs.Pool.{slot}
-use Rattle.execheap.specs.Numbered.{Numbered, contents, IsSound, IsTagged, place_or, slots_of, object_of, shown_object, shown_block, shown_entry, shown_heap, shown_memory}
+use Rattle.execheap.specs.Numbered.{Numbered, contents, IsSound, IsTagged, place_or, slots_of, object_of, shown_object, shown_block, shown_entry, shown_heap, shown_memory, shown_public}
 use Rattle.execheap.proofs.Entries.{at_found, put_shown, where_key_shown}
 use Rattle.execheap.proofs.Shown.{block_shown}
 
@@ -72,19 +72,22 @@ pub plain_placed : (s : Numbered) (size : ℕ) (place : Option ℕ)
 unfolding shown_heap
 plain_placed s size None = refl
 plain_placed s size (Some address) =
-    ap (λ heap. record { regions = s.memory.regions; pool = length s.lists.slots; heap = heap }) (sym (put_shown (shown_block (contents s)) address (round size, 0) s.memory.blocks))
+    ap (λ heap. record { regions = s.memory.regions; pool = length s.lists.slots; heap = heap; public = map (shown_public s) s.ports.public })
+    (sym (put_shown (shown_block (contents s)) address (round size, 0) s.memory.blocks))
 
 -- whatever begins at an address is freed
 pub freed_shown : (s : Numbered) (address : ℕ) → shown_memory (record s { memory = table.without_block address s.memory }) ≡ freed address (shown_memory s)
 unfolding shown_heap
 freed_shown s address =
-    ap (λ heap. record { regions = s.memory.regions; pool = length s.lists.slots; heap = heap })
+    ap (λ heap. record { regions = s.memory.regions; pool = length s.lists.slots; heap = heap; public = map (shown_public s) s.ports.public })
     (sym (where_key_shown (shown_block (contents s)) (λ other. not (nat_eq other address)) s.memory.blocks))
 
 is_no_object : (s : Numbered) (k m a : ℕ) → slot (slots_of k s) m ≡ Some a → is_plain (object_of k m (contents s)) ≡ false
 is_no_object s zero m a there = refl
 is_no_object s (suc zero) m a there = refl
-is_no_object s (suc (suc k)) m a there = let bad : false ≡ true = ap is_some there in cc
+is_no_object s (suc (suc zero)) m a there = refl
+is_no_object s (suc (suc (suc zero))) m a there = refl
+is_no_object s (suc (suc (suc (suc k)))) m a there = let bad : false ≡ true = ap is_some there in cc
 
 plain_tag : (s : Numbered) (tag a : ℕ) → place_or tag a s ≡ Some a → is_plain (shown_object (contents s) tag) ≡ nat_eq tag 0
 plain_tag s zero a there = refl

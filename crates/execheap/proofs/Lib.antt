@@ -4,9 +4,16 @@ pub mod Entries
 pub mod Linked
 pub mod Linking
 pub mod Making
+pub mod MakingPorts
 pub mod Mapped
+pub mod PortAlerts
+pub mod Posted
+pub mod Public
+pub mod Queued
 pub mod Relisted
+pub mod Replying
 pub mod Shown
 pub mod SoundLinks
 pub mod SoundObjects
+pub mod SoundPorts
 pub mod Tagging

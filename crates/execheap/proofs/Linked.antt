@@ -21,7 +21,7 @@ pub some_is : {A : Type 0} (o : Option A) → IsSome o → (a : A) × (o ≡ Som
 some_is None there = let bad : false ≡ true = there in cc
 some_is (Some a) there = (a, refl)
 
-and_false : (b : Bool) → b && false ≡ false
+pub and_false : (b : Bool) → b && false ≡ false
 and_false true = refl
 and_false false = refl
 
@@ -29,7 +29,7 @@ or_true : (b : Bool) → b || true ≡ true
 or_true true = refl
 or_true false = refl
 
-turned : (a b : ℕ) → (a == b) ≡ nat_eq b a
+pub turned : (a b : ℕ) → (a == b) ≡ nat_eq b a
 turned a b = either_number b a (λ c. (a == b) ≡ c)
     (λ same. ap (λ z. a == z) same ∙ nat_eq-same a)
     (λ other. nat_eq-other a b (λ same. other (sym same)))
@@ -53,7 +53,7 @@ in_one_list s a t there (e ∷ es) =
     (λ same. ap (λ tag. nodes_in (shown_object (contents s) tag)) same)
     (λ other. in_one_list s a t there es)
 
-any_found : (a t : ℕ) (es : Blocks) → tag_at a es ≡ Some t → list_any (λ (e : ℕ × (ℕ × ℕ)). nat_eq e.1.1 t) es ≡ true
+pub any_found : (a t : ℕ) (es : Blocks) → tag_at a es ≡ Some t → list_any (λ (e : ℕ × (ℕ × ℕ)). nat_eq e.1.1 t) es ≡ true
 any_found a t [] is = let bad : false ≡ true = ap is_some is in cc
 any_found a t (e ∷ es) is = elim (eq_by_cmp nat_cmp a e.0)
     as (λ b. option_map (λ (block : ℕ × ℕ). block.1) (cond b (Some e.1) (find nat_cmp a es)) ≡ Some t → nat_eq e.1.1 t || list_any (λ (f : ℕ × (ℕ × ℕ)). nat_eq f.1.1 t) es ≡ true) [
@@ -100,7 +100,10 @@ module _ {s : Numbered} (sound : IsSound s) (space : IsSpace s) where
   stands_of : (n a : ℕ) → slot s.nodes.slots n ≡ Some a → (k m : ℕ) → stands_in a (nodes_in (object_of k m (contents s))) ≡ (nat_eq k 0 && is_at (home s.homes n) m)
   stands_of n a here zero m = stands_shown m n a here
   stands_of n a here (suc zero) m = refl
-  stands_of n a here (suc (suc k)) m = sym (ap (λ b. b && is_at (home s.homes n) m) (nat_eq-other (suc (suc k)) 0 (omega arith)))
+  stands_of n a here (suc (suc zero)) m = refl
+  stands_of n a here (suc (suc (suc zero))) m = refl
+  stands_of n a here (suc (suc (suc (suc k)))) m =
+      sym (ap (λ b. b && is_at (home s.homes n) m) (nat_eq-other (suc (suc (suc (suc k)))) 0 (omega arith)))
 
   stands_nowhere : (n a : ℕ) → slot s.nodes.slots n ≡ Some a → home s.homes n ≡ None → (tag : ℕ) → stands_in a (nodes_in (shown_object (contents s) tag)) ≡ false
   stands_nowhere n a here none zero = refl

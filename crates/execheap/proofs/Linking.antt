@@ -11,21 +11,27 @@ use Rattle.memlist.specs.Memory.{IsWellFormed}
 use Rattle.execmodel.specs.State.{Object, ListHead, Block, Heap, on_heap}
 use Rattle.execmodel.specs.Lists.{added_head, added_tail, enqueued, found_node, first_of, has_name, inserted, key_of, last_of, left_by, nodes_of, or_none, pred_of, predecessor, removed_head, removed_tail, searched, succ_of, unlinked, with_nodes}
 use Rattle.execlist.specs.Pool.{slot}
-use Rattle.execheap.specs.Numbered.{Numbered, contents, IsSound, IsSpace, address_in, key_at, object_of, shown_object, shown_entry, shown_heap, shown_memory}
+use Rattle.execheap.specs.Numbered.{Numbered, contents, IsSound, IsSpace, address_in, key_at, object_of, shown_object, shown_entry, shown_heap, shown_memory, shown_public}
 use Rattle.execheap.specs.Changes as numbered
 use Rattle.execheap.proofs.Entries.{all_then}
 use Rattle.execheap.proofs.Mapped.{all_of_part_after, enqueue-map, find-map, first-map, last-map, members, part_after-map, part_before-map, put_after-map, without-map, without_absent, without_first-map, without_last-map}
 use Rattle.execheap.proofs.Linked.{sequence_shown, some_is, stands_at, standing_lives, told_apart}
-use Rattle.execheap.proofs.Relisted.{sequence_set, shows_nodes, with_nodes_shown}
+use Rattle.execheap.proofs.Relisted.{sequence_set, with_nodes_shown}
 use Rattle.execlist.proofs.Pools.{slot_known}
 use Rattle.execheap.proofs.Tagging.{either_number}
 use Rattle.memlist.proofs.Answered.{nat_eq-other}
 use Rattle.std.proofs.Math.Path.{fun_ext}
-use Rattle.execheap.proofs.Shown.{key_shown, nodes_shown, number_live}
+use Rattle.execheap.proofs.Shown.{key_shown, nodes_shown, number_live, tells}
 
-heap_set : (s new : Numbered) (heap : Heap) → new.memory.regions ≡ s.memory.regions → new.lists.slots ≡ s.lists.slots → shown_heap new ≡ heap
-    → shown_memory new ≡ record { regions = s.memory.regions; pool = length s.lists.slots; heap = heap }
-heap_set s new heap regions lists is = λ i. record { regions = regions i; pool = length (lists i); heap = is i }
+heap_set : (s : Numbered) (sequences : List (List ℕ)) (homes : List (Option ℕ)) (heap : Heap)
+    → shown_heap (record s { sequences = sequences; homes = homes }) ≡ heap
+    → shown_memory (record s { sequences = sequences; homes = homes }) ≡ on_heap (λ old. heap) (shown_memory s)
+heap_set s sequences homes heap is = λ i. record {
+  regions = s.memory.regions;
+  pool = length s.lists.slots;
+  heap = is i;
+  public = map (shown_public s) s.ports.public;
+}
 
 module _ {s : Numbered} (sound : IsSound s) (space : IsSpace s) where
   -- ---- nodes of a live list
@@ -94,19 +100,18 @@ module _ {s : Numbered} (sound : IsSound s) (space : IsSpace s) where
   module _ (formed : IsWellFormed s.memory.regions s.memory.blocks) where
     -- ---- a list whose nodes change
 
-    relinked : (new : Numbered) (h list : ℕ) (nodes : List ℕ) → slot s.lists.slots h ≡ Some list → new.memory ≡ s.memory → new.lists ≡ s.lists → new.nodes ≡ s.nodes → new.keys ≡ s.keys
-        → new.sequences ≡ slice_set s.sequences h nodes
-        → shown_memory new ≡ on_heap (with_nodes list (map (address_in s.nodes.slots) nodes)) (shown_memory s)
-    relinked new h list nodes live memory lists places keys set = heap_set s new (with_nodes list (map (address_in s.nodes.slots) nodes) (shown_heap s))
-        (ap (λ m. m.regions) memory) (ap (λ r. r.slots) lists)
-        (with_nodes_shown sound formed new list h (map (address_in s.nodes.slots) nodes) live memory
-        (shows_nodes s new h nodes (list_known h list live) set keys places))
+    relinked : (homes : List (Option ℕ)) (h list : ℕ) (nodes : List ℕ) → slot s.lists.slots h ≡ Some list
+        → shown_memory (record s { sequences = slice_set s.sequences h nodes; homes = homes })
+        ≡ on_heap (with_nodes list (map (address_in s.nodes.slots) nodes)) (shown_memory s)
+    relinked homes h list nodes live =
+        heap_set s (slice_set s.sequences h nodes) homes (with_nodes list (map (address_in s.nodes.slots) nodes) (shown_heap s))
+        (with_nodes_shown s homes h list nodes (list_known h list live) (tells sound formed 0 h list (lit≤ tt) live))
 
     -- the same nodes by address, whatever was said of them
     pub linked_shown : (h n list : ℕ) (nodes : List ℕ) (shown : Heap → List ℕ) → slot s.lists.slots h ≡ Some list → shown (shown_heap s) ≡ map (address_in s.nodes.slots) nodes
         → shown_memory (numbered.linked h n nodes s) ≡ on_heap (λ heap. with_nodes list (shown heap) heap) (shown_memory s)
     linked_shown h n list nodes shown live is =
-        relinked (numbered.linked h n nodes s) h list nodes live refl refl refl refl refl
+        relinked (slice_set s.homes n (Some h)) h list nodes live
         ∙ ap (λ nodes. on_heap (with_nodes list nodes) (shown_memory s)) (sym is)
 
     pub at_head_shown : (h n list node : ℕ) → slot s.lists.slots h ≡ Some list → slot s.nodes.slots n ≡ Some node
@@ -150,8 +155,8 @@ module _ {s : Numbered} (sound : IsSound s) (space : IsSpace s) where
 
     taken : (h list : ℕ) (n : Option ℕ) (nodes : List ℕ) → slot s.lists.slots h ≡ Some list
         → shown_memory (numbered.unlinked h n nodes s) ≡ on_heap (with_nodes list (map (address_in s.nodes.slots) nodes)) (shown_memory s)
-    taken h list None nodes live = relinked (numbered.unlinked h None nodes s) h list nodes live refl refl refl refl refl
-    taken h list (Some n) nodes live = relinked (numbered.unlinked h (Some n) nodes s) h list nodes live refl refl refl refl refl
+    taken h list None nodes live = relinked s.homes h list nodes live
+    taken h list (Some n) nodes live = relinked (slice_set s.homes n None) h list nodes live
 
     pub head_taken_shown : (h list : ℕ) → slot s.lists.slots h ≡ Some list → shown_memory (numbered.head_taken h s) ≡ on_heap (removed_head list) (shown_memory s)
     unfolding removed_head
@@ -186,7 +191,9 @@ module _ {s : Numbered} (sound : IsSound s) (space : IsSpace s) where
         ∙ ap ListHead (sym (without-map (address_in s.nodes.slots) n (sequence s.sequences m) (told_apart sound space m n node live)))
         ∙ ap (λ a. ListHead (without a (map (address_in s.nodes.slots) (sequence s.sequences m)))) (address_is n node live)
     object_without n node h live there (suc zero) m = refl
-    object_without n node h live there (suc (suc k)) m = refl
+    object_without n node h live there (suc (suc zero)) m = refl
+    object_without n node h live there (suc (suc (suc zero))) m = refl
+    object_without n node h live there (suc (suc (suc (suc k)))) m = refl
 
     shown_without : (n node h : ℕ) → slot s.nodes.slots n ≡ Some node → home s.homes n ≡ Some h → (tag : ℕ)
         → shown_object (contents (emptied n h)) tag ≡ left_by node (shown_object (contents s) tag)
@@ -204,7 +211,8 @@ module _ {s : Numbered} (sound : IsSound s) (space : IsSpace s) where
         → shown_memory (numbered.taken_out n s) ≡ on_heap (unlinked node) (shown_memory s)
     taken_out_shown n node h live there =
         ap (λ o. shown_memory (numbered.left_out n o s)) there
-        ∙ heap_set s (emptied n h) (unlinked node (shown_heap s)) refl refl (emptied_shown n node h live there)
+        ∙ heap_set s (slice_set s.sequences h (without n (sequence s.sequences h))) (slice_set s.homes n None) (unlinked node (shown_heap s))
+        (emptied_shown n node h live there)
 
 -- a node that leaves a list keeps its address
 pub unlinked_nodes : (h : ℕ) (n : Option ℕ) (nodes : List ℕ) (s : Numbered) → (numbered.unlinked h n nodes s).nodes ≡ s.nodes

@@ -4,7 +4,7 @@ use Rattle.std.specs.Prelude.{Some, None, Option, is_some, not, nat_eq, ◌==◌
 use Rattle.std.specs.List.{AllByRecursion, list_any}
 use Rattle.std.specs.Ordering.{nat_cmp}
 use Rattle.std.specs.FinMap.{put}
-use Rattle.std.proofs.Math.Path.{fun_ext}
+use Rattle.std.specs.FinMap.Entries.{where_key}
 use Rattle.std.proofs.lemmas.List.{get_or-set_other, length-replicate, length-set}
 use Rattle.memlist.specs.declared.region.Region.{Region}
 use Rattle.execlist.specs.Lists.{Key, blank, home, is_at, sequence, times}
@@ -21,7 +21,7 @@ use Rattle.execmodel.specs.Objects.{live, place_for_object}
 use Rattle.execmodel.specs.Lists.{is_list, is_node}
 use Rattle.execlist.specs.Pool.{given, given_at, next_number, slot}
 use Rattle.execheap.specs.Tags.{is_of, tag_of}
-use Rattle.execheap.specs.Numbered.{Numbered, Contents, contents, IsSound, IsSpace, address_in, counted, object_of, place_or, slots_of, shown_block, shown_object, shown_entry, shown_heap, shown_memory}
+use Rattle.execheap.specs.Numbered.{Numbered, Contents, contents, IsSound, IsSpace, address_in, counted, object_of, place_or, slots_of, shown_block, shown_object, shown_entry, shown_heap, shown_memory, shown_public}
 use Rattle.execheap.specs.Changes as numbered
 use Rattle.execheap.proofs.Blocks.{fit_shown}
 use Rattle.execheap.proofs.Entries.{all_then, map_same, put_shown, where_key_shown}
@@ -43,7 +43,7 @@ count_map f p q same (x ∷ xs) =
     ap (λ b. length (cond b (f x ∷ filter p (map f xs)) (filter p (map f xs)))) (same x)
     ∙ count_step (q x) x (f x) (filter q xs) (filter p (map f xs)) (count_map f p q same xs)
 
-counted_of : (s : Numbered) (test : Object → Bool) (kind : ℕ) → ((tag : ℕ) → test (shown_object (contents s) tag) ≡ is_of kind tag) → (blocks : Blocks)
+pub counted_of : (s : Numbered) (test : Object → Bool) (kind : ℕ) → ((tag : ℕ) → test (shown_object (contents s) tag) ≡ is_of kind tag) → (blocks : Blocks)
     → live test (map (shown_entry (contents s)) blocks) ≡ counted kind blocks
 counted_of s test kind tells blocks = count_map (shown_entry (contents s)) (λ (entry : ℕ × Block). test entry.1.object) (λ (entry : ℕ × (ℕ × ℕ)). is_of kind entry.1.1) (λ block. tells block.1.1) blocks
 
@@ -58,7 +58,7 @@ nodes_counted s = counted_of s is_node 1 (is_node_shown s) s.memory.blocks
 -- ---- where an object goes
 
 -- a number is left where fewer live than the pool allows
-made_shown : (s : Numbered) (test : Object → Bool) (kind size : ℕ) (next : Option ℕ) → live test (shown_heap s) ≡ counted kind s.memory.blocks
+pub made_shown : (s : Numbered) (test : Object → Bool) (kind size : ℕ) (next : Option ℕ) → live test (shown_heap s) ≡ counted kind s.memory.blocks
     → (next ≡ None → counted kind s.memory.blocks ≡ length s.lists.slots) → ((n : ℕ) → next ≡ Some n → counted kind s.memory.blocks < length s.lists.slots)
     → place_for_object test size (shown_memory s) ≡ numbered.made_at size next s
 unfolding place_for_object
@@ -81,13 +81,14 @@ node_made_at s full free = made_shown s is_node 1 14 (next_number s.nodes) (node
 -- ---- the objects beside one that is made or freed
 
 -- the same memory, with one block more
-block_put : (s new : Numbered) (a size tag : ℕ) (object : Object) → length new.lists.slots ≡ length s.lists.slots
+pub block_put : (s new : Numbered) (a size tag : ℕ) (object : Object) → length new.lists.slots ≡ length s.lists.slots
+    → map (shown_public new) new.ports.public ≡ map (shown_public s) s.ports.public
     → new.memory ≡ record s.memory { blocks = with_block a (round size) tag s.memory.blocks }
     → AllByRecursion (λ (entry : ℕ × (ℕ × ℕ)). shown_object (contents new) entry.1.1 ≡ shown_object (contents s) entry.1.1) s.memory.blocks
     → shown_object (contents new) tag ≡ object
     → shown_memory new ≡ placed size object (Some a) (shown_memory s)
 unfolding shown_heap
-block_put s new a size tag object pool memory same here = λ i. record {
+block_put s new a size tag object pool public memory same here = λ i. record {
   regions = (memory i).regions;
   pool = pool i;
   heap = (
@@ -97,24 +98,43 @@ block_put s new a size tag object pool memory same here = λ i. record {
       ∙ ap (put nat_cmp a (record { size = round size; object = object }))
       (map_same (shown_entry (contents new)) (shown_entry (contents s)) s.memory.blocks
       (all_then (λ (entry : ℕ × (ℕ × ℕ)) e. ap (λ o. (entry.0, record { size = entry.1.0; object = o })) e) s.memory.blocks same))) i;
+  public = public i;
 }
 
+-- what holds of each entry but that of an address holds of each once that is left out
+all_but : (P : ℕ × (ℕ × ℕ) → Type 0) (a : ℕ) (es : Blocks) → AllByRecursion (λ (entry : ℕ × (ℕ × ℕ)). nat_eq entry.0 a ≡ false → P entry) es
+    → AllByRecursion P (where_key nat_cmp (λ other. not (nat_eq other a)) es)
+all_but P a [] all = tt
+all_but P a (e ∷ es) all = elim (nat_eq e.0 a)
+    as (λ b. nat_eq e.0 a ≡ b → AllByRecursion P (cond (not b) (e ∷ where_key nat_cmp (λ other. not (nat_eq other a)) es) (where_key nat_cmp (λ other. not (nat_eq other a)) es))) [
+      | true ↦ λ here. all_but P a es all.1
+      | false ↦ λ other. (all.0 other, all_but P a es all.1)
+    ] refl
+
 -- the same memory, with one block less
-block_freed : (s new : Numbered) (a : ℕ) → length new.lists.slots ≡ length s.lists.slots → new.memory ≡ without_block a s.memory
-    → ((tag : ℕ) → shown_object (contents new) tag ≡ shown_object (contents s) tag)
+pub block_freed : (s new : Numbered) (a : ℕ) → length new.lists.slots ≡ length s.lists.slots
+    → map (shown_public new) new.ports.public ≡ map (shown_public s) s.ports.public → new.memory ≡ without_block a s.memory
+    → AllByRecursion (λ (entry : ℕ × (ℕ × ℕ)). nat_eq entry.0 a ≡ false → shown_object (contents new) entry.1.1 ≡ shown_object (contents s) entry.1.1) s.memory.blocks
     → shown_memory new ≡ freed a (shown_memory s)
 unfolding shown_heap
-block_freed s new a pool memory same = λ i. record {
+block_freed s new a pool public memory same = λ i. record {
   regions = (memory i).regions;
   pool = pool i;
   heap = (
       ap (λ (m : table.Memory). map (shown_entry (contents new)) m.blocks) memory
-      ∙ ap (λ (f : ℕ × (ℕ × ℕ) → ℕ × Block). map f (without_block a s.memory).blocks)
-      (fun_ext (λ (entry : ℕ × (ℕ × ℕ)). ap (λ o. (entry.0, record { size = entry.1.0; object = o })) (same entry.1.1)))
+      ∙ map_same (shown_entry (contents new)) (shown_entry (contents s)) (without_block a s.memory).blocks
+      (all_then (λ (entry : ℕ × (ℕ × ℕ)) e. ap (λ o. (entry.0, record { size = entry.1.0; object = o })) e) (without_block a s.memory).blocks
+      (all_but (λ (entry : ℕ × (ℕ × ℕ)). shown_object (contents new) entry.1.1 ≡ shown_object (contents s) entry.1.1) a s.memory.blocks same))
       ∙ sym (where_key_shown (shown_block (contents s)) (λ other. not (nat_eq other a)) s.memory.blocks)) i;
+  public = public i;
 }
 
-none_there : (xs : List ℕ) → ((n : ℕ) → times n xs ≡ 0) → xs ≡ []
+-- what holds of each tag holds of that of each entry
+each_entry : (P : ℕ → Type 0) (a : ℕ) → ((tag : ℕ) → P tag) → (es : Blocks) → AllByRecursion (λ (entry : ℕ × (ℕ × ℕ)). nat_eq entry.0 a ≡ false → P entry.1.1) es
+each_entry P a all [] = tt
+each_entry P a all (e ∷ es) = (λ other. all e.1.1, each_entry P a all es)
+
+pub none_there : (xs : List ℕ) → ((n : ℕ) → times n xs ≡ 0) → xs ≡ []
 none_there [] none = refl
 none_there (x ∷ xs) none = let more : suc (times x xs) ≡ 0 = sym (ap (λ b. cond b (suc (times x xs)) (times x xs)) (nat_eq-same x)) ∙ none x in absurd (omega (arith, more))
 
@@ -137,7 +157,7 @@ module _ {s : Numbered} (sound : IsSound s) (space : IsSpace s) where
   list_at : (n a : ℕ) → next_number s.lists ≡ Some n → slot s.lists.slots n ≡ None
       → shown_memory (numbered.list_numbered 14 (Some n) (Some a) s) ≡ placed 14 (ListHead []) (Some a) (shown_memory s)
   list_at n a next free = block_put s (numbered.list_numbered 14 (Some n) (Some a) s) a 14 (tag_of 0 n) (ListHead [])
-      (ap (λ o. length (given_at o a s.lists).slots) next ∙ length-set s.lists.slots n (Some a)) refl (all_same s.memory.blocks) (list_here n free)
+      (ap (λ o. length (given_at o a s.lists).slots) next ∙ length-set s.lists.slots n (Some a)) refl refl (all_same s.memory.blocks) (list_here n free)
     where
       all_same : (blocks : Blocks) → AllByRecursion (λ (entry : ℕ × (ℕ × ℕ)). shown_object (contents s) entry.1.1 ≡ shown_object (contents s) entry.1.1) blocks
       all_same [] = tt
@@ -151,7 +171,8 @@ module _ {s : Numbered} (sound : IsSound s) (space : IsSpace s) where
   list_made_shown (Some n) (Some a) is fits free = list_at n a is (free n refl)
 
   pub list_freed_shown : (h a : ℕ) → shown_memory (numbered.list_freed h a s) ≡ freed a (shown_memory s)
-  list_freed_shown h a = block_freed s (numbered.list_freed h a s) a (length-set s.lists.slots h None) refl (λ tag. refl)
+  list_freed_shown h a = block_freed s (numbered.list_freed h a s) a (length-set s.lists.slots h None) refl refl
+      (each_entry (λ tag. shown_object (contents (numbered.list_freed h a s)) tag ≡ shown_object (contents s) tag) a (λ tag. refl) s.memory.blocks)
 
   -- ---- nodes
 
@@ -171,20 +192,22 @@ module _ {s : Numbered} (sound : IsSound s) (space : IsSpace s) where
       let bad : true ≡ false = sym stands ∙ stands_at sound space h m ∙ ap (λ k. is_at (home s.homes k) h) same ∙ ap (λ o. is_at o h) none in cc
 
   object_beside : (n : ℕ) (p : Option ℕ) (key : Key) → slot s.nodes.slots n ≡ None → (k m a : ℕ) → slot (slots_of k s) m ≡ Some a
-      → object_of k m (record { places = slice_set s.nodes.slots n p; sequences = s.sequences; keys = slice_set s.keys n key }) ≡ object_of k m (contents s)
+      → object_of k m (record (contents s) { places = slice_set s.nodes.slots n p; keys = slice_set s.keys n key }) ≡ object_of k m (contents s)
   object_beside n p key free zero m a live = ap ListHead (addresses_kept m n p (free_elsewhere m n free))
   object_beside n p key free (suc zero) m a live = ap Node (get_or-set_other s.keys n m key blank (λ same. let bad : true ≡ false = ap is_some (sym live ∙ ap (slot s.nodes.slots) same ∙ free) in cc))
-  object_beside n p key free (suc (suc k)) m a live = refl
+  object_beside n p key free (suc (suc zero)) m a live = refl
+  object_beside n p key free (suc (suc (suc zero))) m a live = refl
+  object_beside n p key free (suc (suc (suc (suc k)))) m a live = refl
 
   shown_beside : (n : ℕ) (p : Option ℕ) (key : Key) → slot s.nodes.slots n ≡ None → (tag a : ℕ) → place_or tag a s ≡ Some a
-      → shown_object (record { places = slice_set s.nodes.slots n p; sequences = s.sequences; keys = slice_set s.keys n key }) tag ≡ shown_object (contents s) tag
+      → shown_object (record (contents s) { places = slice_set s.nodes.slots n p; keys = slice_set s.keys n key }) tag ≡ shown_object (contents s) tag
   shown_beside n p key free zero a live = refl
   shown_beside n p key free (suc j) a live = object_beside n p key free (j % 8) (j / 8) a live
 
   node_here : (n : ℕ) (p : Option ℕ) (key : Key) → n < length s.keys
-      → shown_object (record { places = slice_set s.nodes.slots n p; sequences = s.sequences; keys = slice_set s.keys n key }) (tag_of 1 n) ≡ Node key
+      → shown_object (record (contents s) { places = slice_set s.nodes.slots n p; keys = slice_set s.keys n key }) (tag_of 1 n) ≡ Node key
   node_here n p key known =
-      let c : Contents = record { places = slice_set s.nodes.slots n p; sequences = s.sequences; keys = slice_set s.keys n key } in
+      let c : Contents = record (contents s) { places = slice_set s.nodes.slots n p; keys = slice_set s.keys n key } in
       ap (λ k. object_of k ((1 + 8 * n) / 8) c) (kind_read 1 n (lit≤ tt)) ∙ ap (λ m. object_of 1 m c) (number_read 1 n (lit≤ tt))
       ∙ ap Node (get_or-set_at s.keys n n key blank refl known)
 
@@ -193,11 +216,11 @@ module _ {s : Numbered} (sound : IsSound s) (space : IsSpace s) where
   node_at n a key next free known =
       let places : (given a s.nodes).slots ≡ slice_set s.nodes.slots n (Some a) = ap (λ o. (given_at o a s.nodes).slots) next in
       let new = numbered.node_numbered 14 key (Some n) (Some a) s in
-      block_put s new a 14 (tag_of 1 n) (Node key) refl refl
+      block_put s new a 14 (tag_of 1 n) (Node key) refl refl refl
       (all_then (λ (entry : ℕ × (ℕ × ℕ)) tagged.
-      ap (λ ps. shown_object (record { places = ps; sequences = s.sequences; keys = slice_set s.keys n key }) entry.1.1) places
+      ap (λ ps. shown_object (record (contents s) { places = ps; keys = slice_set s.keys n key }) entry.1.1) places
       ∙ shown_beside n (Some a) key free entry.1.1 entry.0 tagged) s.memory.blocks sound.tagged)
-      (ap (λ ps. shown_object (record { places = ps; sequences = s.sequences; keys = slice_set s.keys n key }) (tag_of 1 n)) places ∙ node_here n (Some a) key known)
+      (ap (λ ps. shown_object (record (contents s) { places = ps; keys = slice_set s.keys n key }) (tag_of 1 n)) places ∙ node_here n (Some a) key known)
 
   pub node_made_shown : (next at : Option ℕ) (key : Key) → next_number s.nodes ≡ next → at ≡ numbered.made_at 14 next s → ((n : ℕ) → next ≡ Some n → slot s.nodes.slots n ≡ None)
       → ((n : ℕ) → next ≡ Some n → n < length s.keys)
@@ -208,19 +231,22 @@ module _ {s : Numbered} (sound : IsSound s) (space : IsSpace s) where
   node_made_shown (Some n) (Some a) key is fits free known = node_at n a key is (free n refl) (known n refl)
 
   object_kept : (n : ℕ) → home s.homes n ≡ None → (k m : ℕ)
-      → object_of k m (record { places = slice_set s.nodes.slots n None; sequences = s.sequences; keys = s.keys }) ≡ object_of k m (contents s)
+      → object_of k m (record (contents s) { places = slice_set s.nodes.slots n None }) ≡ object_of k m (contents s)
   object_kept n none zero m = ap ListHead (addresses_kept m n None (unlinked_elsewhere m n none))
   object_kept n none (suc zero) m = refl
-  object_kept n none (suc (suc k)) m = refl
+  object_kept n none (suc (suc zero)) m = refl
+  object_kept n none (suc (suc (suc zero))) m = refl
+  object_kept n none (suc (suc (suc (suc k)))) m = refl
 
   shown_kept : (n : ℕ) → home s.homes n ≡ None → (tag : ℕ)
-      → shown_object (record { places = slice_set s.nodes.slots n None; sequences = s.sequences; keys = s.keys }) tag ≡ shown_object (contents s) tag
+      → shown_object (record (contents s) { places = slice_set s.nodes.slots n None }) tag ≡ shown_object (contents s) tag
   shown_kept n none zero = refl
   shown_kept n none (suc j) = object_kept n none (j % 8) (j / 8)
 
   pub node_freed_shown : (n a : ℕ) → home s.homes n ≡ None → shown_memory (numbered.node_freed n a s) ≡ freed a (shown_memory s)
-  node_freed_shown n a none = block_freed s (numbered.node_freed n a s) a refl refl (shown_kept n none)
+  node_freed_shown n a none = block_freed s (numbered.node_freed n a s) a refl refl refl
+      (each_entry (λ tag. shown_object (contents (numbered.node_freed n a s)) tag ≡ shown_object (contents s) tag) a (shown_kept n none) s.memory.blocks)
 
-pub unused_shown : (regions : List Region) (pool : ℕ) → shown_memory (numbered.unused regions pool) ≡ record { regions = regions; pool = pool; heap = [] }
+pub unused_shown : (regions : List Region) (pool : ℕ) → shown_memory (numbered.unused regions pool) ≡ record { regions = regions; pool = pool; heap = []; public = [] }
 unfolding shown_heap
-unused_shown regions pool = λ i. record { regions = regions; pool = length-replicate {A = Option ℕ} pool None i; heap = [] }
+unused_shown regions pool = λ i. record { regions = regions; pool = length-replicate {A = Option ℕ} pool None i; heap = []; public = [] }

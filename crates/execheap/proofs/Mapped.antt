@@ -14,7 +14,7 @@ abbrev pub Alike : (ℕ → ℕ) → ℕ → List ℕ → Type 0
 Alike f n xs = AllByRecursion (λ x. (f x == f n) ≡ (x == n)) xs
 
 -- what a test chooses of two values
-cond-map : {A B : Type 0} (f : A → B) (b : Bool) (x y : A) → cond b (f x) (f y) ≡ f (cond b x y)
+pub cond-map : {A B : Type 0} (f : A → B) (b : Bool) (x y : A) → cond b (f x) (f y) ≡ f (cond b x y)
 cond-map f true x y = refl
 cond-map f false x y = refl
 

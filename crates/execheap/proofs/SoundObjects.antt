@@ -1,6 +1,6 @@
 -- Objects stay sound where blocks are put and freed, and numbers given and released.
 use Rattle.std.proofs.Common.{◌≡◌, ◌≢◌, ℕ, zero, suc, ◌+◌, ◌/◌, ◌%◌, ◌<◌, ◌≤◌, List, [], ◌∷◌, Bool, true, false, cond, length, inl, inr, refl, ap, sym, ◌∙◌, subst, arith}
-use Rattle.std.specs.Prelude.{Some, None, Option, is_some, nat_eq, nat_lt, not, ◌⊎◌, if◌then◌else◌, slice_set, IfSome, IsSome}
+use Rattle.std.specs.Prelude.{Some, None, Option, is_some, nat_eq, nat_lt, not, ◌⊎◌, if◌then◌else◌, replicate, slice_set, IfSome, IsSome}
 use Rattle.std.specs.Option.{option_map}
 use Rattle.std.specs.List.{AllByRecursion, filter}
 use Rattle.std.specs.Ordering.{nat_cmp, eq_by_cmp}
@@ -21,6 +21,8 @@ use Rattle.memlist.proofs.Keeping.{rising_sorted}
 use Rattle.memlist.proofs.Merged.{IsRising, cases_order, put_same}
 use Rattle.memlist.proofs.Slots.{AllFrom, freed_none}
 use Rattle.execlist.specs.Pool.{Pooled, IsStocked, next_number, slot, taken}
+use Rattle.msgport.specs.Port.{Port}
+use Rattle.msgport.specs.declared.message.Message.{Message}
 use Rattle.execheap.specs.Tags.{is_of, tag_of}
 use Rattle.execheap.specs.Numbered.{Numbered, IsSound, IsTagged, counted, number_at, place_of_tag, place_or, slots_of, tag_at}
 use Rattle.execheap.specs.Changes.{list_freed, list_numbered, node_freed, node_numbered, unused}
@@ -103,24 +105,24 @@ module _ {P Q : ℕ × (ℕ × ℕ) → Type 0} where
 -- ---- a block that is put or freed, and the places of numbers
 
 -- tags and places tell each other
-record IsMatched (s : Numbered) : Type 0 where
-  tagged : AllByRecursion (IsTagged s) s.memory.blocks
-  complete : (n address : ℕ) → place_of_tag (suc n) s ≡ Some address → tag_at address s.memory.blocks ≡ Some (suc n)
-  count : (kind : ℕ) → counted kind s.memory.blocks ≡ taken (slots_of kind s)
+pub record IsMatched (s : Numbered) : Type 0 where
+  pub tagged : AllByRecursion (IsTagged s) s.memory.blocks
+  pub complete : (n address : ℕ) → place_of_tag (suc n) s ≡ Some address → tag_at address s.memory.blocks ≡ Some (suc n)
+  pub count : (kind : ℕ) → counted kind s.memory.blocks ≡ taken (slots_of kind s)
 
 -- what a tag names gets an address, and nothing else
-record IsGiven (a tag : ℕ) (s t : Numbered) : Type 0 where
-  mine : place_or tag a t ≡ Some a
-  kept : (other b : ℕ) → place_or other b s ≡ Some b → place_or other b t ≡ Some b
-  only : (n b : ℕ) → place_of_tag (suc n) t ≡ Some b → (place_of_tag (suc n) s ≡ Some b) ⊎ ((suc n ≡ tag) × (b ≡ a))
-  more : (kind : ℕ) → taken (slots_of kind t) ≡ tally kind tag + taken (slots_of kind s)
+pub record IsGiven (a tag : ℕ) (s t : Numbered) : Type 0 where
+  pub mine : place_or tag a t ≡ Some a
+  pub kept : (other b : ℕ) → place_or other b s ≡ Some b → place_or other b t ≡ Some b
+  pub only : (n b : ℕ) → place_of_tag (suc n) t ≡ Some b → (place_of_tag (suc n) s ≡ Some b) ⊎ ((suc n ≡ tag) × (b ≡ a))
+  pub more : (kind : ℕ) → taken (slots_of kind t) ≡ tally kind tag + taken (slots_of kind s)
 
 -- what a tag names at an address has none, and nothing else
-record IsTaken (a tag : ℕ) (s t : Numbered) : Type 0 where
-  kept : (other b : ℕ) → b ≢ a → place_or other b s ≡ Some b → place_or other b t ≡ Some b
-  left : (n b : ℕ) → place_of_tag (suc n) t ≡ Some b → place_of_tag (suc n) s ≡ Some b
-  gone : (n b : ℕ) → place_of_tag (suc n) t ≡ Some b → suc n ≢ tag
-  less : (kind : ℕ) → tally kind tag + taken (slots_of kind t) ≡ taken (slots_of kind s)
+pub record IsTaken (a tag : ℕ) (s t : Numbered) : Type 0 where
+  pub kept : (other b : ℕ) → b ≢ a → place_or other b s ≡ Some b → place_or other b t ≡ Some b
+  pub left : (n b : ℕ) → place_of_tag (suc n) t ≡ Some b → place_of_tag (suc n) s ≡ Some b
+  pub gone : (n b : ℕ) → place_of_tag (suc n) t ≡ Some b → suc n ≢ tag
+  pub less : (kind : ℕ) → tally kind tag + taken (slots_of kind t) ≡ taken (slots_of kind s)
 
 -- the tag of a block that was found, or of none
 abbrev tag_in : Option (ℕ × ℕ) → Option ℕ
@@ -128,7 +130,7 @@ tag_in found = option_map (λ (block : ℕ × ℕ). block.1) found
 
 module _ {s t : Numbered} (sound : IsSound s) (a : ℕ) where
   -- a block is put where none begins
-  matched_put : (v : ℕ × ℕ) → block_at a s.memory.blocks ≡ None → t.memory.blocks ≡ put nat_cmp a v s.memory.blocks
+  pub matched_put : (v : ℕ × ℕ) → block_at a s.memory.blocks ≡ None → t.memory.blocks ≡ put nat_cmp a v s.memory.blocks
       → IsGiven a v.1 s t → IsMatched t
   matched_put v fresh is given = record {
     tagged = subst (AllByRecursion (IsTagged t)) (sym is)
@@ -152,7 +154,7 @@ module _ {s t : Numbered} (sound : IsSound s) (a : ℕ) where
         ∙ ap Some (sym now.0)
 
   -- the block that begins at an address is freed
-  matched_freed : (block : ℕ × ℕ) → IsRising s.memory.blocks → block_at a s.memory.blocks ≡ Some block
+  pub matched_freed : (block : ℕ × ℕ) → IsRising s.memory.blocks → block_at a s.memory.blocks ≡ Some block
       → t.memory.blocks ≡ freed a s.memory.blocks → IsTaken a block.1 s t → IsMatched t
   matched_freed block rising found is given = record {
     tagged = subst (AllByRecursion (IsTagged t)) (sym is)
@@ -174,10 +176,10 @@ module _ {s t : Numbered} (sound : IsSound s) (a : ℕ) where
 -- ---- a plain block
 
 module _ {s t : Numbered} (same : (kind : ℕ) → slots_of kind t ≡ slots_of kind s) where
-  tag_kept : (n : ℕ) → place_of_tag (suc n) t ≡ place_of_tag (suc n) s
+  pub tag_kept : (n : ℕ) → place_of_tag (suc n) t ≡ place_of_tag (suc n) s
   tag_kept n = ap (λ ps. slot ps (n / 8)) (same (n % 8))
 
-  plain_kept : (tag b : ℕ) → place_or tag b t ≡ place_or tag b s
+  pub plain_kept : (tag b : ℕ) → place_or tag b t ≡ place_or tag b s
   plain_kept zero b = refl
   plain_kept (suc n) b = tag_kept n
 
@@ -200,11 +202,11 @@ module _ {s t : Numbered} (same : (kind : ℕ) → slots_of kind t ≡ slots_of 
 -- ---- an object of a number
 
 -- the address of a number of a kind becomes another, or none, and no other does
-record IsReset (kind number : ℕ) (p : Option ℕ) (s t : Numbered) : Type 0 where
-  few : kind < 8
-  known : number < length (slots_of kind s)
-  set : slots_of kind t ≡ slice_set (slots_of kind s) number p
-  same : (other : ℕ) → other ≢ kind → slots_of other t ≡ slots_of other s
+pub record IsReset (kind number : ℕ) (p : Option ℕ) (s t : Numbered) : Type 0 where
+  pub few : kind < 8
+  pub known : number < length (slots_of kind s)
+  pub set : slots_of kind t ≡ slice_set (slots_of kind s) number p
+  pub same : (other : ℕ) → other ≢ kind → slots_of other t ≡ slots_of other s
 
 tally_own : (kind number : ℕ) → kind < 8 → tally kind (tag_of kind number) ≡ 1
 tally_own kind number few = ap (λ b. cond b 1 0) (ap (λ k. nat_eq k kind) (kind_read kind number few) ∙ nat_eq-same kind)
@@ -214,16 +216,16 @@ tally_other kind other number few ne =
     ap (λ b. cond b 1 0) (ap (λ k. nat_eq k other) (kind_read kind number few) ∙ nat_eq-other kind other (λ e. ne (sym e)))
 
 module _ {kind number : ℕ} {p : Option ℕ} {s t : Numbered} (reset : IsReset kind number p s t) where
-  reset_here : slot (slots_of kind t) number ≡ p
+  pub reset_here : slot (slots_of kind t) number ≡ p
   reset_here = ap (λ ps. slot ps number) reset.set ∙ slot_same (slots_of kind s) number p reset.known
 
-  reset_other : (other m : ℕ) → (other ≡ kind → m ≢ number) → slot (slots_of other t) m ≡ slot (slots_of other s) m
+  pub reset_other : (other m : ℕ) → (other ≡ kind → m ≢ number) → slot (slots_of other t) m ≡ slot (slots_of other s) m
   reset_other other m ne = cases_eq other kind
       (λ e. subst (λ k. slot (slots_of k t) m ≡ slot (slots_of k s) m) (sym e)
       (ap (λ ps. slot ps m) reset.set ∙ slot_other (slots_of kind s) number m p (ne e)))
       (λ e. ap (λ ps. slot ps m) (reset.same other e))
 
-  reset_length : (other : ℕ) → length (slots_of other t) ≡ length (slots_of other s)
+  pub reset_length : (other : ℕ) → length (slots_of other t) ≡ length (slots_of other s)
   reset_length other = cases_eq other kind
       (λ e. subst (λ k. length (slots_of k t) ≡ length (slots_of k s)) (sym e) (ap length reset.set ∙ length-set (slots_of kind s) number p))
       (λ e. ap length (reset.same other e))
@@ -239,7 +241,7 @@ module _ {kind number a : ℕ} {s t : Numbered} (reset : IsReset kind number (So
   was_none n b same was =
       let bad : false ≡ true = ap is_some (sym (ap (λ tag. place_of_tag tag s) same ∙ place_tag s kind number reset.few ∙ vacant) ∙ was) in cc
 
-  number_given : IsGiven a (tag_of kind number) s t
+  pub number_given : IsGiven a (tag_of kind number) s t
   number_given = record { mine = tag_here reset; kept = kept; only = only; more = more } where
     kept : (tag b : ℕ) → place_or tag b s ≡ Some b → place_or tag b t ≡ Some b
     kept zero b was = was
@@ -257,7 +259,7 @@ module _ {kind number a : ℕ} {s t : Numbered} (reset : IsReset kind number (So
         (λ e. omega (arith, ap taken (reset.same other e), tally_other kind other number reset.few e))
 
 module _ {kind number a : ℕ} {s t : Numbered} (reset : IsReset kind number None s t) (live : slot (slots_of kind s) number ≡ Some a) where
-  number_taken : IsTaken a (tag_of kind number) s t
+  pub number_taken : IsTaken a (tag_of kind number) s t
   number_taken = record { kept = kept; left = left; gone = gone; less = less } where
     here : place_of_tag (tag_of kind number) s ≡ Some a
     here = place_tag s kind number reset.few ∙ live
@@ -285,12 +287,24 @@ module _ {kind number a : ℕ} {s t : Numbered} (reset : IsReset kind number Non
 nothing : (regions : List Region) (pool kind number : ℕ) → slot (slots_of kind (unused regions pool)) number ≡ None
 nothing regions pool zero number = slot_new ℕ pool number
 nothing regions pool (suc zero) number = slot_new ℕ pool number
-nothing regions pool (suc (suc kind)) number = refl
+nothing regions pool (suc (suc zero)) number = slot_new ℕ pool number
+nothing regions pool (suc (suc (suc zero))) number = slot_new ℕ pool number
+nothing regions pool (suc (suc (suc (suc kind)))) number = refl
 
 none_taken : (regions : List Region) (pool kind : ℕ) → 0 ≡ taken (slots_of kind (unused regions pool))
 none_taken regions pool zero = sym (taken_new ℕ pool)
 none_taken regions pool (suc zero) = sym (taken_new ℕ pool)
-none_taken regions pool (suc (suc kind)) = refl
+none_taken regions pool (suc (suc zero)) = sym (taken_new ℕ pool)
+none_taken regions pool (suc (suc (suc zero))) = sym (taken_new ℕ pool)
+none_taken regions pool (suc (suc (suc (suc kind)))) = refl
+
+-- no port and no message lives, and none has an address
+no_place : (A : Type 0) (pool n : ℕ)
+    → is_some (slot (replicate {A = Option ℕ} pool None) n) ≡ is_some (slot (replicate {A = Option A} pool None) n)
+no_place A pool n = ap is_some (slot_new ℕ pool n) ∙ sym (ap is_some (slot_new A pool n))
+
+no_length : (A : Type 0) (pool : ℕ) → length (replicate {A = Option ℕ} pool None) ≡ length (replicate {A = Option A} pool None)
+no_length A pool = length-replicate {A = Option ℕ} pool None ∙ sym (length-replicate {A = Option A} pool None)
 
 pub sound_unused : (regions : List Region) (pool : ℕ) → pool ≤ 1024 → IsSound (unused regions pool)
 sound_unused regions pool small = record {
@@ -301,6 +315,13 @@ sound_unused regions pool small = record {
   live_lists = λ n h linked. (let bad : false ≡ true = ap is_some (sym (slot_new ℕ pool n) ∙ linked) in cc);
   each_list = length-replicate pool [] ∙ sym (length-replicate pool None);
   each_node = refl;
+  placed_ports = λ p. no_place Port pool p;
+  placed_messages = λ m. no_place Message pool m;
+  own_signals = λ p lives. (let bad : false ≡ true = ap is_some (sym (slot_new Port pool p)) ∙ lives in cc);
+  each_port = no_length Port pool;
+  each_message = no_length Message pool;
+  port_pool = refl;
+  message_pool = refl;
   one_pool = refl;
   small_pool = omega (arith, small, length-replicate {A = Option ℕ} pool None);
 }
@@ -310,7 +331,9 @@ sound_unused regions pool small = record {
 slots_kept : (s : Numbered) (memory : Memory) (kind : ℕ) → slots_of kind (record s { memory = memory }) ≡ slots_of kind s
 slots_kept s memory zero = refl
 slots_kept s memory (suc zero) = refl
-slots_kept s memory (suc (suc kind)) = refl
+slots_kept s memory (suc (suc zero)) = refl
+slots_kept s memory (suc (suc (suc zero))) = refl
+slots_kept s memory (suc (suc (suc (suc kind)))) = refl
 
 plain_block : {A : Type 0} (size : ℕ) (found : Option (ℕ × ℕ)) → names size found ≡ true
     → ((block : ℕ × ℕ) → found ≡ Some block → block.1 ≡ 0 → A) → A
@@ -327,6 +350,13 @@ module _ {s : Numbered} (sound : IsSound s) where
     live_lists = sound.live_lists;
     each_list = sound.each_list;
     each_node = sound.each_node;
+    placed_ports = sound.placed_ports;
+    placed_messages = sound.placed_messages;
+    own_signals = sound.own_signals;
+    each_port = sound.each_port;
+    each_message = sound.each_message;
+    port_pool = sound.port_pool;
+    message_pool = sound.message_pool;
     one_pool = sound.one_pool;
     small_pool = sound.small_pool;
   }
@@ -358,28 +388,34 @@ lives_on {kind} {number} {a} {s} {t} reset other m lives = cases_eq other kind
     (λ k. ap is_some (reset_other reset other m (λ e. absurd (k e))) ∙ lives)
 
 list_reset : {s t : Numbered} (number : ℕ) (p : Option ℕ) → number < length s.lists.slots
-    → t.lists.slots ≡ slice_set s.lists.slots number p → t.nodes.slots ≡ s.nodes.slots → IsReset 0 number p s t
-list_reset {s} {t} number p known set nodes = record { few = omega arith; known = known; set = set; same = same } where
+    → t.lists.slots ≡ slice_set s.lists.slots number p → t.nodes.slots ≡ s.nodes.slots
+    → t.port_places ≡ s.port_places → t.message_places ≡ s.message_places → IsReset 0 number p s t
+list_reset {s} {t} number p known set nodes ports messages = record { few = omega arith; known = known; set = set; same = same } where
   same : (other : ℕ) → other ≢ 0 → slots_of other t ≡ slots_of other s
   same zero other = absurd (other refl)
   same (suc zero) other = nodes
-  same (suc (suc kind)) other = refl
+  same (suc (suc zero)) other = ports
+  same (suc (suc (suc zero))) other = messages
+  same (suc (suc (suc (suc kind)))) other = refl
 
 node_reset : {s t : Numbered} (number : ℕ) (p : Option ℕ) → number < length s.nodes.slots
-    → t.nodes.slots ≡ slice_set s.nodes.slots number p → t.lists.slots ≡ s.lists.slots → IsReset 1 number p s t
-node_reset {s} {t} number p known set lists = record { few = omega arith; known = known; set = set; same = same } where
+    → t.nodes.slots ≡ slice_set s.nodes.slots number p → t.lists.slots ≡ s.lists.slots
+    → t.port_places ≡ s.port_places → t.message_places ≡ s.message_places → IsReset 1 number p s t
+node_reset {s} {t} number p known set lists ports messages = record { few = omega arith; known = known; set = set; same = same } where
   same : (other : ℕ) → other ≢ 1 → slots_of other t ≡ slots_of other s
   same zero other = lists
   same (suc zero) other = absurd (other refl)
-  same (suc (suc kind)) other = refl
+  same (suc (suc zero)) other = ports
+  same (suc (suc (suc zero))) other = messages
+  same (suc (suc (suc (suc kind)))) other = refl
 
 -- the number that is next is known, and free
-pub record IsAhead (r : Pooled ℕ) (number : ℕ) : Type 0 where
+pub record IsAhead {A : Type 0} (r : Pooled A) (number : ℕ) : Type 0 where
   pub next : next_number r ≡ Some number
   pub known : number < length r.slots
   pub vacant : slot r.slots number ≡ None
 
-pub ahead_of : (r : Pooled ℕ) (number : ℕ) → IsStocked r → next_number r ≡ Some number → IsAhead r number
+pub ahead_of : {A : Type 0} (r : Pooled A) (number : ℕ) → IsStocked r → next_number r ≡ Some number → IsAhead r number
 ahead_of r number stocked next = record {
   next = next;
   known = subst (λ o. IfSome o (λ n. n < length r.slots)) next stocked.known;
@@ -405,6 +441,13 @@ module _ {s : Numbered} (sound : IsSound s) (formed : IsWellFormed s.memory.regi
     live_lists = λ n h linked. lives_on reset 0 h (sound.live_lists n h linked);
     each_list = sound.each_list ∙ sym (reset_length reset 0);
     each_node = sound.each_node;
+    placed_ports = sound.placed_ports;
+    placed_messages = sound.placed_messages;
+    own_signals = sound.own_signals;
+    each_port = sound.each_port;
+    each_message = sound.each_message;
+    port_pool = sound.port_pool ∙ sym (reset_length reset 0);
+    message_pool = sound.message_pool ∙ sym (reset_length reset 0);
     one_pool = sound.one_pool ∙ sym (reset_length reset 0);
     small_pool = omega (arith, reset_length reset 0, sound.small_pool);
   } where
@@ -412,7 +455,7 @@ module _ {s : Numbered} (sound : IsSound s) (formed : IsWellFormed s.memory.regi
     t = list_numbered size (Some number) (Some a) s
 
     reset : IsReset 0 number (Some a) s t
-    reset = list_reset number (Some a) ahead.known (given_slots a number s.lists ahead.next) refl
+    reset = list_reset number (Some a) ahead.known (given_slots a number s.lists ahead.next) refl refl refl
 
     matched : IsMatched t
     matched = matched_put sound a (round size, tag_of 0 number)
@@ -429,6 +472,13 @@ module _ {s : Numbered} (sound : IsSound s) (formed : IsWellFormed s.memory.regi
     live_lists = sound.live_lists;
     each_list = sound.each_list;
     each_node = sound.each_node ∙ sym (reset_length reset 1);
+    placed_ports = sound.placed_ports;
+    placed_messages = sound.placed_messages;
+    own_signals = sound.own_signals;
+    each_port = sound.each_port;
+    each_message = sound.each_message;
+    port_pool = sound.port_pool;
+    message_pool = sound.message_pool;
     one_pool = reset_length reset 1 ∙ sound.one_pool;
     small_pool = sound.small_pool;
   } where
@@ -436,14 +486,14 @@ module _ {s : Numbered} (sound : IsSound s) (formed : IsWellFormed s.memory.regi
     t = node_numbered size key (Some number) (Some a) s
 
     reset : IsReset 1 number (Some a) s t
-    reset = node_reset number (Some a) ahead.known (given_slots a number s.nodes ahead.next) refl
+    reset = node_reset number (Some a) ahead.known (given_slots a number s.nodes ahead.next) refl refl refl
 
     matched : IsMatched t
     matched = matched_put sound a (round size, tag_of 1 number)
         (fitted_fresh s.memory.regions s.memory.blocks size 1 a formed (sym is)) refl (number_given reset ahead.vacant)
 
   -- the block of an object that lives, and whose number is then free
-  matched_released : {t : Numbered} (kind number a : ℕ) → kind < 8 → slot (slots_of kind s) number ≡ Some a
+  pub matched_released : {t : Numbered} (kind number a : ℕ) → kind < 8 → slot (slots_of kind s) number ≡ Some a
       → t.memory.blocks ≡ freed a s.memory.blocks → IsReset kind number None s t → IsMatched t
   matched_released {t} kind number a few live is reset = block_of (block_at a s.memory.blocks) refl
     where
@@ -465,6 +515,13 @@ module _ {s : Numbered} (sound : IsSound s) (formed : IsWellFormed s.memory.regi
     live_lists = λ n k linked. ap is_some (reset_other reset 0 k (λ e. apart n k linked)) ∙ sound.live_lists n k linked;
     each_list = sound.each_list ∙ sym (reset_length reset 0);
     each_node = sound.each_node;
+    placed_ports = sound.placed_ports;
+    placed_messages = sound.placed_messages;
+    own_signals = sound.own_signals;
+    each_port = sound.each_port;
+    each_message = sound.each_message;
+    port_pool = sound.port_pool ∙ sym (reset_length reset 0);
+    message_pool = sound.message_pool ∙ sym (reset_length reset 0);
     one_pool = sound.one_pool ∙ sym (reset_length reset 0);
     small_pool = omega (arith, reset_length reset 0, sound.small_pool);
   } where
@@ -472,7 +529,7 @@ module _ {s : Numbered} (sound : IsSound s) (formed : IsWellFormed s.memory.regi
     t = list_freed h a s
 
     reset : IsReset 0 h None s t
-    reset = list_reset h None (slot_known s.lists.slots h a live) refl refl
+    reset = list_reset h None (slot_known s.lists.slots h a live) refl refl refl refl
 
     matched : IsMatched t
     matched = matched_released 0 h a (omega arith) live refl reset
@@ -494,6 +551,13 @@ module _ {s : Numbered} (sound : IsSound s) (formed : IsWellFormed s.memory.regi
     live_lists = sound.live_lists;
     each_list = sound.each_list;
     each_node = sound.each_node ∙ sym (reset_length reset 1);
+    placed_ports = sound.placed_ports;
+    placed_messages = sound.placed_messages;
+    own_signals = sound.own_signals;
+    each_port = sound.each_port;
+    each_message = sound.each_message;
+    port_pool = sound.port_pool;
+    message_pool = sound.message_pool;
     one_pool = reset_length reset 1 ∙ sound.one_pool;
     small_pool = sound.small_pool;
   } where
@@ -501,7 +565,7 @@ module _ {s : Numbered} (sound : IsSound s) (formed : IsWellFormed s.memory.regi
     t = node_freed n a s
 
     reset : IsReset 1 n None s t
-    reset = node_reset n None (slot_known s.nodes.slots n a live) refl refl
+    reset = node_reset n None (slot_known s.nodes.slots n a live) refl refl refl refl
 
     matched : IsMatched t
     matched = matched_released 1 n a (omega arith) live refl reset

@@ -37,7 +37,7 @@ tag_named kind (suc n) number e = elim (nat_eq (n % 8) kind) as (λ b. nat_eq (n
 
 -- ---- two numbers
 
-not_eq : (a b : ℕ) → nat_eq a b ≡ false → a ≢ b
+pub not_eq : (a b : ℕ) → nat_eq a b ≡ false → a ≢ b
 not_eq a b e same = let bad : true ≡ false = sym (nat_eq-same b) ∙ ap (λ z. nat_eq z b) (sym same) ∙ e in cc
 
 pub either_number : (a b : ℕ) (P : Bool → Type 0) → (a ≡ b → P true) → (a ≢ b → P false) → P (nat_eq a b)

@@ -6,6 +6,7 @@ use Rattle.memlist.specs.declared.region.Region.{Region}
 use Rattle.memlist.specs.Fit.{fit}
 use Rattle.memlist.specs.Memory.{allocated, untouched, without_block}
 use Rattle.execlist.specs.Pool.{all_free, given, next_number, released}
+use Rattle.msgport.specs.Ports.{MessagePorts, no_ports, port_made, message_made, port_freed, message_freed}
 use Rattle.execheap.specs.Tags.{tag_of}
 use Rattle.execheap.specs.Numbered.{Numbered}
 
@@ -18,6 +19,9 @@ unused regions pool = record {
   sequences = replicate pool [];
   homes = replicate pool None;
   keys = replicate pool blank;
+  ports = no_ports pool pool;
+  port_places = replicate pool None;
+  message_places = replicate pool None;
 }
 
 -- ---- objects made and freed
@@ -56,12 +60,56 @@ node_numbered size key (Some number) (Some address) s = record s {
 abbrev pub node_made : ℕ → Key → Option ℕ → Numbered → Numbered
 node_made size key place s = node_numbered size key (next_number s.nodes) place s
 
+-- the same of a port of a task, which signals it by the signal of that number
+abbrev pub port_numbered : ℕ → ℕ → ℕ → Option ℕ → Option ℕ → Numbered → Numbered
+port_numbered size task bit None place s = s
+port_numbered size task bit (Some number) None s = s
+port_numbered size task bit (Some number) (Some address) s = record s {
+  memory = allocated size (tag_of 2 number) (Some address) s.memory;
+  ports = port_made task bit s.ports;
+  port_places = slice_set s.port_places number (Some address);
+}
+
+abbrev pub port_made_at : ℕ → ℕ → ℕ → Option ℕ → Numbered → Numbered
+port_made_at size task bit place s = port_numbered size task bit (next_number s.ports.ports) place s
+
+-- the same of a message with a reply port and a word
+abbrev pub message_numbered : ℕ → ℕ → ℕ → Option ℕ → Option ℕ → Numbered → Numbered
+message_numbered size reply word None place s = s
+message_numbered size reply word (Some number) None s = s
+message_numbered size reply word (Some number) (Some address) s = record s {
+  memory = allocated size (tag_of 3 number) (Some address) s.memory;
+  ports = message_made reply word s.ports;
+  message_places = slice_set s.message_places number (Some address);
+}
+
+abbrev pub message_made_at : ℕ → ℕ → ℕ → Option ℕ → Numbered → Numbered
+message_made_at size reply word place s = message_numbered size reply word (next_number s.ports.messages) place s
+
 -- the object of a number that begins at an address is freed
 abbrev pub list_freed : ℕ → ℕ → Numbered → Numbered
 list_freed number address s = record s { memory = without_block address s.memory; lists = released number s.lists }
 
 abbrev pub node_freed : ℕ → ℕ → Numbered → Numbered
 node_freed number address s = record s { memory = without_block address s.memory; nodes = released number s.nodes }
+
+abbrev pub port_freed_at : ℕ → ℕ → Numbered → Numbered
+port_freed_at number address s = record s {
+  memory = without_block address s.memory;
+  ports = port_freed number s.ports;
+  port_places = slice_set s.port_places number None;
+}
+
+abbrev pub message_freed_at : ℕ → ℕ → Numbered → Numbered
+message_freed_at number address s = record s {
+  memory = without_block address s.memory;
+  ports = message_freed number s.ports;
+  message_places = slice_set s.message_places number None;
+}
+
+-- an action on the ports and the messages
+abbrev pub on_ports : (MessagePorts → MessagePorts) → Numbered → Numbered
+on_ports f s = record s { ports = f s.ports }
 
 -- ---- nodes linked and unlinked
 

@@ -2,3 +2,4 @@ pub mod Tags
 pub mod Numbered
 pub mod Changes
 pub mod Refusals
+pub mod Listing

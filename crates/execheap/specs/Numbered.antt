@@ -1,15 +1,16 @@
 -- Objects by number, and the memory that they stand for: the objects by address.
-use Rattle.std.specs.Prelude.{◌≡◌, ℕ, zero, suc, ◌/◌, ◌%◌, ◌≤◌, if◌then◌else◌, IsSome, List, [], filter, length, map, slice_index_or, Option, None, Some, unwrap_or}
+use Rattle.std.specs.Prelude.{◌≡◌, ℕ, zero, suc, ◌/◌, ◌%◌, ◌≤◌, if◌then◌else◌, IsSome, IsTrue, is_some, List, [], filter, length, map, slice_index_or, Option, None, Some, unwrap_or}
 use Rattle.std.specs.Option.{option_map, option_and_then}
 use Rattle.std.specs.List.{AllByRecursion}
 use Rattle.execlist.specs.Lists.{Key, blank, sequence, home, is_at, times}
 use Rattle.memlist.specs.Memory as table
 use Rattle.memlist.specs.Blocks.{Blocks, block_at}
-use Rattle.execmodel.specs.State.{Object, Plain, ListHead, Node, Block, Heap, Memory}
+use Rattle.msgport.specs.Ports.{MessagePorts, is_port, is_message, port_at, message_at, messages_of}
+use Rattle.execmodel.specs.State.{Object, Plain, ListHead, Node, MsgPort, Message, Block, Heap, PublicPort, Memory}
 use Rattle.execlist.specs.Pool.{Pooled, slot, taken}
 use Rattle.execheap.specs.Tags.{number_of, is_of}
 
--- the blocks with their tags; for each kind the addresses of its objects by number; and what the lists and the nodes hold, by number
+-- the blocks with their tags; for each kind the addresses of its objects by number; and what the objects hold, by number
 pub record Numbered : Type 0 where
   pub memory : table.Memory
   pub lists : Pooled ℕ
@@ -17,12 +18,17 @@ pub record Numbered : Type 0 where
   pub sequences : List (List ℕ)
   pub homes : List (Option ℕ)
   pub keys : List Key
+  pub ports : MessagePorts
+  pub port_places : List (Option ℕ)
+  pub message_places : List (Option ℕ)
 
 -- the addresses of the objects of a kind, by number
 abbrev pub slots_of : ℕ → Numbered → List (Option ℕ)
 slots_of zero s = s.lists.slots
 slots_of (suc zero) s = s.nodes.slots
-slots_of (suc (suc kind)) s = []
+slots_of (suc (suc zero)) s = s.port_places
+slots_of (suc (suc (suc zero))) s = s.message_places
+slots_of (suc (suc (suc (suc kind)))) s = []
 
 -- the number of the object of a kind that begins at an address
 abbrev pub number_at : ℕ → ℕ → Numbered → Option ℕ
@@ -38,20 +44,31 @@ address_in places n = unwrap_or (slot places n) 0
 abbrev pub key_at : List Key → ℕ → Key
 key_at keys n = slice_index_or keys n blank
 
--- what the objects hold, by number: the nodes of each list, the key of each node, and the address of each node
+-- what the objects hold, by number: the nodes of each list, the key of each node, the ports and the messages; and the address of each
+-- node and of each message
 pub record Contents : Type 0 where
   pub places : List (Option ℕ)
   pub sequences : List (List ℕ)
   pub keys : List Key
+  pub ports : MessagePorts
+  pub message_places : List (Option ℕ)
 
 abbrev pub contents : Numbered → Contents
-contents s = record { places = s.nodes.slots; sequences = s.sequences; keys = s.keys }
+contents s = record {
+  places = s.nodes.slots;
+  sequences = s.sequences;
+  keys = s.keys;
+  ports = s.ports;
+  message_places = s.message_places;
+}
 
 -- the object of a kind and a number
 abbrev pub object_of : ℕ → ℕ → Contents → Object
 object_of zero number c = ListHead (map (address_in c.places) (sequence c.sequences number))
 object_of (suc zero) number c = Node (key_at c.keys number)
-object_of (suc (suc kind)) number c = Plain
+object_of (suc (suc zero)) number c = MsgPort (port_at number c.ports) (map (address_in c.message_places) (messages_of number c.ports))
+object_of (suc (suc (suc zero))) number c = Message (message_at number c.ports)
+object_of (suc (suc (suc (suc kind)))) number c = Plain
 
 -- the object that a tag names
 abbrev pub shown_object : Contents → ℕ → Object
@@ -67,9 +84,18 @@ shown_entry c entry = (entry.0, shown_block c entry.1)
 unfoldable pub shown_heap : Numbered → Heap
 shown_heap s = map (shown_entry (contents s)) s.memory.blocks
 
--- the memory that objects by number stand for
+-- a public port, by its number
+abbrev pub shown_public : Numbered → ℕ → PublicPort
+shown_public s p = record { port = address_in s.port_places p; key = key_at s.ports.keys p }
+
+-- The memory that objects by number stand for. Its public ports stand in the order in which they are kept.
 abbrev pub shown_memory : Numbered → Memory
-shown_memory s = record { regions = s.memory.regions; pool = length s.lists.slots; heap = shown_heap s }
+shown_memory s = record {
+  regions = s.memory.regions;
+  pool = length s.lists.slots;
+  heap = shown_heap s;
+  public = map (shown_public s) s.ports.public;
+}
 
 -- ---- what always holds
 
@@ -97,7 +123,7 @@ counted kind blocks = length (filter (λ (entry : ℕ × (ℕ × ℕ)). is_of ki
 
 -- A number stands for one object, and an object for one block: each tag names what begins at its block's address, each object that has
 -- an address begins at a block with its tag, and of each kind as many blocks are tagged as numbers are given. A linked node and its
--- list are objects that live.
+-- list are objects that live; a port, or a message, has an address where it lives.
 pub record IsSound (s : Numbered) : Type 0 where
   pub tagged : AllByRecursion (IsTagged s) s.memory.blocks
   pub complete : (n address : ℕ) → place_of_tag (suc n) s ≡ Some address → tag_at address s.memory.blocks ≡ Some (suc n)
@@ -106,6 +132,13 @@ pub record IsSound (s : Numbered) : Type 0 where
   pub live_lists : (n h : ℕ) → home s.homes n ≡ Some h → IsSome (slot s.lists.slots h)
   pub each_list : length s.sequences ≡ length s.lists.slots
   pub each_node : length s.homes ≡ length s.nodes.slots
+  pub placed_ports : (p : ℕ) → is_some (slot s.port_places p) ≡ is_port p s.ports
+  pub placed_messages : (m : ℕ) → is_some (slot s.message_places m) ≡ is_message m s.ports
+  pub own_signals : (p : ℕ) → IsTrue (is_port p s.ports) → 16 ≤ (port_at p s.ports).bit
+  pub each_port : length s.port_places ≡ length s.ports.ports.slots
+  pub each_message : length s.message_places ≡ length s.ports.messages.slots
+  pub port_pool : length s.port_places ≡ length s.lists.slots
+  pub message_pool : length s.message_places ≡ length s.lists.slots
   pub one_pool : length s.nodes.slots ≡ length s.lists.slots
   pub small_pool : length s.lists.slots ≤ 1024
 

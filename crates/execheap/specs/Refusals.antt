@@ -2,11 +2,12 @@
 use Rattle.std.specs.Prelude.{ℕ, Bool, true, codes, List, Option, None, Some, Result, Ok, Err}
 use Rattle.execlist.specs.Lists.{home, is_at}
 use Rattle.execheap.specs.declared.refusal.Refusal.{Refusal}
-use Rattle.execheap.specs.declared.refusal.Refusal.TheVariants.{Handle, Link}
+use Rattle.execheap.specs.declared.refusal.Refusal.TheVariants.{Handle, Link, Port}
 
 abbrev pub code_of : Refusal → List ℕ
 code_of Handle = codes "HANDLE"
 code_of Link = codes "LINK"
+code_of Port = codes "PORT"
 
 -- the alert of an answer: none where the call was not refused
 abbrev pub alert_of : {T : Type 0} → Result T Refusal → Option (List ℕ)

@@ -8,6 +8,8 @@ ghost use Rattle.execlist.specs.Pool.{slot};
 ghost use Rattle.execheap.specs.Numbered.{address_in, shown_heap};
 ghost use Rattle.execheap.specs.Refusals.{alert_of, is_none_or_in};
 
+mod ports;
+
 use crate::kind::Kind;
 use crate::objects::Objects;
 use crate::refusal::Refusal;

@@ -1,4 +1,5 @@
-//! The memory of a machine and the objects that live in it, by address. Its value is the memory of the abstract machine.
+//! The memory of a machine and the objects that live in it, by address. Its value is the memory of the abstract machine,
+//! with the public ports in the order in which they are kept.
 ghost use Rattle.std.specs.Prelude.{◌≡◌, ◌≤◌, ℕ, [], true, false, None, Some, IfOk, IsTrue, OnErr, OnOk, option_map};
 ghost use Rattle.memlist.specs.Fit.{avail};
 ghost use Rattle.execmodel.specs.State.{ListHead, Node, Plain, on_heap};
@@ -9,6 +10,8 @@ ghost use Rattle.execmodel.specs.Lists.{added_head, added_tail, enqueued, insert
 ghost use Rattle.execheap.specs.Changes.{key_with};
 ghost use Rattle.execheap.specs.Refusals.{alert_of};
 
+mod ports;
+
 use crate::objects::Objects;
 use crate::refusal::Refusal;
 use execlist::key::Name;
@@ -17,7 +20,7 @@ use memlist::Region;
 use std::alloc::{AllocError, Global};
 use std::marker::Model;
 
-/// The memory of a machine and the objects that live in it: lists and nodes, over list spaces of the type S.
+/// The memory of a machine and the objects that live in it: lists and nodes, ports and messages, over list spaces of the type S.
 ///
 /// An object is named by the address of its block. No method takes memory of the host: `new` makes room for all that can ever live.
 #[derive(Drop)]
@@ -39,7 +42,7 @@ impl<S: ListSpace> Heap<S> {
     /// of the host is lacking, or that `check_regions` refuses the regions, which no machine file's are.
     pub fn new(alloc: Global, regions: &[Region], pool: u32) -> Result<Self, AllocError>
         requires { pool ≤ 1024 }
-        ensures { IfOk result (λ h. h ≡ record { regions = regions.now; pool = pool; heap = [] }) }
+        ensures { IfOk result (λ h. h ≡ record { regions = regions.now; pool = pool; heap = []; public = [] }) }
     {
         let objects = Objects::new(alloc, regions, pool)?;
         Ok(Heap { objects })

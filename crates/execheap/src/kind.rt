@@ -9,6 +9,10 @@ pub enum Kind {
     List,
     /// A node.
     Node,
+    /// A message port (RKM Libraries, Exec Messages and Ports).
+    Port,
+    /// A message.
+    Message,
 }
 
 impl Kind {
@@ -19,6 +23,8 @@ impl Kind {
         match self {
             Kind::List => 0,
             Kind::Node => 1,
+            Kind::Port => 2,
+            Kind::Message => 3,
         }
     }
 }

@@ -7,10 +7,12 @@ ghost use Rattle.execlist.specs.Lists.{home, is_named, last, part_after, part_be
 ghost use Rattle.memlist.specs.Fit.{asks, avail, fit};
 ghost use Rattle.memlist.specs.Memory.{IsWellFormed, allocated, can_free, untouched, without_block};
 ghost use Rattle.execlist.specs.Pool.{IsStocked, next_number, slot};
+ghost use Rattle.msgport.specs.Ports as ports;
 ghost use Rattle.execheap.specs.Tags.{kind_code};
 ghost use Rattle.execheap.specs.Numbered.{IsSound, IsSpace, number_at, slots_of};
 ghost use Rattle.execheap.specs.Changes.{unused, made_at, key_with, list_numbered, list_made, list_freed, node_numbered, node_made, node_freed, at_head, at_tail, queued, put, taken_out, head_taken, tail_taken};
 
+mod ports;
 #[cfg(test)]
 mod tests;
 
@@ -19,6 +21,7 @@ use execlist::key::Name;
 use execlist::pool::Pool;
 use execlist::space::{HeaderId, ListSpace, NodeId};
 use memlist::{MemList, Region};
+use msgport::ports::Ports;
 use std::alloc::{AllocError, Global};
 use std::marker::Model;
 
@@ -32,12 +35,16 @@ const LIST_SIZE: u32 = 14;
 const NODE_SIZE: u32 = 14;
 
 /// The blocks of a memory, and the objects that live in them by number. The tag of a block tells the kind and the number of its object.
+/// The ports and messages keep no addresses: those stand beside them.
 #[derive(Drop)]
 pub struct Objects<S: ListSpace> {
     memory: MemList,
     lists: Pool<u32>,
     nodes: Pool<u32>,
     space: S,
+    ports: Ports<S>,
+    port_places: Vec<Option<u32>>,
+    message_places: Vec<Option<u32>>,
 }
 
 impl<S: ListSpace> Model for Objects<S> {
@@ -52,6 +59,9 @@ impl<S: ListSpace> Model for Objects<S> {
       sequences = S.sequences o.space;
       homes = S.homes o.space;
       keys = S.keys o.space;
+      ports = o.ports;
+      port_places = o.port_places.items;
+      message_places = o.message_places.items;
     } };
 
     ghost invariant = { λ o. IsSound (record {
@@ -61,6 +71,9 @@ impl<S: ListSpace> Model for Objects<S> {
       sequences = S.sequences o.space;
       homes = S.homes o.space;
       keys = S.keys o.space;
+      ports = o.ports;
+      port_places = o.port_places.items;
+      message_places = o.message_places.items;
     }) };
 }
 
@@ -75,11 +88,17 @@ impl<S: ListSpace> Objects<S> {
         let lists = Pool::new(alloc, pool)?;
         let nodes = Pool::new(alloc, pool)?;
         let space = S::new(alloc, pool, pool)?;
+        let ports = Ports::new(alloc, pool, pool)?;
+        let port_places = vec![in alloc; None; pool]?;
+        let message_places = vec![in alloc; None; pool]?;
         Ok(Objects {
             memory,
             lists,
             nodes,
             space,
+            ports,
+            port_places,
+            message_places,
         })
     }
 
@@ -90,11 +109,15 @@ impl<S: ListSpace> Objects<S> {
         ensures memory { IsWellFormed self.now.memory.regions self.now.memory.blocks }
         ensures lists { IsStocked self.now.lists }
         ensures nodes { IsStocked self.now.nodes }
+        ensures ports { ports.IsSound self.now.ports }
+        ensures port_numbers { IsStocked self.now.ports.ports }
+        ensures message_numbers { IsStocked self.now.ports.messages }
     {
         let _ = &self.space;
         self.memory.is_well_formed();
         self.lists.facts();
         self.nodes.facts();
+        self.ports.facts();
     }
 
     // ---- plain blocks

@@ -10,9 +10,12 @@ pub enum Refusal {
     /// No live object of the kind begins at an address.
     #[error("no object of the kind begins there")]
     Handle,
-    /// A node is linked where it must not be, or the other way; or a list that is to be freed holds nodes.
-    #[error("a node is linked where it must not be, or the other way")]
+    /// A node, a message or a port is linked where it must not be, or the other way; or a list that is to be freed holds nodes.
+    #[error("linked where it must not be, or the other way")]
     Link,
+    /// A port that is to be freed holds messages or is public, or a port to wait at is not one that signals the caller.
+    #[error("a port in use, or not the caller's to wait at")]
+    Port,
 }
 
 impl Refusal {
@@ -23,6 +26,7 @@ impl Refusal {
         match self {
             Refusal::Handle => "HANDLE",
             Refusal::Link => "LINK",
+            Refusal::Port => "PORT",
         }
     }
 }

@@ -1,6 +1,7 @@
 pub mod Keeping
 pub mod ListTraces
 pub mod MemoryTraces
+pub mod PortTraces
 pub mod QuantumTraces
 pub mod Stopped
 pub mod Traces

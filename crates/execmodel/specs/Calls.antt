@@ -40,6 +40,7 @@ call_of t next command scripts = record {
   target = command.target;
   arguments = map (evaluated t scripts) command.arguments;
   next = next;
+  awaited = 0;
 }
 
 -- the call of the next command, if any is left

@@ -8,10 +8,12 @@ pub mod Tasks
 pub mod Memory
 pub mod Objects
 pub mod Lists
+pub mod Ports
 pub mod Interrupts
 pub mod Step
 pub mod Keeping
 pub mod Runs
 pub mod MemoryRuns
 pub mod ListRuns
+pub mod PortRuns
 pub mod QuantumRuns

@@ -9,13 +9,17 @@ use Rattle.taskscript.specs.File.{MachineData, TaskData}
 use Rattle.scheduler.specs.Schedule.{Schedule, unstarted}
 use Rattle.memlist.specs.declared.region.Region.{Region}
 use Rattle.execlist.specs.Lists.{Key}
+use Rattle.msgport.specs.Port.{Port}
+use Rattle.msgport.specs.declared.message.Message.{Message as Content}
 
--- a command of a task with the values that its arguments had when it was first tried, and the place of the command after it
+-- a command of a task with the values that its arguments had when it was first tried, and the place of the command after it; and, where
+-- the task waits in it at a port, the signals that it waits for, else 0
 pub record Call : Type 0 where
   pub word : Word
   pub target : Option Variable
   pub arguments : List Argument
   pub next : ℕ
+  pub awaited : ℕ
 
 -- what a task executes: its commands, the place of the next one, its own variables, and the call that it waits in, if any; and
 -- whether it is added when the machine starts
@@ -39,6 +43,10 @@ pub data Object : Type 0 where
   ListHead : (nodes : List ℕ) → Object
   -- a node, with its priority and its name or none
   Node : (key : Key) → Object
+  -- a message port, with the addresses of its messages in order of arrival (RKM Libraries, Exec Messages and Ports)
+  MsgPort : (port : Port) (messages : List ℕ) → Object
+  -- a message, with its type, its word, and the address of its reply port or 0
+  Message : (content : Content) → Object
 
 -- a block of memory, and what begins there
 pub record Block : Type 0 where
@@ -49,11 +57,18 @@ pub record Block : Type 0 where
 abbrev pub Heap : Type 0
 Heap = List (ℕ × Block)
 
--- the regions of memory in the order of the file, how many objects of each kind may live, and the blocks that are allocated
+-- a public port: its address, and its priority and its name
+pub record PublicPort : Type 0 where
+  pub port : ℕ
+  pub key : Key
+
+-- the regions of memory in the order of the file, how many objects of each kind may live, the blocks that are allocated, and the public
+-- ports in order of arrival
 pub record Memory : Type 0 where
   pub regions : List Region
   pub pool : ℕ
   pub heap : Heap
+  pub public : List PublicPort
 
 pub record State : Type 0 where
   -- the tasks' names, priorities, states and signals, the ready sequence, and the running task
@@ -83,6 +98,10 @@ pub record Outcome : Type 0 where
   pub marks : List Mark
 
 -- ---- actions
+
+-- an outcome that leaves one more mark
+abbrev pub leaving : Mark → Outcome → Outcome
+leaving mark o = record o { marks = mark ∷ o.marks }
 
 -- nothing is printed
 abbrev pub quiet : State → Outcome
@@ -142,12 +161,12 @@ abbrev pub begun : TaskData → Program
 begun task = begun_with task.code task.start
 
 -- The machine of a file before its start: no task was added, nothing runs, it was not yet told to be idle, and no interrupt was
--- requested. No memory is allocated.
+-- requested. No memory is allocated, and no port is public.
 unfoldable pub booted : MachineData → State
 booted machine = record {
   schedule = unstarted (length machine.tasks) (map (λ (task : TaskData). task.pri) machine.tasks) (map (λ (task : TaskData). task.name) machine.tasks) machine.quantum;
   scripts = record { programs = map begun machine.tasks; shared = replicate shared_variables 0 };
-  memory = record { regions = machine.regions; pool = machine.pool; heap = [] };
+  memory = record { regions = machine.regions; pool = machine.pool; heap = []; public = [] };
   latched = false;
   stopped = false;
 }

@@ -8,9 +8,13 @@ mod lists;
 #[cfg(test)]
 mod memory;
 #[cfg(test)]
+mod messages;
+#[cfg(test)]
 mod nesting;
 #[cfg(test)]
 mod not_simulated;
+#[cfg(test)]
+mod ports;
 #[cfg(test)]
 mod quantum;
 mod run;

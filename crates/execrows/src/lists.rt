@@ -1,38 +1,7 @@
 //! Lists and nodes: the words from NewList to FindName, and the memory and the alerts of their objects.
-use crate::running::runs;
+use crate::running::{pool_runs, runs, task_runs};
 use execsim::End;
-use std::alloc::Global;
-use std::process::Abort;
 use std::test::*;
-
-/// Runs a machine with 4,096 bytes of public memory from $1000 on, and one task `a` with these lines, each in single quotes.
-fn task_runs(
-    rt: &impl Abort,
-    alloc: Global,
-    lines: &str,
-    events: &str,
-    trace: &str,
-    end: End,
-) -> Result<(), Fail> {
-    pool_runs(rt, alloc, 64, lines, events, trace, end)
-}
-
-/// Runs the machine of `task_runs` with so many objects of each kind at most.
-fn pool_runs(
-    rt: &impl Abort,
-    alloc: Global,
-    pool: usize,
-    lines: &str,
-    events: &str,
-    trace: &str,
-    end: End,
-) -> Result<(), Fail> {
-    let machine = format!(in alloc;
-        "pool = {pool}\n[[region]]\nbase = 4096\nsize = 4096\n[[task]]\nname = \"a\"\ncode = [{lines}]\n"
-    )?;
-    runs(rt, alloc, machine.as_str(), events, trace, end);
-    Ok(())
-}
 
 #[test]
 fn a_list_is_sorted_by_priority_and_searched_by_name(rt: HostRuntime) -> Result<(), Fail> {

@@ -8,6 +8,7 @@ use execsim::{End, SimFault, simulate};
 use exectrace::{Sink, SinkState, WriteSink};
 use std::alloc::Global;
 use std::process::Abort;
+use std::test::Fail;
 
 /// Runs the machine over the events, and compares the whole trace and how the run ended.
 pub(crate) fn runs(
@@ -40,4 +41,53 @@ pub(crate) fn refuses(
     assert_eq!(rt; answer, Err(fault));
     assert_eq!(rt; out.state(), SinkState::Good);
     assert_eq!(rt; out.into_inner().len(), 0);
+}
+
+/// Runs a machine with 4,096 bytes of public memory from $1000 on, and one task `a` with these lines, each in single quotes.
+pub(crate) fn task_runs(
+    rt: &impl Abort,
+    alloc: Global,
+    lines: &str,
+    events: &str,
+    trace: &str,
+    end: End,
+) -> Result<(), Fail> {
+    pool_runs(rt, alloc, 64, lines, events, trace, end)
+}
+
+/// Runs the machine of `task_runs` with so many objects of each kind at most.
+pub(crate) fn pool_runs(
+    rt: &impl Abort,
+    alloc: Global,
+    pool: usize,
+    lines: &str,
+    events: &str,
+    trace: &str,
+    end: End,
+) -> Result<(), Fail> {
+    let machine = format!(in alloc;
+        "pool = {pool}\n[[region]]\nbase = 4096\nsize = 4096\n[[task]]\nname = \"a\"\ncode = [{lines}]\n"
+    )?;
+    runs(rt, alloc, machine.as_str(), events, trace, end);
+    Ok(())
+}
+
+/// Runs a machine with 4,096 bytes of public memory from $1000 on, and with two tasks of these lines, each in single quotes: `a` of
+/// priority 1, and `b` of priority 0.
+pub(crate) fn two_tasks_run(
+    rt: &impl Abort,
+    alloc: Global,
+    lines_of_a: &str,
+    lines_of_b: &str,
+    events: &str,
+    trace: &str,
+    end: End,
+) -> Result<(), Fail> {
+    let machine = format!(in alloc;
+        "[[region]]\nbase = 4096\nsize = 4096\n\
+         [[task]]\nname = \"a\"\npri = 1\ncode = [{lines_of_a}]\n\
+         [[task]]\nname = \"b\"\ncode = [{lines_of_b}]\n"
+    )?;
+    runs(rt, alloc, machine.as_str(), events, trace, end);
+    Ok(())
 }

@@ -1,14 +1,19 @@
 -- How the machine follows the words of memory.
-use Rattle.std.proofs.Common.{◌≡◌, ℕ, true, false, Option, refl, sym}
+use Rattle.std.proofs.Common.{◌≡◌, ℕ, true, false, Option, None, Some, refl, sym}
 use Rattle.std.specs.Prelude.{codes}
 use Rattle.std.specs.Option.{unwrap_or}
 use Rattle.exectrace.specs.Sink.{Tape}
 use Rattle.memlist.specs.Fit.{avail}
-use Rattle.execmodel.specs.State.{Call, Plain, on_memory}
+use Rattle.execmodel.specs.State.{Call, Memory, Object, Plain, on_memory}
 use Rattle.execmodel.specs.Calls.{argument, done, answered, alerted}
 use Rattle.execmodel.specs.Memory.{has_only, alloc_bits, can_be_asked, allocates, block_at, extents, is_named, place_for, placed, freed, does_alloc_mem, does_free_mem, does_avail_mem}
-use Rattle.execsim.specs.Agreement.{Seen, Follows}
+use Rattle.execsim.specs.Agreement.{Seen, Follows, ports_in_order}
 use Rattle.execsim.proofs.Following.{reads_memory, moves_memory, follows_as, follows_change}
+
+pub placed-in_order : (size : ℕ) (object : Object) (place : Option ℕ) (y : Memory)
+    → placed size object place (ports_in_order y) ≡ ports_in_order (placed size object place y)
+placed-in_order size object None y = refl
+placed-in_order size object (Some address) y = refl
 
 module _ {m n : Seen} {a b : Tape} (t : ℕ) (call : Call) where
   pub alloc_refused : has_only alloc_bits (argument 1 call) ≡ false → Follows (alerted (codes "VALUE") t call) m n a b → Follows (does_alloc_mem t call) m n a b
@@ -24,9 +29,10 @@ module _ {m n : Seen} {a b : Tape} (t : ℕ) (call : Call) where
       {g = allocates t call (argument 0 call) Plain place}
       (λ s e.
       let same : place_for (argument 0 call) (argument 1 call) s.memory ≡ place =
-      reads_memory (place_for (argument 0 call) (argument 1 call)) (sym fits) s e in
+      reads_memory (place_for (argument 0 call) (argument 1 call)) (λ y. refl) (sym fits) s e in
       rw (allowed, same) refl)
-      (follows_change (moves_memory (placed (argument 0 call) Plain place) is) follows)
+      (follows_change (moves_memory (placed (argument 0 call) Plain place) (placed (argument 0 call) Plain place)
+      (placed-in_order (argument 0 call) Plain place) is) follows)
 
   pub free_refused : is_named (argument 1 call) (block_at (argument 0 call) m.memory.heap) ≡ false
       → Follows (alerted (codes "MEM") t call) m n a b → Follows (does_free_mem t call) m n a b
@@ -34,7 +40,7 @@ module _ {m n : Seen} {a b : Tape} (t : ℕ) (call : Call) where
   free_refused refused follows = follows_as
       (λ s e.
       let same : is_named (argument 1 call) (block_at (argument 0 call) s.memory.heap) ≡ false =
-      reads_memory (λ memory. is_named (argument 1 call) (block_at (argument 0 call) memory.heap)) refused s e in
+      reads_memory (λ memory. is_named (argument 1 call) (block_at (argument 0 call) memory.heap)) (λ y. refl) refused s e in
       rw same refl) follows
 
   pub free_done : {o : Seen} → is_named (argument 1 call) (block_at (argument 0 call) m.memory.heap) ≡ true
@@ -45,9 +51,9 @@ module _ {m n : Seen} {a b : Tape} (t : ℕ) (call : Call) where
       {g = λ s. done t call (on_memory (freed (argument 0 call)) s)}
       (λ s e.
       let same : is_named (argument 1 call) (block_at (argument 0 call) s.memory.heap) ≡ true =
-      reads_memory (λ memory. is_named (argument 1 call) (block_at (argument 0 call) memory.heap)) named s e in
+      reads_memory (λ memory. is_named (argument 1 call) (block_at (argument 0 call) memory.heap)) (λ y. refl) named s e in
       rw same refl)
-      (follows_change (moves_memory (freed (argument 0 call)) is) follows)
+      (follows_change (moves_memory (freed (argument 0 call)) (freed (argument 0 call)) (λ y. refl) is) follows)
 
   pub avail_refused : can_be_asked (argument 0 call) ≡ false
       → Follows (alerted (codes "VALUE") t call) m n a b → Follows (does_avail_mem t call) m n a b
@@ -62,5 +68,5 @@ module _ {m n : Seen} {a b : Tape} (t : ℕ) (call : Call) where
       {g = answered t call answer}
       (λ s e.
       let same : avail s.memory.regions (extents s.memory.heap) (argument 0 call) ≡ answer =
-      reads_memory (λ memory. avail memory.regions (extents memory.heap) (argument 0 call)) (sym is) s e in
+      reads_memory (λ memory. avail memory.regions (extents memory.heap) (argument 0 call)) (λ y. refl) (sym is) s e in
       rw (allowed, same) refl) follows

@@ -7,7 +7,7 @@ use Rattle.taskscript.specs.Records.{task_view}
 use Rattle.taskscript.specs.declared.file.TaskRecord.{TaskRecord}
 use Rattle.scheduler.specs.Schedule.{unstarted}
 use Rattle.execmodel.specs.State.{booted}
-use Rattle.execsim.specs.Agreement.{Seen, Agrees, in_order}
+use Rattle.execsim.specs.Agreement.{Seen, Agrees, in_order, ports_in_order}
 use Rattle.execsim.proofs.Calling.{map-map_as}
 
 booted-in_order : (machine : MachineData) → in_order (booted machine).schedule ≡ (booted machine).schedule
@@ -28,15 +28,15 @@ booted-unlatched : (machine : MachineData) → false ≡ (booted machine).latche
 unfolding booted
 booted-unlatched machine = refl
 
-booted-memory : (machine : MachineData) → record { regions = machine.regions; pool = machine.pool; heap = [] } ≡ (booted machine).memory
-unfolding booted
+booted-memory : (machine : MachineData) → record { regions = machine.regions; pool = machine.pool; heap = []; public = [] } ≡ ports_in_order (booted machine).memory
+unfolding booted order
 booted-memory machine = refl
 
 -- the parts that were made for the tasks of a file are those of the first state
 pub boots : {seen : Seen} (machine : MachineData) (tasks : List TaskRecord) → map task_view tasks ≡ machine.tasks
     → seen.schedule ≡ unstarted (length tasks) (map (λ (t : TaskRecord). t.pri) tasks) (map (λ (t : TaskRecord). t.name.bytes) tasks) machine.quantum
     → seen.scripts ≡ (booted (record machine { tasks = map task_view tasks })).scripts
-    → seen.memory ≡ record { regions = machine.regions; pool = machine.pool; heap = [] }
+    → seen.memory ≡ record { regions = machine.regions; pool = machine.pool; heap = []; public = [] }
     → seen.latched ≡ false → seen.stopped ≡ false → Agrees seen (booted machine)
 boots {seen} machine tasks states schedule scripts memory unlatched going =
     subst (λ (ts : List TaskData). Agrees seen (booted (record machine { tasks = ts }))) states (record {

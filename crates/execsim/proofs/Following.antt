@@ -5,9 +5,9 @@ use Rattle.exectrace.specs.Sink.{Tape, Puts}
 use Rattle.exectrace.specs.Trace.{TraceLine, printed_line}
 use Rattle.exectrace.proofs.Pieces.{puts_none, puts_then, put_same}
 use Rattle.scheduler.specs.Schedule.{Schedule}
-use Rattle.execmodel.specs.State.{State, Scripts, Memory, Outcome, quiet, says, andthen, on_schedule, on_scripts, on_memory}
+use Rattle.execmodel.specs.State.{State, Scripts, Memory, Outcome, Mark, leaving, quiet, says, andthen, on_schedule, on_scripts, on_memory}
 use Rattle.execmodel.specs.Interrupts.{on_latch}
-use Rattle.execsim.specs.Agreement.{Seen, Agrees, Follows, Moves, in_order}
+use Rattle.execsim.specs.Agreement.{Seen, Agrees, Follows, Moves, in_order, ports_in_order}
 
 -- What the state that is agreed with holds, by what the machine shows.
 
@@ -20,8 +20,10 @@ module _ {m : Seen} {X : Type 0} where
   pub reads_scripts : (read : Scripts → X) {x : X} → read m.scripts ≡ x → (s : State) → Agrees m s → read s.scripts ≡ x
   reads_scripts read is s a = ap read (sym a.scripts) ∙ is
 
-  pub reads_memory : (read : Memory → X) {x : X} → read m.memory ≡ x → (s : State) → Agrees m s → read s.memory ≡ x
-  reads_memory read is s a = ap read (sym a.memory) ∙ is
+  -- a reading of the memory that does not look at the order of its public ports
+  pub reads_memory : (read : Memory → X) {x : X} → ((y : Memory) → read (ports_in_order y) ≡ read y) → read m.memory ≡ x
+      → (s : State) → Agrees m s → read s.memory ≡ x
+  reads_memory read blind is s a = sym (blind s.memory) ∙ ap read (sym a.memory) ∙ is
 
 pub reads_latch : {m : Seen} {b : Bool} → m.latched ≡ b → (s : State) → Agrees m s → s.latched ≡ b
 reads_latch is s a = sym a.latched ∙ is
@@ -60,12 +62,14 @@ moves_scripts next is = record {
   };
 }
 
-pub moves_memory : {m n : Seen} (next : Memory → Memory) → n ≡ record m { memory = next m.memory } → Moves (on_memory next) m n
-moves_memory next is = record {
+-- a change that goes the same way in every memory
+pub moves_memory : {m n : Seen} (next seen : Memory → Memory) → ((y : Memory) → seen (ports_in_order y) ≡ ports_in_order (next y))
+    → n ≡ record m { memory = seen m.memory } → Moves (on_memory next) m n
+moves_memory next seen commutes is = record {
   agrees = λ s a. record {
     schedule = ap (λ (x : Seen). x.schedule) is ∙ a.schedule;
     scripts = ap (λ (x : Seen). x.scripts) is ∙ a.scripts;
-    memory = ap (λ (x : Seen). x.memory) is ∙ ap next a.memory;
+    memory = ap (λ (x : Seen). x.memory) is ∙ ap seen a.memory ∙ commutes s.memory;
     latched = ap (λ (x : Seen). x.latched) is ∙ a.latched;
     stopped = ap (λ (x : Seen). x.stopped) is ∙ a.stopped;
   };
@@ -131,6 +135,10 @@ follows_change {f} moves follows = record {
   agrees = λ s e. follows.agrees (f s) (moves.agrees s e);
   prints = λ s e. follows.prints (f s) (moves.agrees s e);
 }
+
+-- an action that leaves a mark, too
+pub follows_leaving : {f : State → Outcome} (mark : State → Mark) {m n : Seen} {a b : Tape} → Follows f m n a b → Follows (λ s. leaving (mark s) (f s)) m n a b
+follows_leaving mark follows = record { agrees = follows.agrees; prints = follows.prints }
 
 -- one action after another
 pub follows_then : {f g : State → Outcome} {m n o : Seen} {a b c : Tape} → Follows f m n a b → Follows g n o b c → Follows (andthen f g) m o a c

@@ -8,6 +8,8 @@ pub mod Following
 pub mod Forbidding
 pub mod Listing
 pub mod Ordering
+pub mod PortOrder
+pub mod Porting
 pub mod Serving
 pub mod Signalling
 pub mod Stepping

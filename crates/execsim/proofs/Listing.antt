@@ -1,10 +1,10 @@
 -- How the machine follows the words of lists and nodes.
-use Rattle.std.proofs.Common.{◌≡◌, ℕ, [], Bool, false, true, Option, None, Some, List, refl, sym}
+use Rattle.std.proofs.Common.{◌≡◌, ℕ, [], Bool, false, true, Option, None, Some, List, refl, ap, sym}
 use Rattle.std.specs.Prelude.{Result, Ok, Err, IfOk, OnOk, OnErr, codes}
 use Rattle.std.specs.Int.{cast_signed, w32}
 use Rattle.std.specs.Option.{unwrap_or}
 use Rattle.exectrace.specs.Sink.{Tape}
-use Rattle.execmodel.specs.State.{Call, ListHead, Memory, Node, Object, on_memory}
+use Rattle.execmodel.specs.State.{Call, Heap, ListHead, Memory, Node, Object, State, Outcome, on_memory}
 use Rattle.execmodel.specs.Calls.{argument, name_argument, done, answered, alerted}
 use Rattle.execmodel.specs.Memory.{allocates, placed}
 use Rattle.execmodel.specs.Objects.{place_for_object, unless}
@@ -12,60 +12,92 @@ use Rattle.execmodel.specs.Lists.{does_new_list, does_new_node, is_list, is_node
 use Rattle.execmodel.specs.Tasks.{is_priority}
 use Rattle.execheap.specs.declared.refusal.Refusal.{Refusal}
 use Rattle.execheap.specs.Refusals.{alert_of, code_of}
-use Rattle.execsim.specs.Agreement.{Seen, Follows}
+use Rattle.execsim.specs.Agreement.{Seen, Follows, ports_in_order}
 use Rattle.execsim.specs.Endings.{done_or_alerted, answered_or_alerted}
+use Rattle.execsim.proofs.Allocating.{placed-in_order}
 use Rattle.execsim.proofs.Following.{reads_memory, moves_memory, follows_as, follows_change}
 
 -- ---- calls that may be refused
 
-module _ {m o : Seen} {a b : Tape} (t : ℕ) (call : Call) (alert : Memory → Option (List ℕ)) where
-  -- a call that answers nothing changes the memory, or is refused
-  pub follows_changed : (next : Memory → Memory) (x : Memory) (result : Result (Unit {0}) Refusal) → alert_of result ≡ alert m.memory
-      → OnOk result (x ≡ next m.memory) → OnErr result (x ≡ m.memory) → Follows (done_or_alerted result t call) (record m { memory = x }) o a b
-      → Follows (λ s. unless (alert s.memory) t call (λ s. done t call (on_memory next s)) s) m o a b
-  follows_changed next x (Ok nothing) says changed kept follows = follows_as
-      {g = λ s. done t call (on_memory next s)}
-      (λ s e. let same : alert s.memory ≡ None = reads_memory alert (sym says) s e in rw same refl)
-      (follows_change (moves_memory next (rw changed refl)) follows)
-  follows_changed next x (Err why) says changed kept follows = follows_as
+module _ {m o : Seen} {a b : Tape} (t : ℕ) (call : Call) (alert : Memory → Option (List ℕ)) (blind : (y : Memory) → alert (ports_in_order y) ≡ alert y) where
+  -- a refused call ends in its alert
+  pub follows_refused : (effect : State → Outcome) (why : Refusal) → Some (code_of why) ≡ alert m.memory
+      → Follows (alerted (code_of why) t call) m o a b → Follows (λ s. unless (alert s.memory) t call effect s) m o a b
+  follows_refused effect why says follows = follows_as
       {g = alerted (code_of why) t call}
-      (λ s e. let same : alert s.memory ≡ Some (code_of why) = reads_memory alert (sym says) s e in rw same refl)
-      (rw kept at follows)
+      (λ s e. let same : alert s.memory ≡ Some (code_of why) = reads_memory alert blind (sym says) s e in rw same refl)
+      follows
+
+  -- a call that is not refused has its effect
+  pub follows_allowed : (effect : State → Outcome) → None ≡ alert m.memory → Follows effect m o a b
+      → Follows (λ s. unless (alert s.memory) t call effect s) m o a b
+  follows_allowed effect says follows = follows_as
+      {g = effect}
+      (λ s e. let same : alert s.memory ≡ None = reads_memory alert blind (sym says) s e in rw same refl)
+      follows
+
+  -- a call that answers nothing changes the memory, or is refused
+  pub follows_changed : (next seen : Memory → Memory) → ((y : Memory) → seen (ports_in_order y) ≡ ports_in_order (next y)) → (x : Memory)
+      (result : Result (Unit {0}) Refusal) → alert_of result ≡ alert m.memory → OnOk result (x ≡ seen m.memory) → OnErr result (x ≡ m.memory)
+      → Follows (done_or_alerted result t call) (record m { memory = x }) o a b
+      → Follows (λ s. unless (alert s.memory) t call (λ s. done t call (on_memory next s)) s) m o a b
+  follows_changed next seen commutes x (Ok nothing) says changed kept follows =
+      follows_allowed (λ s. done t call (on_memory next s)) says
+      (follows_change (moves_memory next seen commutes (rw changed refl)) follows)
+  follows_changed next seen commutes x (Err why) says changed kept follows =
+      follows_refused (λ s. done t call (on_memory next s)) why says (rw kept at follows)
 
   -- a call that answers what it read, and then changes the memory, or is refused
-  pub follows_taken : (answer : Memory → ℕ) (next : Memory → Memory) (x : Memory) (result : Result ℕ Refusal) → alert_of result ≡ alert m.memory
-      → IfOk result (λ value. value ≡ answer m.memory) → OnOk result (x ≡ next m.memory) → OnErr result (x ≡ m.memory)
-      → Follows (answered_or_alerted result t call) (record m { memory = x }) o a b
+  pub follows_taken : (answer : Memory → ℕ) → ((y : Memory) → answer (ports_in_order y) ≡ answer y) → (next : Memory → Memory)
+      → ((y : Memory) → next (ports_in_order y) ≡ ports_in_order (next y)) → (x : Memory) (result : Result ℕ Refusal)
+      → alert_of result ≡ alert m.memory → IfOk result (λ value. value ≡ answer m.memory) → OnOk result (x ≡ next m.memory)
+      → OnErr result (x ≡ m.memory) → Follows (answered_or_alerted result t call) (record m { memory = x }) o a b
       → Follows (λ s. unless (alert s.memory) t call (λ s. answered t call (answer s.memory) (on_memory next s)) s) m o a b
-  follows_taken answer next x (Ok value) says tells changed kept follows = follows_as
+  follows_taken answer same next commutes x (Ok value) says tells changed kept follows =
+      follows_allowed (λ s. answered t call (answer s.memory) (on_memory next s)) says (follows_as
       {g = λ s. answered t call value (on_memory next s)}
-      (λ s e.
-      let same : alert s.memory ≡ None = reads_memory alert (sym says) s e in
-      let told : answer s.memory ≡ value = reads_memory answer (sym tells) s e in
-      rw (same, told) refl)
-      (follows_change (moves_memory next (rw changed refl)) follows)
-  follows_taken answer next x (Err why) says tells changed kept follows = follows_as
-      {g = alerted (code_of why) t call}
-      (λ s e. let same : alert s.memory ≡ Some (code_of why) = reads_memory alert (sym says) s e in rw same refl)
-      (rw kept at follows)
+      (λ s e. ap (λ v. answered t call v (on_memory next s)) (reads_memory answer same (sym tells) s e))
+      (follows_change (moves_memory next next commutes (rw changed refl)) follows))
+  follows_taken answer same next commutes x (Err why) says tells changed kept follows =
+      follows_refused (λ s. answered t call (answer s.memory) (on_memory next s)) why says (rw kept at follows)
 
   -- a call that answers what it reads, or is refused
-  pub follows_read : (answer : Memory → ℕ) (result : Result ℕ Refusal) → alert_of result ≡ alert m.memory
-      → IfOk result (λ value. value ≡ answer m.memory) → Follows (answered_or_alerted result t call) m o a b
-      → Follows (λ s. unless (alert s.memory) t call (λ s. answered t call (answer s.memory) s) s) m o a b
-  follows_read answer (Ok value) says tells follows = follows_as
+  pub follows_read : (answer : Memory → ℕ) → ((y : Memory) → answer (ports_in_order y) ≡ answer y) → (result : Result ℕ Refusal)
+      → alert_of result ≡ alert m.memory → IfOk result (λ value. value ≡ answer m.memory)
+      → Follows (answered_or_alerted result t call) m o a b → Follows (λ s. unless (alert s.memory) t call (λ s. answered t call (answer s.memory) s) s) m o a b
+  follows_read answer same (Ok value) says tells follows =
+      follows_allowed (λ s. answered t call (answer s.memory) s) says (follows_as
       {g = answered t call value}
-      (λ s e.
-      let same : alert s.memory ≡ None = reads_memory alert (sym says) s e in
-      let told : answer s.memory ≡ value = reads_memory answer (sym tells) s e in
-      rw (same, told) refl)
-      follows
-  follows_read answer (Err why) says tells follows = follows_as
-      {g = alerted (code_of why) t call}
-      (λ s e. let same : alert s.memory ≡ Some (code_of why) = reads_memory alert (sym says) s e in rw same refl)
-      follows
+      (λ s e. ap (λ v. answered t call v s) (reads_memory answer same (sym tells) s e))
+      follows)
+  follows_read answer same (Err why) says tells follows = follows_refused (λ s. answered t call (answer s.memory) s) why says follows
+
+-- the same of an alert and an answer that read the blocks alone
+module _ {m o : Seen} {a b : Tape} (t : ℕ) (call : Call) (alert : Heap → Option (List ℕ)) where
+  pub heap_changed : (next : Memory → Memory) → ((y : Memory) → next (ports_in_order y) ≡ ports_in_order (next y)) → (x : Memory)
+      (result : Result (Unit {0}) Refusal) → alert_of result ≡ alert m.memory.heap → OnOk result (x ≡ next m.memory) → OnErr result (x ≡ m.memory)
+      → Follows (done_or_alerted result t call) (record m { memory = x }) o a b
+      → Follows (λ s. unless (alert s.memory.heap) t call (λ s. done t call (on_memory next s)) s) m o a b
+  heap_changed next commutes = follows_changed t call (λ memory. alert memory.heap) (λ y. refl) next next commutes
+
+  pub heap_taken : (answer : Heap → ℕ) (next : Memory → Memory) → ((y : Memory) → next (ports_in_order y) ≡ ports_in_order (next y)) → (x : Memory)
+      (result : Result ℕ Refusal) → alert_of result ≡ alert m.memory.heap → IfOk result (λ value. value ≡ answer m.memory.heap)
+      → OnOk result (x ≡ next m.memory) → OnErr result (x ≡ m.memory) → Follows (answered_or_alerted result t call) (record m { memory = x }) o a b
+      → Follows (λ s. unless (alert s.memory.heap) t call (λ s. answered t call (answer s.memory.heap) (on_memory next s)) s) m o a b
+  heap_taken answer next commutes =
+      follows_taken t call (λ memory. alert memory.heap) (λ y. refl) (λ memory. answer memory.heap) (λ y. refl) next commutes
+
+  pub heap_read : (answer : Heap → ℕ) (result : Result ℕ Refusal) → alert_of result ≡ alert m.memory.heap
+      → IfOk result (λ value. value ≡ answer m.memory.heap) → Follows (answered_or_alerted result t call) m o a b
+      → Follows (λ s. unless (alert s.memory.heap) t call (λ s. answered t call (answer s.memory.heap) s) s) m o a b
+  heap_read answer = follows_read t call (λ memory. alert memory.heap) (λ y. refl) (λ memory. answer memory.heap) (λ y. refl)
 
 -- ---- objects made
+
+-- where an object goes does not depend on the order of the public ports
+pub room-in_order : (kind : Object → Bool) (size : ℕ) (y : Memory) → place_for_object kind size (ports_in_order y) ≡ place_for_object kind size y
+unfolding place_for_object
+room-in_order kind size y = refl
 
 pub node_refused : {m n : Seen} {a b : Tape} (t : ℕ) (call : Call) → is_priority (cast_signed w32 (argument 0 call)) ≡ false
     → Follows (alerted (codes "VALUE") t call) m n a b → Follows (does_new_node t call) m n a b
@@ -74,15 +106,15 @@ node_refused t call outside follows = follows_as (λ s e. rw outside refl) follo
 
 module _ {m n o : Seen} {a b : Tape} (t : ℕ) (call : Call) where
   -- a call that makes an object answers the address that it got
-  follows_made : (kind : Object → Bool) (size : ℕ) (object : Object) (place : Option ℕ) → place ≡ place_for_object kind size m.memory
+  pub follows_made : (kind : Object → Bool) (size : ℕ) (object : Object) (place : Option ℕ) → place ≡ place_for_object kind size m.memory
       → n ≡ record m { memory = placed size object place m.memory } → Follows (answered t call (unwrap_or place 0)) n o a b
       → Follows (λ s. allocates t call size object (place_for_object kind size s.memory) s) m o a b
   follows_made kind size object place fits is follows = follows_as
       {g = allocates t call size object place}
       (λ s e.
-      let same : place_for_object kind size s.memory ≡ place = reads_memory (place_for_object kind size) (sym fits) s e in
+      let same : place_for_object kind size s.memory ≡ place = reads_memory (place_for_object kind size) (room-in_order kind size) (sym fits) s e in
       rw same refl)
-      (follows_change (moves_memory (placed size object place) is) follows)
+      (follows_change (moves_memory (placed size object place) (placed size object place) (placed-in_order size object place) is) follows)
 
   pub list_made : (place : Option ℕ) → place ≡ place_for_object is_list list_size m.memory
       → n ≡ record m { memory = placed list_size (ListHead []) place m.memory } → Follows (answered t call (unwrap_or place 0)) n o a b

@@ -15,15 +15,15 @@ use Rattle.execsim.specs.Agreement.{Seen, Follows, in_order}
 use Rattle.execsim.proofs.Following.{reads_schedule, reads_scripts, moves_schedule, follows_as, follows_change}
 use Rattle.execsim.proofs.Ordering.{by_test, signalled-in_order}
 
-allocates-in_order : (t : ℕ) (n : ℤ) (y : Schedule) → allocates t n (in_order y) ≡ in_order (allocates t n y)
+pub allocates-in_order : (t : ℕ) (n : ℤ) (y : Schedule) → allocates t n (in_order y) ≡ in_order (allocates t n y)
 unfolding allocates
 allocates-in_order t n y = refl
 
-sets_signals-in_order : (t new mask : ℕ) (y : Schedule) → sets_signals t new mask (in_order y) ≡ in_order (sets_signals t new mask y)
+pub sets_signals-in_order : (t new mask : ℕ) (y : Schedule) → sets_signals t new mask (in_order y) ≡ in_order (sets_signals t new mask y)
 unfolding sets_signals
 sets_signals-in_order t new mask y = refl
 
-frees-in_order : (t n : ℕ) (y : Schedule) → frees t n (in_order y) ≡ in_order (frees t n y)
+pub frees-in_order : (t n : ℕ) (y : Schedule) → frees t n (in_order y) ≡ in_order (frees t n y)
 unfolding frees
 frees-in_order t n y = by_test (is_live (status_of y t)) (with_signals t (after_free n (signals_of y t)) y) y _ _ refl refl
 

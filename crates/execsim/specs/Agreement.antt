@@ -1,5 +1,5 @@
 -- How the machine agrees with the abstract machine, and how a part of it follows an action. The abstract state keeps its ready
--- tasks in order of arrival; the machine keeps them in order of running. All else is equal.
+-- tasks and its public ports in order of arrival; the machine keeps both in order of priority. All else is equal.
 use Rattle.std.specs.Prelude.{◌≡◌, ℕ, Bool}
 use Rattle.exectrace.specs.Sink.{Tape, Puts}
 use Rattle.exectrace.specs.Trace.{printed}
@@ -9,6 +9,7 @@ use Rattle.execlist.specs.Order.{order}
 use Rattle.taskq.specs.Tasks.{pri_at}
 use Rattle.scheduler.specs.Schedule.{Schedule, name_of}
 use Rattle.execmodel.specs.State.{Call, Memory, State, Scripts, Outcome}
+use Rattle.execmodel.specs.Ports.{priority_of_public}
 
 -- what the layers of the machine show, a field for each
 pub record Seen : Type 0 where
@@ -22,11 +23,15 @@ pub record Seen : Type 0 where
 abbrev pub in_order : Schedule → Schedule
 in_order s = record s { queue = record s.queue { ready = order (pri_at s.queue.pris) s.queue.ready } }
 
+-- the memory with its public ports in the order in which they are searched
+abbrev pub ports_in_order : Memory → Memory
+ports_in_order memory = record memory { public = order priority_of_public memory.public }
+
 -- the machine shows this state
 pub record Agrees (seen : Seen) (s : State) : Type 0 where
   pub schedule : seen.schedule ≡ in_order s.schedule
   pub scripts : seen.scripts ≡ s.scripts
-  pub memory : seen.memory ≡ s.memory
+  pub memory : seen.memory ≡ ports_in_order s.memory
   pub latched : seen.latched ≡ s.latched
   pub stopped : seen.stopped ≡ s.stopped
 

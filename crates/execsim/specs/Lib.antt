@@ -1,3 +1,4 @@
+pub mod Actions
 pub mod Agreement
 pub mod Endings
 pub mod Headline

@@ -12,4 +12,5 @@ call_view c = record {
   target = c.target;
   arguments = map shown_argument (take (length (kinds c.word)) c.arguments);
   next = c.next;
+  awaited = c.awaited;
 }

@@ -136,6 +136,7 @@ impl<S: ListSpace> Kernel<S> {
             target: command.target,
             arguments: self.evaluate_all(t, command.arguments),
             next,
+            awaited: 0,
         }
     }
 

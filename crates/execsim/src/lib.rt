@@ -11,6 +11,7 @@ mod machine;
 mod memory;
 mod nesting;
 mod plain;
+mod ports;
 mod program;
 mod simulation;
 mod step;

@@ -29,7 +29,7 @@ impl<S: ListSpace> Kernel<S> {
     // ---- how a call on an object ends
 
     /// A refused call stops the machine by the alert of its refusal.
-    fn refused<W: Sink>(&mut self, why: Refusal, t: TaskId, call: &Call, out: &mut W)
+    pub(crate) fn refused<W: Sink>(&mut self, why: Refusal, t: TaskId, call: &Call, out: &mut W)
         requires { t < length self.old.scripts.programs }
         ensures { Follows (alerted (code_of why) t (call_view call.now)) self.old self.new (W.tape out.old) (W.tape out.new) }
     {
@@ -37,7 +37,7 @@ impl<S: ListSpace> Kernel<S> {
     }
 
     /// A call that answers nothing: it is done, or refused by its alert.
-    fn concluded<W: Sink>(
+    pub(crate) fn concluded<W: Sink>(
         &mut self,
         tried: Result<(), Refusal>,
         t: TaskId,
@@ -54,7 +54,7 @@ impl<S: ListSpace> Kernel<S> {
     }
 
     /// A call that answers: it does, or is refused by its alert.
-    fn concluded_with<W: Sink>(
+    pub(crate) fn concluded_with<W: Sink>(
         &mut self,
         tried: Result<u32, Refusal>,
         t: TaskId,

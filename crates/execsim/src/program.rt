@@ -24,6 +24,8 @@ pub struct Call {
     pub arguments: [Arg; 4],
     /// The place of the command after it.
     pub next: usize,
+    /// The signals that the task waits for, where it waits in the call at a port; else 0.
+    pub awaited: u32,
 }
 
 impl Call {
@@ -52,6 +54,15 @@ impl Call {
             Some(Arg::Quoted(name)) => Some(*name),
             _ => None,
         }
+    }
+
+    /// The call, waiting for these signals.
+    pub fn awaiting(&self, mask: u32) -> Call
+        ensures { call_view result ≡ record (call_view self.now) { awaited = mask } }
+    {
+        let mut call = *self;
+        call.awaited = mask;
+        call
     }
 }
 

@@ -83,6 +83,7 @@ impl<S: ListSpace> Kernel<S> {
             Word::Tasks(word) => self.does_tasks(word, t, call, out),
             Word::Lists(word) => self.does_lists(word, t, call, out),
             Word::Memory(word) => self.does_memory(word, t, call, out),
+            Word::Ports(word) => self.does_ports(word, t, call, out),
         }
     }
 

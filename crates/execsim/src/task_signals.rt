@@ -38,7 +38,7 @@ fn is_own_signal(n: u32) -> bool
 
 impl<S: ListSpace> Kernel<S> {
     /// The running task allocates a signal; its number, or the word of -1 for none. The word of -1 asks for the highest free one.
-    fn allocate_signal(&mut self, t: TaskId, asked: u32) -> u32
+    pub(crate) fn allocate_signal(&mut self, t: TaskId, asked: u32) -> u32
         requires { self.old.schedule.running ≡ Some t }
         ensures answer { result ≡ cast_unsigned w32 (grant_number (grant (cast_signed w32 asked) (signals_of self.old.schedule t))) }
         ensures next { self.new ≡ record self.old { schedule = allocates t (cast_signed w32 asked) self.old.schedule } }
@@ -47,7 +47,7 @@ impl<S: ListSpace> Kernel<S> {
     }
 
     /// A signal of task t is not allocated any more.
-    fn deallocate_signal(&mut self, t: TaskId, n: u32)
+    pub(crate) fn deallocate_signal(&mut self, t: TaskId, n: u32)
         requires known { t < length self.old.scripts.programs }
         requires own { is_own_signal n ≡ true }
         ensures { self.new ≡ record self.old { schedule = frees t n self.old.schedule } }
@@ -56,7 +56,7 @@ impl<S: ListSpace> Kernel<S> {
     }
 
     /// The received signals of the mask become those of `new`, for the running task; its received signals before.
-    fn change_signals(&mut self, t: TaskId, new: u32, mask: u32) -> u32
+    pub(crate) fn change_signals(&mut self, t: TaskId, new: u32, mask: u32) -> u32
         requires { self.old.schedule.running ≡ Some t }
         ensures answer { result ≡ (signals_of self.old.schedule t).received }
         ensures next { self.new ≡ record self.old { schedule = sets_signals t new mask self.old.schedule } }
@@ -107,7 +107,7 @@ impl<S: ListSpace> Kernel<S> {
     }
 
     /// Task t of the file, if it is live, receives the signals.
-    fn signal_task(&mut self, t: TaskId, mask: u32)
+    pub(crate) fn signal_task(&mut self, t: TaskId, mask: u32)
         requires { t < length self.old.scripts.programs }
         ensures { self.new ≡ record self.old { schedule = signalled_in_order t mask self.old.schedule } }
     {

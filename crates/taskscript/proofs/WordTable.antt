@@ -2,13 +2,14 @@
 use Rattle.std.proofs.Common.{◌≡◌, ◌≤◌, lit≤, false, nat_le, length, Some, refl}
 use Rattle.std.specs.Prelude.{slice_index}
 use Rattle.taskscript.specs.declared.word.Word.{Word}
-use Rattle.taskscript.specs.declared.word.Word.TheVariants.{Plain, Signals, Nesting, Tasks, Lists, Memory}
+use Rattle.taskscript.specs.declared.word.Word.TheVariants.{Plain, Signals, Nesting, Tasks, Lists, Memory, Ports}
 use Rattle.taskscript.specs.declared.word.plain.PlainWord.TheVariants.{Set, Add, Sub, And, Or, Jump, JumpZ, JumpNZ, Print}
 use Rattle.taskscript.specs.declared.word.task_signals.SignalWord.TheVariants.{AllocSignal, FreeSignal, SetSignal, Signal, Wait}
 use Rattle.taskscript.specs.declared.word.nesting.NestingWord.TheVariants.{Forbid, Permit, Disable, Enable}
 use Rattle.taskscript.specs.declared.word.tasks.TaskWord.TheVariants.{SetTaskPri, AddTask, RemTask, FindTask}
 use Rattle.taskscript.specs.declared.word.lists.ListWord.TheVariants.{NewList, FreeList, NewNode, FreeNode, AddHead, AddTail, Enqueue, Insert, Remove, RemHead, RemTail, First, Last, Succ, Pred, FindName}
 use Rattle.taskscript.specs.declared.word.memory.MemoryWord.TheVariants.{AllocMem, FreeMem, AvailMem}
+use Rattle.taskscript.specs.declared.word.ports.PortWord.TheVariants.{CreateMsgPort, DeleteMsgPort, AddPort, RemPort, FindPort, PortSignal, PortIgnore, NewMsg, FreeMsg, MsgWord, SetMsgWord, MsgType, PutMsg, GetMsg, WaitPort, ReplyMsg}
 use Rattle.taskscript.specs.Words.{word_text, word_of, kinds}
 
 -- no word has more than four arguments
@@ -54,6 +55,22 @@ few_kinds (Lists FindName) = lit≤ tt
 few_kinds (Memory AllocMem) = lit≤ tt
 few_kinds (Memory FreeMem) = lit≤ tt
 few_kinds (Memory AvailMem) = lit≤ tt
+few_kinds (Ports CreateMsgPort) = lit≤ tt
+few_kinds (Ports DeleteMsgPort) = lit≤ tt
+few_kinds (Ports AddPort) = lit≤ tt
+few_kinds (Ports RemPort) = lit≤ tt
+few_kinds (Ports FindPort) = lit≤ tt
+few_kinds (Ports PortSignal) = lit≤ tt
+few_kinds (Ports PortIgnore) = lit≤ tt
+few_kinds (Ports NewMsg) = lit≤ tt
+few_kinds (Ports FreeMsg) = lit≤ tt
+few_kinds (Ports MsgWord) = lit≤ tt
+few_kinds (Ports SetMsgWord) = lit≤ tt
+few_kinds (Ports MsgType) = lit≤ tt
+few_kinds (Ports PutMsg) = lit≤ tt
+few_kinds (Ports GetMsg) = lit≤ tt
+few_kinds (Ports WaitPort) = lit≤ tt
+few_kinds (Ports ReplyMsg) = lit≤ tt
 
 -- a word is the word of its text
 pub word_known : (w : Word) → word_of (word_text w) ≡ Some w
@@ -98,6 +115,22 @@ word_known (Lists FindName) = refl
 word_known (Memory AllocMem) = refl
 word_known (Memory FreeMem) = refl
 word_known (Memory AvailMem) = refl
+word_known (Ports CreateMsgPort) = refl
+word_known (Ports DeleteMsgPort) = refl
+word_known (Ports AddPort) = refl
+word_known (Ports RemPort) = refl
+word_known (Ports FindPort) = refl
+word_known (Ports PortSignal) = refl
+word_known (Ports PortIgnore) = refl
+word_known (Ports NewMsg) = refl
+word_known (Ports FreeMsg) = refl
+word_known (Ports MsgWord) = refl
+word_known (Ports SetMsgWord) = refl
+word_known (Ports MsgType) = refl
+word_known (Ports PutMsg) = refl
+word_known (Ports GetMsg) = refl
+word_known (Ports WaitPort) = refl
+word_known (Ports ReplyMsg) = refl
 
 -- a word begins with no small letter
 pub word_is_capital : (w : Word) → nat_le 97 (slice_index (word_text w) 0) ≡ false
@@ -142,3 +175,19 @@ word_is_capital (Lists FindName) = refl
 word_is_capital (Memory AllocMem) = refl
 word_is_capital (Memory FreeMem) = refl
 word_is_capital (Memory AvailMem) = refl
+word_is_capital (Ports CreateMsgPort) = refl
+word_is_capital (Ports DeleteMsgPort) = refl
+word_is_capital (Ports AddPort) = refl
+word_is_capital (Ports RemPort) = refl
+word_is_capital (Ports FindPort) = refl
+word_is_capital (Ports PortSignal) = refl
+word_is_capital (Ports PortIgnore) = refl
+word_is_capital (Ports NewMsg) = refl
+word_is_capital (Ports FreeMsg) = refl
+word_is_capital (Ports MsgWord) = refl
+word_is_capital (Ports SetMsgWord) = refl
+word_is_capital (Ports MsgType) = refl
+word_is_capital (Ports PutMsg) = refl
+word_is_capital (Ports GetMsg) = refl
+word_is_capital (Ports WaitPort) = refl
+word_is_capital (Ports ReplyMsg) = refl

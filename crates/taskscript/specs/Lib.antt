@@ -16,6 +16,7 @@ pub mod NestingWords
 pub mod Numbering
 pub mod Numbers
 pub mod PlainWords
+pub mod PortWords
 pub mod Records
 pub mod Rows
 pub mod SignalWords

@@ -9,6 +9,7 @@ mod lists;
 mod memory;
 mod nesting;
 mod plain;
+mod ports;
 mod row;
 mod task_signals;
 mod tasks;
@@ -17,6 +18,7 @@ pub use lists::ListWord;
 pub use memory::MemoryWord;
 pub use nesting::NestingWord;
 pub use plain::PlainWord;
+pub use ports::PortWord;
 pub use row::Kind;
 use row::Row;
 pub use task_signals::SignalWord;
@@ -37,6 +39,8 @@ pub enum Word {
     Lists(ListWord),
     /// A call on memory.
     Memory(MemoryWord),
+    /// A call on message ports and messages.
+    Ports(PortWord),
 }
 
 impl Word {
@@ -50,6 +54,7 @@ impl Word {
             Word::Tasks(word) => word.row(),
             Word::Lists(word) => word.row(),
             Word::Memory(word) => word.row(),
+            Word::Ports(word) => word.row(),
         }
     }
 
@@ -92,4 +97,5 @@ pub fn word_of(text: &str) -> Option<Word>
         .or(found(&tasks::ALL, text))
         .or(found(&lists::ALL, text))
         .or(found(&memory::ALL, text))
+        .or(found(&ports::ALL, text))
 }

@@ -79,7 +79,7 @@ static THREE: [Step; 4] = [
 ];
 
 /// Memory of one region of 256 bytes at 0x1000, and a pool of so many objects of each kind.
-fn heap_of(alloc: Global, pool: u32) -> Result<Heap<PlainSpace>, AllocError>
+pub(super) fn heap_of(alloc: Global, pool: u32) -> Result<Heap<PlainSpace>, AllocError>
     requires { pool ≤ 1024 }
 {
     let region = Region {
@@ -127,7 +127,12 @@ fn found(heap: &mut Heap<PlainSpace>, call: Search) -> Result<u32, Refusal> {
 }
 
 /// The answer of the step of that number, counted from 0, is the one that is wanted.
-fn same<T: PartialEq + Debug + Copy>(rt: &impl Abort, number: usize, answer: T, wanted: T) {
+pub(super) fn same<T: PartialEq + Debug + Copy>(
+    rt: &impl Abort,
+    number: usize,
+    answer: T,
+    wanted: T,
+) {
     assert_eq!(rt; answer, wanted, "in step {number}");
 }
 

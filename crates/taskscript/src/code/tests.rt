@@ -2,7 +2,7 @@
 use super::*;
 use crate::command::Argument;
 use crate::variable::Variable;
-use crate::word::{ListWord, SignalWord, Word};
+use crate::word::{ListWord, PortWord, SignalWord, Word};
 use std::test::*;
 
 /// The code of a body with these lines.
@@ -144,6 +144,85 @@ fn a_word_of_lists_in_another_form_is_no_command(rt: HostRuntime) {
         "Succ \"x\"",
         "newlist",
         "Findname l \"x\"",
+    ];
+    for line in lines {
+        assert!(rt;
+            line_fault(&rt, line) == Some(FileFault::BadCommand),
+            "at {line}"
+        );
+    }
+}
+
+#[test]
+fn each_word_of_ports_and_messages_is_read(rt: HostRuntime) -> Result<(), Fail> {
+    let cases = [
+        ("p = CreateMsgPort", PortWord::CreateMsgPort),
+        ("DeleteMsgPort p", PortWord::DeleteMsgPort),
+        ("AddPort p \"box\" -128", PortWord::AddPort),
+        ("RemPort p", PortWord::RemPort),
+        ("@p = FindPort \"box\"", PortWord::FindPort),
+        ("PortSignal @p", PortWord::PortSignal),
+        ("PortIgnore p", PortWord::PortIgnore),
+        ("m = NewMsg 0 7", PortWord::NewMsg),
+        ("FreeMsg m", PortWord::FreeMsg),
+        ("w = MsgWord m", PortWord::MsgWord),
+        ("SetMsgWord m $FF", PortWord::SetMsgWord),
+        ("w = MsgType m", PortWord::MsgType),
+        ("PutMsg p m", PortWord::PutMsg),
+        ("m = GetMsg p", PortWord::GetMsg),
+        ("@m = WaitPort p", PortWord::WaitPort),
+        ("ReplyMsg $1028", PortWord::ReplyMsg),
+    ];
+    for (line, word) in cases {
+        let code = code_of(&rt, &[line], &mut IndexSet::new(rt.alloc()))?;
+        assert_eq!(rt; code.len(), 1, "at {line}");
+        assert!(rt; code[0].word == Word::Ports(word), "at {line}");
+    }
+    Ok(())
+}
+
+#[test]
+fn a_word_of_ports_in_another_form_is_no_command(rt: HostRuntime) {
+    let lines = [
+        "CreateMsgPort 0",
+        "v = DeleteMsgPort p",
+        "DeleteMsgPort",
+        "v = AddPort p \"box\" 0",
+        "AddPort p \"box\"",
+        "AddPort p 0 \"box\"",
+        "AddPort p 0 0",
+        "AddPort \"box\" 0",
+        "v = RemPort p",
+        "RemPort \"box\"",
+        "FindPort",
+        "FindPort 0",
+        "FindPort box",
+        "FindPort \"\"",
+        "FindPort \"box\" 0",
+        "v = PortSignal p",
+        "PortSignal p 16",
+        "v = PortIgnore p",
+        "PortIgnore",
+        "NewMsg 7",
+        "NewMsg p 7 0",
+        "NewMsg p \"x\"",
+        "v = FreeMsg m",
+        "FreeMsg",
+        "MsgWord",
+        "MsgWord m 7",
+        "v = SetMsgWord m 7",
+        "SetMsgWord m",
+        "MsgType",
+        "v = PutMsg p m",
+        "PutMsg p",
+        "GetMsg",
+        "GetMsg p m",
+        "WaitPort",
+        "WaitPort \"box\"",
+        "v = ReplyMsg m",
+        "ReplyMsg p m",
+        "createmsgport",
+        "Putmsg p m",
     ];
     for line in lines {
         assert!(rt;

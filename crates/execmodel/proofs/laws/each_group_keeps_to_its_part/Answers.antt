@@ -1,4 +1,4 @@
-use Rattle.execmodel.proofs.Keeping.{plain_words_change_scripts, signal_words_change_the_schedule, nesting_words_change_the_schedule, task_words_change_the_schedule, list_words_change_the_memory, memory_words_change_the_memory}
+use Rattle.execmodel.proofs.Keeping.{plain_words_change_scripts, signal_words_change_the_schedule, nesting_words_change_the_schedule, task_words_change_the_schedule, list_words_change_the_memory, memory_words_change_the_memory, port_words_change_ports_and_schedule}
 use Rattle.execmodel.proofs.laws.each_group_keeps_to_its_part.Goals as goal
 
 pub returns-clause-plain : goal.returns-clause-plain
@@ -18,3 +18,6 @@ returns-clause-lists c = list_words_change_the_memory
 
 pub returns-clause-memory : goal.returns-clause-memory
 returns-clause-memory c = memory_words_change_the_memory
+
+pub returns-clause-ports : goal.returns-clause-ports
+returns-clause-ports c = port_words_change_ports_and_schedule

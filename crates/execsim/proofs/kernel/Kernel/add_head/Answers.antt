@@ -1,10 +1,11 @@
+use Rattle.std.proofs.Common.{refl}
 use Rattle.execmodel.specs.State.{on_heap}
 use Rattle.execmodel.specs.Lists.{added_head, does_add_head, link_alert}
-use Rattle.execsim.proofs.Listing.{follows_changed}
+use Rattle.execsim.proofs.Listing.{heap_changed}
 use Rattle.execsim.proofs.kernel.Kernel.add_head.Goals as goal
 
 pub returns : goal.returns
 unfolding does_add_head
-returns g c = rw (← c.self.view_is) (follows_changed _ _ (λ memory. link_alert _ _ memory.heap) (on_heap (added_head _ _)) _ _
+returns g c = rw (← c.self.view_is) (heap_changed _ _ (link_alert _ _) (on_heap (added_head _ _)) (λ y. refl) _ _
     (rw (c.number-list.ensures, c.number-node.ensures) at c.add_head-tried.ensures.alert)
     (rw (c.number-list.ensures, c.number-node.ensures) at c.add_head-tried.ensures.next) c.add_head-tried.ensures.kept c.concluded.ensures)

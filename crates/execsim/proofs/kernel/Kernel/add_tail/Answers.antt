@@ -1,10 +1,11 @@
+use Rattle.std.proofs.Common.{refl}
 use Rattle.execmodel.specs.State.{on_heap}
 use Rattle.execmodel.specs.Lists.{added_tail, does_add_tail, link_alert}
-use Rattle.execsim.proofs.Listing.{follows_changed}
+use Rattle.execsim.proofs.Listing.{heap_changed}
 use Rattle.execsim.proofs.kernel.Kernel.add_tail.Goals as goal
 
 pub returns : goal.returns
 unfolding does_add_tail
-returns g c = rw (← c.self.view_is) (follows_changed _ _ (λ memory. link_alert _ _ memory.heap) (on_heap (added_tail _ _)) _ _
+returns g c = rw (← c.self.view_is) (heap_changed _ _ (link_alert _ _) (on_heap (added_tail _ _)) (λ y. refl) _ _
     (rw (c.number-list.ensures, c.number-node.ensures) at c.add_tail-tried.ensures.alert)
     (rw (c.number-list.ensures, c.number-node.ensures) at c.add_tail-tried.ensures.next) c.add_tail-tried.ensures.kept c.concluded.ensures)

@@ -1,10 +1,11 @@
+use Rattle.std.proofs.Common.{refl}
 use Rattle.execmodel.specs.State.{on_heap}
 use Rattle.execmodel.specs.Lists.{does_enqueue, enqueued, link_alert}
-use Rattle.execsim.proofs.Listing.{follows_changed}
+use Rattle.execsim.proofs.Listing.{heap_changed}
 use Rattle.execsim.proofs.kernel.Kernel.enqueue.Goals as goal
 
 pub returns : goal.returns
 unfolding does_enqueue
-returns g c = rw (← c.self.view_is) (follows_changed _ _ (λ memory. link_alert _ _ memory.heap) (on_heap (enqueued _ _)) _ _
+returns g c = rw (← c.self.view_is) (heap_changed _ _ (link_alert _ _) (on_heap (enqueued _ _)) (λ y. refl) _ _
     (rw (c.number-list.ensures, c.number-node.ensures) at c.enqueue-tried.ensures.alert)
     (rw (c.number-list.ensures, c.number-node.ensures) at c.enqueue-tried.ensures.next) c.enqueue-tried.ensures.kept c.concluded.ensures)

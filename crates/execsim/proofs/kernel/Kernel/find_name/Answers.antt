@@ -2,12 +2,12 @@ use Rattle.std.specs.Prelude.{[], unwrap_or}
 use Rattle.execmodel.specs.Calls.{name_argument}
 use Rattle.execmodel.specs.Lists.{does_find_name, find_alert, found_node}
 use Rattle.execsim.specs.Views.{call_view}
-use Rattle.execsim.proofs.Listing.{follows_read}
+use Rattle.execsim.proofs.Listing.{heap_read}
 use Rattle.execsim.proofs.kernel.Kernel.find_name.Goals as goal
 
 pub returns : goal.returns
 unfolding does_find_name
-returns g c = follows_read _ _ (λ memory. find_alert _ memory.heap)
-    (λ memory. found_node _ (unwrap_or (name_argument 1 (call_view c.args.call.now)) []) memory.heap) _
+returns g c = heap_read _ _ (find_alert _)
+    (found_node _ (unwrap_or (name_argument 1 (call_view c.args.call.now)) [])) _
     (rw c.number-start.ensures at c.find-tried.ensures.alert) (rw (c.number-start.ensures, c.name.ensures) at c.find-tried.ensures.answer)
     c.concluded_with.ensures

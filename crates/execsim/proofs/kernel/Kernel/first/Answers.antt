@@ -1,9 +1,9 @@
 use Rattle.execmodel.specs.Lists.{does_first, first_of, list_alert}
-use Rattle.execsim.proofs.Listing.{follows_read}
+use Rattle.execsim.proofs.Listing.{heap_read}
 use Rattle.execsim.proofs.kernel.Kernel.first.Goals as goal
 
 pub returns : goal.returns
 unfolding does_first
-returns g c = rw (← c.self.view_is) (follows_read _ _ (λ memory. list_alert _ memory.heap) (λ memory. first_of _ memory.heap) _
+returns g c = rw (← c.self.view_is) (heap_read _ _ (list_alert _) (first_of _) _
     (rw c.number-list.ensures at c.first-tried.ensures.alert) (rw c.number-list.ensures at c.first-tried.ensures.answer)
     (rw (← c.self.view_is) at c.concluded_with.ensures))

@@ -1,9 +1,9 @@
 use Rattle.execmodel.specs.Lists.{does_last, last_of, list_alert}
-use Rattle.execsim.proofs.Listing.{follows_read}
+use Rattle.execsim.proofs.Listing.{heap_read}
 use Rattle.execsim.proofs.kernel.Kernel.last.Goals as goal
 
 pub returns : goal.returns
 unfolding does_last
-returns g c = rw (← c.self.view_is) (follows_read _ _ (λ memory. list_alert _ memory.heap) (λ memory. last_of _ memory.heap) _
+returns g c = rw (← c.self.view_is) (heap_read _ _ (list_alert _) (last_of _) _
     (rw c.number-list.ensures at c.last-tried.ensures.alert) (rw c.number-list.ensures at c.last-tried.ensures.answer)
     (rw (← c.self.view_is) at c.concluded_with.ensures))

@@ -1,0 +1,121 @@
+-- The alerts of the calls on ports and messages by address, told by number.
+use Rattle.std.proofs.Common.{◌≡◌, ℕ, zero, suc, lit≤, List, Bool, true, false, refl, ap, ◌∙◌, arith}
+use Rattle.std.specs.Prelude.{Option, None, Some, codes, is_some, nat_eq, if◌then◌else◌}
+use Rattle.memlist.proofs.Answered.{nat_eq-other}
+use Rattle.execmodel.specs.State.{Heap}
+use Rattle.execmodel.specs.Ports.{content_of, is_message_at, is_port_at, is_queued, loose_alert, message_alert, port_alert, port_of, put_alert, reply_alert, reply_port_alert, wait_alert}
+use Rattle.msgport.specs.Port.{wait_bit}
+use Rattle.msgport.specs.Ports as ports
+use Rattle.msgport.specs.Ports.{is_linked, message_at, port_at}
+use Rattle.execlist.specs.Pool.{slot}
+use Rattle.execheap.specs.Numbered.{Numbered, IsSound, number_at, shown_heap}
+use Rattle.execheap.proofs.Alerts.{handle_unless, is_there, link_if, refused_first}
+use Rattle.execheap.proofs.Queued.{is_queued_shown}
+use Rattle.execheap.proofs.Shown.{content_shown, message_at_shown, number_live, port_at_shown, port_shown}
+
+-- ---- the alert of a port, and of a message
+
+pub port_refused : (s : Numbered) (port : ℕ) → number_at 2 port s ≡ None → port_alert port (shown_heap s) ≡ Some (codes "HANDLE")
+unfolding port_alert
+port_refused s port none = ap (λ b. handle_unless b None) (port_at_shown s port ∙ ap is_some none)
+
+pub port_found : (s : Numbered) (port p : ℕ) → number_at 2 port s ≡ Some p → port_alert port (shown_heap s) ≡ None
+unfolding port_alert
+port_found s port p found = ap (λ b. handle_unless b None) (port_at_shown s port ∙ ap is_some found)
+
+pub message_refused : (s : Numbered) (message : ℕ) → number_at 3 message s ≡ None → message_alert message (shown_heap s) ≡ Some (codes "HANDLE")
+unfolding message_alert
+message_refused s message none = ap (λ b. handle_unless b None) (message_at_shown s message ∙ ap is_some none)
+
+pub message_found : (s : Numbered) (message m : ℕ) → number_at 3 message s ≡ Some m → message_alert message (shown_heap s) ≡ None
+unfolding message_alert
+message_found s message m found = ap (λ b. handle_unless b None) (message_at_shown s message ∙ ap is_some found)
+
+-- ---- the alert of a reply port
+
+pub reply_port_none : (reply : ℕ) (heap : Heap) → reply ≡ 0 → reply_port_alert reply heap ≡ None
+unfolding reply_port_alert
+reply_port_none reply heap none = ap (λ r. if nat_eq r 0 then None else port_alert reply heap) none
+
+pub reply_port_some : (reply : ℕ) (heap : Heap) → (reply ≡ 0 → ⊥) → reply_port_alert reply heap ≡ port_alert reply heap
+unfolding reply_port_alert
+reply_port_some zero heap some = absurd (some refl)
+reply_port_some (suc reply) heap some = ap (λ b. if b then None else port_alert (suc reply) heap) (nat_eq-other (suc reply) 0 (omega arith))
+
+-- ---- the alert of a message that has to be in no port
+
+module _ (message : ℕ) (heap : Heap) where
+  pub loose_by_handle : {why : List ℕ} → message_alert message heap ≡ Some why → loose_alert message heap ≡ Some why
+  unfolding loose_alert message_alert
+  loose_by_handle refused = refused_first (is_message_at message heap) (link_if (is_queued message heap) None) refused
+
+  past_message : message_alert message heap ≡ None → loose_alert message heap ≡ link_if (is_queued message heap) None
+  unfolding loose_alert message_alert
+  past_message there = ap (λ b. handle_unless b (link_if (is_queued message heap) None)) (is_there (is_message_at message heap) there)
+
+  -- the tests of ReplyMsg after the one of the message
+  abbrev after_message : Option (List ℕ)
+  after_message = link_if (is_queued message heap) (reply_port_alert (content_of message heap).reply heap)
+
+  -- a message that is refused is so by ReplyMsg
+  replied_by_handle : (there linked : Bool) {why : List ℕ} (next : Option (List ℕ)) → handle_unless there (link_if linked None) ≡ Some why
+      → handle_unless there (link_if linked next) ≡ Some why
+  replied_by_handle true true next e = e
+  replied_by_handle true false next e = let bad : false ≡ true = ap is_some e in cc
+  replied_by_handle false linked next e = e
+
+  replied_past : (there linked : Bool) (next : Option (List ℕ)) → handle_unless there (link_if linked None) ≡ None
+      → handle_unless there (link_if linked next) ≡ next
+  replied_past true true next e = let bad : true ≡ false = ap is_some e in cc
+  replied_past true false next e = refl
+  replied_past false linked next e = let bad : true ≡ false = ap is_some e in cc
+
+  pub reply_by_loose : {why : List ℕ} → loose_alert message heap ≡ Some why → reply_alert message heap ≡ Some why
+  unfolding reply_alert loose_alert
+  reply_by_loose refused =
+      replied_by_handle (is_message_at message heap) (is_queued message heap) (reply_port_alert (content_of message heap).reply heap) refused
+
+  pub reply_by_port : loose_alert message heap ≡ None → reply_alert message heap ≡ reply_port_alert (content_of message heap).reply heap
+  unfolding reply_alert loose_alert
+  reply_by_port loose =
+      replied_past (is_message_at message heap) (is_queued message heap) (reply_port_alert (content_of message heap).reply heap) loose
+
+  module _ (port : ℕ) where
+    pub put_by_port : {why : List ℕ} → port_alert port heap ≡ Some why → put_alert port message heap ≡ Some why
+    unfolding put_alert port_alert
+    put_by_port refused = refused_first (is_port_at port heap) (loose_alert message heap) refused
+
+    pub put_by_message : port_alert port heap ≡ None → put_alert port message heap ≡ loose_alert message heap
+    unfolding put_alert port_alert
+    put_by_message there = ap (λ b. handle_unless b (loose_alert message heap)) (is_there (is_port_at port heap) there)
+
+module _ {s : Numbered} (sound : IsSound s) (held : ports.IsSound s.ports) (m message : ℕ) (here : slot s.message_places m ≡ Some message) where
+  pub loose_found : {linked : Bool} → message_alert message (shown_heap s) ≡ None → is_linked m s.ports ≡ linked
+      → loose_alert message (shown_heap s) ≡ link_if linked None
+  loose_found there is =
+      past_message message (shown_heap s) there ∙ ap (λ b. link_if b None) (is_queued_shown sound held m message here ∙ is)
+
+-- ---- what begins at an address that has an alert no more
+
+module _ {s : Numbered} (sound : IsSound s) where
+  pub reply_of : (m message : ℕ) → slot s.message_places m ≡ Some message → (content_of message (shown_heap s)).reply ≡ (message_at m s.ports).reply
+  reply_of m message here = ap (λ content. content.reply) (content_shown s message m (number_live sound 3 m message (lit≤ tt) here))
+
+  -- ---- the alert of a port to wait at
+
+  module _ (task p port : ℕ) (here : slot s.port_places p ≡ Some port) where
+    abbrev waits : Bool → Option (List ℕ)
+    waits may = if may then None else Some (codes "PORT")
+
+    pub wait_found : {bit : Option ℕ} → port_alert port (shown_heap s) ≡ None → wait_bit task (port_at p s.ports) ≡ bit
+        → wait_alert task port (shown_heap s) ≡ waits (is_some bit)
+    unfolding wait_alert port_alert
+    wait_found there is =
+        ap (λ b. handle_unless b (waits (is_some (wait_bit task (port_of port (shown_heap s)))))) (is_there (is_port_at port (shown_heap s)) there)
+        ∙ ap (λ q. waits (is_some (wait_bit task q))) (port_shown s port p (number_live sound 2 p port (lit≤ tt) here))
+        ∙ ap (λ o. waits (is_some o)) is
+
+pub wait_refused : (task port : ℕ) (heap : Heap) {why : List ℕ} → port_alert port heap ≡ Some why → wait_alert task port heap ≡ Some why
+unfolding wait_alert port_alert
+wait_refused task port heap refused =
+    refused_first (is_port_at port heap) (if is_some (wait_bit task (port_of port heap)) then None else Some (codes "PORT")) refused

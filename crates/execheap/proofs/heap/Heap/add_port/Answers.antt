@@ -1,0 +1,24 @@
+-- The port that is shown is public under the name.
+use Rattle.std.proofs.Common.{rules, ap, arith, ◌∙◌}
+use Rattle.std.proofs.lemmas.Int.{to_z-of_z}
+use Rattle.execheap.specs.Changes.{on_ports}
+use Rattle.msgport.specs.Ports.{made_public}
+use Rattle.execheap.specs.Listing.{listed}
+use Rattle.execheap.specs.Numbered.{shown_memory}
+use Rattle.execheap.proofs.Public.{made_public_shown}
+use Rattle.execheap.proofs.Posted.{item_known}
+use Rattle.execheap.proofs.heap.Heap.add_port.Goals as goal
+use mir.Syntax.{w8}
+use mir.Val.{SFits}
+
+pub returns-in-Ok-clause-next : goal.returns-in-Ok-clause-next
+returns-in-Ok-clause-next g c =
+    let f = c.facts.ensures in
+    let s = c.self.inside.objects in
+    let e = c.in-Ok.ensures in
+    let fits : SFits w8 c.args.pri = search rules in
+    ap shown_memory c.add_port.ensures
+    ∙ ap (λ pri. shown_memory (on_ports (made_public c.in-Ok.p c.args.name.bytes pri) s)) (to_z-of_z w8 c.args.pri fits)
+    ∙ made_public_shown f.sound f.ports c.in-Ok.p c.args.port e.found c.args.name.bytes c.args.pri
+    (omega (arith, f.ports.each_key, item_known s.ports.ports.slots c.in-Ok.p e.live)) e.private
+    ∙ ap (listed c.args.port c.args.name.bytes c.args.pri) c.self.view_is

@@ -1,0 +1,36 @@
+-- The first message of the port that is shown is answered, and the port's signal.
+use Rattle.std.proofs.Common.{Some, ap, sym, ◌∙◌}
+use Rattle.std.specs.Prelude.{option_map, unwrap_or}
+use Rattle.execlist.specs.Order.{first}
+use Rattle.execmodel.specs.State.{Memory}
+use Rattle.execmodel.specs.Ports.{messages_of, port_of}
+use Rattle.msgport.specs.Port.{Port}
+use Rattle.msgport.specs.Ports as ports
+use Rattle.execheap.specs.Numbered.{address_in}
+use Rattle.execheap.proofs.Posted.{first_message_shown, port_of_shown}
+use Rattle.execheap.proofs.heap.Heap.message_to_wait_for.Goals as goal
+
+pub returns-in-Some-clause-message : goal.returns-in-Some-clause-message
+returns-in-Some-clause-message g c =
+    let s = c.self.inside.objects in
+    ap (λ o. Some (unwrap_or o 0)) (sym c.address_of_message.ensures)
+    ∙ ap (option_map (address_in s.message_places)) (c.in-Some.ensures.value ∙ ap (λ (q : ports.MessagePorts). first (ports.messages_of c.in-Ok.p q)) c.ports.ensures)
+    ∙ sym (first_message_shown c.facts.ensures.sound c.in-Ok.p c.args.port c.in-Ok.ensures.found)
+    ∙ ap (λ (m : Memory). first (messages_of c.args.port m.heap)) c.self.view_is
+
+pub returns-in-Some-clause-bit : goal.returns-in-Some-clause-bit
+returns-in-Some-clause-bit g c =
+    c.in-Ok.ensures.bit ∙ ap (λ (port : Port). port.bit) (sym (port_of_shown c.facts.ensures.sound c.in-Ok.p c.args.port c.in-Ok.ensures.found))
+    ∙ ap (λ (m : Memory). (port_of c.args.port m.heap).bit) c.self.view_is
+
+pub returns-in-None-clause-message : goal.returns-in-None-clause-message
+returns-in-None-clause-message g c =
+    let s = c.self.inside.objects in
+    ap (option_map (address_in s.message_places)) (c.in-None.ensures.value ∙ ap (λ (q : ports.MessagePorts). first (ports.messages_of c.in-Ok.p q)) c.ports.ensures)
+    ∙ sym (first_message_shown c.facts.ensures.sound c.in-Ok.p c.args.port c.in-Ok.ensures.found)
+    ∙ ap (λ (m : Memory). first (messages_of c.args.port m.heap)) c.self.view_is
+
+pub returns-in-None-clause-bit : goal.returns-in-None-clause-bit
+returns-in-None-clause-bit g c =
+    c.in-Ok.ensures.bit ∙ ap (λ (port : Port). port.bit) (sym (port_of_shown c.facts.ensures.sound c.in-Ok.p c.args.port c.in-Ok.ensures.found))
+    ∙ ap (λ (m : Memory). (port_of c.args.port m.heap).bit) c.self.view_is

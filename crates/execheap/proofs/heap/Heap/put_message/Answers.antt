@@ -1,0 +1,22 @@
+-- The message stands last in the port that is shown, and the port acts as it is shown to.
+use Rattle.std.proofs.Common.{ap, sym, ◌∙◌}
+use Rattle.execmodel.specs.State.{Memory, on_heap}
+use Rattle.execmodel.specs.Ports.{port_of, posted}
+use Rattle.msgport.specs.Port.{acting}
+use Rattle.msgport.specs.Ports.{nt_message}
+use Rattle.execheap.specs.Numbered.{shown_memory}
+use Rattle.execheap.proofs.Posted.{port_of_shown, posted_shown}
+use Rattle.execheap.proofs.heap.Heap.put_message.Goals as goal
+
+pub returns-in-Ok-clause-answer : goal.returns-in-Ok-clause-answer
+returns-in-Ok-clause-answer g c =
+    c.put.ensures.answer ∙ ap acting (sym (port_of_shown c.facts.ensures.sound c.in-Ok.p c.args.port c.in-Ok.ensures.port))
+    ∙ ap (λ (m : Memory). acting (port_of c.args.port m.heap)) c.self.view_is
+
+pub returns-in-Ok-clause-next : goal.returns-in-Ok-clause-next
+returns-in-Ok-clause-next g c =
+    let f = c.facts.ensures in
+    let e = c.in-Ok.ensures in
+    ap shown_memory c.put.ensures.next
+    ∙ posted_shown f.sound f.ports f.memory c.in-Ok.p c.args.port e.port e.live_port c.in-Ok.m c.args.message e.message e.live_message nt_message
+    ∙ ap (on_heap (posted nt_message c.args.port c.args.message)) c.self.view_is

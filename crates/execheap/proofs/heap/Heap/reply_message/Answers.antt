@@ -1,0 +1,49 @@
+-- The message stands last in the reply port that is shown, or is of the type of one without.
+use Rattle.std.proofs.Common.{ap, sym, ◌∙◌}
+use Rattle.execmodel.specs.State.{Memory, on_heap}
+use Rattle.execmodel.specs.Ports.{content_of}
+use Rattle.msgport.specs.Port.{acting}
+use Rattle.msgport.specs.Ports.{nt_freemsg, nt_replymsg}
+use Rattle.execheap.specs.Listing.{replied_by, replying}
+use Rattle.execheap.specs.Numbered.{shown_heap, shown_memory}
+use Rattle.execheap.proofs.Posted.{port_of_shown, posted_shown, typed_shown}
+use Rattle.execheap.proofs.Replying.{replied_none, replied_some, replying_none, replying_some}
+use Rattle.execheap.proofs.heap.Heap.reply_message.Goals as goal
+
+pub returns-in-Ok-default-Some-clause-answer : goal.returns-in-Ok-default-Some-clause-answer
+returns-in-Ok-default-Some-clause-answer g c =
+    let s = c.self.inside.objects in
+    let e = c.in-Ok-default-Some.ensures in
+    let p = c.in-Ok-default-Some.p in
+    let port = (content_of c.args.message (shown_heap s)).reply in
+    c.reply.ensures.answer ∙ ap acting (sym (port_of_shown c.facts.ensures.sound p port (e.reply p c.in-Ok-default-Some.field-0-1-is)))
+    ∙ sym (replying_some c.args.message (shown_heap s) (e.some p c.in-Ok-default-Some.field-0-1-is))
+    ∙ ap (λ (m : Memory). replying c.args.message m.heap) c.self.view_is
+
+pub returns-in-Ok-default-Some-clause-next : goal.returns-in-Ok-default-Some-clause-next
+returns-in-Ok-default-Some-clause-next g c =
+    let f = c.facts.ensures in
+    let s = c.self.inside.objects in
+    let e = c.in-Ok-default-Some.ensures in
+    let p = c.in-Ok-default-Some.p in
+    let is = c.in-Ok-default-Some.field-0-1-is in
+    let port = (content_of c.args.message (shown_heap s)).reply in
+    ap shown_memory c.reply.ensures.next
+    ∙ posted_shown f.sound f.ports f.memory p port (e.reply p is) (e.live_port p is) c.in-Ok-default-Some.m c.args.message e.message e.live_message nt_replymsg
+    ∙ ap (λ heap. on_heap (λ old. heap) (shown_memory s)) (sym (replied_some c.args.message (shown_heap s) (e.some p is)))
+    ∙ ap (on_heap (replied_by c.args.message)) c.self.view_is
+
+pub returns-in-Ok-default-None-clause-answer : goal.returns-in-Ok-default-None-clause-answer
+returns-in-Ok-default-None-clause-answer g c =
+    sym (replying_none c.args.message (shown_heap c.self.inside.objects) (c.in-Ok-default-None.ensures.none c.in-Ok-default-None.field-0-1-is))
+    ∙ ap (λ (m : Memory). replying c.args.message m.heap) c.self.view_is
+
+pub returns-in-Ok-default-None-clause-next : goal.returns-in-Ok-default-None-clause-next
+returns-in-Ok-default-None-clause-next g c =
+    let f = c.facts.ensures in
+    let s = c.self.inside.objects in
+    let e = c.in-Ok-default-None.ensures in
+    ap shown_memory c.reply_none.ensures
+    ∙ typed_shown f.sound f.ports f.memory c.in-Ok-default-None.m c.args.message e.message e.live_message nt_freemsg
+    ∙ ap (λ heap. on_heap (λ old. heap) (shown_memory s)) (sym (replied_none c.args.message (shown_heap s) (e.none c.in-Ok-default-None.field-0-1-is)))
+    ∙ ap (on_heap (replied_by c.args.message)) c.self.view_is

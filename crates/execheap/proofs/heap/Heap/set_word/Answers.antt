@@ -1,0 +1,14 @@
+-- The message that is shown has the word.
+use Rattle.std.proofs.Common.{ap, ◌∙◌}
+use Rattle.execmodel.specs.State.{on_heap}
+use Rattle.execmodel.specs.Ports.{with_word}
+use Rattle.execheap.specs.Numbered.{shown_memory}
+use Rattle.execheap.proofs.Posted.{word_shown}
+use Rattle.execheap.proofs.heap.Heap.set_word.Goals as goal
+
+pub returns-in-Ok-clause-next : goal.returns-in-Ok-clause-next
+returns-in-Ok-clause-next g c =
+    let f = c.facts.ensures in
+    ap shown_memory c.set_word.ensures
+    ∙ word_shown f.sound f.ports f.memory c.in-Ok.m c.args.message c.in-Ok.ensures.found c.in-Ok.ensures.live c.args.word
+    ∙ ap (on_heap (with_word c.args.message c.args.word)) c.self.view_is

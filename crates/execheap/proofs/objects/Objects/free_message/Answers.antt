@@ -1,0 +1,18 @@
+-- The block of a message goes, and its number is free.
+use Rattle.std.proofs.Common.{ap, ◌∙◌, arith}
+use Rattle.execlist.specs.Pool.{slot}
+use Rattle.execheap.specs.Numbered.{Numbered}
+use Rattle.execheap.proofs.SoundObjects.{live_block}
+use Rattle.execheap.proofs.SoundPorts.{not_refused, sound_message_freed}
+use Rattle.execheap.proofs.objects.Objects.free_message.Goals as goal
+
+pub free_block-requires : goal.free_block-requires
+free_block-requires g c =
+    live_block c.self.invariant 3 c.args.m c.args.address (omega arith)
+    (ap (λ (s : Numbered). slot s.message_places c.args.m) c.self.view_is ∙ c.requires.live)
+
+pub invariant_of-self : goal.invariant_of-self
+invariant_of-self g c =
+    rw (c.free_block.ensures, not_refused _ _ _ _ _ _ _ c.free_msg.ensures.answer c.unwrap.ensures c.free_msg.ensures.next)
+    (sound_message_freed c.self.invariant c.is_well_formed.ensures c.args.m c.args.address
+    (ap (λ (s : Numbered). slot s.message_places c.args.m) c.self.view_is ∙ c.requires.live))

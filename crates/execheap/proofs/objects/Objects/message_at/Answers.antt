@@ -1,0 +1,10 @@
+-- No message begins there where the blocks have no number of one.
+use Rattle.std.proofs.Common.{sym}
+use Rattle.execheap.proofs.PortAlerts.{message_found, message_refused}
+use Rattle.execheap.proofs.objects.Objects.message_at.Goals as goal
+
+pub returns-in-Some-clause-alert : goal.returns-in-Some-clause-alert
+returns-in-Some-clause-alert g c = sym (message_found c.args.self.now c.args.message c.in-Some.m (sym c.in-Some.ensures.value))
+
+pub returns-in-None-clause-alert : goal.returns-in-None-clause-alert
+returns-in-None-clause-alert g c = sym (message_refused c.args.self.now c.args.message (sym c.in-None.ensures.value))

@@ -1,0 +1,24 @@
+-- A port is public where it is by number; a priority of eight bits is one.
+use Rattle.std.proofs.Common.{rules, true, ◌≡◌, ap, sym, ◌∙◌}
+use Rattle.execmodel.specs.Tasks.{is_priority}
+use Rattle.msgport.specs.Ports.{is_public}
+use Rattle.execheap.specs.Numbered.{shown_memory}
+use Rattle.execheap.proofs.Public.{private_found, private_refused}
+use Rattle.execheap.proofs.objects.Objects.private_port_at.Goals as goal
+
+pub returns-in-Err-clause-alert : goal.returns-in-Err-clause-alert
+returns-in-Err-clause-alert g c = sym (private_refused c.args.port (shown_memory c.args.self.now) (sym c.in-Err.ensures.alert) c.args.pri)
+
+pub returns-then-public-clause-alert : goal.returns-then-public-clause-alert
+returns-then-public-clause-alert g c =
+    let f = c.facts.ensures in
+    let fits : is_priority c.args.pri ≡ true = search rules in
+    sym (private_found f.sound f.ports c.in-Ok.p c.args.port c.in-Ok.ensures.found (sym c.in-Ok.ensures.alert) c.args.pri fits
+    (ap (is_public c.in-Ok.p) (sym c.ports.ensures) ∙ sym c.is_public-public.ensures ∙ c.if-public.true))
+
+pub returns-else-public-clause-alert : goal.returns-else-public-clause-alert
+returns-else-public-clause-alert g c =
+    let f = c.facts.ensures in
+    let fits : is_priority c.args.pri ≡ true = search rules in
+    sym (private_found f.sound f.ports c.in-Ok.p c.args.port c.in-Ok.ensures.found (sym c.in-Ok.ensures.alert) c.args.pri fits
+    (ap (is_public c.in-Ok.p) (sym c.ports.ensures) ∙ sym c.is_public-public.ensures ∙ c.if-public.false))

@@ -1,0 +1,123 @@
+-- The traces of small machines of ports and messages are computed.
+use Rattle.std.specs.Prelude.{refl}
+use Rattle.memlist.specs.Blocks.{gaps}
+use Rattle.memlist.specs.Fit.{fit, avail}
+use Rattle.signals.specs.Signals.{highest_free}
+use Rattle.scheduler.specs.Schedule.{begins, leaves, waits_for, takes, allocates, sets_signals, frees}
+use Rattle.execmodel.specs.State.{andthen, booted}
+use Rattle.execmodel.specs.Scheduling.{arrives, switch_of, rescheduled, added, signalled}
+use Rattle.execmodel.specs.Calls.{call_of, next_call, done, answered, waiting, alerted}
+use Rattle.execmodel.specs.Signals.{does_alloc_signal, does_free_signal, does_set_signal, does_signal, does_wait}
+use Rattle.execmodel.specs.Memory.{does_avail_mem}
+use Rattle.execmodel.specs.Objects.{place_for_object}
+use Rattle.execmodel.specs.Ports.{is_port_at, is_message_at, port_of, messages_of, content_of, is_queued, with_port, with_content, port_alert, message_alert, made_public, made_private, found_port, does_create_msg_port, delete_alert, does_delete_msg_port, add_port_alert, does_add_port, rem_port_alert, does_rem_port, does_find_port, with_action, does_port_signal, does_port_ignore, reply_port_alert, does_new_msg, loose_alert, does_free_msg, does_msg_word, with_word, does_set_msg_word, does_msg_type, typed, appended, posted, delivered, put_alert, does_put_msg, reply_alert, does_reply_msg, taken_off, does_get_msg, wait_alert, does_wait_port}
+use Rattle.execmodel.specs.Step.{switches, settle, does, ends, acting, acts, step, steps, all_added, starts, event, events, run}
+use Rattle.execmodel.specs.PortRuns.{MessagesAreTakenInOrderOfArrival, AMessageWakesTheTaskOfItsPort, AWaitIsForANewSignal, AWaitForAMessageThatIsThereChangesNothing, ThePublicPortOfGreatestPriorityIsFound, TheEarliestOfEqualPublicPortsIsFound, APortHasASignedPriority, AnIgnoringPortSignalsNobody, APortSignalsAsAtItsMaking, OnlyItsTaskWaitsAtAPort, AWaitIsJudgedAgain, AReplyGoesToTheReplyPort, AMessageHasAType, AReplyGoesToTheNewerPort, AReplyAsksForALivePort, AReplyAsksForALooseMessageFirst, AMessageStandsInOnePortAtMost, APutAsksForAPortFirst, AQueuedMessageIsNotFreed, AMessageHasAWord, APublicPortIsNotDeleted, TheTaskOfAPortGetsItsSignalBack, ASignalOfAPortIsFreedTwice, APortOutlivesItsTask, PortsAndMessagesHaveTheirPools, APortAsksForMemory, APortAsksForASignal}
+
+pub messages_are_taken_in_order_of_arrival-computed : MessagesAreTakenInOrderOfArrival
+unfolding highest_free allocates frees sets_signals andthen booted arrives begins switch_of rescheduled added leaves signalled waits_for takes call_of next_call done answered waiting alerted place_for_object fit gaps avail does_avail_mem does_alloc_signal does_free_signal does_set_signal does_signal does_wait is_port_at is_message_at port_of messages_of content_of is_queued with_port with_content port_alert message_alert made_public made_private found_port does_create_msg_port delete_alert does_delete_msg_port add_port_alert does_add_port rem_port_alert does_rem_port does_find_port with_action does_port_signal does_port_ignore reply_port_alert does_new_msg loose_alert does_free_msg does_msg_word with_word does_set_msg_word does_msg_type typed appended posted delivered put_alert does_put_msg reply_alert does_reply_msg taken_off does_get_msg wait_alert does_wait_port switches settle does ends acting acts step steps all_added starts event events run
+messages_are_taken_in_order_of_arrival-computed = refl
+
+pub a_message_wakes_the_task_of_its_port-computed : AMessageWakesTheTaskOfItsPort
+unfolding highest_free allocates frees sets_signals andthen booted arrives begins switch_of rescheduled added leaves signalled waits_for takes call_of next_call done answered waiting alerted place_for_object fit gaps avail does_avail_mem does_alloc_signal does_free_signal does_set_signal does_signal does_wait is_port_at is_message_at port_of messages_of content_of is_queued with_port with_content port_alert message_alert made_public made_private found_port does_create_msg_port delete_alert does_delete_msg_port add_port_alert does_add_port rem_port_alert does_rem_port does_find_port with_action does_port_signal does_port_ignore reply_port_alert does_new_msg loose_alert does_free_msg does_msg_word with_word does_set_msg_word does_msg_type typed appended posted delivered put_alert does_put_msg reply_alert does_reply_msg taken_off does_get_msg wait_alert does_wait_port switches settle does ends acting acts step steps all_added starts event events run
+a_message_wakes_the_task_of_its_port-computed = refl
+
+pub a_wait_is_for_a_new_signal-computed : AWaitIsForANewSignal
+unfolding highest_free allocates frees sets_signals andthen booted arrives begins switch_of rescheduled added leaves signalled waits_for takes call_of next_call done answered waiting alerted place_for_object fit gaps avail does_avail_mem does_alloc_signal does_free_signal does_set_signal does_signal does_wait is_port_at is_message_at port_of messages_of content_of is_queued with_port with_content port_alert message_alert made_public made_private found_port does_create_msg_port delete_alert does_delete_msg_port add_port_alert does_add_port rem_port_alert does_rem_port does_find_port with_action does_port_signal does_port_ignore reply_port_alert does_new_msg loose_alert does_free_msg does_msg_word with_word does_set_msg_word does_msg_type typed appended posted delivered put_alert does_put_msg reply_alert does_reply_msg taken_off does_get_msg wait_alert does_wait_port switches settle does ends acting acts step steps all_added starts event events run
+a_wait_is_for_a_new_signal-computed = refl
+
+pub a_wait_for_a_message_that_is_there_changes_nothing-computed : AWaitForAMessageThatIsThereChangesNothing
+unfolding highest_free allocates frees sets_signals andthen booted arrives begins switch_of rescheduled added leaves signalled waits_for takes call_of next_call done answered waiting alerted place_for_object fit gaps avail does_avail_mem does_alloc_signal does_free_signal does_set_signal does_signal does_wait is_port_at is_message_at port_of messages_of content_of is_queued with_port with_content port_alert message_alert made_public made_private found_port does_create_msg_port delete_alert does_delete_msg_port add_port_alert does_add_port rem_port_alert does_rem_port does_find_port with_action does_port_signal does_port_ignore reply_port_alert does_new_msg loose_alert does_free_msg does_msg_word with_word does_set_msg_word does_msg_type typed appended posted delivered put_alert does_put_msg reply_alert does_reply_msg taken_off does_get_msg wait_alert does_wait_port switches settle does ends acting acts step steps all_added starts event events run
+a_wait_for_a_message_that_is_there_changes_nothing-computed = refl
+
+pub the_public_port_of_greatest_priority_is_found-computed : ThePublicPortOfGreatestPriorityIsFound
+unfolding highest_free allocates frees sets_signals andthen booted arrives begins switch_of rescheduled added leaves signalled waits_for takes call_of next_call done answered waiting alerted place_for_object fit gaps avail does_avail_mem does_alloc_signal does_free_signal does_set_signal does_signal does_wait is_port_at is_message_at port_of messages_of content_of is_queued with_port with_content port_alert message_alert made_public made_private found_port does_create_msg_port delete_alert does_delete_msg_port add_port_alert does_add_port rem_port_alert does_rem_port does_find_port with_action does_port_signal does_port_ignore reply_port_alert does_new_msg loose_alert does_free_msg does_msg_word with_word does_set_msg_word does_msg_type typed appended posted delivered put_alert does_put_msg reply_alert does_reply_msg taken_off does_get_msg wait_alert does_wait_port switches settle does ends acting acts step steps all_added starts event events run
+the_public_port_of_greatest_priority_is_found-computed = refl
+
+pub the_earliest_of_equal_public_ports_is_found-computed : TheEarliestOfEqualPublicPortsIsFound
+unfolding highest_free allocates frees sets_signals andthen booted arrives begins switch_of rescheduled added leaves signalled waits_for takes call_of next_call done answered waiting alerted place_for_object fit gaps avail does_avail_mem does_alloc_signal does_free_signal does_set_signal does_signal does_wait is_port_at is_message_at port_of messages_of content_of is_queued with_port with_content port_alert message_alert made_public made_private found_port does_create_msg_port delete_alert does_delete_msg_port add_port_alert does_add_port rem_port_alert does_rem_port does_find_port with_action does_port_signal does_port_ignore reply_port_alert does_new_msg loose_alert does_free_msg does_msg_word with_word does_set_msg_word does_msg_type typed appended posted delivered put_alert does_put_msg reply_alert does_reply_msg taken_off does_get_msg wait_alert does_wait_port switches settle does ends acting acts step steps all_added starts event events run
+the_earliest_of_equal_public_ports_is_found-computed = refl
+
+pub a_port_has_a_signed_priority-computed : APortHasASignedPriority
+unfolding highest_free allocates frees sets_signals andthen booted arrives begins switch_of rescheduled added leaves signalled waits_for takes call_of next_call done answered waiting alerted place_for_object fit gaps avail does_avail_mem does_alloc_signal does_free_signal does_set_signal does_signal does_wait is_port_at is_message_at port_of messages_of content_of is_queued with_port with_content port_alert message_alert made_public made_private found_port does_create_msg_port delete_alert does_delete_msg_port add_port_alert does_add_port rem_port_alert does_rem_port does_find_port with_action does_port_signal does_port_ignore reply_port_alert does_new_msg loose_alert does_free_msg does_msg_word with_word does_set_msg_word does_msg_type typed appended posted delivered put_alert does_put_msg reply_alert does_reply_msg taken_off does_get_msg wait_alert does_wait_port switches settle does ends acting acts step steps all_added starts event events run
+a_port_has_a_signed_priority-computed = refl
+
+pub an_ignoring_port_signals_nobody-computed : AnIgnoringPortSignalsNobody
+unfolding highest_free allocates frees sets_signals andthen booted arrives begins switch_of rescheduled added leaves signalled waits_for takes call_of next_call done answered waiting alerted place_for_object fit gaps avail does_avail_mem does_alloc_signal does_free_signal does_set_signal does_signal does_wait is_port_at is_message_at port_of messages_of content_of is_queued with_port with_content port_alert message_alert made_public made_private found_port does_create_msg_port delete_alert does_delete_msg_port add_port_alert does_add_port rem_port_alert does_rem_port does_find_port with_action does_port_signal does_port_ignore reply_port_alert does_new_msg loose_alert does_free_msg does_msg_word with_word does_set_msg_word does_msg_type typed appended posted delivered put_alert does_put_msg reply_alert does_reply_msg taken_off does_get_msg wait_alert does_wait_port switches settle does ends acting acts step steps all_added starts event events run
+an_ignoring_port_signals_nobody-computed = refl
+
+pub a_port_signals_as_at_its_making-computed : APortSignalsAsAtItsMaking
+unfolding highest_free allocates frees sets_signals andthen booted arrives begins switch_of rescheduled added leaves signalled waits_for takes call_of next_call done answered waiting alerted place_for_object fit gaps avail does_avail_mem does_alloc_signal does_free_signal does_set_signal does_signal does_wait is_port_at is_message_at port_of messages_of content_of is_queued with_port with_content port_alert message_alert made_public made_private found_port does_create_msg_port delete_alert does_delete_msg_port add_port_alert does_add_port rem_port_alert does_rem_port does_find_port with_action does_port_signal does_port_ignore reply_port_alert does_new_msg loose_alert does_free_msg does_msg_word with_word does_set_msg_word does_msg_type typed appended posted delivered put_alert does_put_msg reply_alert does_reply_msg taken_off does_get_msg wait_alert does_wait_port switches settle does ends acting acts step steps all_added starts event events run
+a_port_signals_as_at_its_making-computed = refl
+
+pub only_its_task_waits_at_a_port-computed : OnlyItsTaskWaitsAtAPort
+unfolding highest_free allocates frees sets_signals andthen booted arrives begins switch_of rescheduled added leaves signalled waits_for takes call_of next_call done answered waiting alerted place_for_object fit gaps avail does_avail_mem does_alloc_signal does_free_signal does_set_signal does_signal does_wait is_port_at is_message_at port_of messages_of content_of is_queued with_port with_content port_alert message_alert made_public made_private found_port does_create_msg_port delete_alert does_delete_msg_port add_port_alert does_add_port rem_port_alert does_rem_port does_find_port with_action does_port_signal does_port_ignore reply_port_alert does_new_msg loose_alert does_free_msg does_msg_word with_word does_set_msg_word does_msg_type typed appended posted delivered put_alert does_put_msg reply_alert does_reply_msg taken_off does_get_msg wait_alert does_wait_port switches settle does ends acting acts step steps all_added starts event events run
+only_its_task_waits_at_a_port-computed = refl
+
+pub a_wait_is_judged_again-computed : AWaitIsJudgedAgain
+unfolding highest_free allocates frees sets_signals andthen booted arrives begins switch_of rescheduled added leaves signalled waits_for takes call_of next_call done answered waiting alerted place_for_object fit gaps avail does_avail_mem does_alloc_signal does_free_signal does_set_signal does_signal does_wait is_port_at is_message_at port_of messages_of content_of is_queued with_port with_content port_alert message_alert made_public made_private found_port does_create_msg_port delete_alert does_delete_msg_port add_port_alert does_add_port rem_port_alert does_rem_port does_find_port with_action does_port_signal does_port_ignore reply_port_alert does_new_msg loose_alert does_free_msg does_msg_word with_word does_set_msg_word does_msg_type typed appended posted delivered put_alert does_put_msg reply_alert does_reply_msg taken_off does_get_msg wait_alert does_wait_port switches settle does ends acting acts step steps all_added starts event events run
+a_wait_is_judged_again-computed = refl
+
+pub a_reply_goes_to_the_reply_port-computed : AReplyGoesToTheReplyPort
+unfolding highest_free allocates frees sets_signals andthen booted arrives begins switch_of rescheduled added leaves signalled waits_for takes call_of next_call done answered waiting alerted place_for_object fit gaps avail does_avail_mem does_alloc_signal does_free_signal does_set_signal does_signal does_wait is_port_at is_message_at port_of messages_of content_of is_queued with_port with_content port_alert message_alert made_public made_private found_port does_create_msg_port delete_alert does_delete_msg_port add_port_alert does_add_port rem_port_alert does_rem_port does_find_port with_action does_port_signal does_port_ignore reply_port_alert does_new_msg loose_alert does_free_msg does_msg_word with_word does_set_msg_word does_msg_type typed appended posted delivered put_alert does_put_msg reply_alert does_reply_msg taken_off does_get_msg wait_alert does_wait_port switches settle does ends acting acts step steps all_added starts event events run
+a_reply_goes_to_the_reply_port-computed = refl
+
+pub a_message_has_a_type-computed : AMessageHasAType
+unfolding highest_free allocates frees sets_signals andthen booted arrives begins switch_of rescheduled added leaves signalled waits_for takes call_of next_call done answered waiting alerted place_for_object fit gaps avail does_avail_mem does_alloc_signal does_free_signal does_set_signal does_signal does_wait is_port_at is_message_at port_of messages_of content_of is_queued with_port with_content port_alert message_alert made_public made_private found_port does_create_msg_port delete_alert does_delete_msg_port add_port_alert does_add_port rem_port_alert does_rem_port does_find_port with_action does_port_signal does_port_ignore reply_port_alert does_new_msg loose_alert does_free_msg does_msg_word with_word does_set_msg_word does_msg_type typed appended posted delivered put_alert does_put_msg reply_alert does_reply_msg taken_off does_get_msg wait_alert does_wait_port switches settle does ends acting acts step steps all_added starts event events run
+a_message_has_a_type-computed = refl
+
+pub a_reply_goes_to_the_newer_port-computed : AReplyGoesToTheNewerPort
+unfolding highest_free allocates frees sets_signals andthen booted arrives begins switch_of rescheduled added leaves signalled waits_for takes call_of next_call done answered waiting alerted place_for_object fit gaps avail does_avail_mem does_alloc_signal does_free_signal does_set_signal does_signal does_wait is_port_at is_message_at port_of messages_of content_of is_queued with_port with_content port_alert message_alert made_public made_private found_port does_create_msg_port delete_alert does_delete_msg_port add_port_alert does_add_port rem_port_alert does_rem_port does_find_port with_action does_port_signal does_port_ignore reply_port_alert does_new_msg loose_alert does_free_msg does_msg_word with_word does_set_msg_word does_msg_type typed appended posted delivered put_alert does_put_msg reply_alert does_reply_msg taken_off does_get_msg wait_alert does_wait_port switches settle does ends acting acts step steps all_added starts event events run
+a_reply_goes_to_the_newer_port-computed = refl
+
+pub a_reply_asks_for_a_live_port-computed : AReplyAsksForALivePort
+unfolding highest_free allocates frees sets_signals andthen booted arrives begins switch_of rescheduled added leaves signalled waits_for takes call_of next_call done answered waiting alerted place_for_object fit gaps avail does_avail_mem does_alloc_signal does_free_signal does_set_signal does_signal does_wait is_port_at is_message_at port_of messages_of content_of is_queued with_port with_content port_alert message_alert made_public made_private found_port does_create_msg_port delete_alert does_delete_msg_port add_port_alert does_add_port rem_port_alert does_rem_port does_find_port with_action does_port_signal does_port_ignore reply_port_alert does_new_msg loose_alert does_free_msg does_msg_word with_word does_set_msg_word does_msg_type typed appended posted delivered put_alert does_put_msg reply_alert does_reply_msg taken_off does_get_msg wait_alert does_wait_port switches settle does ends acting acts step steps all_added starts event events run
+a_reply_asks_for_a_live_port-computed = refl
+
+pub a_reply_asks_for_a_loose_message_first-computed : AReplyAsksForALooseMessageFirst
+unfolding highest_free allocates frees sets_signals andthen booted arrives begins switch_of rescheduled added leaves signalled waits_for takes call_of next_call done answered waiting alerted place_for_object fit gaps avail does_avail_mem does_alloc_signal does_free_signal does_set_signal does_signal does_wait is_port_at is_message_at port_of messages_of content_of is_queued with_port with_content port_alert message_alert made_public made_private found_port does_create_msg_port delete_alert does_delete_msg_port add_port_alert does_add_port rem_port_alert does_rem_port does_find_port with_action does_port_signal does_port_ignore reply_port_alert does_new_msg loose_alert does_free_msg does_msg_word with_word does_set_msg_word does_msg_type typed appended posted delivered put_alert does_put_msg reply_alert does_reply_msg taken_off does_get_msg wait_alert does_wait_port switches settle does ends acting acts step steps all_added starts event events run
+a_reply_asks_for_a_loose_message_first-computed = refl
+
+pub a_message_stands_in_one_port_at_most-computed : AMessageStandsInOnePortAtMost
+unfolding highest_free allocates frees sets_signals andthen booted arrives begins switch_of rescheduled added leaves signalled waits_for takes call_of next_call done answered waiting alerted place_for_object fit gaps avail does_avail_mem does_alloc_signal does_free_signal does_set_signal does_signal does_wait is_port_at is_message_at port_of messages_of content_of is_queued with_port with_content port_alert message_alert made_public made_private found_port does_create_msg_port delete_alert does_delete_msg_port add_port_alert does_add_port rem_port_alert does_rem_port does_find_port with_action does_port_signal does_port_ignore reply_port_alert does_new_msg loose_alert does_free_msg does_msg_word with_word does_set_msg_word does_msg_type typed appended posted delivered put_alert does_put_msg reply_alert does_reply_msg taken_off does_get_msg wait_alert does_wait_port switches settle does ends acting acts step steps all_added starts event events run
+a_message_stands_in_one_port_at_most-computed = refl
+
+pub a_put_asks_for_a_port_first-computed : APutAsksForAPortFirst
+unfolding highest_free allocates frees sets_signals andthen booted arrives begins switch_of rescheduled added leaves signalled waits_for takes call_of next_call done answered waiting alerted place_for_object fit gaps avail does_avail_mem does_alloc_signal does_free_signal does_set_signal does_signal does_wait is_port_at is_message_at port_of messages_of content_of is_queued with_port with_content port_alert message_alert made_public made_private found_port does_create_msg_port delete_alert does_delete_msg_port add_port_alert does_add_port rem_port_alert does_rem_port does_find_port with_action does_port_signal does_port_ignore reply_port_alert does_new_msg loose_alert does_free_msg does_msg_word with_word does_set_msg_word does_msg_type typed appended posted delivered put_alert does_put_msg reply_alert does_reply_msg taken_off does_get_msg wait_alert does_wait_port switches settle does ends acting acts step steps all_added starts event events run
+a_put_asks_for_a_port_first-computed = refl
+
+pub a_queued_message_is_not_freed-computed : AQueuedMessageIsNotFreed
+unfolding highest_free allocates frees sets_signals andthen booted arrives begins switch_of rescheduled added leaves signalled waits_for takes call_of next_call done answered waiting alerted place_for_object fit gaps avail does_avail_mem does_alloc_signal does_free_signal does_set_signal does_signal does_wait is_port_at is_message_at port_of messages_of content_of is_queued with_port with_content port_alert message_alert made_public made_private found_port does_create_msg_port delete_alert does_delete_msg_port add_port_alert does_add_port rem_port_alert does_rem_port does_find_port with_action does_port_signal does_port_ignore reply_port_alert does_new_msg loose_alert does_free_msg does_msg_word with_word does_set_msg_word does_msg_type typed appended posted delivered put_alert does_put_msg reply_alert does_reply_msg taken_off does_get_msg wait_alert does_wait_port switches settle does ends acting acts step steps all_added starts event events run
+a_queued_message_is_not_freed-computed = refl
+
+pub a_message_has_a_word-computed : AMessageHasAWord
+unfolding highest_free allocates frees sets_signals andthen booted arrives begins switch_of rescheduled added leaves signalled waits_for takes call_of next_call done answered waiting alerted place_for_object fit gaps avail does_avail_mem does_alloc_signal does_free_signal does_set_signal does_signal does_wait is_port_at is_message_at port_of messages_of content_of is_queued with_port with_content port_alert message_alert made_public made_private found_port does_create_msg_port delete_alert does_delete_msg_port add_port_alert does_add_port rem_port_alert does_rem_port does_find_port with_action does_port_signal does_port_ignore reply_port_alert does_new_msg loose_alert does_free_msg does_msg_word with_word does_set_msg_word does_msg_type typed appended posted delivered put_alert does_put_msg reply_alert does_reply_msg taken_off does_get_msg wait_alert does_wait_port switches settle does ends acting acts step steps all_added starts event events run
+a_message_has_a_word-computed = refl
+
+pub a_public_port_is_not_deleted-computed : APublicPortIsNotDeleted
+unfolding highest_free allocates frees sets_signals andthen booted arrives begins switch_of rescheduled added leaves signalled waits_for takes call_of next_call done answered waiting alerted place_for_object fit gaps avail does_avail_mem does_alloc_signal does_free_signal does_set_signal does_signal does_wait is_port_at is_message_at port_of messages_of content_of is_queued with_port with_content port_alert message_alert made_public made_private found_port does_create_msg_port delete_alert does_delete_msg_port add_port_alert does_add_port rem_port_alert does_rem_port does_find_port with_action does_port_signal does_port_ignore reply_port_alert does_new_msg loose_alert does_free_msg does_msg_word with_word does_set_msg_word does_msg_type typed appended posted delivered put_alert does_put_msg reply_alert does_reply_msg taken_off does_get_msg wait_alert does_wait_port switches settle does ends acting acts step steps all_added starts event events run
+a_public_port_is_not_deleted-computed = refl
+
+pub the_task_of_a_port_gets_its_signal_back-computed : TheTaskOfAPortGetsItsSignalBack
+unfolding highest_free allocates frees sets_signals andthen booted arrives begins switch_of rescheduled added leaves signalled waits_for takes call_of next_call done answered waiting alerted place_for_object fit gaps avail does_avail_mem does_alloc_signal does_free_signal does_set_signal does_signal does_wait is_port_at is_message_at port_of messages_of content_of is_queued with_port with_content port_alert message_alert made_public made_private found_port does_create_msg_port delete_alert does_delete_msg_port add_port_alert does_add_port rem_port_alert does_rem_port does_find_port with_action does_port_signal does_port_ignore reply_port_alert does_new_msg loose_alert does_free_msg does_msg_word with_word does_set_msg_word does_msg_type typed appended posted delivered put_alert does_put_msg reply_alert does_reply_msg taken_off does_get_msg wait_alert does_wait_port switches settle does ends acting acts step steps all_added starts event events run
+the_task_of_a_port_gets_its_signal_back-computed = refl
+
+pub a_signal_of_a_port_is_freed_twice-computed : ASignalOfAPortIsFreedTwice
+unfolding highest_free allocates frees sets_signals andthen booted arrives begins switch_of rescheduled added leaves signalled waits_for takes call_of next_call done answered waiting alerted place_for_object fit gaps avail does_avail_mem does_alloc_signal does_free_signal does_set_signal does_signal does_wait is_port_at is_message_at port_of messages_of content_of is_queued with_port with_content port_alert message_alert made_public made_private found_port does_create_msg_port delete_alert does_delete_msg_port add_port_alert does_add_port rem_port_alert does_rem_port does_find_port with_action does_port_signal does_port_ignore reply_port_alert does_new_msg loose_alert does_free_msg does_msg_word with_word does_set_msg_word does_msg_type typed appended posted delivered put_alert does_put_msg reply_alert does_reply_msg taken_off does_get_msg wait_alert does_wait_port switches settle does ends acting acts step steps all_added starts event events run
+a_signal_of_a_port_is_freed_twice-computed = refl
+
+pub a_port_outlives_its_task-computed : APortOutlivesItsTask
+unfolding highest_free allocates frees sets_signals andthen booted arrives begins switch_of rescheduled added leaves signalled waits_for takes call_of next_call done answered waiting alerted place_for_object fit gaps avail does_avail_mem does_alloc_signal does_free_signal does_set_signal does_signal does_wait is_port_at is_message_at port_of messages_of content_of is_queued with_port with_content port_alert message_alert made_public made_private found_port does_create_msg_port delete_alert does_delete_msg_port add_port_alert does_add_port rem_port_alert does_rem_port does_find_port with_action does_port_signal does_port_ignore reply_port_alert does_new_msg loose_alert does_free_msg does_msg_word with_word does_set_msg_word does_msg_type typed appended posted delivered put_alert does_put_msg reply_alert does_reply_msg taken_off does_get_msg wait_alert does_wait_port switches settle does ends acting acts step steps all_added starts event events run
+a_port_outlives_its_task-computed = refl
+
+pub ports_and_messages_have_their_pools-computed : PortsAndMessagesHaveTheirPools
+unfolding highest_free allocates frees sets_signals andthen booted arrives begins switch_of rescheduled added leaves signalled waits_for takes call_of next_call done answered waiting alerted place_for_object fit gaps avail does_avail_mem does_alloc_signal does_free_signal does_set_signal does_signal does_wait is_port_at is_message_at port_of messages_of content_of is_queued with_port with_content port_alert message_alert made_public made_private found_port does_create_msg_port delete_alert does_delete_msg_port add_port_alert does_add_port rem_port_alert does_rem_port does_find_port with_action does_port_signal does_port_ignore reply_port_alert does_new_msg loose_alert does_free_msg does_msg_word with_word does_set_msg_word does_msg_type typed appended posted delivered put_alert does_put_msg reply_alert does_reply_msg taken_off does_get_msg wait_alert does_wait_port switches settle does ends acting acts step steps all_added starts event events run
+ports_and_messages_have_their_pools-computed = refl
+
+pub a_port_asks_for_memory-computed : APortAsksForMemory
+unfolding highest_free allocates frees sets_signals andthen booted arrives begins switch_of rescheduled added leaves signalled waits_for takes call_of next_call done answered waiting alerted place_for_object fit gaps avail does_avail_mem does_alloc_signal does_free_signal does_set_signal does_signal does_wait is_port_at is_message_at port_of messages_of content_of is_queued with_port with_content port_alert message_alert made_public made_private found_port does_create_msg_port delete_alert does_delete_msg_port add_port_alert does_add_port rem_port_alert does_rem_port does_find_port with_action does_port_signal does_port_ignore reply_port_alert does_new_msg loose_alert does_free_msg does_msg_word with_word does_set_msg_word does_msg_type typed appended posted delivered put_alert does_put_msg reply_alert does_reply_msg taken_off does_get_msg wait_alert does_wait_port switches settle does ends acting acts step steps all_added starts event events run
+a_port_asks_for_memory-computed = refl
+
+pub a_port_asks_for_a_signal-computed : APortAsksForASignal
+unfolding highest_free allocates frees sets_signals andthen booted arrives begins switch_of rescheduled added leaves signalled waits_for takes call_of next_call done answered waiting alerted place_for_object fit gaps avail does_avail_mem does_alloc_signal does_free_signal does_set_signal does_signal does_wait is_port_at is_message_at port_of messages_of content_of is_queued with_port with_content port_alert message_alert made_public made_private found_port does_create_msg_port delete_alert does_delete_msg_port add_port_alert does_add_port rem_port_alert does_rem_port does_find_port with_action does_port_signal does_port_ignore reply_port_alert does_new_msg loose_alert does_free_msg does_msg_word with_word does_set_msg_word does_msg_type typed appended posted delivered put_alert does_put_msg reply_alert does_reply_msg taken_off does_get_msg wait_alert does_wait_port switches settle does ends acting acts step steps all_added starts event events run
+a_port_asks_for_a_signal-computed = refl

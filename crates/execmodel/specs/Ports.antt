@@ -1,0 +1,418 @@
+-- Message ports and messages (RKM Libraries, Exec Messages and Ports). A port has a sequence of messages in order of arrival; a message
+-- stands in one port at most, once. The public ports are a sequence in order of arrival; the one of a name is the earliest among those of
+-- greatest priority that have it. An address where no object of the kind begins is the alert HANDLE; a message or a port that is linked
+-- where it must not be, or the other way, is the alert LINK; a port in use, or not the caller's to wait at, is the alert PORT (own choice).
+use Rattle.std.specs.Prelude.{ℕ, ℤ, negsuc, ◌^◌, Bool, true, false, not, ◌==◌, if◌then◌else◌, nat_eq, is_some, map, filter, drop, unwrap_or, codes, List, [], ◌∷◌, ◌++◌, Option, None, Some}
+use Rattle.std.specs.List.{list_any}
+use Rattle.std.specs.Int.{cast_signed, w32}
+use Rattle.execlist.specs.Order.{chosen, first}
+use Rattle.execlist.specs.Lists.{name_is}
+use Rattle.signals.specs.Signals.{grant}
+use Rattle.scheduler.specs.Schedule.{Schedule, signals_of, allocates, clears_and_waits, frees, sets_signals}
+use Rattle.msgport.specs.declared.action.Action.{Action}
+use Rattle.msgport.specs.declared.action.Action.TheVariants as action
+use Rattle.msgport.specs.declared.action.PortAction.{PortAction}
+use Rattle.msgport.specs.declared.action.PortAction.TheVariants.{Signal, Ignore}
+use Rattle.msgport.specs.declared.message.Message.{Message as Content}
+use Rattle.msgport.specs.Port.{Port, acting, new_port, wait_bit}
+use Rattle.msgport.specs.Ports.{new_message, nt_freemsg, nt_message, nt_replymsg}
+use Rattle.taskscript.specs.declared.word.ports.PortWord.{PortWord}
+use Rattle.taskscript.specs.declared.word.ports.PortWord.TheVariants as word
+use Rattle.execmodel.specs.State.{Call, Object, Plain, ListHead, Node, MsgPort, Message, Block, Heap, PublicPort, Memory, State, Outcome, put, got, leaving, on_schedule, on_memory, on_heap}
+use Rattle.execmodel.specs.Calls.{argument, name_argument, done, answered, waiting}
+use Rattle.execmodel.specs.Scheduling.{signalled}
+use Rattle.execmodel.specs.Memory.{allocates as memory_allocated, freed, placed}
+use Rattle.execmodel.specs.Objects.{object_at, is_kind, place_for_object, unless}
+use Rattle.execmodel.specs.Tasks.{is_priority}
+
+-- ---- ports and messages in memory
+
+abbrev pub is_port : Object → Bool
+is_port Plain = false
+is_port (ListHead nodes) = false
+is_port (Node key) = false
+is_port (MsgPort port messages) = true
+is_port (Message content) = false
+
+abbrev pub is_message : Object → Bool
+is_message Plain = false
+is_message (ListHead nodes) = false
+is_message (Node key) = false
+is_message (MsgPort port messages) = false
+is_message (Message content) = true
+
+-- a port, or a message, begins at an address
+unfoldable pub is_port_at : ℕ → Heap → Bool
+is_port_at address heap = is_kind is_port (object_at address heap)
+
+unfoldable pub is_message_at : ℕ → Heap → Bool
+is_message_at address heap = is_kind is_message (object_at address heap)
+
+abbrev pub port_in : Object → Port
+port_in Plain = new_port 0 0
+port_in (ListHead nodes) = new_port 0 0
+port_in (Node key) = new_port 0 0
+port_in (MsgPort port messages) = port
+port_in (Message content) = new_port 0 0
+
+abbrev pub port_of_object : Option Object → Port
+port_of_object None = new_port 0 0
+port_of_object (Some object) = port_in object
+
+-- the task, the signal and the action of the port that begins at an address
+unfoldable pub port_of : ℕ → Heap → Port
+port_of port heap = port_of_object (object_at port heap)
+
+abbrev pub messages_in : Object → List ℕ
+messages_in Plain = []
+messages_in (ListHead nodes) = []
+messages_in (Node key) = []
+messages_in (MsgPort port messages) = messages
+messages_in (Message content) = []
+
+abbrev pub messages_of_object : Option Object → List ℕ
+messages_of_object None = []
+messages_of_object (Some object) = messages_in object
+
+-- the messages of the port that begins at an address
+unfoldable pub messages_of : ℕ → Heap → List ℕ
+messages_of port heap = messages_of_object (object_at port heap)
+
+abbrev pub content_in : Object → Content
+content_in Plain = new_message 0 0
+content_in (ListHead nodes) = new_message 0 0
+content_in (Node key) = new_message 0 0
+content_in (MsgPort port messages) = new_message 0 0
+content_in (Message content) = content
+
+abbrev pub content_of_object : Option Object → Content
+content_of_object None = new_message 0 0
+content_of_object (Some object) = content_in object
+
+-- the type, the word and the reply port of the message that begins at an address
+unfoldable pub content_of : ℕ → Heap → Content
+content_of message heap = content_of_object (object_at message heap)
+
+-- a message is queued where a port has it
+abbrev pub has_message : ℕ → ℕ × Block → Bool
+has_message message entry = list_any (λ other. other == message) (messages_in entry.1.object)
+
+unfoldable pub is_queued : ℕ → Heap → Bool
+is_queued message heap = list_any (has_message message) heap
+
+-- the port, or the message, that begins at an address becomes another
+abbrev pub replaced : ℕ → Object → ℕ × Block → ℕ × Block
+replaced address object entry = (entry.0, if nat_eq entry.0 address then record entry.1 { object = object } else entry.1)
+
+unfoldable pub with_port : ℕ → Port → List ℕ → Heap → Heap
+with_port address port messages heap = map (replaced address (MsgPort port messages)) heap
+
+unfoldable pub with_content : ℕ → Content → Heap → Heap
+with_content address content heap = map (replaced address (Message content)) heap
+
+-- the alert of a call on a port, or on a message
+unfoldable pub port_alert : ℕ → Heap → Option (List ℕ)
+port_alert port heap = if not (is_port_at port heap) then Some (codes "HANDLE") else None
+
+unfoldable pub message_alert : ℕ → Heap → Option (List ℕ)
+message_alert message heap = if not (is_message_at message heap) then Some (codes "HANDLE") else None
+
+-- ---- public ports
+
+-- a port is public
+abbrev pub is_public : ℕ → Memory → Bool
+is_public port memory = list_any (λ (public : PublicPort). public.port == port) memory.public
+
+-- the priority of a public port
+abbrev pub priority_of_public : PublicPort → ℤ
+priority_of_public public = public.key.pri
+
+-- a public port has that name, byte for byte
+abbrev pub is_called : List ℕ → PublicPort → Bool
+is_called name public = name_is public.key.name name
+
+-- a port under a name, with a priority
+abbrev pub under : ℕ → List ℕ → ℤ → PublicPort
+under port name pri = record { port = port; key = record { pri = pri; name = Some name } }
+
+-- a port arrives among the public ones
+unfoldable pub made_public : ℕ → List ℕ → ℤ → Memory → Memory
+made_public port name pri memory = record memory { public = memory.public ++ under port name pri ∷ [] }
+
+-- a port leaves the public ones
+unfoldable pub made_private : ℕ → Memory → Memory
+made_private port memory = record memory { public = filter (λ (public : PublicPort). not (public.port == port)) memory.public }
+
+-- the address of a public port, or 0 for none
+abbrev pub port_or_none : Option PublicPort → ℕ
+port_or_none None = 0
+port_or_none (Some public) = public.port
+
+-- the public port of a name that is the earliest among those of greatest priority, or 0
+unfoldable pub found_port : List ℕ → Memory → ℕ
+found_port name memory = port_or_none (chosen priority_of_public (filter (is_called name) memory.public))
+
+-- ---- making and freeing ports
+
+-- a MsgPort takes 34 bytes and a Message 20, by the include file exec/ports.h; a message here has a word of 4 bytes beside (own choice)
+abbrev pub port_size : ℕ
+port_size = 34
+
+abbrev pub message_size : ℕ
+message_size = 24
+
+-- the caller gets a port at an address, and the signal of that number; where either is lacking nothing changes
+abbrev pub port_created : ℕ → Call → Option ℕ → Option ℕ → State → Outcome
+port_created t call None place s = answered t call 0 s
+port_created t call (Some bit) None s = answered t call 0 s
+port_created t call (Some bit) (Some address) s =
+    answered t call address
+    (on_schedule (allocates t (negsuc 0)) (on_memory (placed port_size (MsgPort (new_port t bit) []) (Some address)) s))
+
+-- CreateMsgPort: answers the address of a new port of the caller, which signals it by a newly allocated signal; or 0
+-- (autodoc exec.library/CreateMsgPort)
+unfoldable pub does_create_msg_port : ℕ → Call → State → Outcome
+does_create_msg_port t call s =
+    port_created t call (grant (negsuc 0) (signals_of s.schedule t)) (place_for_object is_port port_size s.memory) s
+
+-- the alert of a call that frees a port: it must have no message and not be public
+unfoldable pub delete_alert : ℕ → Memory → Option (List ℕ)
+delete_alert port memory =
+    if not (is_port_at port memory.heap) then Some (codes "HANDLE")
+    else (if is_some (first (messages_of port memory.heap)) then Some (codes "PORT")
+    else (if is_public port memory then Some (codes "PORT") else None))
+
+-- the task of a port has its signal no more
+abbrev pub gives_back : Port → Schedule → Schedule
+gives_back port s = frees port.task port.bit s
+
+-- DeleteMsgPort port: the port is freed, and its signal given back to its task, whoever calls; 0 does nothing
+-- (autodoc exec.library/DeleteMsgPort; the alerts: own choice)
+unfoldable pub does_delete_msg_port : ℕ → Call → State → Outcome
+does_delete_msg_port t call s =
+    let port = argument 0 call in
+    if nat_eq port 0 then done t call s
+    else unless (delete_alert port s.memory) t call
+    (λ s. done t call (on_schedule (gives_back (port_of port s.memory.heap)) (on_memory (freed port) s))) s
+
+-- ---- public ports: calls
+
+-- the alert of AddPort: the port must not be public
+unfoldable pub add_port_alert : ℕ → ℤ → Memory → Option (List ℕ)
+add_port_alert port pri memory =
+    if not (is_port_at port memory.heap) then Some (codes "HANDLE")
+    else (if not (is_priority pri) then Some (codes "VALUE")
+    else (if is_public port memory then Some (codes "LINK") else None))
+
+-- AddPort port name pri: the port is public under the name; its messages stay (autodoc exec.library/AddPort; that the priority is read as
+-- a signed word, that the messages stay, and the alerts: own choice)
+unfoldable pub does_add_port : ℕ → Call → State → Outcome
+does_add_port t call s =
+    let port = argument 0 call in
+    let name = unwrap_or (name_argument 1 call) [] in
+    let pri = cast_signed w32 (argument 2 call) in
+    unless (add_port_alert port pri s.memory) t call (λ s. done t call (on_memory (made_public port name pri) s)) s
+
+-- the alert of RemPort: the port has to be public
+unfoldable pub rem_port_alert : ℕ → Memory → Option (List ℕ)
+rem_port_alert port memory =
+    if not (is_port_at port memory.heap) then Some (codes "HANDLE")
+    else (if is_public port memory then None else Some (codes "LINK"))
+
+-- RemPort port: the port is public no more (autodoc exec.library/RemPort; the alerts: own choice)
+unfoldable pub does_rem_port : ℕ → Call → State → Outcome
+does_rem_port t call s =
+    let port = argument 0 call in
+    unless (rem_port_alert port s.memory) t call (λ s. done t call (on_memory (made_private port) s)) s
+
+-- FindPort name: answers the public port of that name, or 0 (autodoc exec.library/FindPort)
+unfoldable pub does_find_port : ℕ → Call → State → Outcome
+does_find_port t call s = answered t call (found_port (unwrap_or (name_argument 0 call) []) s.memory) s
+
+-- ---- the action of a port
+
+-- a port has that action
+unfoldable pub with_action : PortAction → ℕ → Heap → Heap
+with_action act port heap = with_port port (record (port_of port heap) { action = act }) (messages_of port heap) heap
+
+-- PortSignal port: the port signals its task, as a new port does (RKM Libraries, Exec Messages and Ports: mp_Flags, PA_SIGNAL; that there
+-- is a call for it: own choice)
+unfoldable pub does_port_signal : ℕ → Call → State → Outcome
+does_port_signal t call s =
+    let port = argument 0 call in
+    unless (port_alert port s.memory.heap) t call (λ s. done t call (on_memory (on_heap (with_action Signal port)) s)) s
+
+-- PortIgnore port: the port does nothing where a message arrives (RKM Libraries, Exec Messages and Ports: mp_Flags, PA_IGNORE; that there
+-- is a call for it: own choice)
+unfoldable pub does_port_ignore : ℕ → Call → State → Outcome
+does_port_ignore t call s =
+    let port = argument 0 call in
+    unless (port_alert port s.memory.heap) t call (λ s. done t call (on_memory (on_heap (with_action Ignore port)) s)) s
+
+-- ---- making and freeing messages
+
+-- the alert of a reply port: it is 0 for none, or a port
+unfoldable pub reply_port_alert : ℕ → Heap → Option (List ℕ)
+reply_port_alert port heap = if nat_eq port 0 then None else port_alert port heap
+
+-- NewMsg port word: answers the address of a new message with that reply port, or none for 0, and that word; or 0 (own choice)
+unfoldable pub does_new_msg : ℕ → Call → State → Outcome
+does_new_msg t call s =
+    let reply = argument 0 call in
+    let content = new_message reply (argument 1 call) in
+    unless (reply_port_alert reply s.memory.heap) t call
+    (λ s. memory_allocated t call message_size (Message content) (place_for_object is_message message_size s.memory) s) s
+
+-- the alert of a call on a message that is in no port
+unfoldable pub loose_alert : ℕ → Heap → Option (List ℕ)
+loose_alert message heap =
+    if not (is_message_at message heap) then Some (codes "HANDLE")
+    else (if is_queued message heap then Some (codes "LINK") else None)
+
+-- FreeMsg message: a message that is in no port is freed (own choice)
+unfoldable pub does_free_msg : ℕ → Call → State → Outcome
+does_free_msg t call s =
+    let message = argument 0 call in
+    unless (loose_alert message s.memory.heap) t call (λ s. done t call (on_memory (freed message) s)) s
+
+-- ---- what a message holds
+
+-- MsgWord message: answers its word (own choice)
+unfoldable pub does_msg_word : ℕ → Call → State → Outcome
+does_msg_word t call s =
+    let message = argument 0 call in
+    unless (message_alert message s.memory.heap) t call (λ s. answered t call (content_of message s.memory.heap).word s) s
+
+-- a message has that word
+unfoldable pub with_word : ℕ → ℕ → Heap → Heap
+with_word message value heap = with_content message (record (content_of message heap) { word = value }) heap
+
+-- SetMsgWord message word: the message gets another word (own choice)
+unfoldable pub does_set_msg_word : ℕ → Call → State → Outcome
+does_set_msg_word t call s =
+    let message = argument 0 call in
+    unless (message_alert message s.memory.heap) t call
+    (λ s. done t call (on_memory (on_heap (with_word message (argument 1 call))) s)) s
+
+-- MsgType message: answers its type, 0 for a new one (RKM Libraries, Exec Messages and Ports: ln_Type; that a new one has type 0, and that
+-- there is a call for it: own choice)
+unfoldable pub does_msg_type : ℕ → Call → State → Outcome
+does_msg_type t call s =
+    let message = argument 0 call in
+    unless (message_alert message s.memory.heap) t call (λ s. answered t call (content_of message s.memory.heap).kind s) s
+
+-- ---- putting and replying
+
+-- a message is of that type
+unfoldable pub typed : ℕ → ℕ → Heap → Heap
+typed kind message heap = with_content message (record (content_of message heap) { kind = kind }) heap
+
+-- a message stands last in a port
+unfoldable pub appended : ℕ → ℕ → Heap → Heap
+appended port message heap = with_port port (port_of port heap) (messages_of port heap ++ message ∷ []) heap
+
+-- a message is of that type, and stands last in a port
+unfoldable pub posted : ℕ → ℕ → ℕ → Heap → Heap
+posted kind port message heap = appended port message (typed kind message heap)
+
+-- what is to be done for a message that has arrived
+abbrev pub performed : Action → Schedule → Schedule
+performed (action.Signal task mask) s = signalled task mask s
+performed action.Nothing s = s
+
+-- a message is put at a port as one of that type, and the port acts
+unfoldable pub delivered : ℕ → ℕ → ℕ → State → State
+delivered kind port message s =
+    on_schedule (performed (acting (port_of port s.memory.heap))) (on_memory (on_heap (posted kind port message)) s)
+
+-- the alert of PutMsg: the message must be in no port
+unfoldable pub put_alert : ℕ → ℕ → Heap → Option (List ℕ)
+put_alert port message heap = if not (is_port_at port heap) then Some (codes "HANDLE") else loose_alert message heap
+
+-- PutMsg port message: the message is put at the port, behind those that it has (autodoc exec.library/PutMsg; the alerts: own choice)
+unfoldable pub does_put_msg : ℕ → Call → State → Outcome
+does_put_msg t call s =
+    let port = argument 0 call in
+    let message = argument 1 call in
+    unless (put_alert port message s.memory.heap) t call
+    (λ s. leaving (put port message) (done t call (delivered nt_message port message s))) s
+
+-- the alert of ReplyMsg: the message must be in no port, and its reply port is to live, if it has one
+unfoldable pub reply_alert : ℕ → Heap → Option (List ℕ)
+reply_alert message heap =
+    if not (is_message_at message heap) then Some (codes "HANDLE")
+    else (if is_queued message heap then Some (codes "LINK") else reply_port_alert (content_of message heap).reply heap)
+
+-- a message with that reply port, or 0, is replied
+abbrev pub replied : ℕ → ℕ → Call → ℕ → State → Outcome
+replied reply t call message s =
+    if nat_eq reply 0 then done t call (on_memory (on_heap (typed nt_freemsg message)) s)
+    else leaving (put reply message) (done t call (delivered nt_replymsg reply message s))
+
+-- ReplyMsg message: the message is put at its reply port, the one that begins at that address now; one without gets the type NT_FREEMSG
+-- (autodoc exec.library/ReplyMsg; the alerts: own choice)
+unfoldable pub does_reply_msg : ℕ → Call → State → Outcome
+does_reply_msg t call s =
+    let message = argument 0 call in
+    unless (reply_alert message s.memory.heap) t call (λ s. replied (content_of message s.memory.heap).reply t call message s) s
+
+-- ---- taking and waiting
+
+-- the first message of a port is in no port any more
+unfoldable pub taken_off : ℕ → Heap → Heap
+taken_off port heap = with_port port (port_of port heap) (drop 1 (messages_of port heap)) heap
+
+-- the first message of a port, if there is one, is answered and taken
+abbrev pub taken : ℕ → Option ℕ → ℕ → Call → State → Outcome
+taken port None t call s = answered t call 0 s
+taken port (Some message) t call s = leaving (got port message) (answered t call message (on_memory (on_heap (taken_off port)) s))
+
+-- GetMsg port: answers the first message, which leaves the port, or 0 (autodoc exec.library/GetMsg)
+unfoldable pub does_get_msg : ℕ → Call → State → Outcome
+does_get_msg t call s =
+    let port = argument 0 call in
+    unless (port_alert port s.memory.heap) t call (λ s. taken port (first (messages_of port s.memory.heap)) t call s) s
+
+-- the alert of WaitPort for task t: the port has to signal that task
+unfoldable pub wait_alert : ℕ → ℕ → Heap → Option (List ℕ)
+wait_alert t port heap =
+    if not (is_port_at port heap) then Some (codes "HANDLE")
+    else (if is_some (wait_bit t (port_of port heap)) then None else Some (codes "PORT"))
+
+-- signals of a mask leave those that task t has received
+abbrev pub loses : ℕ → ℕ → Schedule → Schedule
+loses t mask s = sets_signals t 0 mask s
+
+-- the first message, if there is one, is answered; else the task waits for a mask of signals that come from now on
+abbrev pub looked : Option ℕ → ℕ → ℕ → Call → State → Outcome
+looked None mask t call s = waiting t (record call { awaited = mask }) (on_schedule (clears_and_waits t mask) s)
+looked (Some message) mask t call s = answered t call message s
+
+-- WaitPort port: answers the first message of the port, and leaves it there; where there is none, the task waits for the port's signal, and
+-- looks again when it next runs, after the signal that it waited for is cleared (autodoc exec.library/WaitPort; how a task waits and looks
+-- again, and the alerts: own choice)
+unfoldable pub does_wait_port : ℕ → Call → State → Outcome
+does_wait_port t call s =
+    let port = argument 0 call in
+    unless (wait_alert t port s.memory.heap) t call
+    (λ s. looked (first (messages_of port s.memory.heap)) (2 ^ (port_of port s.memory.heap).bit) t call (on_schedule (loses t call.awaited) s)) s
+
+-- ---- the words of this group
+
+abbrev pub does_ports : PortWord → ℕ → Call → State → Outcome
+does_ports word.CreateMsgPort t call s = does_create_msg_port t call s
+does_ports word.DeleteMsgPort t call s = does_delete_msg_port t call s
+does_ports word.AddPort t call s = does_add_port t call s
+does_ports word.RemPort t call s = does_rem_port t call s
+does_ports word.FindPort t call s = does_find_port t call s
+does_ports word.PortSignal t call s = does_port_signal t call s
+does_ports word.PortIgnore t call s = does_port_ignore t call s
+does_ports word.NewMsg t call s = does_new_msg t call s
+does_ports word.FreeMsg t call s = does_free_msg t call s
+does_ports word.MsgWord t call s = does_msg_word t call s
+does_ports word.SetMsgWord t call s = does_set_msg_word t call s
+does_ports word.MsgType t call s = does_msg_type t call s
+does_ports word.PutMsg t call s = does_put_msg t call s
+does_ports word.GetMsg t call s = does_get_msg t call s
+does_ports word.WaitPort t call s = does_wait_port t call s
+does_ports word.ReplyMsg t call s = does_reply_msg t call s

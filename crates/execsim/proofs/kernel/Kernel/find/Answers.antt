@@ -1,0 +1,5 @@
+use Rattle.execsim.proofs.kernel.Kernel.find.Goals as goal
+
+pub returns-in-Some-clause-answer : goal.returns-in-Some-clause-answer
+returns-in-Some-clause-answer g c =
+    rw (c.in-Some.is, ← c.self.view_is) (rw c.as_str.ensures.value at c.find_name-in-Some.ensures.answer)

@@ -1,0 +1,27 @@
+-- What is done for a message that has arrived, with the ready tasks in the order in which they are to run; and how a call on a port ends
+-- that has more to do than its change of memory.
+use Rattle.std.specs.Prelude.{ℕ, Result, Ok, Err}
+use Rattle.scheduler.specs.Schedule.{Schedule, frees}
+use Rattle.scheduler.specs.Dispatch.{signalled}
+use Rattle.msgport.specs.declared.action.Action.{Action}
+use Rattle.msgport.specs.declared.action.Action.TheVariants as action
+use Rattle.execmodel.specs.State.{Call, State, Outcome, on_schedule}
+use Rattle.execmodel.specs.Calls.{done, alerted}
+use Rattle.execmodel.specs.Ports as model
+use Rattle.execheap.specs.declared.refusal.Refusal.{Refusal}
+use Rattle.execheap.specs.Refusals.{code_of}
+
+-- what is to be done for a message is done
+abbrev pub performed : Action → Schedule → Schedule
+performed (action.Signal task mask) s = signalled task mask s
+performed action.Nothing s = s
+
+-- a call that puts a message, for which something is to be done: it is done, or stops the machine by its alert
+abbrev pub performed_or_alerted : Result Action Refusal → ℕ → Call → State → Outcome
+performed_or_alerted (Ok act) t call s = done t call (on_schedule (model.performed act) s)
+performed_or_alerted (Err why) t call s = alerted (code_of why) t call s
+
+-- a call that frees a port of a task and with a signal: the signal is given back, or the machine stops by the call's alert
+abbrev pub given_back_or_alerted : Result (ℕ × ℕ) Refusal → ℕ → Call → State → Outcome
+given_back_or_alerted (Ok owner) t call s = done t call (on_schedule (frees owner.0 owner.1) s)
+given_back_or_alerted (Err why) t call s = alerted (code_of why) t call s
