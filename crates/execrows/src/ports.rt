@@ -275,36 +275,40 @@ fn no_other_word_of_ports_takes_0_for_a_port_or_a_message(rt: HostRuntime) -> Re
     Ok(())
 }
 
+/// Lines with an object of another kind, or none, and the word that is refused. `l` is a list, `n` a node, `m` a message, `p` a port and `x`
+/// a plain block.
+static OF_ANOTHER_KIND: [(&str, &str); 26] = [
+    ("DeleteMsgPort m", "DeleteMsgPort"),
+    ("AddPort l \"x\" 0", "AddPort"),
+    ("RemPort n", "RemPort"),
+    ("PortSignal n", "PortSignal"),
+    ("PortIgnore x", "PortIgnore"),
+    ("NewMsg n 0", "NewMsg"),
+    ("NewMsg m 0", "NewMsg"),
+    ("FreeMsg n", "FreeMsg"),
+    ("FreeMsg p", "FreeMsg"),
+    ("MsgWord n", "MsgWord"),
+    ("SetMsgWord p 0", "SetMsgWord"),
+    ("MsgType l", "MsgType"),
+    ("PutMsg n m", "PutMsg"),
+    ("PutMsg p n", "PutMsg"),
+    ("GetMsg l", "GetMsg"),
+    ("GetMsg n", "GetMsg"),
+    ("GetMsg m", "GetMsg"),
+    ("GetMsg x", "GetMsg"),
+    ("GetMsg $1040", "GetMsg"),
+    ("WaitPort n", "WaitPort"),
+    ("ReplyMsg x", "ReplyMsg"),
+    ("FreeList p", "FreeList"),
+    ("FreeNode m", "FreeNode"),
+    ("AddTail l m", "AddTail"),
+    ("First p", "First"),
+    ("FindName p \"x\"", "FindName"),
+];
+
 #[test]
 fn an_object_of_another_kind_is_no_port_and_no_message(rt: HostRuntime) -> Result<(), Fail> {
-    for (line, word) in [
-        ("DeleteMsgPort m", "DeleteMsgPort"),
-        ("AddPort l \"x\" 0", "AddPort"),
-        ("RemPort n", "RemPort"),
-        ("PortSignal n", "PortSignal"),
-        ("PortIgnore x", "PortIgnore"),
-        ("NewMsg n 0", "NewMsg"),
-        ("NewMsg m 0", "NewMsg"),
-        ("FreeMsg n", "FreeMsg"),
-        ("FreeMsg p", "FreeMsg"),
-        ("MsgWord n", "MsgWord"),
-        ("SetMsgWord p 0", "SetMsgWord"),
-        ("MsgType l", "MsgType"),
-        ("PutMsg n m", "PutMsg"),
-        ("PutMsg p n", "PutMsg"),
-        ("GetMsg l", "GetMsg"),
-        ("GetMsg n", "GetMsg"),
-        ("GetMsg m", "GetMsg"),
-        ("GetMsg x", "GetMsg"),
-        ("GetMsg $1040", "GetMsg"),
-        ("WaitPort n", "WaitPort"),
-        ("ReplyMsg x", "ReplyMsg"),
-        ("FreeList p", "FreeList"),
-        ("FreeNode m", "FreeNode"),
-        ("AddTail l m", "AddTail"),
-        ("First p", "First"),
-        ("FindName p \"x\"", "FindName"),
-    ] {
+    for (line, word) in OF_ANOTHER_KIND {
         let lines = format!(in rt.alloc();
             "'l = NewList', 'n = NewNode 0 0', 'm = NewMsg 0 0', 'p = CreateMsgPort', 'x = AllocMem 40 1', '{line}'"
         )?;
