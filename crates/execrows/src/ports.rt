@@ -275,8 +275,8 @@ fn no_other_word_of_ports_takes_0_for_a_port_or_a_message(rt: HostRuntime) -> Re
     Ok(())
 }
 
-/// Lines with an object of another kind, or none, and the word that is refused. `l` is a list, `n` a node, `m` a message, `p` a port and `x`
-/// a plain block.
+/// Lines with an object of another kind, or none, and the word that is refused. `l` is a list, `n` a node, `m` a message, `p` a port and
+/// `x` a plain block.
 static OF_ANOTHER_KIND: [(&str, &str); 26] = [
     ("DeleteMsgPort m", "DeleteMsgPort"),
     ("AddPort l \"x\" 0", "AddPort"),
