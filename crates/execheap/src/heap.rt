@@ -328,6 +328,3 @@ impl<S: ListSpace> Heap<S> {
         }
     }
 }
-
-#[cfg(test)]
-mod tests;

@@ -13,8 +13,6 @@ ghost use Rattle.execheap.specs.Numbered.{IsSound, IsSpace, number_at, slots_of}
 ghost use Rattle.execheap.specs.Changes.{unused, made_at, key_with, list_numbered, list_made, list_freed, node_numbered, node_made, node_freed, at_head, at_tail, queued, put, taken_out, head_taken, tail_taken};
 
 mod ports;
-#[cfg(test)]
-mod tests;
 
 use crate::kind::{Kind, number_of, tag_of};
 use execlist::key::Name;
@@ -390,6 +388,3 @@ fn memory_of(alloc: Global, regions: &[Region]) -> Result<MemList, AllocError>
         Err(_) => Err(AllocError),
     }
 }
-
-#[cfg(test)]
-mod making_tests;

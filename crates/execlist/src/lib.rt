@@ -8,5 +8,3 @@ pub mod laws;
 pub mod plain;
 pub mod pool;
 pub mod space;
-#[cfg(test)]
-mod tests;

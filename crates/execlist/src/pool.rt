@@ -6,9 +6,6 @@
 ghost use Rattle.std.specs.Prelude.{◌≡◌, ◌<◌, length, Some, None, IfOk, IfSome, IsSome};
 ghost use Rattle.execlist.specs.Pool.{IsStocked, all_free, given, next_number, released, slot, written};
 
-#[cfg(test)]
-mod tests;
-
 use std::alloc::{AllocError, Global};
 use std::marker::Model;
 

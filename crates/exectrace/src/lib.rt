@@ -14,6 +14,3 @@ pub mod sinks;
 pub use lines::{Arg, Arguments, CallLine, CallOutcome, Line, Name};
 pub use printing::emit;
 pub use sinks::{Sink, SinkFault, SinkState, WriteFault, WriteSink};
-
-#[cfg(test)]
-mod tests;

@@ -13,5 +13,3 @@ pub mod laws;
 mod memory;
 mod region;
 mod slot;
-#[cfg(test)]
-mod tests;

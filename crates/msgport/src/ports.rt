@@ -585,6 +585,3 @@ impl<S: ListSpace> Ports<S> {
         self.public.remove(p);
     }
 }
-
-#[cfg(test)]
-mod tests;

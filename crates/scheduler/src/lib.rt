@@ -696,6 +696,3 @@ impl<S: ListSpace> Sched<S> {
         self.nests[r].may_interrupt()
     }
 }
-
-#[cfg(test)]
-mod tests;

@@ -290,6 +290,3 @@ impl<S: ListSpace> Sems<S> {
         }
     }
 }
-
-#[cfg(test)]
-mod tests;

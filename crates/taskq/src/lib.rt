@@ -258,6 +258,3 @@ fn names_of(alloc: Global, tasks: &[TaskInit]) -> Result<Vec<Name>, AllocError>
     }
     Ok(names)
 }
-
-#[cfg(test)]
-mod tests;

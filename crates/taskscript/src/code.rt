@@ -9,9 +9,6 @@ ghost use Rattle.taskscript.specs.Faults.{Judges};
 ghost use Rattle.taskscript.specs.Lines.{label_line, command_line, named_command_view};
 ghost use Rattle.taskscript.specs.Numbering.{texts};
 
-#[cfg(test)]
-mod tests;
-
 use crate::body::Body;
 use crate::command::Command;
 use crate::fault::FileFault;

@@ -22,8 +22,6 @@ mod reading;
 mod regions;
 mod resolving;
 mod tasks;
-#[cfg(test)]
-mod tests;
 mod tree;
 mod variable;
 mod word;

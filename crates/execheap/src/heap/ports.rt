@@ -281,6 +281,3 @@ impl<S: ListSpace> Heap<S> {
         }
     }
 }
-
-#[cfg(test)]
-mod tests;

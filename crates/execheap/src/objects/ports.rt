@@ -224,6 +224,3 @@ impl<S: ListSpace> Objects<S> {
         self.ports.set_word(m, word);
     }
 }
-
-#[cfg(test)]
-mod tests;

@@ -1,0 +1,19 @@
+//! A module for each part of Exec and for each kind of text. A test is a table of steps where its calls have one shape, and says what a
+//! call answers, not how.
+mod comparing;
+mod event_texts;
+mod heap_lists;
+mod heap_ports;
+mod lists;
+mod machine_files;
+mod memory;
+mod nesting;
+mod no_commands;
+mod pools;
+mod ports;
+mod scheduling;
+mod scripts;
+mod semaphores;
+mod task_queue;
+mod task_signals;
+mod traces;

@@ -1,0 +1,86 @@
+//! Event texts: the events of an accepted one, and the fault of each that is refused, with the values that the format gives.
+use super::comparing::same;
+use std::alloc::Global;
+use std::test::*;
+use taskscript::{Event, EventFault, read_events};
+
+/// The faults, with their numbers.
+static NUMBERS: [(EventFault, u8); 3] = [
+    (EventFault::BadLine(7), 1),
+    (EventFault::TooMany, 2),
+    (EventFault::OutOfMemory, 3),
+];
+
+/// The texts that are refused, whose first faulty line decides.
+static REFUSED: [(&[u8], EventFault); 16] = [
+    (b"run 0", EventFault::BadLine(1)),
+    (b"run 01", EventFault::BadLine(1)),
+    (b"run  1", EventFault::BadLine(1)),
+    (b"Run 1", EventFault::BadLine(1)),
+    (b"run -1", EventFault::BadLine(1)),
+    (b"run 1000001", EventFault::BadLine(1)),
+    (b"run 1\r\n", EventFault::BadLine(1)),
+    (b"\r", EventFault::BadLine(1)),
+    (b"\xef\xbb\xbfrun 1", EventFault::BadLine(1)),
+    (b"run 1\ntic", EventFault::BadLine(2)),
+    (b"\n# a\nrun 1\nrun", EventFault::BadLine(4)),
+    (b"run 1000000\nrun 1", EventFault::TooMany),
+    (b"tick 1000000\nrun 1\ntick 1", EventFault::TooMany),
+    (b"tick 0", EventFault::BadLine(1)),
+    (b"tick1", EventFault::BadLine(1)),
+    (b"run 1000000\nrun 1\ntic", EventFault::TooMany),
+];
+
+/// The fault of an event text, if it is refused.
+fn fault_of(alloc: Global, text: &[u8]) -> Option<EventFault> {
+    match read_events(alloc, text) {
+        Ok(_) => None,
+        Err(fault) => Some(fault),
+    }
+}
+
+#[test]
+fn faults_are_numbered_from_1(rt: HostRuntime) {
+    for (i, (fault, number)) in NUMBERS.iter().enumerate() {
+        same(&rt, "a fault", i, fault.number(), *number);
+    }
+}
+
+#[test]
+fn an_event_text_gives_its_events_in_order(rt: HostRuntime) -> Result<(), Fail> {
+    let events = read_events(rt.alloc(), b"run 2\n\n# \xff\r\ntick 1000000\nrun 999998")?;
+    let wanted = [Event::Run(2), Event::Tick(1_000_000), Event::Run(999_998)];
+    same(&rt, "the events", 0, events.list(), wanted.as_slice());
+    Ok(())
+}
+
+#[test]
+fn the_first_faulty_line_of_an_event_text_decides(rt: HostRuntime) {
+    for (i, (text, fault)) in REFUSED.iter().enumerate() {
+        same(
+            &rt,
+            "a refused text",
+            i,
+            fault_of(rt.alloc(), *text),
+            Some(*fault),
+        );
+    }
+}
+
+#[test]
+fn an_event_text_has_at_most_100000_events(rt: HostRuntime) -> Result<(), Fail> {
+    let mut text = Vec::new(rt.alloc());
+    for _ in 0..50_000 {
+        text.extend_from_slice(b"run 1\ntick 1\n")?;
+    }
+    same(&rt, "100,000 events", 0, fault_of(rt.alloc(), &text), None);
+    text.extend_from_slice(b"tick 1")?;
+    same(
+        &rt,
+        "100,001 events",
+        1,
+        fault_of(rt.alloc(), &text),
+        Some(EventFault::TooMany),
+    );
+    Ok(())
+}

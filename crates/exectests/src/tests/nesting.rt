@@ -1,0 +1,86 @@
+//! How deep one task nests Forbid and Disable, and what that holds back.
+use super::comparing::same;
+use forbid::{Nest, NestFault};
+use std::process::Abort;
+
+/// A call on the nesting of a task, and what it must answer.
+#[derive(Clone, Copy)]
+enum Step {
+    Forbids(Result<(), NestFault>),
+    Permits(Result<(), NestFault>),
+    Disables(Result<(), NestFault>),
+    Enables(Result<(), NestFault>),
+    /// Whether another task may run.
+    MaySwitch(bool),
+    /// Whether an interrupt may be served.
+    MayInterrupt(bool),
+}
+
+use Step::*;
+
+const TOO_DEEP: Result<(), NestFault> = Err(NestFault::TooDeep);
+
+const NOT_NESTED: Result<(), NestFault> = Err(NestFault::NotNested);
+
+/// Takes a step.
+fn take(rt: &impl Abort, nest: &mut Nest, case: &str, number: usize, step: Step) {
+    match step {
+        Forbids(wanted) => same(rt, case, number, nest.forbid(), wanted),
+        Permits(wanted) => same(rt, case, number, nest.permit(), wanted),
+        Disables(wanted) => same(rt, case, number, nest.disable(), wanted),
+        Enables(wanted) => same(rt, case, number, nest.enable(), wanted),
+        MaySwitch(wanted) => same(rt, case, number, nest.may_switch(), wanted),
+        MayInterrupt(wanted) => same(rt, case, number, nest.may_interrupt(), wanted),
+    }
+}
+
+/// Takes groups of steps, each as often as it says, from the nesting of a task that has called nothing.
+fn on_new(rt: &impl Abort, case: &str, groups: &[(usize, &[Step])]) {
+    let mut nest = Nest::new();
+    for (number, (times, steps)) in groups.iter().enumerate() {
+        for _ in 0..*times {
+            for step in *steps {
+                take(rt, &mut nest, case, number, *step);
+            }
+        }
+    }
+}
+
+#[test]
+fn forbid_nests_128_deep(rt: HostRuntime) {
+    static GROUPS: [(usize, &[Step]); 4] = [
+        (128, &[Forbids(Ok(()))]),
+        (1, &[Forbids(TOO_DEEP)]),
+        (128, &[MaySwitch(false), Permits(Ok(()))]),
+        (1, &[MaySwitch(true), Permits(NOT_NESTED), MaySwitch(true)]),
+    ];
+    on_new(&rt, "128 deep of Forbid", &GROUPS);
+}
+
+#[test]
+fn disable_nests_128_deep(rt: HostRuntime) {
+    static GROUPS: [(usize, &[Step]); 4] = [
+        (128, &[Disables(Ok(()))]),
+        (1, &[Disables(TOO_DEEP)]),
+        (128, &[MayInterrupt(false), Enables(Ok(()))]),
+        (
+            1,
+            &[MayInterrupt(true), Enables(NOT_NESTED), MayInterrupt(true)],
+        ),
+    ];
+    on_new(&rt, "128 deep of Disable", &GROUPS);
+}
+
+#[test]
+fn forbid_allows_interrupts_and_disable_allows_neither(rt: HostRuntime) {
+    static GROUPS: [(usize, &[Step]); 7] = [
+        (1, &[MaySwitch(true), MayInterrupt(true)]),
+        (1, &[Forbids(Ok(()))]),
+        (1, &[MaySwitch(false), MayInterrupt(true)]),
+        (1, &[Disables(Ok(())), Permits(Ok(()))]),
+        (1, &[MaySwitch(false), MayInterrupt(false)]),
+        (1, &[Enables(Ok(()))]),
+        (1, &[MaySwitch(true), MayInterrupt(true)]),
+    ];
+    on_new(&rt, "Forbid beside Disable", &GROUPS);
+}

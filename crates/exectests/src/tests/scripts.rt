@@ -1,0 +1,712 @@
+//! The bodies of tasks: the commands that their lines give, and the fault of bodies that are refused together, with the values that the
+//! format gives. Each case is a machine file with a task for each body.
+use super::comparing::same_at;
+use super::machine_files::fault_of;
+use std::alloc::{AllocError, Global};
+use std::process::Abort;
+use std::test::*;
+use taskscript::Variable::{self, Private, Shared};
+use taskscript::Word::{self, Lists, Plain, Ports, Signals, Tasks};
+use taskscript::{
+    Argument, Command, FileFault, ListWord, PlainWord, PortWord, SignalWord, TaskWord, read_machine,
+};
+
+/// An argument, as a case writes it.
+#[derive(Clone, Copy, Debug, PartialEq, Eq)]
+enum Said<'a> {
+    Number(u32),
+    Held(Variable),
+    Quoted(&'a str),
+    Place(u32),
+}
+
+use Said::*;
+
+/// A command, as a case writes it: its word, its target and its arguments.
+type Spoken = (Word, Option<Variable>, &'static [Said<'static>]);
+
+/// A line that is a command, and that command.
+type Line = (
+    &'static str,
+    Word,
+    Option<Variable>,
+    &'static [Said<'static>],
+);
+
+/// The lines that are commands, by groups, each group with its name. The target is numbered before the arguments.
+static COMMANDS: [(&str, &[Line]); 7] = [
+    (
+        "each word of lists and nodes is read",
+        &[
+            (
+                "l = NewList",
+                Lists(ListWord::NewList),
+                Some(Private(0)),
+                &[],
+            ),
+            (
+                "FreeList l",
+                Lists(ListWord::FreeList),
+                None,
+                &[Held(Private(0))],
+            ),
+            (
+                "n = NewNode -128 \"x\"",
+                Lists(ListWord::NewNode),
+                Some(Private(0)),
+                &[Number(4294967168), Quoted("x")],
+            ),
+            (
+                "FreeNode n",
+                Lists(ListWord::FreeNode),
+                None,
+                &[Held(Private(0))],
+            ),
+            (
+                "AddHead l n",
+                Lists(ListWord::AddHead),
+                None,
+                &[Held(Private(0)), Held(Private(1))],
+            ),
+            (
+                "AddTail @l $1010",
+                Lists(ListWord::AddTail),
+                None,
+                &[Held(Shared(0)), Number(0x1010)],
+            ),
+            (
+                "Enqueue l n",
+                Lists(ListWord::Enqueue),
+                None,
+                &[Held(Private(0)), Held(Private(1))],
+            ),
+            (
+                "Insert l n 0",
+                Lists(ListWord::Insert),
+                None,
+                &[Held(Private(0)), Held(Private(1)), Number(0)],
+            ),
+            (
+                "Remove n",
+                Lists(ListWord::Remove),
+                None,
+                &[Held(Private(0))],
+            ),
+            (
+                "n = RemHead l",
+                Lists(ListWord::RemHead),
+                Some(Private(0)),
+                &[Held(Private(1))],
+            ),
+            (
+                "n = RemTail l",
+                Lists(ListWord::RemTail),
+                Some(Private(0)),
+                &[Held(Private(1))],
+            ),
+            (
+                "n = First l",
+                Lists(ListWord::First),
+                Some(Private(0)),
+                &[Held(Private(1))],
+            ),
+            (
+                "@n = Last l",
+                Lists(ListWord::Last),
+                Some(Shared(0)),
+                &[Held(Private(0))],
+            ),
+            (
+                "n = Succ n",
+                Lists(ListWord::Succ),
+                Some(Private(0)),
+                &[Held(Private(0))],
+            ),
+            (
+                "n = Pred n",
+                Lists(ListWord::Pred),
+                Some(Private(0)),
+                &[Held(Private(0))],
+            ),
+            (
+                "n = FindName l \"x\"",
+                Lists(ListWord::FindName),
+                Some(Private(0)),
+                &[Held(Private(1)), Quoted("x")],
+            ),
+        ],
+    ),
+    (
+        "each word of ports and messages is read",
+        &[
+            (
+                "p = CreateMsgPort",
+                Ports(PortWord::CreateMsgPort),
+                Some(Private(0)),
+                &[],
+            ),
+            (
+                "DeleteMsgPort p",
+                Ports(PortWord::DeleteMsgPort),
+                None,
+                &[Held(Private(0))],
+            ),
+            (
+                "AddPort p \"box\" -128",
+                Ports(PortWord::AddPort),
+                None,
+                &[Held(Private(0)), Quoted("box"), Number(4294967168)],
+            ),
+            (
+                "RemPort p",
+                Ports(PortWord::RemPort),
+                None,
+                &[Held(Private(0))],
+            ),
+            (
+                "@p = FindPort \"box\"",
+                Ports(PortWord::FindPort),
+                Some(Shared(0)),
+                &[Quoted("box")],
+            ),
+            (
+                "PortSignal @p",
+                Ports(PortWord::PortSignal),
+                None,
+                &[Held(Shared(0))],
+            ),
+            (
+                "PortIgnore p",
+                Ports(PortWord::PortIgnore),
+                None,
+                &[Held(Private(0))],
+            ),
+            (
+                "m = NewMsg 0 7",
+                Ports(PortWord::NewMsg),
+                Some(Private(0)),
+                &[Number(0), Number(7)],
+            ),
+            (
+                "FreeMsg m",
+                Ports(PortWord::FreeMsg),
+                None,
+                &[Held(Private(0))],
+            ),
+            (
+                "w = MsgWord m",
+                Ports(PortWord::MsgWord),
+                Some(Private(0)),
+                &[Held(Private(1))],
+            ),
+            (
+                "SetMsgWord m $FF",
+                Ports(PortWord::SetMsgWord),
+                None,
+                &[Held(Private(0)), Number(255)],
+            ),
+            (
+                "w = MsgType m",
+                Ports(PortWord::MsgType),
+                Some(Private(0)),
+                &[Held(Private(1))],
+            ),
+            (
+                "PutMsg p m",
+                Ports(PortWord::PutMsg),
+                None,
+                &[Held(Private(0)), Held(Private(1))],
+            ),
+            (
+                "m = GetMsg p",
+                Ports(PortWord::GetMsg),
+                Some(Private(0)),
+                &[Held(Private(1))],
+            ),
+            (
+                "@m = WaitPort p",
+                Ports(PortWord::WaitPort),
+                Some(Shared(0)),
+                &[Held(Private(0))],
+            ),
+            (
+                "ReplyMsg $1028",
+                Ports(PortWord::ReplyMsg),
+                None,
+                &[Number(0x1028)],
+            ),
+        ],
+    ),
+    (
+        "a name to find stands between quotes",
+        &[(
+            "FindName l \"x\"",
+            Lists(ListWord::FindName),
+            None,
+            &[Held(Private(0)), Quoted("x")],
+        )],
+    ),
+    (
+        "a number is read as its word",
+        &[
+            ("Print 0", Plain(PlainWord::Print), None, &[Number(0)]),
+            ("Print 10", Plain(PlainWord::Print), None, &[Number(10)]),
+            (
+                "Print 4294967295",
+                Plain(PlainWord::Print),
+                None,
+                &[Number(4294967295)],
+            ),
+            (
+                "Print -1",
+                Plain(PlainWord::Print),
+                None,
+                &[Number(4294967295)],
+            ),
+            (
+                "Print -2147483648",
+                Plain(PlainWord::Print),
+                None,
+                &[Number(2147483648)],
+            ),
+            ("Print $0", Plain(PlainWord::Print), None, &[Number(0)]),
+            (
+                "Print $00000010",
+                Plain(PlainWord::Print),
+                None,
+                &[Number(16)],
+            ),
+            (
+                "Print $FFFFFFFF",
+                Plain(PlainWord::Print),
+                None,
+                &[Number(4294967295)],
+            ),
+            ("Print $9A", Plain(PlainWord::Print), None, &[Number(154)]),
+        ],
+    ),
+    (
+        "a name of the right form is a variable",
+        &[
+            (
+                "Print abcdefghijklmnop",
+                Plain(PlainWord::Print),
+                None,
+                &[Held(Private(0))],
+            ),
+            (
+                "Print @abcdefghijklmnop",
+                Plain(PlainWord::Print),
+                None,
+                &[Held(Shared(0))],
+            ),
+            (
+                "Print a_9",
+                Plain(PlainWord::Print),
+                None,
+                &[Held(Private(0))],
+            ),
+        ],
+    ),
+    (
+        "a name stands between double quotes",
+        &[(
+            "FindPort \"x.Y_9-\"",
+            Ports(PortWord::FindPort),
+            None,
+            &[Quoted("x.Y_9-")],
+        )],
+    ),
+    (
+        "only 0 alone stands for no name",
+        &[
+            ("FindTask 0", Tasks(TaskWord::FindTask), None, &[Number(0)]),
+            (
+                "FindTask \"0\"",
+                Tasks(TaskWord::FindTask),
+                None,
+                &[Quoted("0")],
+            ),
+        ],
+    ),
+];
+
+/// The bodies of the tasks of a file, and the commands that each gives, in order.
+#[derive(Clone, Copy)]
+struct Bodies {
+    name: &'static str,
+    bodies: &'static [&'static [&'static str]],
+    codes: &'static [&'static [Spoken]],
+}
+
+static BODIES: [Bodies; 6] = [
+    Bodies {
+        name: "a node is made with a name or with 0 alone",
+        bodies: &[&["NewNode 0 0", "NewNode 0 \"x\""]],
+        codes: &[&[
+            (Lists(ListWord::NewNode), None, &[Number(0), Number(0)]),
+            (Lists(ListWord::NewNode), None, &[Number(0), Quoted("x")]),
+        ]],
+    },
+    Bodies {
+        name: "a label of the right form is a line",
+        bodies: &[&["l:"], &["l_9:"], &["abcdefghijklmnop:"]],
+        codes: &[&[], &[], &[]],
+    },
+    Bodies {
+        name: "variables are numbered in order of first sight",
+        bodies: &[&["b = Wait a", "@a = Set b", "Signal c @b", "Set @a"]],
+        codes: &[&[
+            (
+                Signals(SignalWord::Wait),
+                Some(Private(0)),
+                &[Held(Private(1))],
+            ),
+            (Plain(PlainWord::Set), Some(Shared(0)), &[Held(Private(0))]),
+            (
+                Signals(SignalWord::Signal),
+                None,
+                &[Held(Private(2)), Held(Shared(1))],
+            ),
+            (Plain(PlainWord::Set), None, &[Held(Shared(0))]),
+        ]],
+    },
+    Bodies {
+        name: "bodies share only their shared names",
+        bodies: &[
+            &["Signal a @x", "Signal b @y"],
+            &["Signal b @y", "Signal a @z"],
+        ],
+        codes: &[
+            &[
+                (
+                    Signals(SignalWord::Signal),
+                    None,
+                    &[Held(Private(0)), Held(Shared(0))],
+                ),
+                (
+                    Signals(SignalWord::Signal),
+                    None,
+                    &[Held(Private(1)), Held(Shared(1))],
+                ),
+            ],
+            &[
+                (
+                    Signals(SignalWord::Signal),
+                    None,
+                    &[Held(Private(0)), Held(Shared(1))],
+                ),
+                (
+                    Signals(SignalWord::Signal),
+                    None,
+                    &[Held(Private(1)), Held(Shared(2))],
+                ),
+            ],
+        ],
+    },
+    Bodies {
+        name: "a label names the command after it",
+        bodies: &[&[
+            "a:",
+            "b:",
+            "v = Set 1",
+            "Jump c",
+            "JumpZ v a",
+            "c:",
+            "JumpNZ v v",
+            "Jump b",
+            "v:",
+        ]],
+        codes: &[&[
+            (Plain(PlainWord::Set), Some(Private(0)), &[Number(1)]),
+            (Plain(PlainWord::Jump), None, &[Place(3)]),
+            (Plain(PlainWord::JumpZ), None, &[Held(Private(0)), Place(0)]),
+            (
+                Plain(PlainWord::JumpNZ),
+                None,
+                &[Held(Private(0)), Place(5)],
+            ),
+            (Plain(PlainWord::Jump), None, &[Place(0)]),
+        ]],
+    },
+    Bodies {
+        name: "a body of labels has no command",
+        bodies: &[&["a:", "b:"]],
+        codes: &[&[]],
+    },
+];
+
+/// Bodies of so many lines, each line with a variable of its own that begins with the mark, then a body of these lines, and the fault of
+/// the file, if it is refused.
+#[derive(Clone, Copy)]
+struct Judged {
+    name: &'static str,
+    before: &'static [(usize, &'static str)],
+    lines: &'static [&'static str],
+    fault: Option<FileFault>,
+}
+
+static JUDGED: [Judged; 18] = [
+    Judged {
+        name: "a label stands once and a jump finds its label",
+        before: &[],
+        lines: &["l:", "Print 1", "l:"],
+        fault: Some(FileFault::BadLabel),
+    },
+    Judged {
+        name: "a label stands once and a jump finds its label",
+        before: &[],
+        lines: &["l:", "l:", "Print 01"],
+        fault: Some(FileFault::BadLabel),
+    },
+    Judged {
+        name: "a label stands once and a jump finds its label",
+        before: &[],
+        lines: &["l:", "Print 01", "l:"],
+        fault: Some(FileFault::BadCommand),
+    },
+    Judged {
+        name: "a label stands once and a jump finds its label",
+        before: &[],
+        lines: &["Jump l", "Print 1", "k:"],
+        fault: Some(FileFault::BadLabel),
+    },
+    Judged {
+        name: "a label stands once and a jump finds its label",
+        before: &[],
+        lines: &["Jump l", "Print 1", "Print 01"],
+        fault: Some(FileFault::BadCommand),
+    },
+    Judged {
+        name: "a label stands once and a jump finds its label",
+        before: &[],
+        lines: &["JumpZ l l", "k:", "Set l"],
+        fault: Some(FileFault::BadLabel),
+    },
+    Judged {
+        name: "a label stands once and a jump finds its label",
+        before: &[],
+        lines: &["Jump l", "k:", "k:"],
+        fault: Some(FileFault::BadLabel),
+    },
+    Judged {
+        name: "a body has at most 32 private variables",
+        before: &[(32, "v")],
+        lines: &[],
+        fault: None,
+    },
+    Judged {
+        name: "a body has at most 32 private variables",
+        before: &[(32, "v"), (32, "w")],
+        lines: &[],
+        fault: None,
+    },
+    Judged {
+        name: "a body has at most 32 private variables",
+        before: &[(32, "v"), (32, "w"), (33, "v")],
+        lines: &[],
+        fault: Some(FileFault::TooMany),
+    },
+    Judged {
+        name: "a file has at most 64 shared variables",
+        before: &[(40, "@v")],
+        lines: &[],
+        fault: None,
+    },
+    Judged {
+        name: "a file has at most 64 shared variables",
+        before: &[(40, "@v"), (24, "@w")],
+        lines: &[],
+        fault: None,
+    },
+    Judged {
+        name: "a file has at most 64 shared variables",
+        before: &[(40, "@v"), (24, "@w"), (40, "@v")],
+        lines: &[],
+        fault: None,
+    },
+    Judged {
+        name: "a file has at most 64 shared variables",
+        before: &[(40, "@v"), (24, "@w"), (40, "@v"), (25, "@w")],
+        lines: &[],
+        fault: Some(FileFault::TooMany),
+    },
+    Judged {
+        name: "the first faulty line of a body decides",
+        before: &[(64, "@a")],
+        lines: &[],
+        fault: None,
+    },
+    Judged {
+        name: "the first faulty line of a body decides",
+        before: &[(64, "@a")],
+        lines: &["Set a", "Set", "Print 01"],
+        fault: Some(FileFault::BadCommand),
+    },
+    Judged {
+        name: "the first faulty line of a body decides",
+        before: &[(64, "@a")],
+        lines: &["Set @a0", "Set @b", "Set"],
+        fault: Some(FileFault::TooMany),
+    },
+    Judged {
+        name: "the first faulty line of a body decides",
+        before: &[(64, "@a")],
+        lines: &["Set @a0", "Set", "Set @b"],
+        fault: Some(FileFault::BadCommand),
+    },
+];
+
+/// Writes the head of a task, up to its lines. The task has this number in its name.
+fn begin(alloc: Global, file: &mut Vec<u8>, number: usize) -> Result<(), AllocError> {
+    let head = format!(in alloc; "[[task]]\nname = \"t{number}\"\ncode = [")?;
+    file.extend_from_slice(head.as_bytes())?;
+    Ok(())
+}
+
+/// Writes a line of a task as a string of TOML.
+fn write_line(file: &mut Vec<u8>, line: &str) -> Result<(), AllocError> {
+    file.push(b'"')?;
+    for b in line.as_bytes() {
+        if *b == b'"' {
+            file.push(b'\\')?;
+        }
+        file.push(*b)?;
+    }
+    file.extend_from_slice(b"\",")?;
+    Ok(())
+}
+
+/// Writes a task of these lines.
+fn write_task(
+    alloc: Global,
+    file: &mut Vec<u8>,
+    number: usize,
+    lines: &[&str],
+) -> Result<(), AllocError> {
+    begin(alloc, file, number)?;
+    for line in lines {
+        write_line(file, line)?;
+    }
+    file.extend_from_slice(b"]\n")?;
+    Ok(())
+}
+
+/// Writes a task of so many lines, each of which names one variable of its own.
+fn write_names(
+    alloc: Global,
+    file: &mut Vec<u8>,
+    number: usize,
+    count: usize,
+    mark: &str,
+) -> Result<(), AllocError> {
+    begin(alloc, file, number)?;
+    for i in 0..count {
+        let line = format!(in alloc; "Set {mark}{i}")?;
+        write_line(file, line.as_str())?;
+    }
+    file.extend_from_slice(b"]\n")?;
+    Ok(())
+}
+
+/// The file of these bodies.
+pub(super) fn file_of(alloc: Global, bodies: &[&[&str]]) -> Result<Vec<u8>, AllocError> {
+    let mut file = Vec::new(alloc);
+    for (number, lines) in bodies.iter().enumerate() {
+        write_task(alloc, &mut file, number, lines)?;
+    }
+    Ok(file)
+}
+
+/// The file of the bodies that are judged.
+fn judged_file(alloc: Global, judged: &Judged) -> Result<Vec<u8>, AllocError> {
+    let mut file = Vec::new(alloc);
+    for (number, (count, mark)) in judged.before.iter().enumerate() {
+        write_names(alloc, &mut file, number, *count, mark)?;
+    }
+    write_task(alloc, &mut file, judged.before.len(), judged.lines)?;
+    Ok(file)
+}
+
+/// An argument of a command, as a case writes it.
+fn written(argument: &Argument) -> Said {
+    match argument {
+        Argument::Number(number) => Number(*number),
+        Argument::Variable(variable) => Held(*variable),
+        Argument::Quoted(name) => Quoted(name.as_str()),
+        Argument::Place(place) => Place(*place),
+    }
+}
+
+/// The command is the one that is wanted, with as many arguments as its word has.
+fn speaks(rt: &impl Abort, test: &str, case: &str, command: &Command, wanted: Spoken) {
+    let (word, target, arguments) = wanted;
+    same_at(
+        rt,
+        test,
+        case,
+        (command.word, command.target),
+        (word, target),
+    );
+    same_at(rt, test, case, word.kinds().len(), arguments.len());
+    for (argument, wanted) in command.arguments.iter().zip(arguments) {
+        same_at(rt, test, case, written(argument), *wanted);
+    }
+}
+
+/// The file of these bodies is accepted, and the code of each is the one that is wanted.
+fn gives(
+    rt: &impl Abort,
+    alloc: Global,
+    (test, case): (&str, &str),
+    bodies: &[&[&str]],
+    codes: &[&[Spoken]],
+) -> Result<(), Fail> {
+    let file = file_of(alloc, bodies)?;
+    let machine = read_machine(alloc, &file).expect(rt, case);
+    let tasks = machine.tasks();
+    same_at(rt, test, case, tasks.len(), codes.len());
+    for (task, code) in tasks.iter().zip(codes) {
+        same_at(rt, test, case, task.code.len(), code.len());
+        for (command, wanted) in task.code.iter().zip(*code) {
+            speaks(rt, test, case, command, *wanted);
+        }
+    }
+    Ok(())
+}
+
+#[test]
+fn a_line_is_read_as_its_command(rt: HostRuntime) -> Result<(), Fail> {
+    for (name, lines) in &COMMANDS {
+        for (line, word, target, arguments) in *lines {
+            let wanted = (*word, *target, *arguments);
+            gives(&rt, rt.alloc(), (name, line), &[&[*line]], &[&[wanted]])?;
+        }
+    }
+    Ok(())
+}
+
+#[test]
+fn bodies_are_read_together(rt: HostRuntime) -> Result<(), Fail> {
+    for case in &BODIES {
+        gives(
+            &rt,
+            rt.alloc(),
+            ("bodies are read together", case.name),
+            case.bodies,
+            case.codes,
+        )?;
+    }
+    Ok(())
+}
+
+#[test]
+fn the_first_fault_of_the_bodies_decides(rt: HostRuntime) -> Result<(), Fail> {
+    for (i, judged) in JUDGED.iter().enumerate() {
+        let case = format!(in rt.alloc(); "case {i}")?;
+        let file = judged_file(rt.alloc(), judged)?;
+        let fault = fault_of(rt.alloc(), &file);
+        same_at(&rt, judged.name, case.as_str(), fault, judged.fault);
+    }
+    Ok(())
+}
