@@ -155,9 +155,14 @@ pub(crate) fn families_run(
     Ok(())
 }
 
-/// Runs the record once with each of the cases at its places.
+/// Runs the record once with each of the cases at its places; the machine has one.
 fn cases_run(rt: &impl Abort, alloc: Global, row: Row, cases: &[(&str, &str)]) -> Result<(), Fail> {
     let machine = text_of(alloc, row.machine)?;
+    let name = row.name;
+    assert!(rt;
+        machine.as_str().split_once("{}").is_some(),
+        "{name}: the machine has no place"
+    );
     for (line, shown) in cases {
         let machine = filled(alloc, machine.as_str(), line)?;
         let trace = filled(alloc, row.trace, shown)?;
