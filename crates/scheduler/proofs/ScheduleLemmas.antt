@@ -8,12 +8,12 @@ use Rattle.execlist.specs.Lists.{times}
 use Rattle.taskq.specs.Tasks.{Tasks, state_at, pri_at, is_ready}
 use Rattle.taskq.specs.declared.TaskState.{TaskState}
 use Rattle.taskq.specs.declared.TaskState.TheVariants.{Absent, Ready, Running, Waiting, Removed}
-use Rattle.taskq.specs.declared.Why.TheVariants.{Signals}
+use Rattle.taskq.specs.declared.Why.TheVariants.{Signals, Sem}
 use Rattle.signals.specs.Signals.{SignalSets}
 use Rattle.forbid.specs.Nesting.{Nesting, may_switch}
 use Rattle.scheduler.specs.declared.Switch.{Switch}
 use Rattle.scheduler.specs.declared.Switch.TheVariants.{To, Idle}
-use Rattle.scheduler.specs.Schedule.{Schedule, status_of, nesting_of, takes_over, switch_for, IsToOneOf, begins, waits_for, leaves, departs, removed, with_priority}
+use Rattle.scheduler.specs.Schedule.{Schedule, status_of, nesting_of, takes_over, switch_for, IsToOneOf, begins, waits_for, waits_at_semaphore, leaves, departs, removed, with_priority}
 use Rattle.scheduler.specs.Dispatch.{arrives, switch_of, displaced, after_switch, rescheduled, reprioritized}
 use Rattle.scheduler.specs.Sound.{IsSound, IsToReady, is_running, is_task}
 
@@ -144,6 +144,14 @@ pub slept : (s : Schedule) (q : Tasks) (t mask : ℕ)
     → record s { queue = q; running = None } ≡ waits_for t mask s
 unfolding waits_for
 slept s q t mask a b c d = ap (λ queue. record s { queue = queue; running = None }) (tasks_are q _ _ _ _ a b c d)
+
+-- the tasks with the running one waiting for a semaphore
+pub slept_at_semaphore : (s : Schedule) (q : Tasks) (t : ℕ)
+    → q.ready ≡ s.queue.ready → q.states ≡ slice_set s.queue.states t (Waiting Sem)
+    → q.pris ≡ s.queue.pris → q.names ≡ s.queue.names
+    → record s { queue = q; running = None } ≡ waits_at_semaphore t s
+unfolding waits_at_semaphore
+slept_at_semaphore s q t a b c d = ap (λ queue. record s { queue = queue; running = None }) (tasks_are q _ _ _ _ a b c d)
 
 -- the tasks with the running one ready
 pub displaced_is : (s : Schedule) (q : Tasks) (r : ℕ) → s.running ≡ Some r

@@ -7,7 +7,7 @@ use Rattle.taskq.specs.Tasks.{Tasks, state_at, pri_at, name_at, is_live, is_live
 use Rattle.taskq.specs.declared.TaskState.{TaskState}
 use Rattle.taskq.specs.declared.TaskState.TheVariants.{Absent, Ready, Running, Waiting, Removed}
 use Rattle.taskq.specs.declared.Why.{Why}
-use Rattle.taskq.specs.declared.Why.TheVariants.{Signals}
+use Rattle.taskq.specs.declared.Why.TheVariants.{Signals, Sem}
 use Rattle.signals.specs.Signals.{SignalSets, initial_sets, taken_signals, after_take, grant, after_grant, after_set, after_free}
 use Rattle.forbid.specs.Nesting.{Nesting, initial_nesting, may_switch, may_interrupt}
 use Rattle.forbid.specs.declared.NestFault.{NestFault}
@@ -163,9 +163,10 @@ found name s = find (is_live_named s.queue name) (range_with_len 0 (length s.que
 
 -- ---- signals
 
--- something that is waited for has come
+-- something that is waited for has come: a signal of the mask; no signal makes a task ready that waits for a semaphore
 abbrev pub has_come : Why → ℕ → Bool
 has_come (Signals mask) received = not (nat_eq (bit_and received mask) 0)
+has_come Sem received = false
 
 -- the task waits for one of these signals
 abbrev pub awaits : TaskState → ℕ → Bool
@@ -206,6 +207,25 @@ sets_signals t new mask s = with_signals t (after_set new mask (signals_of s t))
 -- Signal n of a live task is not allocated any more. A task that is not live has none to give back (own choice).
 unfoldable pub frees : ℕ → ℕ → Schedule → Schedule
 frees t n s = if is_live (status_of s t) then with_signals t (after_free n (signals_of s t)) s else s
+
+-- ---- semaphores
+
+-- the running task waits for a semaphore; no task runs then (autodoc exec.library/ObtainSemaphore)
+unfoldable pub waits_at_semaphore : ℕ → Schedule → Schedule
+waits_at_semaphore t s = record (with_status t (Waiting Sem) s) { running = None }
+
+-- what is waited for is a semaphore
+abbrev pub is_semaphore : Why → Bool
+is_semaphore (Signals mask) = false
+is_semaphore Sem = true
+
+-- a task of that state waits for a semaphore
+abbrev pub is_at_semaphore : TaskState → Bool
+is_at_semaphore Absent = false
+is_at_semaphore Ready = false
+is_at_semaphore Running = false
+is_at_semaphore (Waiting why) = is_semaphore why
+is_at_semaphore Removed = false
 
 -- ---- nesting
 

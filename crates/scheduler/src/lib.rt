@@ -10,6 +10,7 @@ ghost use Rattle.signals.specs.Signals.{taken_signals, after_post, grant, grant_
 ghost use Rattle.forbid.specs.Nesting.{may_switch, may_interrupt, after_forbid, after_permit, after_disable, after_enable};
 ghost use Rattle.scheduler.specs.Schedule.{task_count, name_of, priority_of, status_of, signals_of, nesting_of, unstarted, is_absent, leaves, removed, found};
 ghost use Rattle.scheduler.specs.Schedule.{is_switching_allowed, is_interrupting_allowed, switch_for, IsToOneOf, takes_over, begins, renewed, ticked, nested, nest_answer};
+ghost use Rattle.scheduler.specs.Schedule.{waits_at_semaphore, is_at_semaphore};
 ghost use Rattle.scheduler.specs.Schedule.{awaits, come_for, after_wait, clears_and_waits, takes, waits_for, allocates, sets_signals, frees, with_signals};
 ghost use Rattle.scheduler.specs.Dispatch.{arrives, displaced, switch_of, after_switch, rescheduled, added, signalled, reprioritized};
 ghost use Rattle.scheduler.specs.Sound.{is_stopped, IsToReady};
@@ -572,6 +573,57 @@ impl<S: ListSpace> Sched<S> {
     {
         let t = self.runner();
         &mut self.signals[t]
+    }
+}
+
+/// Waiting for a semaphore.
+impl<S: ListSpace> Sched<S> {
+    /// The running task waits for a semaphore: no task runs. Its signals stay as they are. As after `wait`, Forbid and
+    /// Disable of the waiting task hold again when it runs again.
+    ///
+    /// Source: autodoc exec.library/ObtainSemaphore.
+    pub fn wait_sem(&mut self)
+        requires { IsSome self.old.running }
+        ensures next { IfSome self.old.running (λ t. self.new ≡ waits_at_semaphore t self.old) }
+        ensures tasks { task_count self.new ≡ task_count self.old }
+    {
+        let t = self.runner();
+        self.wait_at_semaphore(t);
+    }
+
+    // Lets the running task wait for a semaphore.
+    fn wait_at_semaphore(&mut self, t: TaskId)
+        requires { self.old.running ≡ Some t }
+        ensures next { self.new ≡ waits_at_semaphore t self.old }
+        ensures tasks { task_count self.new ≡ task_count self.old }
+    {
+        self.queue.block(t, Why::Sem);
+        self.running = None;
+    }
+
+    /// Makes a task ready that waits for a semaphore, behind the ready ones of its priority. Its signals stay.
+    ///
+    /// Source: autodoc exec.library/ReleaseSemaphore.
+    pub fn wake_sem(&mut self, t: TaskId)
+        requires { status_of self.old t ≡ TaskState.Waiting Why.Sem }
+        ensures next { self.new ≡ arrives t self.old }
+        ensures tasks { task_count self.new ≡ task_count self.old }
+    {
+        // The running task, if any, goes on: no switch is made.
+        self.arrive(t);
+    }
+
+    /// Answers whether a task waits for a semaphore.
+    ///
+    /// Source: autodoc exec.library/ObtainSemaphore.
+    pub fn is_at_semaphore(&self, t: TaskId) -> bool
+        requires { t < task_count self.now }
+        ensures { result ≡ is_at_semaphore (status_of self.now t) }
+    {
+        match self.queue.state(t) {
+            TaskState::Waiting(Why::Sem) => true,
+            _ => false,
+        }
     }
 }
 

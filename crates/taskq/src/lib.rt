@@ -28,6 +28,8 @@ pub struct TaskInit {
 pub enum Why {
     /// Any of the signals of this mask. Autodoc exec.library/Wait.
     Signals(u32),
+    /// A semaphore, until a release makes the task its owner. Autodoc exec.library/ObtainSemaphore.
+    Sem,
 }
 
 /// Where a task stands in its life. RKM Libraries, Exec Tasks: task states.

@@ -29,9 +29,12 @@ enum Call {
     SetPri(TaskId, i8),
     Signal(TaskId, u32),
     FreeSignal(TaskId, u32),
+    IsAtSemaphore(TaskId),
+    WakeSem(TaskId),
     Leave,
     Wait(u32),
     WaitClear(u32),
+    WaitSem,
     AllocSignal(i32),
     NextSignal,
     SetSignal(u32, u32),
@@ -95,9 +98,14 @@ impl<S: ListSpace> Driver<S> {
             }
             MaySwitch => Is(self.schedule.may_switch()),
             MayInterrupt => Is(self.schedule.may_interrupt()),
-            Add(t) | IsLive(t) | Remove(t) | SetPri(t, _) | Signal(t, _) | FreeSignal(t, _) => {
-                self.call_on(t, call)
-            }
+            Add(t)
+            | IsLive(t)
+            | Remove(t)
+            | SetPri(t, _)
+            | Signal(t, _)
+            | FreeSignal(t, _)
+            | IsAtSemaphore(t)
+            | WakeSem(t) => self.call_on(t, call),
             _ => self.call_by_running(call),
         }
     }
@@ -123,6 +131,11 @@ impl<S: ListSpace> Driver<S> {
                 self.schedule.free_signal(t, n);
                 Done
             }
+            IsAtSemaphore(_) => Is(self.schedule.is_at_semaphore(t)),
+            WakeSem(_) if self.schedule.is_at_semaphore(t) => {
+                self.schedule.wake_sem(t);
+                Done
+            }
             _ => Refused,
         }
     }
@@ -141,6 +154,10 @@ impl<S: ListSpace> Driver<S> {
             Wait(mask) => Came(self.schedule.wait(mask)),
             WaitClear(mask) => {
                 self.schedule.wait_clear(mask);
+                Done
+            }
+            WaitSem => {
+                self.schedule.wait_sem();
                 Done
             }
             AllocSignal(n) => Allocated(self.schedule.alloc_signal(n)),
@@ -454,6 +471,94 @@ static WAITS: [Case; 6] = [
     },
 ];
 
+/// Who waits for a semaphore, and until when.
+static SEMAPHORES: [Case; 5] = [
+    Case {
+        name: "a task that waits for a semaphore gives way",
+        quantum: 4,
+        added: 2,
+        steps: &[
+            (WaitSem, Refused),
+            (Reschedule, TO_A),
+            (IsAtSemaphore(A), Is(false)),
+            (WaitSem, Done),
+            (Running, Task(None)),
+            (IsAtSemaphore(A), Is(true)),
+            (IsLive(A), Is(true)),
+            (Reschedule, TO_B),
+            (Wait(0x1000), Came(None)),
+            (IsAtSemaphore(B), Is(false)),
+            (WakeSem(B), Refused),
+            (Reschedule, IDLE),
+            (WakeSem(A), Done),
+            (IsAtSemaphore(A), Is(false)),
+            (WakeSem(A), Refused),
+            (Reschedule, TO_A),
+        ],
+    },
+    Case {
+        name: "a task that is woken at a semaphore stands behind its equals",
+        quantum: 4,
+        added: 2,
+        steps: &[
+            (Reschedule, TO_A),
+            (WaitSem, Done),
+            (WakeSem(A), Done),
+            (Running, Task(None)),
+            (Reschedule, TO_B),
+            (Reschedule, NO_SWITCH),
+            (Leave, Done),
+            (Reschedule, TO_A),
+        ],
+    },
+    Case {
+        name: "a signal is received at a semaphore and does not wake",
+        quantum: 4,
+        added: 1,
+        steps: &[
+            (Reschedule, TO_A),
+            (Signal(A, 0x1000), Done),
+            (WaitSem, Done),
+            (Signal(A, 0x2000), Done),
+            (IsAtSemaphore(A), Is(true)),
+            (Reschedule, IDLE),
+            (WakeSem(A), Done),
+            (Reschedule, TO_A),
+            (Wait(0xf000), Came(Some(0x3000))),
+        ],
+    },
+    Case {
+        name: "a task that waits for a semaphore breaks its nesting until it runs again",
+        quantum: 4,
+        added: 2,
+        steps: &[
+            (Reschedule, TO_A),
+            (Forbid, Is(true)),
+            (WaitSem, Done),
+            (MaySwitch, Is(true)),
+            (Reschedule, TO_B),
+            (WakeSem(A), Done),
+            (MaySwitch, Is(true)),
+            (Leave, Done),
+            (Reschedule, TO_A),
+            (MaySwitch, Is(false)),
+        ],
+    },
+    Case {
+        name: "a task that ends at a semaphore is not woken",
+        quantum: 4,
+        added: 1,
+        steps: &[
+            (Reschedule, TO_A),
+            (WaitSem, Done),
+            (Remove(A), Done),
+            (IsAtSemaphore(A), Is(false)),
+            (WakeSem(A), Refused),
+            (Reschedule, IDLE),
+        ],
+    },
+];
+
 /// Takes the steps of each case.
 fn take_all<S: ListSpace>(rt: &impl Abort, alloc: Global, cases: &[Case]) -> Result<(), Fail> {
     for case in cases {
@@ -470,4 +575,9 @@ fn tasks_take_turns(rt: HostRuntime) -> Result<(), Fail> {
 #[test]
 fn tasks_wait_and_have_signals_and_nestings_of_their_own(rt: HostRuntime) -> Result<(), Fail> {
     take_all::<PlainSpace>(&rt, rt.alloc(), &WAITS)
+}
+
+#[test]
+fn tasks_wait_for_semaphores(rt: HostRuntime) -> Result<(), Fail> {
+    take_all::<PlainSpace>(&rt, rt.alloc(), &SEMAPHORES)
 }

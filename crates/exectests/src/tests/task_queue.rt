@@ -197,7 +197,7 @@ fn new_tasks_are_absent(rt: HostRuntime) -> Result<(), Fail> {
 
 #[test]
 fn equals_run_in_order_of_arrival(rt: HostRuntime) -> Result<(), Fail> {
-    static STEPS: [Step; 9] = [
+    static STEPS: [Step; 11] = [
         RunsNext(Some(2)),
         Blocks(2, Why::Signals(0x1000), true),
         HasState(2, Some(TaskState::Waiting(Why::Signals(0x1000)))),
@@ -205,6 +205,8 @@ fn equals_run_in_order_of_arrival(rt: HostRuntime) -> Result<(), Fail> {
         HasState(0, Some(TaskState::Running)),
         MakesReady(0, true),
         RunsNext(Some(1)),
+        Blocks(1, Why::Sem, true),
+        HasState(1, Some(TaskState::Waiting(Why::Sem))),
         MakesReady(2, true),
         Picks(Some(2)),
     ];
