@@ -87,7 +87,8 @@ is_no_object s zero m a there = refl
 is_no_object s (suc zero) m a there = refl
 is_no_object s (suc (suc zero)) m a there = refl
 is_no_object s (suc (suc (suc zero))) m a there = refl
-is_no_object s (suc (suc (suc (suc k)))) m a there = let bad : false ≡ true = ap is_some there in cc
+is_no_object s (suc (suc (suc (suc zero)))) m a there = refl
+is_no_object s (suc (suc (suc (suc (suc k))))) m a there = let bad : false ≡ true = ap is_some there in cc
 
 plain_tag : (s : Numbered) (tag a : ℕ) → place_or tag a s ≡ Some a → is_plain (shown_object (contents s) tag) ≡ nat_eq tag 0
 plain_tag s zero a there = refl

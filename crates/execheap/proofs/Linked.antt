@@ -102,8 +102,9 @@ module _ {s : Numbered} (sound : IsSound s) (space : IsSpace s) where
   stands_of n a here (suc zero) m = refl
   stands_of n a here (suc (suc zero)) m = refl
   stands_of n a here (suc (suc (suc zero))) m = refl
-  stands_of n a here (suc (suc (suc (suc k)))) m =
-      sym (ap (λ b. b && is_at (home s.homes n) m) (nat_eq-other (suc (suc (suc (suc k)))) 0 (omega arith)))
+  stands_of n a here (suc (suc (suc (suc zero)))) m = refl
+  stands_of n a here (suc (suc (suc (suc (suc k))))) m =
+      sym (ap (λ b. b && is_at (home s.homes n) m) (nat_eq-other (suc (suc (suc (suc (suc k))))) 0 (omega arith)))
 
   stands_nowhere : (n a : ℕ) → slot s.nodes.slots n ≡ Some a → home s.homes n ≡ None → (tag : ℕ) → stands_in a (nodes_in (shown_object (contents s) tag)) ≡ false
   stands_nowhere n a here none zero = refl

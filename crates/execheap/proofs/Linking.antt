@@ -193,7 +193,8 @@ module _ {s : Numbered} (sound : IsSound s) (space : IsSpace s) where
     object_without n node h live there (suc zero) m = refl
     object_without n node h live there (suc (suc zero)) m = refl
     object_without n node h live there (suc (suc (suc zero))) m = refl
-    object_without n node h live there (suc (suc (suc (suc k)))) m = refl
+    object_without n node h live there (suc (suc (suc (suc zero)))) m = refl
+    object_without n node h live there (suc (suc (suc (suc (suc k))))) m = refl
 
     shown_without : (n node h : ℕ) → slot s.nodes.slots n ≡ Some node → home s.homes n ≡ Some h → (tag : ℕ)
         → shown_object (contents (emptied n h)) tag ≡ left_by node (shown_object (contents s) tag)

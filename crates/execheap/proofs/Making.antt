@@ -197,7 +197,8 @@ module _ {s : Numbered} (sound : IsSound s) (space : IsSpace s) where
   object_beside n p key free (suc zero) m a live = ap Node (get_or-set_other s.keys n m key blank (λ same. let bad : true ≡ false = ap is_some (sym live ∙ ap (slot s.nodes.slots) same ∙ free) in cc))
   object_beside n p key free (suc (suc zero)) m a live = refl
   object_beside n p key free (suc (suc (suc zero))) m a live = refl
-  object_beside n p key free (suc (suc (suc (suc k)))) m a live = refl
+  object_beside n p key free (suc (suc (suc (suc zero)))) m a live = refl
+  object_beside n p key free (suc (suc (suc (suc (suc k))))) m a live = refl
 
   shown_beside : (n : ℕ) (p : Option ℕ) (key : Key) → slot s.nodes.slots n ≡ None → (tag a : ℕ) → place_or tag a s ≡ Some a
       → shown_object (record (contents s) { places = slice_set s.nodes.slots n p; keys = slice_set s.keys n key }) tag ≡ shown_object (contents s) tag
@@ -236,7 +237,8 @@ module _ {s : Numbered} (sound : IsSound s) (space : IsSpace s) where
   object_kept n none (suc zero) m = refl
   object_kept n none (suc (suc zero)) m = refl
   object_kept n none (suc (suc (suc zero))) m = refl
-  object_kept n none (suc (suc (suc (suc k)))) m = refl
+  object_kept n none (suc (suc (suc (suc zero)))) m = refl
+  object_kept n none (suc (suc (suc (suc (suc k))))) m = refl
 
   shown_kept : (n : ℕ) → home s.homes n ≡ None → (tag : ℕ)
       → shown_object (record (contents s) { places = slice_set s.nodes.slots n None }) tag ≡ shown_object (contents s) tag

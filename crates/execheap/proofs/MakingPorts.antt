@@ -38,7 +38,7 @@ unfolding shown_heap
 messages_counted s = counted_of s is_message 3 (is_message_shown s) s.memory.blocks
 
 -- as many numbers are taken where the same ones are
-same_taken : {A B : Type 0} (xs : List (Option A)) (ys : List (Option B)) → length xs ≡ length ys → ((n : ℕ) → is_some (slot xs n) ≡ is_some (slot ys n))
+pub same_taken : {A B : Type 0} (xs : List (Option A)) (ys : List (Option B)) → length xs ≡ length ys → ((n : ℕ) → is_some (slot xs n) ≡ is_some (slot ys n))
     → taken xs ≡ taken ys
 same_taken [] [] e same = refl
 same_taken [] (y ∷ ys) e same = absurd (omega (arith, e))
@@ -48,17 +48,17 @@ same_taken (None ∷ xs) (Some b ∷ ys) e same = let bad : false ≡ true = sam
 same_taken (Some a ∷ xs) (None ∷ ys) e same = let bad : true ≡ false = same 0 in cc
 same_taken (Some a ∷ xs) (Some b ∷ ys) e same = ap suc (same_taken xs ys (omega (arith, e)) (λ n. same (suc n)))
 
-is_none : {A : Type 0} (o : Option A) → is_some o ≡ false → o ≡ None
+pub is_none : {A : Type 0} (o : Option A) → is_some o ≡ false → o ≡ None
 is_none None e = refl
 is_none (Some a) e = let bad : true ≡ false = e in cc
 
 -- the number that is next is there, and holds no item
-next_vacant : {A : Type 0} (r : Pooled A) (n : ℕ) → IsStocked r → next_number r ≡ Some n → (slot r.slots n ≡ None) × (n < length r.slots)
+pub next_vacant : {A : Type 0} (r : Pooled A) (n : ℕ) → IsStocked r → next_number r ≡ Some n → (slot r.slots n ≡ None) × (n < length r.slots)
 next_vacant r n stocked next =
     (subst (λ o. IfSome o (λ n. slot r.slots n ≡ None)) next stocked.free, subst (λ o. IfSome o (λ n. n < length r.slots)) next stocked.known)
 
 -- what holds of each other tag holds of that of each block but the one that has the tag
-all_other : (P : ℕ → Type 0) (a tag : ℕ) → ((other : ℕ) → nat_eq other tag ≡ false → P other) → (es : Blocks)
+pub all_other : (P : ℕ → Type 0) (a tag : ℕ) → ((other : ℕ) → nat_eq other tag ≡ false → P other) → (es : Blocks)
     → AllByRecursion (λ (entry : ℕ × (ℕ × ℕ)). nat_eq entry.0 a ≡ nat_eq entry.1.1 tag) es
     → AllByRecursion (λ (entry : ℕ × (ℕ × ℕ)). nat_eq entry.0 a ≡ false → P entry.1.1) es
 all_other P a tag holds [] told = tt
@@ -152,7 +152,8 @@ module _ {s : Numbered} (sound : IsSound s) (held : ports.IsSound s.ports) where
         ∙ ap (λ o. MsgPort (unwrap_or o (new_port 0 0)) (map (address_in s.message_places) (messages_of m s.ports)))
         (slot_other s.ports.ports.slots p m (Some (new_port task bit)) (another_port m b lives))
     beside_port (suc (suc (suc zero))) m b lives = refl
-    beside_port (suc (suc (suc (suc k)))) m b lives = refl
+    beside_port (suc (suc (suc (suc zero)))) m b lives = refl
+    beside_port (suc (suc (suc (suc (suc k))))) m b lives = refl
 
     shown_beside_port : (tag b : ℕ) → place_or tag b s ≡ Some b → shown_object (contents with_new_port) tag ≡ shown_object (contents s) tag
     shown_beside_port zero b lives = refl
@@ -200,7 +201,8 @@ module _ {s : Numbered} (sound : IsSound s) (held : ports.IsSound s.ports) where
     beside_message (suc (suc (suc zero))) m b lives =
         ap (λ slots. Message (unwrap_or (slot slots m) (new_message 0 0))) message_given
         ∙ ap (λ o. Message (unwrap_or o (new_message 0 0))) (slot_other s.ports.messages.slots n m (Some (new_message reply word)) (another_message m b lives))
-    beside_message (suc (suc (suc (suc k)))) m b lives = refl
+    beside_message (suc (suc (suc (suc zero)))) m b lives = refl
+    beside_message (suc (suc (suc (suc (suc k))))) m b lives = refl
 
     shown_beside_message : (tag b : ℕ) → place_or tag b s ≡ Some b → shown_object (contents with_new_message) tag ≡ shown_object (contents s) tag
     shown_beside_message zero b lives = refl
@@ -237,7 +239,8 @@ module _ {s : Numbered} (sound : IsSound s) (held : ports.IsSound s.ports) where
           ap (λ o. MsgPort (unwrap_or o (new_port 0 0)) (map (address_in s.message_places) (messages_of m s.ports)))
           (slot_other s.ports.ports.slots p m None (not_eq m p other))
       beside_freed_port (suc (suc (suc zero))) m other = refl
-      beside_freed_port (suc (suc (suc (suc k)))) m other = refl
+      beside_freed_port (suc (suc (suc (suc zero)))) m other = refl
+      beside_freed_port (suc (suc (suc (suc (suc k))))) m other = refl
 
       shown_without_port : (tag : ℕ) → nat_eq tag (tag_of 2 p) ≡ false → shown_object (contents without_port) tag ≡ shown_object (contents s) tag
       shown_without_port zero other = refl
@@ -262,7 +265,8 @@ module _ {s : Numbered} (sound : IsSound s) (held : ports.IsSound s.ports) where
       beside_freed_message (suc (suc zero)) m other = ap (MsgPort (port_at m s.ports)) (messages_beside m n None (in_no_port m))
       beside_freed_message (suc (suc (suc zero))) m other =
           ap (λ o. Message (unwrap_or o (new_message 0 0))) (slot_other s.ports.messages.slots n m None (not_eq m n other))
-      beside_freed_message (suc (suc (suc (suc k)))) m other = refl
+      beside_freed_message (suc (suc (suc (suc zero)))) m other = refl
+      beside_freed_message (suc (suc (suc (suc (suc k))))) m other = refl
 
       shown_without_message : (tag : ℕ) → nat_eq tag (tag_of 3 n) ≡ false → shown_object (contents without_message) tag ≡ shown_object (contents s) tag
       shown_without_message zero other = refl

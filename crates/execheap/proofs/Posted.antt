@@ -44,7 +44,8 @@ module _ (s : Numbered) (q : MessagePorts) where
     object_same (suc (suc zero)) m =
         λ i. MsgPort (unwrap_or (slot (ports i).slots m) (new_port 0 0)) (map (address_in s.message_places) (sequence (queues i) m))
     object_same (suc (suc (suc zero))) m = λ i. Message (unwrap_or (slot (messages i).slots m) (new_message 0 0))
-    object_same (suc (suc (suc (suc k)))) m = refl
+    object_same (suc (suc (suc (suc zero)))) m = refl
+    object_same (suc (suc (suc (suc (suc k))))) m = refl
 
     shown_same : (tag : ℕ) → shown_object (contents beside) tag ≡ shown_object (contents s) tag
     shown_same zero = refl
@@ -77,8 +78,9 @@ module _ (s : Numbered) (q : MessagePorts) where
         (λ i. MsgPort (ports m i) (map (address_in s.message_places) (queues m i)))
         ∙ either_port (nat_eq m p) port (port_at m s.ports) queue (messages_of m s.ports)
     port_set (suc (suc (suc zero))) m = λ i. Message (unwrap_or (slot (messages i).slots m) (new_message 0 0))
-    port_set (suc (suc (suc (suc k)))) m =
-        sym (ap (λ b. if b && nat_eq m p then replaced_port else Plain) (nat_eq-other (suc (suc (suc (suc k)))) 2 (omega arith)))
+    port_set (suc (suc (suc (suc zero)))) m = refl
+    port_set (suc (suc (suc (suc (suc k))))) m =
+        sym (ap (λ b. if b && nat_eq m p then replaced_port else Plain) (nat_eq-other (suc (suc (suc (suc (suc k))))) 2 (omega arith)))
 
     pub with_port_shown : Tells s address (tag_of 2 p)
         → shown_heap beside ≡ model.with_port address port (map (address_in s.message_places) queue) (shown_heap s)
@@ -99,8 +101,9 @@ module _ (s : Numbered) (q : MessagePorts) where
     content_set (suc (suc zero)) n =
         λ i. MsgPort (unwrap_or (slot (ports i).slots n) (new_port 0 0)) (map (address_in s.message_places) (sequence (queues i) n))
     content_set (suc (suc (suc zero))) n = ap Message (messages n) ∙ either_content (nat_eq n m) content (message_at n s.ports)
-    content_set (suc (suc (suc (suc k)))) n =
-        sym (ap (λ b. if b && nat_eq n m then Message content else Plain) (nat_eq-other (suc (suc (suc (suc k)))) 3 (omega arith)))
+    content_set (suc (suc (suc (suc zero)))) n = refl
+    content_set (suc (suc (suc (suc (suc k))))) n =
+        sym (ap (λ b. if b && nat_eq n m then Message content else Plain) (nat_eq-other (suc (suc (suc (suc (suc k))))) 3 (omega arith)))
 
     pub with_content_shown : Tells s address (tag_of 3 m) → shown_heap beside ≡ model.with_content address content (shown_heap s)
     unfolding model.with_content
@@ -112,15 +115,20 @@ either_item : {A : Type 0} (b : Bool) (item : A) (o : Option A) (other : A) → 
 either_item true item o other = refl
 either_item false item o other = refl
 
-written_at : {A : Type 0} (slots : List (Option A)) (n : ℕ) (item other : A) → n < length slots → (k : ℕ)
+pub written_at : {A : Type 0} (slots : List (Option A)) (n : ℕ) (item other : A) → n < length slots → (k : ℕ)
     → unwrap_or (slot (slice_set slots n (Some item)) k) other ≡ (if nat_eq k n then item else unwrap_or (slot slots k) other)
 written_at slots n item other known k = ap (λ o. unwrap_or o other) (item_set slots n (Some item) None k known) ∙ either_item (nat_eq k n) item (slot slots k) other
 
-same_at : {A : Type 0} (f : ℕ → A) (p k : ℕ) → f k ≡ (if nat_eq k p then f p else f k)
+pub same_at : {A : Type 0} (f : ℕ → A) (p k : ℕ) → f k ≡ (if nat_eq k p then f p else f k)
 same_at f p k = either_number k p (λ b. f k ≡ (if b then f p else f k)) (λ same. ap f same) (λ other. refl)
 
 pub item_known : {A : Type 0} (slots : List (Option A)) (n : ℕ) → IsTrue (is_some (slot slots n)) → n < length slots
 item_known slots n live = let item = some_is (slot slots n) live in slot_known slots n item.0 item.1
+
+-- where none is first there is none
+pub none_left : (xs : List ℕ) → first xs ≡ None → xs ≡ drop 1 xs
+none_left [] none = refl
+none_left (x ∷ xs) none = let bad : true ≡ false = ap is_some none in cc
 
 -- ---- the changes, where a number begins at an address
 
@@ -158,10 +166,6 @@ module _ (s : Numbered) (p port : ℕ) (found : number_at 2 port s ≡ Some p) (
       where
         fewer : map (address_in s.message_places) (drop 1 (messages_of p s.ports)) ≡ drop 1 (model.messages_of port (shown_heap s))
         fewer = sym (ap (drop 1) (messages_shown s port p found) ∙ drop-map (address_in s.message_places) 1 (messages_of p s.ports))
-
-        none_left : (xs : List ℕ) → first xs ≡ None → xs ≡ drop 1 xs
-        none_left [] none = refl
-        none_left (x ∷ xs) none = let bad : true ≡ false = ap is_some none in cc
 
         off : (o : Option ℕ) → first (messages_of p s.ports) ≡ o
             → shown_heap (on_ports (ports.taken_off p o) s) ≡ model.with_port port (port_at p s.ports) (map (address_in s.message_places) (drop 1 (messages_of p s.ports))) (shown_heap s)

@@ -81,8 +81,9 @@ module _ {s : Numbered} (sound : IsSound s) (held : ports.IsSound s.ports) where
     has_object (suc zero) j = refl
     has_object (suc (suc zero)) j = has_shown j
     has_object (suc (suc (suc zero))) j = refl
-    has_object (suc (suc (suc (suc k)))) j =
-        sym (ap (λ b. b && is_at (home s.ports.places m) j) (nat_eq-other (suc (suc (suc (suc k)))) 2 (omega arith)))
+    has_object (suc (suc (suc (suc zero)))) j = refl
+    has_object (suc (suc (suc (suc (suc k))))) j =
+        sym (ap (λ b. b && is_at (home s.ports.places m) j) (nat_eq-other (suc (suc (suc (suc (suc k))))) 2 (omega arith)))
 
     has_nowhere : home s.ports.places m ≡ None → (tag : ℕ) → Has a s tag ≡ false
     has_nowhere none zero = refl

@@ -9,7 +9,7 @@ use Rattle.execlist.specs.Lists.{sequence}
 use Rattle.memlist.proofs.Answered.{nat_eq-other}
 use Rattle.execmodel.specs.State.{Object, Plain, ListHead, Block}
 use Rattle.execmodel.specs.Lists.{with_nodes}
-use Rattle.execmodel.specs.Ports.{replaced}
+use Rattle.execmodel.specs.Objects.{replaced}
 use Rattle.execheap.specs.Tags.{tag_of}
 use Rattle.execheap.specs.Numbered.{Numbered, contents, address_in, object_of, shown_object, shown_entry, shown_heap}
 use Rattle.execheap.proofs.Entries.{all_then, map_same}
@@ -90,8 +90,9 @@ module _ (s : Numbered) (homes : List (Option ℕ)) (h list : ℕ) (nodes : List
   object_set (suc zero) m = refl
   object_set (suc (suc zero)) m = refl
   object_set (suc (suc (suc zero))) m = refl
-  object_set (suc (suc (suc (suc k)))) m =
-      sym (ap (λ b. if b && nat_eq m h then relinked_list else Plain) (nat_eq-other (suc (suc (suc (suc k)))) 0 (omega arith)))
+  object_set (suc (suc (suc (suc zero)))) m = refl
+  object_set (suc (suc (suc (suc (suc k))))) m =
+      sym (ap (λ b. if b && nat_eq m h then relinked_list else Plain) (nat_eq-other (suc (suc (suc (suc (suc k))))) 0 (omega arith)))
 
   pub with_nodes_shown : Tells s list (tag_of 0 h) → shown_heap relinked ≡ with_nodes list (map (address_in s.nodes.slots) nodes) (shown_heap s)
   unfolding with_nodes

@@ -13,8 +13,11 @@ use Rattle.execmodel.specs.Memory as model
 use Rattle.execmodel.specs.Objects.{object_at, is_kind}
 use Rattle.execmodel.specs.Lists.{is_list, is_node, is_list_at, is_node_at, nodes_of, nodes_of_object, key_of, key_of_object}
 use Rattle.execmodel.specs.Ports.{content_of, content_of_object, is_message, is_message_at, is_port, is_port_at, messages_of, messages_of_object, port_of, port_of_object}
+use Rattle.execmodel.specs.Semaphores.{is_semaphore, is_semaphore_at, sem_of, sem_of_object, waiters_of, waiters_of_object}
 use Rattle.msgport.specs.Ports as queue
 use Rattle.msgport.specs.Ports.{message_at, port_at}
+use Rattle.sigsem.specs.Semaphores as waiting
+use Rattle.sigsem.specs.Semaphores.{sem_at}
 use Rattle.execlist.specs.Pool.{slot}
 use Rattle.execheap.specs.Tags.{tag_of, number_of, is_of}
 use Rattle.execheap.specs.Numbered.{Numbered, contents, IsSound, IsTagged, place_or, slots_of, number_at, tag_at, address_in, key_at, object_of, shown_object, shown_block, shown_heap}
@@ -50,28 +53,40 @@ is_list_of s zero n = refl
 is_list_of s (suc zero) n = refl
 is_list_of s (suc (suc zero)) n = refl
 is_list_of s (suc (suc (suc zero))) n = refl
-is_list_of s (suc (suc (suc (suc k)))) n = sym (nat_eq-other (suc (suc (suc (suc k)))) 0 (omega arith))
+is_list_of s (suc (suc (suc (suc zero)))) n = refl
+is_list_of s (suc (suc (suc (suc (suc k))))) n = sym (nat_eq-other (suc (suc (suc (suc (suc k))))) 0 (omega arith))
 
 is_node_of : (s : Numbered) (k n : ℕ) → is_node (object_of k n (contents s)) ≡ nat_eq k 1
 is_node_of s zero n = refl
 is_node_of s (suc zero) n = refl
 is_node_of s (suc (suc zero)) n = refl
 is_node_of s (suc (suc (suc zero))) n = refl
-is_node_of s (suc (suc (suc (suc k)))) n = sym (nat_eq-other (suc (suc (suc (suc k)))) 1 (omega arith))
+is_node_of s (suc (suc (suc (suc zero)))) n = refl
+is_node_of s (suc (suc (suc (suc (suc k))))) n = sym (nat_eq-other (suc (suc (suc (suc (suc k))))) 1 (omega arith))
 
 is_port_of : (s : Numbered) (k n : ℕ) → is_port (object_of k n (contents s)) ≡ nat_eq k 2
 is_port_of s zero n = refl
 is_port_of s (suc zero) n = refl
 is_port_of s (suc (suc zero)) n = refl
 is_port_of s (suc (suc (suc zero))) n = refl
-is_port_of s (suc (suc (suc (suc k)))) n = sym (nat_eq-other (suc (suc (suc (suc k)))) 2 (omega arith))
+is_port_of s (suc (suc (suc (suc zero)))) n = refl
+is_port_of s (suc (suc (suc (suc (suc k))))) n = sym (nat_eq-other (suc (suc (suc (suc (suc k))))) 2 (omega arith))
 
 is_message_of : (s : Numbered) (k n : ℕ) → is_message (object_of k n (contents s)) ≡ nat_eq k 3
 is_message_of s zero n = refl
 is_message_of s (suc zero) n = refl
 is_message_of s (suc (suc zero)) n = refl
 is_message_of s (suc (suc (suc zero))) n = refl
-is_message_of s (suc (suc (suc (suc k)))) n = sym (nat_eq-other (suc (suc (suc (suc k)))) 3 (omega arith))
+is_message_of s (suc (suc (suc (suc zero)))) n = refl
+is_message_of s (suc (suc (suc (suc (suc k))))) n = sym (nat_eq-other (suc (suc (suc (suc (suc k))))) 3 (omega arith))
+
+is_semaphore_of : (s : Numbered) (k n : ℕ) → is_semaphore (object_of k n (contents s)) ≡ nat_eq k 4
+is_semaphore_of s zero n = refl
+is_semaphore_of s (suc zero) n = refl
+is_semaphore_of s (suc (suc zero)) n = refl
+is_semaphore_of s (suc (suc (suc zero))) n = refl
+is_semaphore_of s (suc (suc (suc (suc zero)))) n = refl
+is_semaphore_of s (suc (suc (suc (suc (suc k))))) n = sym (nat_eq-other (suc (suc (suc (suc (suc k))))) 4 (omega arith))
 
 pub is_list_shown : (s : Numbered) (tag : ℕ) → is_list (shown_object (contents s) tag) ≡ is_of 0 tag
 is_list_shown s zero = refl
@@ -88,6 +103,10 @@ is_port_shown s (suc n) = is_port_of s (n % 8) (n / 8)
 pub is_message_shown : (s : Numbered) (tag : ℕ) → is_message (shown_object (contents s) tag) ≡ is_of 3 tag
 is_message_shown s zero = refl
 is_message_shown s (suc n) = is_message_of s (n % 8) (n / 8)
+
+pub is_semaphore_shown : (s : Numbered) (tag : ℕ) → is_semaphore (shown_object (contents s) tag) ≡ is_of 4 tag
+is_semaphore_shown s zero = refl
+is_semaphore_shown s (suc n) = is_semaphore_of s (n % 8) (n / 8)
 
 numbered_is : (kind tag : ℕ) → is_of kind tag ≡ is_some (number_of kind tag)
 numbered_is kind zero = refl
@@ -115,6 +134,11 @@ unfolding is_message_at
 message_at_shown s a =
     ap (is_kind is_message) (object_at_shown s a) ∙ kind_found s is_message 3 (is_message_shown s) (block_at a s.memory.blocks)
 
+pub semaphore_at_shown : (s : Numbered) (a : ℕ) → is_semaphore_at a (shown_heap s) ≡ is_some (number_at 4 a s)
+unfolding is_semaphore_at
+semaphore_at_shown s a =
+    ap (is_kind is_semaphore) (object_at_shown s a) ∙ kind_found s is_semaphore 4 (is_semaphore_shown s) (block_at a s.memory.blocks)
+
 -- ---- what it holds
 
 pub nodes_shown : (s : Numbered) (a h : ℕ) → number_at 0 a s ≡ Some h → nodes_of a (shown_heap s) ≡ map (address_in s.nodes.slots) (sequence s.sequences h)
@@ -137,6 +161,14 @@ messages_shown s a p is = ap messages_of_object (object_shown s 2 a p (lit≤ tt
 pub content_shown : (s : Numbered) (a m : ℕ) → number_at 3 a s ≡ Some m → content_of a (shown_heap s) ≡ message_at m s.ports
 unfolding content_of
 content_shown s a m is = ap content_of_object (object_shown s 3 a m (lit≤ tt) is)
+
+pub sem_shown : (s : Numbered) (a n : ℕ) → number_at 4 a s ≡ Some n → sem_of a (shown_heap s) ≡ sem_at n s.sems
+unfolding sem_of
+sem_shown s a n is = ap sem_of_object (object_shown s 4 a n (lit≤ tt) is)
+
+pub waiters_shown : (s : Numbered) (a n : ℕ) → number_at 4 a s ≡ Some n → waiters_of a (shown_heap s) ≡ waiting.waiters_of n s.sems
+unfolding waiters_of
+waiters_shown s a n is = ap waiters_of_object (object_shown s 4 a n (lit≤ tt) is)
 
 -- ---- numbers and addresses tell each other
 

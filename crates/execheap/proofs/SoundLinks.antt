@@ -41,7 +41,8 @@ module _ {s : Numbered} (sound : IsSound s) where
   slots_kept sequences homes keys (suc zero) = refl
   slots_kept sequences homes keys (suc (suc zero)) = refl
   slots_kept sequences homes keys (suc (suc (suc zero))) = refl
-  slots_kept sequences homes keys (suc (suc (suc (suc kind)))) = refl
+  slots_kept sequences homes keys (suc (suc (suc (suc zero)))) = refl
+  slots_kept sequences homes keys (suc (suc (suc (suc (suc kind))))) = refl
 
   place_kept : (sequences : List (List ℕ)) (homes : List (Option ℕ)) (keys : List Key) (tag a : ℕ) → place_or tag a (relinked s sequences homes keys) ≡ place_or tag a s
   place_kept sequences homes keys zero a = refl
@@ -62,20 +63,25 @@ module _ {s : Numbered} (sound : IsSound s) where
     each_node = nodes ∙ sound.each_node;
     placed_ports = sound.placed_ports;
     placed_messages = sound.placed_messages;
+    placed_semaphores = sound.placed_semaphores;
     own_signals = sound.own_signals;
     each_port = sound.each_port;
     each_message = sound.each_message;
+    each_semaphore = sound.each_semaphore;
+    each_task = sound.each_task;
     port_pool = sound.port_pool;
     message_pool = sound.message_pool;
+    semaphore_pool = sound.semaphore_pool;
     one_pool = sound.one_pool;
     small_pool = sound.small_pool;
   }
 
-  -- the blocks, the numbers and the ports of what is sound then are those that there were
+  -- the blocks, the numbers, the ports and the semaphores of what is sound then are those that there were
   kept_sound : {new : Numbered} → new.memory ≡ s.memory → new.lists ≡ s.lists → new.nodes ≡ s.nodes
       → new.ports ≡ s.ports → new.port_places ≡ s.port_places → new.message_places ≡ s.message_places
+      → new.sems ≡ s.sems → new.semaphore_places ≡ s.semaphore_places
       → IsSound (relinked s new.sequences new.homes new.keys) → IsSound new
-  kept_sound {new} memory lists nodes ports port_places message_places held = subst IsSound
+  kept_sound {new} memory lists nodes ports port_places message_places sems semaphore_places held = subst IsSound
       (λ i. record {
         memory = sym memory i;
         lists = sym lists i;
@@ -86,6 +92,8 @@ module _ {s : Numbered} (sound : IsSound s) where
         ports = sym ports i;
         port_places = sym port_places i;
         message_places = sym message_places i;
+        sems = sym sems i;
+        semaphore_places = sym semaphore_places i;
       }) held
 
   -- ---- nodes linked and unlinked
@@ -94,13 +102,14 @@ module _ {s : Numbered} (sound : IsSound s) where
   pub linked_sound : {now new : Numbered} (h n : ℕ) (nodes : List ℕ) → s ≡ now → new.sequences ≡ slice_set s.sequences h nodes → new.homes ≡ slice_set s.homes n (Some h)
       → new.memory ≡ s.memory → new.lists ≡ s.lists → new.nodes ≡ s.nodes
       → new.ports ≡ s.ports → new.port_places ≡ s.port_places → new.message_places ≡ s.message_places
+      → new.sems ≡ s.sems → new.semaphore_places ≡ s.semaphore_places
       → IsSome (slot now.lists.slots h) → IsSome (slot now.nodes.slots n) → IsSound new
-  linked_sound {now} {new} h n nodes same placed set memory lists places ports port_places message_places list node =
+  linked_sound {now} {new} h n nodes same placed set memory lists places ports port_places message_places sems semaphore_places list node =
       let lives : IsSome (slot s.nodes.slots n) = subst (λ (t : Numbered). IsSome (slot t.nodes.slots n)) (sym same) node in
       let has : IsSome (slot s.lists.slots h) = subst (λ (t : Numbered). IsSome (slot t.lists.slots h)) (sym same) list in
       let at = some_is (slot s.nodes.slots n) lives in
       let known : n < length s.homes = omega (arith, slot_known s.nodes.slots n at.0 at.1, sound.each_node) in
-      kept_sound memory lists places ports port_places message_places (relinked_sound new.sequences new.homes new.keys
+      kept_sound memory lists places ports port_places message_places sems semaphore_places (relinked_sound new.sequences new.homes new.keys
       (ap length placed ∙ length-set s.sequences h nodes) (ap length set ∙ length-set s.homes n (Some h))
       (λ m. subst (λ homes. IsHomed s m (home homes m)) (sym set)
       (home_either (IsHomed s) s.homes n (Some h) (get_or-set_same s.homes n (Some h) None known)
@@ -109,9 +118,10 @@ module _ {s : Numbered} (sound : IsSound s) where
   -- a node leaves its list
   pub left_sound : {new : Numbered} (n : ℕ) → length new.sequences ≡ length s.sequences → new.homes ≡ slice_set s.homes n None
       → new.memory ≡ s.memory → new.lists ≡ s.lists → new.nodes ≡ s.nodes
-      → new.ports ≡ s.ports → new.port_places ≡ s.port_places → new.message_places ≡ s.message_places → IsSound new
-  left_sound {new} n same set memory lists places ports port_places message_places =
-      kept_sound memory lists places ports port_places message_places (relinked_sound new.sequences new.homes new.keys
+      → new.ports ≡ s.ports → new.port_places ≡ s.port_places → new.message_places ≡ s.message_places
+      → new.sems ≡ s.sems → new.semaphore_places ≡ s.semaphore_places → IsSound new
+  left_sound {new} n same set memory lists places ports port_places message_places sems semaphore_places =
+      kept_sound memory lists places ports port_places message_places sems semaphore_places (relinked_sound new.sequences new.homes new.keys
       same (ap length set ∙ length-set s.homes n None)
       (λ m. subst (λ homes. IsHomed s m (home homes m)) (sym set)
       (home_either (IsHomed s) s.homes n None (home_cleared s.homes n) (λ h is. let bad : false ≡ true = ap is_some is in cc) homed m)))
@@ -120,9 +130,10 @@ module _ {s : Numbered} (sound : IsSound s) where
   pub taken_sound : {new : Numbered} (o : Option ℕ) (h : ℕ) (nodes : List ℕ) → new.sequences ≡ slice_set s.sequences h nodes
       → MatchOption o (new.homes ≡ s.homes) (λ n. new.homes ≡ slice_set s.homes n None)
       → new.memory ≡ s.memory → new.lists ≡ s.lists → new.nodes ≡ s.nodes
-      → new.ports ≡ s.ports → new.port_places ≡ s.port_places → new.message_places ≡ s.message_places → IsSound new
-  taken_sound {new} None h nodes placed kept memory lists places ports port_places message_places =
-      kept_sound memory lists places ports port_places message_places (relinked_sound new.sequences new.homes new.keys
+      → new.ports ≡ s.ports → new.port_places ≡ s.port_places → new.message_places ≡ s.message_places
+      → new.sems ≡ s.sems → new.semaphore_places ≡ s.semaphore_places → IsSound new
+  taken_sound {new} None h nodes placed kept memory lists places ports port_places message_places sems semaphore_places =
+      kept_sound memory lists places ports port_places message_places sems semaphore_places (relinked_sound new.sequences new.homes new.keys
       (ap length placed ∙ length-set s.sequences h nodes) (ap length kept) (λ m. subst (λ homes. IsHomed s m (home homes m)) (sym kept) (homed m)))
-  taken_sound (Some n) h nodes placed set memory lists places ports port_places message_places =
-      left_sound n (ap length placed ∙ length-set s.sequences h nodes) set memory lists places ports port_places message_places
+  taken_sound (Some n) h nodes placed set memory lists places ports port_places message_places sems semaphore_places =
+      left_sound n (ap length placed ∙ length-set s.sequences h nodes) set memory lists places ports port_places message_places sems semaphore_places

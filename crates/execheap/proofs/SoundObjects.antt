@@ -23,8 +23,9 @@ use Rattle.memlist.proofs.Slots.{AllFrom, freed_none}
 use Rattle.execlist.specs.Pool.{Pooled, IsStocked, next_number, slot, taken}
 use Rattle.msgport.specs.Port.{Port}
 use Rattle.msgport.specs.declared.message.Message.{Message}
+use Rattle.sigsem.specs.declared.semaphore.Sem.{Sem}
 use Rattle.execheap.specs.Tags.{is_of, tag_of}
-use Rattle.execheap.specs.Numbered.{Numbered, IsSound, IsTagged, counted, number_at, place_of_tag, place_or, slots_of, tag_at}
+use Rattle.execheap.specs.Numbered.{Numbered, IsSound, IsTagged, counted, most_tasks, number_at, place_of_tag, place_or, slots_of, tag_at}
 use Rattle.execheap.specs.Changes.{list_freed, list_numbered, node_freed, node_numbered, unused}
 use Rattle.execheap.proofs.Entries.{all_then, some_same}
 use Rattle.execlist.proofs.Pools.{slot_known, slot_new, slot_other, slot_same, taken_below, taken_given, taken_new, taken_released, given_slots}
@@ -289,16 +290,18 @@ nothing regions pool zero number = slot_new ℕ pool number
 nothing regions pool (suc zero) number = slot_new ℕ pool number
 nothing regions pool (suc (suc zero)) number = slot_new ℕ pool number
 nothing regions pool (suc (suc (suc zero))) number = slot_new ℕ pool number
-nothing regions pool (suc (suc (suc (suc kind)))) number = refl
+nothing regions pool (suc (suc (suc (suc zero)))) number = slot_new ℕ pool number
+nothing regions pool (suc (suc (suc (suc (suc kind))))) number = refl
 
 none_taken : (regions : List Region) (pool kind : ℕ) → 0 ≡ taken (slots_of kind (unused regions pool))
 none_taken regions pool zero = sym (taken_new ℕ pool)
 none_taken regions pool (suc zero) = sym (taken_new ℕ pool)
 none_taken regions pool (suc (suc zero)) = sym (taken_new ℕ pool)
 none_taken regions pool (suc (suc (suc zero))) = sym (taken_new ℕ pool)
-none_taken regions pool (suc (suc (suc (suc kind)))) = refl
+none_taken regions pool (suc (suc (suc (suc zero)))) = sym (taken_new ℕ pool)
+none_taken regions pool (suc (suc (suc (suc (suc kind))))) = refl
 
--- no port and no message lives, and none has an address
+-- no port, message or semaphore lives, and none has an address
 no_place : (A : Type 0) (pool n : ℕ)
     → is_some (slot (replicate {A = Option ℕ} pool None) n) ≡ is_some (slot (replicate {A = Option A} pool None) n)
 no_place A pool n = ap is_some (slot_new ℕ pool n) ∙ sym (ap is_some (slot_new A pool n))
@@ -317,11 +320,15 @@ sound_unused regions pool small = record {
   each_node = refl;
   placed_ports = λ p. no_place Port pool p;
   placed_messages = λ m. no_place Message pool m;
+  placed_semaphores = λ n. no_place Sem pool n;
   own_signals = λ p lives. (let bad : false ≡ true = ap is_some (sym (slot_new Port pool p)) ∙ lives in cc);
   each_port = no_length Port pool;
   each_message = no_length Message pool;
+  each_semaphore = no_length Sem pool;
+  each_task = length-replicate {A = Option ℕ} most_tasks None;
   port_pool = refl;
   message_pool = refl;
+  semaphore_pool = refl;
   one_pool = refl;
   small_pool = omega (arith, small, length-replicate {A = Option ℕ} pool None);
 }
@@ -333,7 +340,8 @@ slots_kept s memory zero = refl
 slots_kept s memory (suc zero) = refl
 slots_kept s memory (suc (suc zero)) = refl
 slots_kept s memory (suc (suc (suc zero))) = refl
-slots_kept s memory (suc (suc (suc (suc kind)))) = refl
+slots_kept s memory (suc (suc (suc (suc zero)))) = refl
+slots_kept s memory (suc (suc (suc (suc (suc kind))))) = refl
 
 plain_block : {A : Type 0} (size : ℕ) (found : Option (ℕ × ℕ)) → names size found ≡ true
     → ((block : ℕ × ℕ) → found ≡ Some block → block.1 ≡ 0 → A) → A
@@ -352,11 +360,15 @@ module _ {s : Numbered} (sound : IsSound s) where
     each_node = sound.each_node;
     placed_ports = sound.placed_ports;
     placed_messages = sound.placed_messages;
+    placed_semaphores = sound.placed_semaphores;
     own_signals = sound.own_signals;
     each_port = sound.each_port;
     each_message = sound.each_message;
+    each_semaphore = sound.each_semaphore;
+    each_task = sound.each_task;
     port_pool = sound.port_pool;
     message_pool = sound.message_pool;
+    semaphore_pool = sound.semaphore_pool;
     one_pool = sound.one_pool;
     small_pool = sound.small_pool;
   }
@@ -389,25 +401,27 @@ lives_on {kind} {number} {a} {s} {t} reset other m lives = cases_eq other kind
 
 list_reset : {s t : Numbered} (number : ℕ) (p : Option ℕ) → number < length s.lists.slots
     → t.lists.slots ≡ slice_set s.lists.slots number p → t.nodes.slots ≡ s.nodes.slots
-    → t.port_places ≡ s.port_places → t.message_places ≡ s.message_places → IsReset 0 number p s t
-list_reset {s} {t} number p known set nodes ports messages = record { few = omega arith; known = known; set = set; same = same } where
+    → t.port_places ≡ s.port_places → t.message_places ≡ s.message_places → t.semaphore_places ≡ s.semaphore_places → IsReset 0 number p s t
+list_reset {s} {t} number p known set nodes ports messages sems = record { few = omega arith; known = known; set = set; same = same } where
   same : (other : ℕ) → other ≢ 0 → slots_of other t ≡ slots_of other s
   same zero other = absurd (other refl)
   same (suc zero) other = nodes
   same (suc (suc zero)) other = ports
   same (suc (suc (suc zero))) other = messages
-  same (suc (suc (suc (suc kind)))) other = refl
+  same (suc (suc (suc (suc zero)))) other = sems
+  same (suc (suc (suc (suc (suc kind))))) other = refl
 
 node_reset : {s t : Numbered} (number : ℕ) (p : Option ℕ) → number < length s.nodes.slots
     → t.nodes.slots ≡ slice_set s.nodes.slots number p → t.lists.slots ≡ s.lists.slots
-    → t.port_places ≡ s.port_places → t.message_places ≡ s.message_places → IsReset 1 number p s t
-node_reset {s} {t} number p known set lists ports messages = record { few = omega arith; known = known; set = set; same = same } where
+    → t.port_places ≡ s.port_places → t.message_places ≡ s.message_places → t.semaphore_places ≡ s.semaphore_places → IsReset 1 number p s t
+node_reset {s} {t} number p known set lists ports messages sems = record { few = omega arith; known = known; set = set; same = same } where
   same : (other : ℕ) → other ≢ 1 → slots_of other t ≡ slots_of other s
   same zero other = lists
   same (suc zero) other = absurd (other refl)
   same (suc (suc zero)) other = ports
   same (suc (suc (suc zero))) other = messages
-  same (suc (suc (suc (suc kind)))) other = refl
+  same (suc (suc (suc (suc zero)))) other = sems
+  same (suc (suc (suc (suc (suc kind))))) other = refl
 
 -- the number that is next is known, and free
 pub record IsAhead {A : Type 0} (r : Pooled A) (number : ℕ) : Type 0 where
@@ -443,11 +457,15 @@ module _ {s : Numbered} (sound : IsSound s) (formed : IsWellFormed s.memory.regi
     each_node = sound.each_node;
     placed_ports = sound.placed_ports;
     placed_messages = sound.placed_messages;
+    placed_semaphores = sound.placed_semaphores;
     own_signals = sound.own_signals;
     each_port = sound.each_port;
     each_message = sound.each_message;
+    each_semaphore = sound.each_semaphore;
+    each_task = sound.each_task;
     port_pool = sound.port_pool ∙ sym (reset_length reset 0);
     message_pool = sound.message_pool ∙ sym (reset_length reset 0);
+    semaphore_pool = sound.semaphore_pool ∙ sym (reset_length reset 0);
     one_pool = sound.one_pool ∙ sym (reset_length reset 0);
     small_pool = omega (arith, reset_length reset 0, sound.small_pool);
   } where
@@ -455,7 +473,7 @@ module _ {s : Numbered} (sound : IsSound s) (formed : IsWellFormed s.memory.regi
     t = list_numbered size (Some number) (Some a) s
 
     reset : IsReset 0 number (Some a) s t
-    reset = list_reset number (Some a) ahead.known (given_slots a number s.lists ahead.next) refl refl refl
+    reset = list_reset number (Some a) ahead.known (given_slots a number s.lists ahead.next) refl refl refl refl
 
     matched : IsMatched t
     matched = matched_put sound a (round size, tag_of 0 number)
@@ -474,11 +492,15 @@ module _ {s : Numbered} (sound : IsSound s) (formed : IsWellFormed s.memory.regi
     each_node = sound.each_node ∙ sym (reset_length reset 1);
     placed_ports = sound.placed_ports;
     placed_messages = sound.placed_messages;
+    placed_semaphores = sound.placed_semaphores;
     own_signals = sound.own_signals;
     each_port = sound.each_port;
     each_message = sound.each_message;
+    each_semaphore = sound.each_semaphore;
+    each_task = sound.each_task;
     port_pool = sound.port_pool;
     message_pool = sound.message_pool;
+    semaphore_pool = sound.semaphore_pool;
     one_pool = reset_length reset 1 ∙ sound.one_pool;
     small_pool = sound.small_pool;
   } where
@@ -486,7 +508,7 @@ module _ {s : Numbered} (sound : IsSound s) (formed : IsWellFormed s.memory.regi
     t = node_numbered size key (Some number) (Some a) s
 
     reset : IsReset 1 number (Some a) s t
-    reset = node_reset number (Some a) ahead.known (given_slots a number s.nodes ahead.next) refl refl refl
+    reset = node_reset number (Some a) ahead.known (given_slots a number s.nodes ahead.next) refl refl refl refl
 
     matched : IsMatched t
     matched = matched_put sound a (round size, tag_of 1 number)
@@ -517,11 +539,15 @@ module _ {s : Numbered} (sound : IsSound s) (formed : IsWellFormed s.memory.regi
     each_node = sound.each_node;
     placed_ports = sound.placed_ports;
     placed_messages = sound.placed_messages;
+    placed_semaphores = sound.placed_semaphores;
     own_signals = sound.own_signals;
     each_port = sound.each_port;
     each_message = sound.each_message;
+    each_semaphore = sound.each_semaphore;
+    each_task = sound.each_task;
     port_pool = sound.port_pool ∙ sym (reset_length reset 0);
     message_pool = sound.message_pool ∙ sym (reset_length reset 0);
+    semaphore_pool = sound.semaphore_pool ∙ sym (reset_length reset 0);
     one_pool = sound.one_pool ∙ sym (reset_length reset 0);
     small_pool = omega (arith, reset_length reset 0, sound.small_pool);
   } where
@@ -529,7 +555,7 @@ module _ {s : Numbered} (sound : IsSound s) (formed : IsWellFormed s.memory.regi
     t = list_freed h a s
 
     reset : IsReset 0 h None s t
-    reset = list_reset h None (slot_known s.lists.slots h a live) refl refl refl refl
+    reset = list_reset h None (slot_known s.lists.slots h a live) refl refl refl refl refl
 
     matched : IsMatched t
     matched = matched_released 0 h a (omega arith) live refl reset
@@ -553,11 +579,15 @@ module _ {s : Numbered} (sound : IsSound s) (formed : IsWellFormed s.memory.regi
     each_node = sound.each_node ∙ sym (reset_length reset 1);
     placed_ports = sound.placed_ports;
     placed_messages = sound.placed_messages;
+    placed_semaphores = sound.placed_semaphores;
     own_signals = sound.own_signals;
     each_port = sound.each_port;
     each_message = sound.each_message;
+    each_semaphore = sound.each_semaphore;
+    each_task = sound.each_task;
     port_pool = sound.port_pool;
     message_pool = sound.message_pool;
+    semaphore_pool = sound.semaphore_pool;
     one_pool = reset_length reset 1 ∙ sound.one_pool;
     small_pool = sound.small_pool;
   } where
@@ -565,7 +595,7 @@ module _ {s : Numbered} (sound : IsSound s) (formed : IsWellFormed s.memory.regi
     t = node_freed n a s
 
     reset : IsReset 1 n None s t
-    reset = node_reset n None (slot_known s.nodes.slots n a live) refl refl refl refl
+    reset = node_reset n None (slot_known s.nodes.slots n a live) refl refl refl refl refl
 
     matched : IsMatched t
     matched = matched_released 1 n a (omega arith) live refl reset

@@ -22,7 +22,7 @@ use Rattle.execheap.proofs.SoundObjects.{IsAhead, IsMatched, IsReset, ahead_of, 
 -- ---- what is set at a number
 
 -- two sequences have items at the same numbers, also where both are set at one
-placed_set : {A B : Type 0} (xs : List (Option A)) (ys : List (Option B)) (n : ℕ) (o : Option A) (q : Option B)
+pub placed_set : {A B : Type 0} (xs : List (Option A)) (ys : List (Option B)) (n : ℕ) (o : Option A) (q : Option B)
     → n < length xs → n < length ys
     → is_some o ≡ is_some q → ((p : ℕ) → is_some (slot xs p) ≡ is_some (slot ys p))
     → (p : ℕ) → is_some (slot (slice_set xs n o) p) ≡ is_some (slot (slice_set ys n q) p)
@@ -32,7 +32,7 @@ placed_set xs ys n o q here there same all p = cases_eq p n
     (λ e. ap is_some (slot_other xs n p o e) ∙ all p ∙ sym (ap is_some (slot_other ys n p q e)))
 
 -- an item that becomes another
-still_there : {A : Type 0} (xs : List (Option A)) (n : ℕ) (a : A) → IsSome (slot xs n)
+pub still_there : {A : Type 0} (xs : List (Option A)) (n : ℕ) (a : A) → IsSome (slot xs n)
     → (p : ℕ) → is_some (slot (slice_set xs n (Some a)) p) ≡ is_some (slot xs p)
 still_there xs n a lives p =
     let item = item_of (slot xs n) lives in
@@ -51,30 +51,34 @@ own_set ports n o known here all p = cases_eq p n
     (λ e. subst (λ k. IsOwn (slot (slice_set ports n o) k)) (sym e) (subst IsOwn (sym (slot_same ports n o known)) here))
     (λ e. subst IsOwn (sym (slot_other ports n p o e)) (all p))
 
-no_item : {A : Type 0} (o : Option A) → is_some o ≡ false → o ≡ None
+pub no_item : {A : Type 0} (o : Option A) → is_some o ≡ false → o ≡ None
 no_item None e = refl
 no_item (Some a) e = let bad : true ≡ false = e in cc
 
 port_reset : {s t : Numbered} (number : ℕ) (o : Option ℕ) → number < length s.port_places → t.port_places ≡ slice_set s.port_places number o
-    → t.lists.slots ≡ s.lists.slots → t.nodes.slots ≡ s.nodes.slots → t.message_places ≡ s.message_places → IsReset 2 number o s t
-port_reset {s} {t} number o known set lists nodes messages = record { few = omega arith; known = known; set = set; same = same } where
+    → t.lists.slots ≡ s.lists.slots → t.nodes.slots ≡ s.nodes.slots → t.message_places ≡ s.message_places → t.semaphore_places ≡ s.semaphore_places
+    → IsReset 2 number o s t
+port_reset {s} {t} number o known set lists nodes messages sems = record { few = omega arith; known = known; set = set; same = same } where
   same : (other : ℕ) → other ≢ 2 → slots_of other t ≡ slots_of other s
   same zero other = lists
   same (suc zero) other = nodes
   same (suc (suc zero)) other = absurd (other refl)
   same (suc (suc (suc zero))) other = messages
-  same (suc (suc (suc (suc kind)))) other = refl
+  same (suc (suc (suc (suc zero)))) other = sems
+  same (suc (suc (suc (suc (suc kind))))) other = refl
 
 message_reset : {s t : Numbered} (number : ℕ) (o : Option ℕ) → number < length s.message_places
     → t.message_places ≡ slice_set s.message_places number o
-    → t.lists.slots ≡ s.lists.slots → t.nodes.slots ≡ s.nodes.slots → t.port_places ≡ s.port_places → IsReset 3 number o s t
-message_reset {s} {t} number o known set lists nodes ports = record { few = omega arith; known = known; set = set; same = same } where
+    → t.lists.slots ≡ s.lists.slots → t.nodes.slots ≡ s.nodes.slots → t.port_places ≡ s.port_places → t.semaphore_places ≡ s.semaphore_places
+    → IsReset 3 number o s t
+message_reset {s} {t} number o known set lists nodes ports sems = record { few = omega arith; known = known; set = set; same = same } where
   same : (other : ℕ) → other ≢ 3 → slots_of other t ≡ slots_of other s
   same zero other = lists
   same (suc zero) other = nodes
   same (suc (suc zero)) other = ports
   same (suc (suc (suc zero))) other = absurd (other refl)
-  same (suc (suc (suc (suc kind)))) other = refl
+  same (suc (suc (suc (suc zero)))) other = sems
+  same (suc (suc (suc (suc (suc kind))))) other = refl
 
 -- ---- the number that is next
 
@@ -102,12 +106,16 @@ module _ {s : Numbered} (sound : IsSound s) (formed : IsWellFormed s.memory.regi
     placed_ports = λ p. placed_set s.port_places s.ports.ports.slots number (Some a) (Some port) known ahead.known refl sound.placed_ports p
         ∙ sym (ap (λ ports. is_some (slot ports p)) made);
     placed_messages = sound.placed_messages;
+    placed_semaphores = sound.placed_semaphores;
     own_signals = λ p. subst (λ ports. IsOwn (slot ports p)) (sym made)
         (own_set s.ports.ports.slots number (Some port) ahead.known (λ lives. own) sound.own_signals p);
     each_port = reset_length reset 2 ∙ sound.each_port ∙ sym (ap length made ∙ length-set s.ports.ports.slots number (Some port));
     each_message = sound.each_message;
+    each_semaphore = sound.each_semaphore;
+    each_task = sound.each_task;
     port_pool = reset_length reset 2 ∙ sound.port_pool;
     message_pool = sound.message_pool;
+    semaphore_pool = sound.semaphore_pool;
     one_pool = sound.one_pool;
     small_pool = sound.small_pool;
   } where
@@ -124,7 +132,7 @@ module _ {s : Numbered} (sound : IsSound s) (formed : IsWellFormed s.memory.regi
     known = omega (arith, ahead.known, sound.each_port)
 
     reset : IsReset 2 number (Some a) s t
-    reset = port_reset number (Some a) known refl refl refl refl
+    reset = port_reset number (Some a) known refl refl refl refl refl
 
     matched : IsMatched t
     matched = matched_put sound a (round size, tag_of 2 number)
@@ -145,12 +153,16 @@ module _ {s : Numbered} (sound : IsSound s) (formed : IsWellFormed s.memory.regi
     placed_ports = sound.placed_ports;
     placed_messages = λ m. placed_set s.message_places s.ports.messages.slots number (Some a) (Some message) known ahead.known refl
         sound.placed_messages m ∙ sym (ap (λ messages. is_some (slot messages m)) made);
+    placed_semaphores = sound.placed_semaphores;
     own_signals = sound.own_signals;
     each_port = sound.each_port;
     each_message = reset_length reset 3 ∙ sound.each_message
         ∙ sym (ap length made ∙ length-set s.ports.messages.slots number (Some message));
+    each_semaphore = sound.each_semaphore;
+    each_task = sound.each_task;
     port_pool = sound.port_pool;
     message_pool = reset_length reset 3 ∙ sound.message_pool;
+    semaphore_pool = sound.semaphore_pool;
     one_pool = sound.one_pool;
     small_pool = sound.small_pool;
   } where
@@ -167,7 +179,7 @@ module _ {s : Numbered} (sound : IsSound s) (formed : IsWellFormed s.memory.regi
     known = omega (arith, ahead.known, sound.each_message)
 
     reset : IsReset 3 number (Some a) s t
-    reset = message_reset number (Some a) known refl refl refl refl
+    reset = message_reset number (Some a) known refl refl refl refl refl
 
     matched : IsMatched t
     matched = matched_put sound a (round size, tag_of 3 number)
@@ -185,11 +197,15 @@ module _ {s : Numbered} (sound : IsSound s) (formed : IsWellFormed s.memory.regi
     each_node = sound.each_node;
     placed_ports = λ q. placed_set s.port_places s.ports.ports.slots p None None known listed refl sound.placed_ports q;
     placed_messages = sound.placed_messages;
+    placed_semaphores = sound.placed_semaphores;
     own_signals = λ q. own_set s.ports.ports.slots p None listed (λ lives. (let bad : false ≡ true = lives in cc)) sound.own_signals q;
     each_port = reset_length reset 2 ∙ sound.each_port ∙ sym (length-set s.ports.ports.slots p None);
     each_message = sound.each_message;
+    each_semaphore = sound.each_semaphore;
+    each_task = sound.each_task;
     port_pool = reset_length reset 2 ∙ sound.port_pool;
     message_pool = sound.message_pool;
+    semaphore_pool = sound.semaphore_pool;
     one_pool = sound.one_pool;
     small_pool = sound.small_pool;
   } where
@@ -203,7 +219,7 @@ module _ {s : Numbered} (sound : IsSound s) (formed : IsWellFormed s.memory.regi
     listed = omega (arith, known, sound.each_port)
 
     reset : IsReset 2 p None s t
-    reset = port_reset p None known refl refl refl refl
+    reset = port_reset p None known refl refl refl refl refl
 
     matched : IsMatched t
     matched = matched_released sound formed 2 p a (omega arith) live refl reset
@@ -219,11 +235,15 @@ module _ {s : Numbered} (sound : IsSound s) (formed : IsWellFormed s.memory.regi
     each_node = sound.each_node;
     placed_ports = sound.placed_ports;
     placed_messages = λ n. placed_set s.message_places s.ports.messages.slots m None None known listed refl sound.placed_messages n;
+    placed_semaphores = sound.placed_semaphores;
     own_signals = sound.own_signals;
     each_port = sound.each_port;
     each_message = reset_length reset 3 ∙ sound.each_message ∙ sym (length-set s.ports.messages.slots m None);
+    each_semaphore = sound.each_semaphore;
+    each_task = sound.each_task;
     port_pool = sound.port_pool;
     message_pool = reset_length reset 3 ∙ sound.message_pool;
+    semaphore_pool = sound.semaphore_pool;
     one_pool = sound.one_pool;
     small_pool = sound.small_pool;
   } where
@@ -237,7 +257,7 @@ module _ {s : Numbered} (sound : IsSound s) (formed : IsWellFormed s.memory.regi
     listed = omega (arith, known, sound.each_message)
 
     reset : IsReset 3 m None s t
-    reset = message_reset m None known refl refl refl refl
+    reset = message_reset m None known refl refl refl refl refl
 
     matched : IsMatched t
     matched = matched_released sound formed 3 m a (omega arith) live refl reset
@@ -266,11 +286,15 @@ module _ {s : Numbered} (sound : IsSound s) where
     each_node = sound.each_node;
     placed_ports = λ p. sound.placed_ports p ∙ sym (same_ports p);
     placed_messages = λ m. sound.placed_messages m ∙ sym (same_messages m);
+    placed_semaphores = sound.placed_semaphores;
     own_signals = own;
     each_port = sound.each_port ∙ sym ports;
     each_message = sound.each_message ∙ sym messages;
+    each_semaphore = sound.each_semaphore;
+    each_task = sound.each_task;
     port_pool = sound.port_pool;
     message_pool = sound.message_pool;
+    semaphore_pool = sound.semaphore_pool;
     one_pool = sound.one_pool;
     small_pool = sound.small_pool;
   } where
@@ -282,7 +306,8 @@ module _ {s : Numbered} (sound : IsSound s) where
     same (suc zero) = refl
     same (suc (suc zero)) = refl
     same (suc (suc (suc zero))) = refl
-    same (suc (suc (suc (suc kind)))) = refl
+    same (suc (suc (suc (suc zero)))) = refl
+    same (suc (suc (suc (suc (suc kind))))) = refl
 
   -- all ports and messages are as they were
   pub sound_linked : (q : MessagePorts) → q.ports ≡ s.ports.ports → q.messages ≡ s.ports.messages → IsSound (record s { ports = q })

@@ -1,5 +1,5 @@
 -- What the calls on objects by number make of them.
-use Rattle.std.specs.Prelude.{ℕ, ℤ, ◌-◌, List, [], ◌∷◌, ◌++◌, drop, length, replicate, slice_set, take, Option, None, Some}
+use Rattle.std.specs.Prelude.{ℕ, ℤ, ◌-◌, if◌then◌else◌, List, [], ◌∷◌, ◌++◌, drop, length, replicate, slice_set, take, Option, None, Some}
 use Rattle.execlist.specs.Order.{enqueue, first, without}
 use Rattle.execlist.specs.Lists.{Key, blank, home, last, pri_of, put_after, sequence}
 use Rattle.memlist.specs.declared.region.Region.{Region}
@@ -7,8 +7,9 @@ use Rattle.memlist.specs.Fit.{fit}
 use Rattle.memlist.specs.Memory.{allocated, untouched, without_block}
 use Rattle.execlist.specs.Pool.{all_free, given, next_number, released}
 use Rattle.msgport.specs.Ports.{MessagePorts, no_ports, port_made, message_made, port_freed, message_freed}
+use Rattle.sigsem.specs.Semaphores.{Semaphores, no_sems, sem_made, sem_freed, is_open, entered, queued as sem_queued, dropped}
 use Rattle.execheap.specs.Tags.{tag_of}
-use Rattle.execheap.specs.Numbered.{Numbered}
+use Rattle.execheap.specs.Numbered.{Numbered, most_tasks}
 
 -- no block, and no object of a pool of so many of each kind
 abbrev pub unused : List Region → ℕ → Numbered
@@ -22,6 +23,8 @@ unused regions pool = record {
   ports = no_ports pool pool;
   port_places = replicate pool None;
   message_places = replicate pool None;
+  sems = no_sems pool most_tasks;
+  semaphore_places = replicate pool None;
 }
 
 -- ---- objects made and freed
@@ -86,6 +89,19 @@ message_numbered size reply word (Some number) (Some address) s = record s {
 abbrev pub message_made_at : ℕ → ℕ → ℕ → Option ℕ → Numbered → Numbered
 message_made_at size reply word place s = message_numbered size reply word (next_number s.ports.messages) place s
 
+-- the same of a semaphore, which no task owns
+abbrev pub semaphore_numbered : ℕ → Option ℕ → Option ℕ → Numbered → Numbered
+semaphore_numbered size None place s = s
+semaphore_numbered size (Some number) None s = s
+semaphore_numbered size (Some number) (Some address) s = record s {
+  memory = allocated size (tag_of 4 number) (Some address) s.memory;
+  sems = sem_made s.sems;
+  semaphore_places = slice_set s.semaphore_places number (Some address);
+}
+
+abbrev pub semaphore_made_at : ℕ → Option ℕ → Numbered → Numbered
+semaphore_made_at size place s = semaphore_numbered size (next_number s.sems.sems) place s
+
 -- the object of a number that begins at an address is freed
 abbrev pub list_freed : ℕ → ℕ → Numbered → Numbered
 list_freed number address s = record s { memory = without_block address s.memory; lists = released number s.lists }
@@ -106,6 +122,21 @@ message_freed_at number address s = record s {
   ports = message_freed number s.ports;
   message_places = slice_set s.message_places number None;
 }
+
+abbrev pub semaphore_freed_at : ℕ → ℕ → Numbered → Numbered
+semaphore_freed_at number address s = record s {
+  memory = without_block address s.memory;
+  sems = sem_freed number s.sems;
+  semaphore_places = slice_set s.semaphore_places number None;
+}
+
+-- an action on the semaphores
+abbrev pub on_semaphores : (Semaphores → Semaphores) → Numbered → Numbered
+on_semaphores f s = record s { sems = f s.sems }
+
+-- task t has semaphore n at once, or waits for it and for no other
+abbrev pub semaphore_obtained : (n t : ℕ) → Semaphores → Semaphores
+semaphore_obtained n t m = if is_open n t m then entered n t m else sem_queued n t (dropped t m)
 
 -- an action on the ports and the messages
 abbrev pub on_ports : (MessagePorts → MessagePorts) → Numbered → Numbered

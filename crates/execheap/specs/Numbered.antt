@@ -6,7 +6,8 @@ use Rattle.execlist.specs.Lists.{Key, blank, sequence, home, is_at, times}
 use Rattle.memlist.specs.Memory as table
 use Rattle.memlist.specs.Blocks.{Blocks, block_at}
 use Rattle.msgport.specs.Ports.{MessagePorts, is_port, is_message, port_at, message_at, messages_of}
-use Rattle.execmodel.specs.State.{Object, Plain, ListHead, Node, MsgPort, Message, Block, Heap, PublicPort, Memory}
+use Rattle.sigsem.specs.Semaphores.{Semaphores, is_sem, sem_at, waiters_of}
+use Rattle.execmodel.specs.State.{Object, Plain, ListHead, Node, MsgPort, Message, Semaphore, Block, Heap, PublicPort, Memory}
 use Rattle.execlist.specs.Pool.{Pooled, slot, taken}
 use Rattle.execheap.specs.Tags.{number_of, is_of}
 
@@ -21,6 +22,8 @@ pub record Numbered : Type 0 where
   pub ports : MessagePorts
   pub port_places : List (Option ℕ)
   pub message_places : List (Option ℕ)
+  pub sems : Semaphores
+  pub semaphore_places : List (Option ℕ)
 
 -- the addresses of the objects of a kind, by number
 abbrev pub slots_of : ℕ → Numbered → List (Option ℕ)
@@ -28,7 +31,8 @@ slots_of zero s = s.lists.slots
 slots_of (suc zero) s = s.nodes.slots
 slots_of (suc (suc zero)) s = s.port_places
 slots_of (suc (suc (suc zero))) s = s.message_places
-slots_of (suc (suc (suc (suc kind)))) s = []
+slots_of (suc (suc (suc (suc zero)))) s = s.semaphore_places
+slots_of (suc (suc (suc (suc (suc kind))))) s = []
 
 -- the number of the object of a kind that begins at an address
 abbrev pub number_at : ℕ → ℕ → Numbered → Option ℕ
@@ -44,14 +48,15 @@ address_in places n = unwrap_or (slot places n) 0
 abbrev pub key_at : List Key → ℕ → Key
 key_at keys n = slice_index_or keys n blank
 
--- what the objects hold, by number: the nodes of each list, the key of each node, the ports and the messages; and the address of each
--- node and of each message
+-- what the objects hold, by number: the nodes of each list, the key of each node, the ports, the messages and the semaphores; and the
+-- address of each node and of each message
 pub record Contents : Type 0 where
   pub places : List (Option ℕ)
   pub sequences : List (List ℕ)
   pub keys : List Key
   pub ports : MessagePorts
   pub message_places : List (Option ℕ)
+  pub sems : Semaphores
 
 abbrev pub contents : Numbered → Contents
 contents s = record {
@@ -60,6 +65,7 @@ contents s = record {
   keys = s.keys;
   ports = s.ports;
   message_places = s.message_places;
+  sems = s.sems;
 }
 
 -- the object of a kind and a number
@@ -68,7 +74,8 @@ object_of zero number c = ListHead (map (address_in c.places) (sequence c.sequen
 object_of (suc zero) number c = Node (key_at c.keys number)
 object_of (suc (suc zero)) number c = MsgPort (port_at number c.ports) (map (address_in c.message_places) (messages_of number c.ports))
 object_of (suc (suc (suc zero))) number c = Message (message_at number c.ports)
-object_of (suc (suc (suc (suc kind)))) number c = Plain
+object_of (suc (suc (suc (suc zero)))) number c = Semaphore (sem_at number c.sems) (waiters_of number c.sems)
+object_of (suc (suc (suc (suc (suc kind))))) number c = Plain
 
 -- the object that a tag names
 abbrev pub shown_object : Contents → ℕ → Object
@@ -121,9 +128,14 @@ tag_at address blocks = option_map (λ (block : ℕ × ℕ). block.1) (block_at 
 abbrev pub counted : ℕ → Blocks → ℕ
 counted kind blocks = length (filter (λ (entry : ℕ × (ℕ × ℕ)). is_of kind entry.1.1) blocks)
 
+-- the most tasks that a machine has
+abbrev pub most_tasks : ℕ
+most_tasks = 4096
+
 -- A number stands for one object, and an object for one block: each tag names what begins at its block's address, each object that has
 -- an address begins at a block with its tag, and of each kind as many blocks are tagged as numbers are given. A linked node and its
--- list are objects that live; a port, or a message, has an address where it lives.
+-- list are objects that live; a port, a message or a semaphore has an address where it lives. There is room for the most tasks that a
+-- machine has to wait at semaphores.
 pub record IsSound (s : Numbered) : Type 0 where
   pub tagged : AllByRecursion (IsTagged s) s.memory.blocks
   pub complete : (n address : ℕ) → place_of_tag (suc n) s ≡ Some address → tag_at address s.memory.blocks ≡ Some (suc n)
@@ -134,11 +146,15 @@ pub record IsSound (s : Numbered) : Type 0 where
   pub each_node : length s.homes ≡ length s.nodes.slots
   pub placed_ports : (p : ℕ) → is_some (slot s.port_places p) ≡ is_port p s.ports
   pub placed_messages : (m : ℕ) → is_some (slot s.message_places m) ≡ is_message m s.ports
+  pub placed_semaphores : (n : ℕ) → is_some (slot s.semaphore_places n) ≡ is_sem n s.sems
   pub own_signals : (p : ℕ) → IsTrue (is_port p s.ports) → 16 ≤ (port_at p s.ports).bit
   pub each_port : length s.port_places ≡ length s.ports.ports.slots
   pub each_message : length s.message_places ≡ length s.ports.messages.slots
+  pub each_semaphore : length s.semaphore_places ≡ length s.sems.sems.slots
+  pub each_task : length s.sems.places ≡ most_tasks
   pub port_pool : length s.port_places ≡ length s.lists.slots
   pub message_pool : length s.message_places ≡ length s.lists.slots
+  pub semaphore_pool : length s.semaphore_places ≡ length s.lists.slots
   pub one_pool : length s.nodes.slots ≡ length s.lists.slots
   pub small_pool : length s.lists.slots ≤ 1024
 

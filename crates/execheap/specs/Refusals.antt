@@ -1,13 +1,15 @@
 -- What a refused call says of the abstract machine: the code of its alert.
 use Rattle.std.specs.Prelude.{ℕ, Bool, true, codes, List, Option, None, Some, Result, Ok, Err}
 use Rattle.execlist.specs.Lists.{home, is_at}
+use Rattle.sigsem.specs.declared.fault.SemFault.{SemFault}
 use Rattle.execheap.specs.declared.refusal.Refusal.{Refusal}
-use Rattle.execheap.specs.declared.refusal.Refusal.TheVariants.{Handle, Link, Port}
+use Rattle.execheap.specs.declared.refusal.Refusal.TheVariants.{Handle, Link, Port, Sem}
 
 abbrev pub code_of : Refusal → List ℕ
 code_of Handle = codes "HANDLE"
 code_of Link = codes "LINK"
 code_of Port = codes "PORT"
+code_of Sem = codes "SEM"
 
 -- the alert of an answer: none where the call was not refused
 abbrev pub alert_of : {T : Type 0} → Result T Refusal → Option (List ℕ)
@@ -18,3 +20,8 @@ alert_of (Err why) = Some (code_of why)
 abbrev pub is_none_or_in : Option ℕ → ℕ → List (Option ℕ) → Bool
 is_none_or_in None h homes = true
 is_none_or_in (Some pred) h homes = is_at (home homes pred) h
+
+-- the answer of a call on a semaphore, where any fault is told as one refusal
+abbrev pub told : {A : Type 0} → Result A SemFault → Result A Refusal
+told (Ok answer) = Ok answer
+told (Err fault) = Err Sem

@@ -1,7 +1,7 @@
 -- The tag that stands beside a block: 0 for a plain block, and else the kind of the object that begins there and its number.
 use Rattle.std.specs.Prelude.{ℕ, zero, suc, ◌+◌, ◌*◌, ◌/◌, ◌%◌, nat_eq, if◌then◌else◌, Bool, false, Option, None, Some}
 use Rattle.execheap.specs.declared.kind.Kind.{Kind}
-use Rattle.execheap.specs.declared.kind.Kind.TheVariants.{List, Node, Port, Message}
+use Rattle.execheap.specs.declared.kind.Kind.TheVariants.{List, Node, Port, Message, Semaphore}
 
 -- the number of a kind, which is below 8
 abbrev pub kind_code : Kind → ℕ
@@ -9,6 +9,7 @@ kind_code List = 0
 kind_code Node = 1
 kind_code Port = 2
 kind_code Message = 3
+kind_code Semaphore = 4
 
 -- the tag of an object of a kind and a number
 abbrev pub tag_of : ℕ → ℕ → ℕ

@@ -9,6 +9,7 @@ ghost use Rattle.execheap.specs.Numbered.{address_in, shown_heap};
 ghost use Rattle.execheap.specs.Refusals.{alert_of, is_none_or_in};
 
 mod ports;
+mod semaphores;
 
 use crate::kind::Kind;
 use crate::objects::Objects;

@@ -11,6 +11,7 @@ ghost use Rattle.execheap.specs.Changes.{key_with};
 ghost use Rattle.execheap.specs.Refusals.{alert_of};
 
 mod ports;
+mod semaphores;
 
 use crate::objects::Objects;
 use crate::refusal::Refusal;
@@ -20,7 +21,8 @@ use memlist::Region;
 use std::alloc::{AllocError, Global};
 use std::marker::Model;
 
-/// The memory of a machine and the objects that live in it: lists and nodes, ports and messages, over list spaces of the type S.
+/// The memory of a machine and the objects that live in it: lists and nodes, ports and messages, semaphores, over list spaces of the type
+/// S.
 ///
 /// An object is named by the address of its block. No method takes memory of the host: `new` makes room for all that can ever live.
 #[derive(Drop)]

@@ -13,6 +13,8 @@ pub enum Kind {
     Port,
     /// A message.
     Message,
+    /// A semaphore (RKM Libraries, Exec Semaphores).
+    Semaphore,
 }
 
 impl Kind {
@@ -25,6 +27,7 @@ impl Kind {
             Kind::Node => 1,
             Kind::Port => 2,
             Kind::Message => 3,
+            Kind::Semaphore => 4,
         }
     }
 }

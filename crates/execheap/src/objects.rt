@@ -8,11 +8,13 @@ ghost use Rattle.memlist.specs.Fit.{asks, avail, fit};
 ghost use Rattle.memlist.specs.Memory.{IsWellFormed, allocated, can_free, untouched, without_block};
 ghost use Rattle.execlist.specs.Pool.{IsStocked, next_number, slot};
 ghost use Rattle.msgport.specs.Ports as ports;
+ghost use Rattle.sigsem.specs.Semaphores as sems;
 ghost use Rattle.execheap.specs.Tags.{kind_code};
 ghost use Rattle.execheap.specs.Numbered.{IsSound, IsSpace, number_at, slots_of};
 ghost use Rattle.execheap.specs.Changes.{unused, made_at, key_with, list_numbered, list_made, list_freed, node_numbered, node_made, node_freed, at_head, at_tail, queued, put, taken_out, head_taken, tail_taken};
 
 mod ports;
+mod semaphores;
 
 use crate::kind::{Kind, number_of, tag_of};
 use execlist::key::Name;
@@ -20,6 +22,7 @@ use execlist::pool::Pool;
 use execlist::space::{HeaderId, ListSpace, NodeId};
 use memlist::{MemList, Region};
 use msgport::ports::Ports;
+use sigsem::sems::Sems;
 use std::alloc::{AllocError, Global};
 use std::marker::Model;
 
@@ -32,8 +35,11 @@ const LIST_SIZE: u32 = 14;
 /// The bytes of a node, by exec/nodes.h.
 const NODE_SIZE: u32 = 14;
 
+/// The most tasks that a machine has: each may wait at a semaphore.
+const MOST_TASKS: usize = 4096;
+
 /// The blocks of a memory, and the objects that live in them by number. The tag of a block tells the kind and the number of its object.
-/// The ports and messages keep no addresses: those stand beside them.
+/// The ports, messages and semaphores keep no addresses: those stand beside them.
 #[derive(Drop)]
 pub struct Objects<S: ListSpace> {
     memory: MemList,
@@ -43,6 +49,8 @@ pub struct Objects<S: ListSpace> {
     ports: Ports<S>,
     port_places: Vec<Option<u32>>,
     message_places: Vec<Option<u32>>,
+    sems: Sems<S>,
+    semaphore_places: Vec<Option<u32>>,
 }
 
 impl<S: ListSpace> Model for Objects<S> {
@@ -60,6 +68,8 @@ impl<S: ListSpace> Model for Objects<S> {
       ports = o.ports;
       port_places = o.port_places.items;
       message_places = o.message_places.items;
+      sems = o.sems;
+      semaphore_places = o.semaphore_places.items;
     } };
 
     ghost invariant = { λ o. IsSound (record {
@@ -72,6 +82,8 @@ impl<S: ListSpace> Model for Objects<S> {
       ports = o.ports;
       port_places = o.port_places.items;
       message_places = o.message_places.items;
+      sems = o.sems;
+      semaphore_places = o.semaphore_places.items;
     }) };
 }
 
@@ -89,6 +101,8 @@ impl<S: ListSpace> Objects<S> {
         let ports = Ports::new(alloc, pool, pool)?;
         let port_places = vec![in alloc; None; pool]?;
         let message_places = vec![in alloc; None; pool]?;
+        let sems = Sems::new(alloc, pool, MOST_TASKS)?;
+        let semaphore_places = vec![in alloc; None; pool]?;
         Ok(Objects {
             memory,
             lists,
@@ -97,6 +111,8 @@ impl<S: ListSpace> Objects<S> {
             ports,
             port_places,
             message_places,
+            sems,
+            semaphore_places,
         })
     }
 
@@ -110,12 +126,15 @@ impl<S: ListSpace> Objects<S> {
         ensures ports { ports.IsSound self.now.ports }
         ensures port_numbers { IsStocked self.now.ports.ports }
         ensures message_numbers { IsStocked self.now.ports.messages }
+        ensures sems { sems.IsSound self.now.sems }
+        ensures semaphore_numbers { IsStocked self.now.sems.sems }
     {
         let _ = &self.space;
         self.memory.is_well_formed();
         self.lists.facts();
         self.nodes.facts();
         self.ports.facts();
+        self.sems.facts();
     }
 
     // ---- plain blocks

@@ -1,7 +1,8 @@
 //! Why a call on an object is refused.
 ghost use Rattle.std.specs.Prelude.{◌≡◌};
-ghost use Rattle.execheap.specs.Refusals.{code_of};
+ghost use Rattle.execheap.specs.Refusals.{code_of, told};
 
+use sigsem::fault::SemFault;
 use thiserror::Error;
 
 /// Why a call on an object is refused. A refused call changes nothing.
@@ -16,6 +17,9 @@ pub enum Refusal {
     /// A port that is to be freed holds messages or is public, or a port to wait at is not one that signals the caller.
     #[error("a port in use, or not the caller's to wait at")]
     Port,
+    /// A semaphore that is to be freed is owned, one that is to be released is not the caller's, or one is obtained too often.
+    #[error("a semaphore owned, not owned by the caller, or obtained too often")]
+    Sem,
 }
 
 impl Refusal {
@@ -27,6 +31,17 @@ impl Refusal {
             Refusal::Handle => "HANDLE",
             Refusal::Link => "LINK",
             Refusal::Port => "PORT",
+            Refusal::Sem => "SEM",
         }
+    }
+}
+
+/// What a call on a semaphore answers by address: any fault of the semaphores is the refusal Sem.
+pub(crate) fn told<A>(answer: Result<A, SemFault>) -> Result<A, Refusal>
+    ensures { result ≡ told answer }
+{
+    match answer {
+        Ok(answer) => Ok(answer),
+        Err(_) => Err(Refusal::Sem),
     }
 }

@@ -1,10 +1,11 @@
 -- The words of a group change their part of the state alone.
-use Rattle.std.proofs.Common.{◌≡◌, ℕ, Bool, true, false, List, [], Option, None, Some, refl}
-use Rattle.std.specs.Prelude.{negsuc, not, if◌then◌else◌, nat_eq}
+use Rattle.std.proofs.Common.{◌≡◌, ℕ, ℤ, Bool, true, false, List, [], Option, None, Some, ap, ◌∙◌, refl}
+use Rattle.std.specs.Prelude.{◌-◌, negsuc, not, if◌then◌else◌, nat_eq}
 use Rattle.std.specs.Int.{cast_signed, w32}
 use Rattle.execlist.specs.Order.{first}
 use Rattle.signals.specs.Signals.{grant, is_own_signal}
-use Rattle.scheduler.specs.Schedule.{signals_of, come_for, nesting_of}
+use Rattle.taskq.specs.Tasks.{is_ready}
+use Rattle.scheduler.specs.Schedule.{Schedule, status_of, signals_of, come_for, nesting_of, is_absent, is_at_semaphore, leaves, removed, waits_at_semaphore}
 use Rattle.forbid.specs.Nesting.{Nesting, after_forbid, after_permit, after_disable, after_enable}
 use Rattle.taskscript.specs.declared.word.plain.PlainWord.TheVariants as plain
 use Rattle.taskscript.specs.declared.word.task_signals.SignalWord.TheVariants as signals
@@ -13,23 +14,51 @@ use Rattle.taskscript.specs.declared.word.tasks.TaskWord.TheVariants as tasks
 use Rattle.taskscript.specs.declared.word.lists.ListWord.TheVariants as lists
 use Rattle.taskscript.specs.declared.word.memory.MemoryWord.TheVariants as memory
 use Rattle.taskscript.specs.declared.word.ports.PortWord.TheVariants as ports
-use Rattle.execmodel.specs.State.{Call, Object, Plain, ListHead, State, Outcome}
+use Rattle.taskscript.specs.declared.word.semaphores.SemaphoreWord.TheVariants as semaphores
+use Rattle.sigsem.specs.declared.semaphore.Obtained.{Obtained}
+use Rattle.sigsem.specs.declared.semaphore.Obtained.TheVariants.{Owner, Waits}
+use Rattle.execmodel.specs.State.{Call, Object, Plain, ListHead, State, Outcome, on_schedule}
+use Rattle.execmodel.specs.Scheduling.{arrives, added, reprioritized}
 use Rattle.execmodel.specs.Calls.{argument, done, answered, waiting, silent, alerted}
 use Rattle.execmodel.specs.Plain.{does_set, does_add, does_sub, does_and, does_or, jumps, does_jump, does_jump_zero, does_jump_not_zero, does_print}
 use Rattle.execmodel.specs.Signals.{is_task, is_mask, waited, does_alloc_signal, does_free_signal, does_set_signal, does_signal, does_wait}
 use Rattle.execmodel.specs.Nesting.{counted, does_forbid, does_permit, does_disable, does_enable}
-use Rattle.execmodel.specs.Tasks.{is_live_task, is_priority, is_caller, does_set_task_pri, does_add_task, does_rem_task, does_find_task}
+use Rattle.execmodel.specs.Tasks.{is_live_task, is_priority, is_caller, ends_other, does_set_task_pri, does_add_task, does_rem_task, does_find_task}
 use Rattle.execmodel.specs.Objects.{unless, place_for_object}
 use Rattle.execmodel.specs.Memory.{allocates, place_for, has_only, alloc_bits, block_at, is_named, can_be_asked, does_alloc_mem, does_free_mem, does_avail_mem}
 use Rattle.execmodel.specs.Lists.{is_list, list_size, is_node, node_size, free_list_alert, free_node_alert, link_alert, insert_alert, linked_alert, list_alert, find_alert, does_new_list, does_free_list, does_new_node, does_free_node, does_add_head, does_add_tail, does_enqueue, does_insert, does_remove, does_rem_head, does_rem_tail, does_first, does_last, does_succ, does_pred, does_find_name}
 use Rattle.execmodel.specs.Ports.{is_port, is_message, port_size, message_size, port_created, port_alert, message_alert, messages_of, content_of, delete_alert, add_port_alert, rem_port_alert, reply_port_alert, loose_alert, put_alert, reply_alert, wait_alert, made_public, made_private, replied, delivered, taken, looked, does_create_msg_port, does_delete_msg_port, does_add_port, does_rem_port, does_find_port, does_port_signal, does_port_ignore, does_new_msg, does_free_msg, does_msg_word, does_set_msg_word, does_msg_type, does_put_msg, does_get_msg, does_wait_port, does_reply_msg}
-use Rattle.execmodel.specs.Keeping.{beside_schedule, beside_memory, beside_ports, PlainWordsChangeScripts, SignalWordsChangeTheSchedule, NestingWordsChangeTheSchedule, TaskWordsChangeTheSchedule, ListWordsChangeTheMemory, MemoryWordsChangeTheMemory, PortWordsChangePortsAndSchedule}
+use Rattle.execmodel.specs.Semaphores.{awaited_by, free_sem_alert, heir, is_semaphore, is_tried_again, leaving_queue, obtain_alert, obtains, outcome_for, passes, release_alert, sem_of, semaphore_size, woken, does_new_sem, does_free_sem, does_obtain_semaphore, does_attempt_semaphore, does_release_semaphore}
+use Rattle.execmodel.specs.Keeping.{beside_schedule, beside_memory, beside_ports, without_states, without_priorities, beside_semaphores, beside_tasks, PlainWordsChangeScripts, SignalWordsChangeTheSchedule, NestingWordsChangeTheSchedule, TaskWordsChangeStatesPrioritiesAndObjects, ListWordsChangeTheMemory, MemoryWordsChangeTheMemory, PortWordsChangePortsAndSchedule, SemaphoreWordsChangeStatesAndObjects}
 
 -- a part that both ways keep
 either : {A : Type 0} (part : State → A) (a : A) (test : Bool) (o p : Outcome) → part o.state ≡ a → part p.state ≡ a
     → part (if test then o else p).state ≡ a
 either part a true o p first second = first
 either part a false o p first second = second
+
+-- A call that may be refused keeps a part that stays where the machine stops, and that the call keeps where it is not refused.
+refused_keeps : {A : Type 0} (part : State → A) (test : Bool) (o : Outcome) (code : List ℕ) (t : ℕ) (call : Call) (s : State)
+    → part (record s { stopped = true }) ≡ part s → part o.state ≡ part s
+    → part (if test then alerted code t call s else o).state ≡ part s
+unfolding alerted
+refused_keeps part true o code t call s stops keeps = stops
+refused_keeps part false o code t call s stops keeps = keeps
+
+unless_keeps : {A : Type 0} (part : State → A) (alert : Option (List ℕ)) (t : ℕ) (call : Call) (effect : State → Outcome) (s : State)
+    → part (record s { stopped = true }) ≡ part s → part (effect s).state ≡ part s
+    → part (unless alert t call effect s).state ≡ part s
+unfolding alerted
+unless_keeps part None t call effect s stops keeps = keeps
+unless_keeps part (Some code) t call effect s stops keeps = stops
+
+-- a block is placed, or there is no place for it
+allocates_keeps : {A : Type 0} (part : State → A) (size : ℕ) (object : Object) (place : Option ℕ) (t : ℕ) (call : Call) (s : State)
+    → part (allocates t call size object None s).state ≡ part s
+    → ((address : ℕ) → part (allocates t call size object (Some address) s).state ≡ part s)
+    → part (allocates t call size object place s).state ≡ part s
+allocates_keeps part size object None t call s without placed = without
+allocates_keeps part size object (Some address) t call s without placed = placed address
 
 pub plain_words_change_scripts : PlainWordsChangeScripts
 unfolding does_set does_add does_sub does_and does_or jumps does_jump does_jump_zero does_jump_not_zero does_print done silent
@@ -43,13 +72,6 @@ plain_words_change_scripts plain.JumpZ t call s = refl
 plain_words_change_scripts plain.JumpNZ t call s = refl
 plain_words_change_scripts plain.Print t call s = refl
 
--- a call that may be refused, and else keeps the memory
-refused_or : (test : Bool) (o : Outcome) (code : List ℕ) (t : ℕ) (call : Call) (s : State) → beside_schedule o.state ≡ beside_schedule s
-    → beside_schedule (if test then alerted code t call s else o).state ≡ beside_schedule s
-unfolding alerted
-refused_or true o code t call s keeps = refl
-refused_or false o code t call s keeps = keeps
-
 waited_keeps : (t : ℕ) (call : Call) (come : Option ℕ) (s r : State) → beside_schedule r ≡ beside_schedule s
     → beside_schedule (waited t call come r).state ≡ beside_schedule s
 unfolding waiting answered
@@ -61,13 +83,14 @@ unfolding does_alloc_signal does_free_signal does_set_signal does_signal does_wa
 signal_words_change_the_schedule signals.AllocSignal t call s = refl
 signal_words_change_the_schedule signals.FreeSignal t call s =
     either beside_schedule _ (nat_eq (argument 0 call) 0xffffffff) _ _ refl
-    (refused_or (not (is_own_signal (argument 0 call))) _ _ t call s refl)
-signal_words_change_the_schedule signals.SetSignal t call s = refused_or (not (is_mask (argument 1 call))) _ _ t call s refl
+    (refused_keeps beside_schedule (not (is_own_signal (argument 0 call))) _ _ t call s refl refl)
+signal_words_change_the_schedule signals.SetSignal t call s =
+    refused_keeps beside_schedule (not (is_mask (argument 1 call))) _ _ t call s refl refl
 signal_words_change_the_schedule signals.Signal t call s =
-    refused_or (not (is_task (argument 0 call) s.scripts)) _ _ t call s
-    (refused_or (not (is_mask (argument 1 call))) _ _ t call s refl)
+    refused_keeps beside_schedule (not (is_task (argument 0 call) s.scripts)) _ _ t call s refl
+    (refused_keeps beside_schedule (not (is_mask (argument 1 call))) _ _ t call s refl refl)
 signal_words_change_the_schedule signals.Wait t call s =
-    refused_or (not (is_mask (argument 0 call))) _ _ t call s
+    refused_keeps beside_schedule (not (is_mask (argument 0 call))) _ _ t call s refl
     (waited_keeps t call (come_for (argument 0 call) (signals_of s.schedule t)) s _ refl)
 
 counted_keeps : (t : ℕ) (call : Call) (nesting : Option Nesting) (s : State) → beside_schedule (counted t call nesting s).state ≡ beside_schedule s
@@ -82,76 +105,52 @@ nesting_words_change_the_schedule nesting.Permit t call s = counted_keeps t call
 nesting_words_change_the_schedule nesting.Disable t call s = counted_keeps t call (after_disable (nesting_of s.schedule t)) s
 nesting_words_change_the_schedule nesting.Enable t call s = counted_keeps t call (after_enable (nesting_of s.schedule t)) s
 
-pub task_words_change_the_schedule : TaskWordsChangeTheSchedule
-unfolding does_set_task_pri does_add_task does_rem_task does_find_task done answered
-task_words_change_the_schedule tasks.SetTaskPri t call s =
-    refused_or (not (is_live_task (argument 0 call) s.scripts s.schedule)) _ _ t call s
-    (refused_or (not (is_priority (cast_signed w32 (argument 1 call)))) _ _ t call s refl)
-task_words_change_the_schedule tasks.AddTask t call s = refused_or (not (is_task (argument 0 call) s.scripts)) _ _ t call s refl
-task_words_change_the_schedule tasks.RemTask t call s =
-    either beside_schedule _ (is_caller t (argument 0 call)) _ _ refl
-    (refused_or (not (is_live_task (argument 0 call) s.scripts s.schedule)) _ _ t call s refl)
-task_words_change_the_schedule tasks.FindTask t call s = refl
-
--- a call that may be refused, and else keeps the schedule
-refused : (test : Bool) (o : Outcome) (code : List ℕ) (t : ℕ) (call : Call) (s : State) → beside_memory o.state ≡ beside_memory s
-    → beside_memory (if test then alerted code t call s else o).state ≡ beside_memory s
-unfolding alerted
-refused true o code t call s keeps = refl
-refused false o code t call s keeps = keeps
-
-unless_keeps : (alert : Option (List ℕ)) (t : ℕ) (call : Call) (effect : State → Outcome) (s : State) → beside_memory (effect s).state ≡ beside_memory s
-    → beside_memory (unless alert t call effect s).state ≡ beside_memory s
-unfolding alerted
-unless_keeps None t call effect s keeps = keeps
-unless_keeps (Some code) t call effect s keeps = refl
-
--- a block is placed, or there is no place for it
-allocates_keeps : (size : ℕ) (object : Object) (place : Option ℕ) (t : ℕ) (call : Call) (s : State)
-    → beside_memory (allocates t call size object place s).state ≡ beside_memory s
-unfolding answered
-allocates_keeps size object None t call s = refl
-allocates_keeps size object (Some address) t call s = refl
-
 pub list_words_change_the_memory : ListWordsChangeTheMemory
 unfolding does_new_list does_free_list does_new_node does_free_node does_add_head does_add_tail does_enqueue does_insert does_remove does_rem_head does_rem_tail does_first does_last does_succ does_pred does_find_name done answered
 list_words_change_the_memory lists.NewList t call s =
-    allocates_keeps list_size (ListHead []) (place_for_object is_list list_size s.memory) t call s
-list_words_change_the_memory lists.FreeList t call s = unless_keeps (free_list_alert (argument 0 call) s.memory.heap) t call _ s refl
+    allocates_keeps beside_memory list_size (ListHead []) (place_for_object is_list list_size s.memory) t call s refl (λ address. refl)
+list_words_change_the_memory lists.FreeList t call s =
+    unless_keeps beside_memory (free_list_alert (argument 0 call) s.memory.heap) t call _ s refl refl
 list_words_change_the_memory lists.NewNode t call s =
-    refused (not (is_priority (cast_signed w32 (argument 0 call)))) _ _ t call s
-    (allocates_keeps node_size _ (place_for_object is_node node_size s.memory) t call s)
-list_words_change_the_memory lists.FreeNode t call s = unless_keeps (free_node_alert (argument 0 call) s.memory.heap) t call _ s refl
-list_words_change_the_memory lists.AddHead t call s = unless_keeps (link_alert (argument 0 call) (argument 1 call) s.memory.heap) t call _ s refl
-list_words_change_the_memory lists.AddTail t call s = unless_keeps (link_alert (argument 0 call) (argument 1 call) s.memory.heap) t call _ s refl
-list_words_change_the_memory lists.Enqueue t call s = unless_keeps (link_alert (argument 0 call) (argument 1 call) s.memory.heap) t call _ s refl
+    refused_keeps beside_memory (not (is_priority (cast_signed w32 (argument 0 call)))) _ _ t call s refl
+    (allocates_keeps beside_memory node_size _ (place_for_object is_node node_size s.memory) t call s refl (λ address. refl))
+list_words_change_the_memory lists.FreeNode t call s =
+    unless_keeps beside_memory (free_node_alert (argument 0 call) s.memory.heap) t call _ s refl refl
+list_words_change_the_memory lists.AddHead t call s =
+    unless_keeps beside_memory (link_alert (argument 0 call) (argument 1 call) s.memory.heap) t call _ s refl refl
+list_words_change_the_memory lists.AddTail t call s =
+    unless_keeps beside_memory (link_alert (argument 0 call) (argument 1 call) s.memory.heap) t call _ s refl refl
+list_words_change_the_memory lists.Enqueue t call s =
+    unless_keeps beside_memory (link_alert (argument 0 call) (argument 1 call) s.memory.heap) t call _ s refl refl
 list_words_change_the_memory lists.Insert t call s =
-    unless_keeps (insert_alert (argument 0 call) (argument 1 call) (argument 2 call) s.memory.heap) t call _ s refl
-list_words_change_the_memory lists.Remove t call s = unless_keeps (linked_alert (argument 0 call) s.memory.heap) t call _ s refl
-list_words_change_the_memory lists.RemHead t call s = unless_keeps (list_alert (argument 0 call) s.memory.heap) t call _ s refl
-list_words_change_the_memory lists.RemTail t call s = unless_keeps (list_alert (argument 0 call) s.memory.heap) t call _ s refl
-list_words_change_the_memory lists.First t call s = unless_keeps (list_alert (argument 0 call) s.memory.heap) t call _ s refl
-list_words_change_the_memory lists.Last t call s = unless_keeps (list_alert (argument 0 call) s.memory.heap) t call _ s refl
-list_words_change_the_memory lists.Succ t call s = unless_keeps (linked_alert (argument 0 call) s.memory.heap) t call _ s refl
-list_words_change_the_memory lists.Pred t call s = unless_keeps (linked_alert (argument 0 call) s.memory.heap) t call _ s refl
-list_words_change_the_memory lists.FindName t call s = unless_keeps (find_alert (argument 0 call) s.memory.heap) t call _ s refl
+    unless_keeps beside_memory (insert_alert (argument 0 call) (argument 1 call) (argument 2 call) s.memory.heap) t call _ s refl refl
+list_words_change_the_memory lists.Remove t call s =
+    unless_keeps beside_memory (linked_alert (argument 0 call) s.memory.heap) t call _ s refl refl
+list_words_change_the_memory lists.RemHead t call s =
+    unless_keeps beside_memory (list_alert (argument 0 call) s.memory.heap) t call _ s refl refl
+list_words_change_the_memory lists.RemTail t call s =
+    unless_keeps beside_memory (list_alert (argument 0 call) s.memory.heap) t call _ s refl refl
+list_words_change_the_memory lists.First t call s =
+    unless_keeps beside_memory (list_alert (argument 0 call) s.memory.heap) t call _ s refl refl
+list_words_change_the_memory lists.Last t call s =
+    unless_keeps beside_memory (list_alert (argument 0 call) s.memory.heap) t call _ s refl refl
+list_words_change_the_memory lists.Succ t call s =
+    unless_keeps beside_memory (linked_alert (argument 0 call) s.memory.heap) t call _ s refl refl
+list_words_change_the_memory lists.Pred t call s =
+    unless_keeps beside_memory (linked_alert (argument 0 call) s.memory.heap) t call _ s refl refl
+list_words_change_the_memory lists.FindName t call s =
+    unless_keeps beside_memory (find_alert (argument 0 call) s.memory.heap) t call _ s refl refl
 
 pub memory_words_change_the_memory : MemoryWordsChangeTheMemory
 unfolding does_alloc_mem does_free_mem does_avail_mem done answered
 memory_words_change_the_memory memory.AllocMem t call s =
-    refused (not (has_only alloc_bits (argument 1 call))) _ _ t call s
-    (allocates_keeps (argument 0 call) Plain (place_for (argument 0 call) (argument 1 call) s.memory) t call s)
+    refused_keeps beside_memory (not (has_only alloc_bits (argument 1 call))) _ _ t call s refl
+    (allocates_keeps beside_memory (argument 0 call) Plain (place_for (argument 0 call) (argument 1 call) s.memory) t call s refl
+    (λ address. refl))
 memory_words_change_the_memory memory.FreeMem t call s =
-    refused (not (is_named (argument 1 call) (block_at (argument 0 call) s.memory.heap))) _ _ t call s refl
-memory_words_change_the_memory memory.AvailMem t call s = refused (not (can_be_asked (argument 0 call))) _ _ t call s refl
-
--- a call that may be refused, and else keeps all but the ports and the schedule
-spared : (alert : Option (List ℕ)) (t : ℕ) (call : Call) (effect : State → Outcome) (s : State)
-    → beside_ports (effect s).state ≡ beside_ports s
-    → beside_ports (unless alert t call effect s).state ≡ beside_ports s
-unfolding alerted
-spared None t call effect s keeps = keeps
-spared (Some code) t call effect s keeps = refl
+    refused_keeps beside_memory (not (is_named (argument 1 call) (block_at (argument 0 call) s.memory.heap))) _ _ t call s refl refl
+memory_words_change_the_memory memory.AvailMem t call s =
+    refused_keeps beside_memory (not (can_be_asked (argument 0 call))) _ _ t call s refl refl
 
 port_created_keeps : (t : ℕ) (call : Call) (bit place : Option ℕ) (s : State)
     → beside_ports (port_created t call bit place s).state ≡ beside_ports s
@@ -159,12 +158,6 @@ unfolding answered
 port_created_keeps t call None place s = refl
 port_created_keeps t call (Some bit) None s = refl
 port_created_keeps t call (Some bit) (Some address) s = refl
-
-message_made_keeps : (content : Object) (place : Option ℕ) (t : ℕ) (call : Call) (s : State)
-    → beside_ports (allocates t call message_size content place s).state ≡ beside_ports s
-unfolding answered
-message_made_keeps content None t call s = refl
-message_made_keeps content (Some address) t call s = refl
 
 replied_keeps : (reply t : ℕ) (call : Call) (message : ℕ) (s : State) → beside_ports (replied reply t call message s).state ≡ beside_ports s
 unfolding done delivered
@@ -187,28 +180,119 @@ unfolding does_create_msg_port does_delete_msg_port does_add_port does_rem_port 
 port_words_change_ports_and_schedule ports.CreateMsgPort t call s =
     port_created_keeps t call (grant (negsuc 0) (signals_of s.schedule t)) (place_for_object is_port port_size s.memory) s
 port_words_change_ports_and_schedule ports.DeleteMsgPort t call s =
-    either beside_ports _ (nat_eq (argument 0 call) 0) _ _ refl (spared (delete_alert (argument 0 call) s.memory) t call _ s refl)
+    either beside_ports _ (nat_eq (argument 0 call) 0) _ _ refl
+    (unless_keeps beside_ports (delete_alert (argument 0 call) s.memory) t call _ s refl refl)
 port_words_change_ports_and_schedule ports.AddPort t call s =
-    spared (add_port_alert (argument 0 call) (cast_signed w32 (argument 2 call)) s.memory) t call _ s refl
-port_words_change_ports_and_schedule ports.RemPort t call s = spared (rem_port_alert (argument 0 call) s.memory) t call _ s refl
+    unless_keeps beside_ports (add_port_alert (argument 0 call) (cast_signed w32 (argument 2 call)) s.memory) t call _ s refl refl
+port_words_change_ports_and_schedule ports.RemPort t call s =
+    unless_keeps beside_ports (rem_port_alert (argument 0 call) s.memory) t call _ s refl refl
 port_words_change_ports_and_schedule ports.FindPort t call s = refl
-port_words_change_ports_and_schedule ports.PortSignal t call s = spared (port_alert (argument 0 call) s.memory.heap) t call _ s refl
-port_words_change_ports_and_schedule ports.PortIgnore t call s = spared (port_alert (argument 0 call) s.memory.heap) t call _ s refl
+port_words_change_ports_and_schedule ports.PortSignal t call s =
+    unless_keeps beside_ports (port_alert (argument 0 call) s.memory.heap) t call _ s refl refl
+port_words_change_ports_and_schedule ports.PortIgnore t call s =
+    unless_keeps beside_ports (port_alert (argument 0 call) s.memory.heap) t call _ s refl refl
 port_words_change_ports_and_schedule ports.NewMsg t call s =
-    spared (reply_port_alert (argument 0 call) s.memory.heap) t call _ s
-    (message_made_keeps _ (place_for_object is_message message_size s.memory) t call s)
-port_words_change_ports_and_schedule ports.FreeMsg t call s = spared (loose_alert (argument 0 call) s.memory.heap) t call _ s refl
-port_words_change_ports_and_schedule ports.MsgWord t call s = spared (message_alert (argument 0 call) s.memory.heap) t call _ s refl
-port_words_change_ports_and_schedule ports.SetMsgWord t call s = spared (message_alert (argument 0 call) s.memory.heap) t call _ s refl
-port_words_change_ports_and_schedule ports.MsgType t call s = spared (message_alert (argument 0 call) s.memory.heap) t call _ s refl
+    unless_keeps beside_ports (reply_port_alert (argument 0 call) s.memory.heap) t call _ s refl
+    (allocates_keeps beside_ports message_size _ (place_for_object is_message message_size s.memory) t call s refl (λ address. refl))
+port_words_change_ports_and_schedule ports.FreeMsg t call s =
+    unless_keeps beside_ports (loose_alert (argument 0 call) s.memory.heap) t call _ s refl refl
+port_words_change_ports_and_schedule ports.MsgWord t call s =
+    unless_keeps beside_ports (message_alert (argument 0 call) s.memory.heap) t call _ s refl refl
+port_words_change_ports_and_schedule ports.SetMsgWord t call s =
+    unless_keeps beside_ports (message_alert (argument 0 call) s.memory.heap) t call _ s refl refl
+port_words_change_ports_and_schedule ports.MsgType t call s =
+    unless_keeps beside_ports (message_alert (argument 0 call) s.memory.heap) t call _ s refl refl
 port_words_change_ports_and_schedule ports.PutMsg t call s =
-    spared (put_alert (argument 0 call) (argument 1 call) s.memory.heap) t call _ s refl
+    unless_keeps beside_ports (put_alert (argument 0 call) (argument 1 call) s.memory.heap) t call _ s refl refl
 port_words_change_ports_and_schedule ports.GetMsg t call s =
-    spared (port_alert (argument 0 call) s.memory.heap) t call _ s
+    unless_keeps beside_ports (port_alert (argument 0 call) s.memory.heap) t call _ s refl
     (taken_keeps (argument 0 call) (first (messages_of (argument 0 call) s.memory.heap)) t call s)
 port_words_change_ports_and_schedule ports.WaitPort t call s =
-    spared (wait_alert t (argument 0 call) s.memory.heap) t call _ s
+    unless_keeps beside_ports (wait_alert t (argument 0 call) s.memory.heap) t call _ s refl
     (looked_keeps (first (messages_of (argument 0 call) s.memory.heap)) _ t call s _ refl)
 port_words_change_ports_and_schedule ports.ReplyMsg t call s =
-    spared (reply_alert (argument 0 call) s.memory.heap) t call _ s
+    unless_keeps beside_ports (reply_alert (argument 0 call) s.memory.heap) t call _ s refl
     (replied_keeps (content_of (argument 0 call) s.memory.heap).reply t call (argument 0 call) s)
+
+-- a part of the schedule that both ways keep
+either_schedule : {A : Type 0} (part : Schedule → A) (a : A) (test : Bool) (r s : Schedule) → part r ≡ a → part s ≡ a
+    → part (if test then r else s) ≡ a
+either_schedule part a true r s first second = first
+either_schedule part a false r s first second = second
+
+-- a state in whose schedule the tasks' states change alone, or their priorities too
+states_change : (f : Schedule → Schedule) (s : State) → without_states (f s.schedule) ≡ without_states s.schedule
+    → beside_semaphores (on_schedule f s) ≡ beside_semaphores s
+states_change f s keeps = ap (λ (r : Schedule). (r, (s.latched, (s.memory.regions, (s.memory.pool, s.memory.public))))) keeps
+
+states_and_priorities_change : (f : Schedule → Schedule) (s : State)
+    → without_priorities (without_states (f s.schedule)) ≡ without_priorities (without_states s.schedule)
+    → beside_tasks (on_schedule f s) ≡ beside_tasks s
+states_and_priorities_change f s keeps = ap (λ (r : Schedule). (r, (s.latched, (s.memory.regions, (s.memory.pool, s.memory.public))))) keeps
+
+reprioritized_keeps : (t : ℕ) (pri : ℤ) (s : Schedule)
+    → without_priorities (without_states (reprioritized t pri s)) ≡ without_priorities (without_states s)
+unfolding reprioritized arrives
+reprioritized_keeps t pri s = either_schedule (λ r. without_priorities (without_states r)) _ (is_ready (status_of s t)) _ _ refl refl
+
+added_keeps : (t : ℕ) (s : Schedule) → without_priorities (without_states (added t s)) ≡ without_priorities (without_states s)
+unfolding added arrives
+added_keeps t s = either_schedule (λ r. without_priorities (without_states r)) _ (is_absent (status_of s t)) _ _ refl refl
+
+-- a mark is all that a task leaves behind which waits for a semaphore
+left_keeps : (semaphore : Option ℕ) (t : ℕ) (o : Outcome) (s : State) → beside_tasks o.state ≡ beside_tasks s
+    → beside_tasks (leaving_queue semaphore t o).state ≡ beside_tasks s
+left_keeps None t o s keeps = keeps
+left_keeps (Some semaphore) t o s keeps = keeps
+
+ended_keeps : (other t : ℕ) (call : Call) (s : State) → beside_tasks (ends_other other t call s).state ≡ beside_tasks s
+unfolding done removed
+ended_keeps other t call s = left_keeps (awaited_by other s.memory.heap) other _ s refl
+
+pub task_words_change_states_priorities_and_objects : TaskWordsChangeStatesPrioritiesAndObjects
+unfolding does_set_task_pri does_add_task does_rem_task does_find_task done answered leaves
+task_words_change_states_priorities_and_objects tasks.SetTaskPri t call s =
+    refused_keeps beside_tasks (not (is_live_task (argument 0 call) s.scripts s.schedule)) _ _ t call s refl
+    (refused_keeps beside_tasks (not (is_priority (cast_signed w32 (argument 1 call)))) _ _ t call s refl
+    (states_and_priorities_change (reprioritized _ _) s
+    (reprioritized_keeps (argument 0 call - 1) (cast_signed w32 (argument 1 call)) s.schedule)))
+task_words_change_states_priorities_and_objects tasks.AddTask t call s =
+    refused_keeps beside_tasks (not (is_task (argument 0 call) s.scripts)) _ _ t call s refl
+    (states_and_priorities_change (added _) s (added_keeps (argument 0 call - 1) s.schedule))
+task_words_change_states_priorities_and_objects tasks.RemTask t call s =
+    either beside_tasks _ (is_caller t (argument 0 call)) _ _ refl
+    (refused_keeps beside_tasks (not (is_live_task (argument 0 call) s.scripts s.schedule)) _ _ t call s refl (ended_keeps _ t call s))
+task_words_change_states_priorities_and_objects tasks.FindTask t call s = refl
+
+obtains_keeps : (how : Obtained) (semaphore t : ℕ) (call : Call) (s r : State) → beside_semaphores r ≡ beside_semaphores s
+    → beside_semaphores (obtains how semaphore t call r).state ≡ beside_semaphores s
+unfolding done waiting waits_at_semaphore
+obtains_keeps Owner semaphore t call s r keeps = keeps
+obtains_keeps Waits semaphore t call s r keeps = keeps
+
+woken_keeps : (t : ℕ) (s : Schedule) → without_states (woken t s) ≡ without_states s
+unfolding woken arrives
+woken_keeps t s = either_schedule without_states _ (is_at_semaphore (status_of s t)) _ _ refl refl
+
+passes_keeps : (owner : Option ℕ) (semaphore t : ℕ) (call : Call) (s r : State) → beside_semaphores r ≡ beside_semaphores s
+    → beside_semaphores (passes owner semaphore t call r).state ≡ beside_semaphores s
+unfolding done
+passes_keeps None semaphore t call s r keeps = keeps
+passes_keeps (Some owner) semaphore t call s r keeps = states_change (woken owner) r (woken_keeps owner r.schedule) ∙ keeps
+
+pub semaphore_words_change_states_and_objects : SemaphoreWordsChangeStatesAndObjects
+unfolding does_new_sem does_free_sem does_obtain_semaphore does_attempt_semaphore does_release_semaphore done answered
+semaphore_words_change_states_and_objects semaphores.NewSem t call s =
+    allocates_keeps beside_semaphores semaphore_size _ (place_for_object is_semaphore semaphore_size s.memory) t call s refl
+    (λ address. refl)
+semaphore_words_change_states_and_objects semaphores.FreeSem t call s =
+    unless_keeps beside_semaphores (free_sem_alert (argument 0 call) s.memory.heap) t call _ s refl refl
+semaphore_words_change_states_and_objects semaphores.ObtainSemaphore t call s =
+    either beside_semaphores _ (is_tried_again t s.scripts) _ _ refl
+    (unless_keeps beside_semaphores (obtain_alert t (argument 0 call) s.memory.heap) t call _ s refl
+    (obtains_keeps (outcome_for t (sem_of (argument 0 call) s.memory.heap)) (argument 0 call) t call s _ refl))
+semaphore_words_change_states_and_objects semaphores.AttemptSemaphore t call s =
+    unless_keeps beside_semaphores (obtain_alert t (argument 0 call) s.memory.heap) t call _ s refl refl
+semaphore_words_change_states_and_objects semaphores.ReleaseSemaphore t call s =
+    unless_keeps beside_semaphores (release_alert t (argument 0 call) s.memory.heap) t call _ s refl
+    (passes_keeps (heir (argument 0 call) s.memory.heap) (argument 0 call) t call s _ refl)

@@ -7,6 +7,7 @@ pub mod Nesting
 pub mod Tasks
 pub mod Memory
 pub mod Objects
+pub mod Semaphores
 pub mod Lists
 pub mod Ports
 pub mod Interrupts
@@ -16,4 +17,5 @@ pub mod Runs
 pub mod MemoryRuns
 pub mod ListRuns
 pub mod PortRuns
+pub mod SemaphoreRuns
 pub mod QuantumRuns

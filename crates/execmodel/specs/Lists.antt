@@ -8,7 +8,7 @@ use Rattle.execlist.specs.Order.{enqueue, first, without}
 use Rattle.execlist.specs.Lists.{Key, blank, last, name_is, part_after, part_before, put_after}
 use Rattle.taskscript.specs.declared.word.lists.ListWord.{ListWord}
 use Rattle.taskscript.specs.declared.word.lists.ListWord.TheVariants as word
-use Rattle.execmodel.specs.State.{Call, Object, Plain, ListHead, Node, MsgPort, Message, Block, Heap, State, Outcome, on_memory, on_heap}
+use Rattle.execmodel.specs.State.{Call, Object, Plain, ListHead, Node, MsgPort, Message, Semaphore, Block, Heap, State, Outcome, on_memory, on_heap}
 use Rattle.execmodel.specs.Calls.{argument, name_argument, done, answered, alerted}
 use Rattle.execmodel.specs.Memory.{allocates, freed}
 use Rattle.execmodel.specs.Objects.{object_at, is_kind, place_for_object, unless}
@@ -22,6 +22,7 @@ is_list (ListHead nodes) = true
 is_list (Node key) = false
 is_list (MsgPort port messages) = false
 is_list (Message content) = false
+is_list (Semaphore sem waiters) = false
 
 abbrev pub is_node : Object → Bool
 is_node Plain = false
@@ -29,6 +30,7 @@ is_node (ListHead nodes) = false
 is_node (Node key) = true
 is_node (MsgPort port messages) = false
 is_node (Message content) = false
+is_node (Semaphore sem waiters) = false
 
 -- a list, or a node, begins at an address
 unfoldable pub is_list_at : ℕ → Heap → Bool
@@ -44,6 +46,7 @@ nodes_in (ListHead nodes) = nodes
 nodes_in (Node key) = []
 nodes_in (MsgPort port messages) = []
 nodes_in (Message content) = []
+nodes_in (Semaphore sem waiters) = []
 
 abbrev pub nodes_of_object : Option Object → List ℕ
 nodes_of_object None = []
@@ -59,6 +62,7 @@ key_in (ListHead nodes) = blank
 key_in (Node key) = key
 key_in (MsgPort port messages) = blank
 key_in (Message content) = blank
+key_in (Semaphore sem waiters) = blank
 
 abbrev pub key_of_object : Option Object → Key
 key_of_object None = blank
@@ -96,6 +100,7 @@ left_by node (ListHead nodes) = ListHead (without node nodes)
 left_by node (Node key) = Node key
 left_by node (MsgPort port messages) = MsgPort port messages
 left_by node (Message content) = Message content
+left_by node (Semaphore sem waiters) = Semaphore sem waiters
 
 unfoldable pub unlinked : ℕ → Heap → Heap
 unlinked node heap = map (λ (entry : ℕ × Block). (entry.0, record entry.1 { object = left_by node entry.1.object })) heap

@@ -9,7 +9,7 @@ use Rattle.memlist.specs.Blocks.{Blocks}
 use Rattle.memlist.specs.Fit.{fit, avail, asks, round}
 use Rattle.taskscript.specs.declared.word.memory.MemoryWord.{MemoryWord}
 use Rattle.taskscript.specs.declared.word.memory.MemoryWord.TheVariants as word
-use Rattle.execmodel.specs.State.{Call, Object, Plain, ListHead, Node, MsgPort, Message, Block, Heap, Memory, State, Outcome, on_memory}
+use Rattle.execmodel.specs.State.{Call, Object, Plain, ListHead, Node, MsgPort, Message, Semaphore, Block, Heap, Memory, State, Outcome, on_memory}
 use Rattle.execmodel.specs.Calls.{argument, done, answered, alerted}
 
 -- ---- the heap
@@ -67,6 +67,7 @@ is_plain (ListHead nodes) = false
 is_plain (Node key) = false
 is_plain (MsgPort port messages) = false
 is_plain (Message content) = false
+is_plain (Semaphore sem waiters) = false
 
 -- whether there is a plain block, and the size names it: it is not 0 and rounds up to the block's size
 abbrev pub is_named : ℕ → Option Block → Bool

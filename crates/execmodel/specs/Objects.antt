@@ -1,5 +1,5 @@
 -- Objects: what begins at an address, and where a new object goes. An object takes a block of its own, with MEMF_PUBLIC (own choice).
-use Rattle.std.specs.Prelude.{ℕ, Bool, false, if◌then◌else◌, nat_lt, filter, length, List, Option, None, Some}
+use Rattle.std.specs.Prelude.{ℕ, Bool, false, if◌then◌else◌, nat_eq, nat_lt, filter, length, List, Option, None, Some}
 use Rattle.std.specs.Option.{option_map}
 use Rattle.execmodel.specs.State.{Call, Object, Block, Heap, Memory, State, Outcome}
 use Rattle.execmodel.specs.Calls.{alerted}
@@ -13,6 +13,10 @@ object_at address heap = option_map (λ block. block.object) (block_at address h
 abbrev pub is_kind : (Object → Bool) → Option Object → Bool
 is_kind kind None = false
 is_kind kind (Some object) = kind object
+
+-- the object that begins at an address becomes another
+abbrev pub replaced : ℕ → Object → ℕ × Block → ℕ × Block
+replaced address object entry = (entry.0, if nat_eq entry.0 address then record entry.1 { object = object } else entry.1)
 
 -- MEMF_PUBLIC
 abbrev pub public_memory : ℕ

@@ -1,42 +1,21 @@
 -- Small machines of ports and messages and their whole traces, as the definitions compute them.
-use Rattle.std.specs.Prelude.{◌≡◌, ℕ, pos, negsuc, List, [], ◌∷◌, Some, codes}
-use Rattle.exectrace.specs.Trace.{printed}
-use Rattle.taskscript.specs.declared.word.Word.{Word}
+use Rattle.std.specs.Prelude.{◌≡◌, pos, negsuc, List, [], ◌∷◌, codes}
 use Rattle.taskscript.specs.declared.word.Word.TheVariants.{Signals, Memory, Ports}
 use Rattle.taskscript.specs.declared.word.task_signals.SignalWord.TheVariants.{AllocSignal, FreeSignal, SetSignal, Signal, Wait}
 use Rattle.taskscript.specs.declared.word.memory.MemoryWord.TheVariants.{AvailMem}
 use Rattle.taskscript.specs.declared.word.ports.PortWord.TheVariants.{CreateMsgPort, DeleteMsgPort, AddPort, RemPort, FindPort, PortSignal, PortIgnore, NewMsg, FreeMsg, MsgWord, SetMsgWord, MsgType, PutMsg, GetMsg, WaitPort, ReplyMsg}
 use Rattle.taskscript.specs.declared.variable.Variable.TheVariants.{Private, Shared}
-use Rattle.taskscript.specs.declared.event.Event.{Event}
 use Rattle.taskscript.specs.declared.event.Event.TheVariants.{Run}
-use Rattle.taskscript.specs.Commands.{ArgumentData, number, variable, quoted, CommandData}
+use Rattle.taskscript.specs.Commands.{number, variable, quoted, CommandData}
 use Rattle.taskscript.specs.File.{TaskData}
-use Rattle.memlist.specs.declared.region.Region.{Region}
-use Rattle.execmodel.specs.Step.{run}
-use Rattle.execmodel.specs.Runs.{command, task}
+use Rattle.execmodel.specs.Runs.{command, task, trace_over, alone, into_shared}
 use Rattle.execmodel.specs.MemoryRuns.{into}
-
--- so many bytes of public memory: a port takes 40 of them, and a message 24
-abbrev pub room : ℕ → List Region
-room size = record { base = 4096; size = size; attrs = 1; pri = pos 0 } ∷ []
-
--- the bytes that a machine of so much memory writes, where so many ports may live, and so many messages
-abbrev pub trace_over : ℕ → ℕ → List TaskData → List Event → List ℕ
-trace_over size pool tasks list = printed (run (record { quantum = 4; pool = pool; regions = room size; tasks = tasks }) list).lines
-
--- one task
-abbrev pub alone : List CommandData → List TaskData
-alone code = task (codes "a") (pos 0) code ∷ []
 
 -- two tasks, the second one of a lower priority
 abbrev pub beside : List CommandData → List CommandData → List TaskData
 beside first second = task (codes "a") (pos 0) first ∷ task (codes "b") (negsuc 0) second ∷ []
 
--- a command whose answer goes into a shared variable
-abbrev pub into_shared : ℕ → Word → List ArgumentData → CommandData
-into_shared k word arguments = record { word = word; target = Some (Shared k); arguments = arguments }
-
--- ---- machines
+-- ---- machines: a port takes 40 bytes, and a message 24
 
 abbrev pub takes_three_messages : List TaskData
 takes_three_messages = beside

@@ -18,11 +18,11 @@ use Rattle.msgport.specs.Port.{Port, acting, new_port, wait_bit}
 use Rattle.msgport.specs.Ports.{new_message, nt_freemsg, nt_message, nt_replymsg}
 use Rattle.taskscript.specs.declared.word.ports.PortWord.{PortWord}
 use Rattle.taskscript.specs.declared.word.ports.PortWord.TheVariants as word
-use Rattle.execmodel.specs.State.{Call, Object, Plain, ListHead, Node, MsgPort, Message, Block, Heap, PublicPort, Memory, State, Outcome, put, got, leaving, on_schedule, on_memory, on_heap}
+use Rattle.execmodel.specs.State.{Call, Object, Plain, ListHead, Node, MsgPort, Message, Semaphore, Block, Heap, PublicPort, Memory, State, Outcome, put, got, leaving, on_schedule, on_memory, on_heap}
 use Rattle.execmodel.specs.Calls.{argument, name_argument, done, answered, waiting}
 use Rattle.execmodel.specs.Scheduling.{signalled}
 use Rattle.execmodel.specs.Memory.{allocates as memory_allocated, freed, placed}
-use Rattle.execmodel.specs.Objects.{object_at, is_kind, place_for_object, unless}
+use Rattle.execmodel.specs.Objects.{object_at, is_kind, place_for_object, replaced, unless}
 use Rattle.execmodel.specs.Tasks.{is_priority}
 
 -- ---- ports and messages in memory
@@ -33,6 +33,7 @@ is_port (ListHead nodes) = false
 is_port (Node key) = false
 is_port (MsgPort port messages) = true
 is_port (Message content) = false
+is_port (Semaphore sem waiters) = false
 
 abbrev pub is_message : Object → Bool
 is_message Plain = false
@@ -40,6 +41,7 @@ is_message (ListHead nodes) = false
 is_message (Node key) = false
 is_message (MsgPort port messages) = false
 is_message (Message content) = true
+is_message (Semaphore sem waiters) = false
 
 -- a port, or a message, begins at an address
 unfoldable pub is_port_at : ℕ → Heap → Bool
@@ -54,6 +56,7 @@ port_in (ListHead nodes) = new_port 0 0
 port_in (Node key) = new_port 0 0
 port_in (MsgPort port messages) = port
 port_in (Message content) = new_port 0 0
+port_in (Semaphore sem waiters) = new_port 0 0
 
 abbrev pub port_of_object : Option Object → Port
 port_of_object None = new_port 0 0
@@ -69,6 +72,7 @@ messages_in (ListHead nodes) = []
 messages_in (Node key) = []
 messages_in (MsgPort port messages) = messages
 messages_in (Message content) = []
+messages_in (Semaphore sem waiters) = []
 
 abbrev pub messages_of_object : Option Object → List ℕ
 messages_of_object None = []
@@ -84,6 +88,7 @@ content_in (ListHead nodes) = new_message 0 0
 content_in (Node key) = new_message 0 0
 content_in (MsgPort port messages) = new_message 0 0
 content_in (Message content) = content
+content_in (Semaphore sem waiters) = new_message 0 0
 
 abbrev pub content_of_object : Option Object → Content
 content_of_object None = new_message 0 0
@@ -99,10 +104,6 @@ has_message message entry = list_any (λ other. other == message) (messages_in e
 
 unfoldable pub is_queued : ℕ → Heap → Bool
 is_queued message heap = list_any (has_message message) heap
-
--- the port, or the message, that begins at an address becomes another
-abbrev pub replaced : ℕ → Object → ℕ × Block → ℕ × Block
-replaced address object entry = (entry.0, if nat_eq entry.0 address then record entry.1 { object = object } else entry.1)
 
 unfoldable pub with_port : ℕ → Port → List ℕ → Heap → Heap
 with_port address port messages heap = map (replaced address (MsgPort port messages)) heap

@@ -12,6 +12,7 @@ use Rattle.taskscript.specs.declared.event.Event.{Event}
 use Rattle.taskscript.specs.declared.event.Event.TheVariants.{Run}
 use Rattle.taskscript.specs.Commands.{ArgumentData, number, variable, place, CommandData}
 use Rattle.taskscript.specs.File.{MachineData, TaskData}
+use Rattle.memlist.specs.declared.region.Region.{Region}
 use Rattle.execmodel.specs.Step.{run}
 
 -- a command without a target
@@ -27,6 +28,22 @@ machine tasks = record { quantum = 4; pool = 64; regions = []; tasks = tasks }
 -- the bytes that a machine writes over these events
 abbrev pub trace_of : List TaskData → List Event → List ℕ
 trace_of tasks events = printed (run (machine tasks) events).lines
+
+-- so many bytes of public memory
+abbrev pub room : ℕ → List Region
+room size = record { base = 4096; size = size; attrs = 1; pri = pos 0 } ∷ []
+
+-- the bytes that a machine of so much memory writes, where so many objects of each kind may live
+abbrev pub trace_over : ℕ → ℕ → List TaskData → List Event → List ℕ
+trace_over size pool tasks list = printed (run (record { quantum = 4; pool = pool; regions = room size; tasks = tasks }) list).lines
+
+-- one task
+abbrev pub alone : List CommandData → List TaskData
+alone code = task (codes "a") (pos 0) code ∷ []
+
+-- a command whose answer goes into a shared variable
+abbrev pub into_shared : ℕ → Word → List ArgumentData → CommandData
+into_shared k word arguments = record { word = word; target = Some (Shared k); arguments = arguments }
 
 -- ---- machines
 

@@ -11,6 +11,7 @@ use Rattle.memlist.specs.declared.region.Region.{Region}
 use Rattle.execlist.specs.Lists.{Key}
 use Rattle.msgport.specs.Port.{Port}
 use Rattle.msgport.specs.declared.message.Message.{Message as Content}
+use Rattle.sigsem.specs.declared.semaphore.Sem.{Sem}
 
 -- a command of a task with the values that its arguments had when it was first tried, and the place of the command after it; and, where
 -- the task waits in it at a port, the signals that it waits for, else 0
@@ -47,6 +48,9 @@ pub data Object : Type 0 where
   MsgPort : (port : Port) (messages : List ℕ) → Object
   -- a message, with its type, its word, and the address of its reply port or 0
   Message : (content : Content) → Object
+  -- a semaphore, with its owner or none, how often the owner has to release it, and the tasks that wait for it in order of request
+  -- (RKM Libraries, Exec Semaphores)
+  Semaphore : (sem : Sem) (waiters : List ℕ) → Object
 
 -- a block of memory, and what begins there
 pub record Block : Type 0 where

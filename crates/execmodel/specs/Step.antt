@@ -3,7 +3,7 @@ use Rattle.std.specs.Prelude.{ℕ, zero, suc, true, if◌then◌else◌, List, [
 use Rattle.exectrace.specs.Trace.{Value, Done, Switch, Idle}
 use Rattle.exectrace.specs.Trace as trace
 use Rattle.taskscript.specs.declared.word.Word.{Word}
-use Rattle.taskscript.specs.declared.word.Word.TheVariants.{Plain, Signals, Nesting, Tasks, Lists, Memory, Ports}
+use Rattle.taskscript.specs.declared.word.Word.TheVariants.{Plain, Signals, Nesting, Tasks, Lists, Memory, Ports, Semaphores}
 use Rattle.taskscript.specs.declared.event.Event.{Event}
 use Rattle.taskscript.specs.declared.event.Event.TheVariants.{Run, Tick}
 use Rattle.taskscript.specs.File.{MachineData}
@@ -21,6 +21,7 @@ use Rattle.execmodel.specs.Tasks.{does_tasks}
 use Rattle.execmodel.specs.Lists.{does_lists}
 use Rattle.execmodel.specs.Memory.{does_memory}
 use Rattle.execmodel.specs.Ports.{does_ports}
+use Rattle.execmodel.specs.Semaphores.{does_semaphores}
 
 -- ---- settle
 
@@ -49,6 +50,7 @@ does_word (Tasks word) t call s = does_tasks word t call s
 does_word (Lists word) t call s = does_lists word t call s
 does_word (Memory word) t call s = does_memory word t call s
 does_word (Ports word) t call s = does_ports word t call s
+does_word (Semaphores word) t call s = does_semaphores word t call s
 
 unfoldable pub does : ℕ → Call → State → Outcome
 does t call s = does_word call.word t call s

@@ -5,10 +5,11 @@ use Rattle.taskq.specs.Tasks.{is_live}
 use Rattle.scheduler.specs.Schedule.{Schedule, status_of, priority_of, is_absent, leaves, removed, found}
 use Rattle.taskscript.specs.declared.word.tasks.TaskWord.{TaskWord}
 use Rattle.taskscript.specs.declared.word.tasks.TaskWord.TheVariants as word
-use Rattle.execmodel.specs.State.{Call, Scripts, State, Outcome, on_schedule}
+use Rattle.execmodel.specs.State.{Call, Scripts, State, Outcome, on_schedule, on_memory, on_heap}
 use Rattle.execmodel.specs.Scheduling.{added, reprioritized}
 use Rattle.execmodel.specs.Calls.{argument, name_argument, done, answered, alerted}
 use Rattle.execmodel.specs.Signals.{is_task}
+use Rattle.execmodel.specs.Semaphores.{awaited_by, dropped, leaving_queue}
 
 -- there is a live task of that number
 abbrev pub is_live_task : ℕ → Scripts → Schedule → Bool
@@ -40,13 +41,20 @@ does_add_task t call s =
 abbrev pub is_caller : ℕ → ℕ → Bool
 is_caller t number = nat_eq number 0 || nat_eq (number - 1) t
 
--- RemTask task: ends the caller, or another live task, which is ready or waits (autodoc exec.library/RemTask; the alert: own choice)
+-- a task that does not run ends; where it waits for a semaphore, it does so no more
+abbrev pub ends_other : ℕ → ℕ → Call → State → Outcome
+ends_other other t call s =
+    leaving_queue (awaited_by other s.memory.heap) other
+    (done t call (on_schedule (removed other) (on_memory (on_heap (dropped other)) s)))
+
+-- RemTask task: ends the caller, or another live task, which is ready or waits. What it owns stays its own (autodoc exec.library/RemTask;
+-- the alert, and that a waiting task may be ended: own choice).
 unfoldable pub does_rem_task : ℕ → Call → State → Outcome
 does_rem_task t call s =
     let number = argument 0 call in
     if is_caller t number then done t call (on_schedule (leaves t) s)
     else (if not (is_live_task number s.scripts s.schedule) then alerted (codes "HANDLE") t call s
-    else done t call (on_schedule (removed (number - 1)) s))
+    else ends_other (number - 1) t call s)
 
 -- the number of a task, or 0 for none
 abbrev pub number_or_none : Option ℕ → ℕ

@@ -7,6 +7,7 @@ pub mod list_runs;
 pub mod memory_runs;
 pub mod port_runs;
 pub mod quantum_runs;
+pub mod semaphore_runs;
 
 ghost use Rattle.execmodel.specs.Runs.{CalculatesAndJumps, AllocatesSignals, AllocatesTheHighest, PrintsOnce, StartsWithoutEvents, IdlesWithoutTasks, IdlesOnce, SignalAsksForATask, NothingFollowsAnAlert, WaitAsksForSignalsOfScripts, SignalWakesAHigherTask, EqualPriorityDoesNotPreempt, APreemptedTaskArrivesAnew, AWaitKeepsItsMask, ForbidKeepsOthersOff, AWaitBreaksForbid, TheSamePriorityArrivesAnew, APriorityIsASignedWord, AnEndedTaskIsNotAdded};
 

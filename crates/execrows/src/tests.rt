@@ -8,6 +8,8 @@ mod not_simulated;
 mod ports;
 mod quantum;
 mod running;
+mod semaphore_waits;
+mod semaphores;
 mod task_signals;
 mod tasks;
 mod texts;

@@ -2,18 +2,20 @@
 use Rattle.std.proofs.Common.{◌≡◌, ℕ, ◌-◌, true, false, List, Option, None, Some, refl, ap, sym, ◌∙◌, subst}
 use Rattle.std.specs.Prelude.{codes, if◌then◌else◌}
 use Rattle.std.specs.Int.{cast_signed, cast_unsigned, w32}
-use Rattle.exectrace.specs.Sink.{Tape}
+use Rattle.exectrace.specs.Sink.{Tape, Puts}
+use Rattle.exectrace.specs.Trace.{printed}
 use Rattle.execlist.specs.Lists.{times}
 use Rattle.taskq.specs.Tasks.{is_ready}
 use Rattle.scheduler.specs.Schedule.{Schedule, status_of, priority_of, is_absent, leaves, removed, found}
 use Rattle.scheduler.specs.Dispatch as dispatch
-use Rattle.execmodel.specs.State.{Call, State, on_schedule}
+use Rattle.execmodel.specs.State.{Call, State, Outcome, on_schedule, on_heap}
 use Rattle.execmodel.specs.Scheduling.{added, reprioritized}
 use Rattle.execmodel.specs.Calls.{argument, name_argument, done, answered, alerted}
 use Rattle.execmodel.specs.Signals.{is_task}
-use Rattle.execmodel.specs.Tasks.{is_live_task, is_priority, is_caller, does_set_task_pri, does_add_task, does_rem_task, found_number, does_find_task}
+use Rattle.execmodel.specs.Semaphores.{awaited_by, dropped, leaving_queue}
+use Rattle.execmodel.specs.Tasks.{is_live_task, is_priority, is_caller, ends_other, does_set_task_pri, does_add_task, does_rem_task, found_number, does_find_task}
 use Rattle.execsim.specs.Agreement.{Seen, Agrees, Follows, in_order}
-use Rattle.execsim.proofs.Following.{reads_schedule, reads_scripts, moves_schedule, moves_schedule_seen, follows_as, follows_change}
+use Rattle.execsim.proofs.Following.{reads_schedule, reads_scripts, moves_memory, moves_schedule, moves_schedule_seen, follows_as, follows_change}
 use Rattle.execsim.proofs.Ordering.{added-in_order, leaves-in_order, removed-in_order, reprioritized-in_order}
 
 -- the same numbers are those of live tasks
@@ -21,6 +23,24 @@ live_same : {m : Seen} (number : ℕ) (s : State) → Agrees m s → is_live_tas
 live_same {m} number s e =
     ap (λ scripts. is_live_task number scripts s.schedule) (sym e.scripts)
     ∙ reads_schedule (λ y. is_live_task number m.scripts y) (λ y. refl) refl s e
+
+-- the mark of a task that is removed changes nothing else
+module _ (t : ℕ) (o : Outcome) where
+  queue_state : (semaphore : Option ℕ) → (leaving_queue semaphore t o).state ≡ o.state
+  queue_state None = refl
+  queue_state (Some semaphore) = refl
+
+  queue_lines : (semaphore : Option ℕ) → (leaving_queue semaphore t o).lines ≡ o.lines
+  queue_lines None = refl
+  queue_lines (Some semaphore) = refl
+
+-- an action that leaves the mark of a task that is removed, too
+follows_queue : {f : State → Outcome} {m n : Seen} {a b : Tape} (semaphore : State → Option ℕ) (t : ℕ) → Follows f m n a b
+    → Follows (λ s. leaving_queue (semaphore s) t (f s)) m n a b
+follows_queue {f} {m} {n} {a} {b} semaphore t follows = record {
+  agrees = λ s e. subst (Agrees n) (sym (queue_state t (f s) (semaphore s))) (follows.agrees s e);
+  prints = λ s e. subst (λ lines. Puts a b (printed lines)) (sym (queue_lines t (f s) (semaphore s))) (follows.prints s e);
+}
 
 found_number-in_order : (t : ℕ) (name : Option (List ℕ)) (y : Schedule) → found_number t name (in_order y) ≡ found_number t name y
 unfolding found
@@ -90,13 +110,20 @@ module _ {m n : Seen} {a b : Tape} (t : ℕ) (call : Call) where
       (λ s e. let same : is_live_task (argument 0 call) s.scripts s.schedule ≡ false = live_same (argument 0 call) s e ∙ unknown in rw (other, same) refl) follows
 
   pub rem_other : {o : Seen} → is_caller t (argument 0 call) ≡ false → is_live_task (argument 0 call) m.scripts m.schedule ≡ true
-      → n ≡ record m { schedule = removed (argument 0 call - 1) m.schedule }
+      → n ≡ record m {
+        schedule = removed (argument 0 call - 1) m.schedule;
+        memory = on_heap (dropped (argument 0 call - 1)) m.memory;
+      }
       → Follows (done t call) n o a b → Follows (does_rem_task t call) m o a b
   unfolding does_rem_task
-  rem_other other live is follows = follows_as
-      {g = λ s. done t call (on_schedule (removed (argument 0 call - 1)) s)}
+  rem_other other live is follows =
+      let number = argument 0 call - 1 in
+      follows_as {g = ends_other number t call}
       (λ s e. let same : is_live_task (argument 0 call) s.scripts s.schedule ≡ true = live_same (argument 0 call) s e ∙ live in rw (other, same) refl)
-      (follows_change (moves_schedule (removed (argument 0 call - 1)) (removed (argument 0 call - 1)) (removed-in_order (argument 0 call - 1)) is) follows)
+      (follows_queue (λ s. awaited_by number s.memory.heap) number
+      (follows_change {n = record m { memory = on_heap (dropped number) m.memory }}
+      (moves_memory (on_heap (dropped number)) (on_heap (dropped number)) (λ y. refl) refl)
+      (follows_change (moves_schedule (removed number) (removed number) (removed-in_order number) is) follows)))
 
   pub task_found : (answer : ℕ) → answer ≡ found_number t (name_argument 0 call) m.schedule → Follows (answered t call answer) m n a b
       → Follows (does_find_task t call) m n a b

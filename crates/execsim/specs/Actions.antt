@@ -1,13 +1,15 @@
--- What is done for a message that has arrived, with the ready tasks in the order in which they are to run; and how a call on a port ends
--- that has more to do than its change of memory.
-use Rattle.std.specs.Prelude.{ℕ, Result, Ok, Err}
-use Rattle.scheduler.specs.Schedule.{Schedule, frees}
-use Rattle.scheduler.specs.Dispatch.{signalled}
+-- What is done for a message that has arrived, or for the new owner of a semaphore, with the ready tasks in the order in which they are to
+-- run; and how a call on a port or a semaphore ends that has more to do than its change of memory.
+use Rattle.std.specs.Prelude.{ℕ, if◌then◌else◌, Option, Result, Ok, Err}
+use Rattle.scheduler.specs.Schedule.{Schedule, frees, is_at_semaphore, status_of}
+use Rattle.scheduler.specs.Dispatch.{arrives, signalled}
 use Rattle.msgport.specs.declared.action.Action.{Action}
 use Rattle.msgport.specs.declared.action.Action.TheVariants as action
 use Rattle.execmodel.specs.State.{Call, State, Outcome, on_schedule}
 use Rattle.execmodel.specs.Calls.{done, alerted}
 use Rattle.execmodel.specs.Ports as model
+use Rattle.execmodel.specs.Semaphores.{obtains, passes}
+use Rattle.sigsem.specs.declared.semaphore.Obtained.{Obtained}
 use Rattle.execheap.specs.declared.refusal.Refusal.{Refusal}
 use Rattle.execheap.specs.Refusals.{code_of}
 
@@ -25,3 +27,17 @@ performed_or_alerted (Err why) t call s = alerted (code_of why) t call s
 abbrev pub given_back_or_alerted : Result (ℕ × ℕ) Refusal → ℕ → Call → State → Outcome
 given_back_or_alerted (Ok owner) t call s = done t call (on_schedule (frees owner.0 owner.1) s)
 given_back_or_alerted (Err why) t call s = alerted (code_of why) t call s
+
+-- a task that waits for a semaphore becomes ready
+abbrev pub woken : ℕ → Schedule → Schedule
+woken t s = if is_at_semaphore (status_of s t) then arrives t s else s
+
+-- a call by which a task asks for a semaphore: it goes on as the answer says, or stops the machine by its alert
+abbrev pub obtains_or_alerted : Result Obtained Refusal → ℕ → ℕ → Call → State → Outcome
+obtains_or_alerted (Ok how) semaphore t call s = obtains how semaphore t call s
+obtains_or_alerted (Err why) semaphore t call s = alerted (code_of why) t call s
+
+-- a call that releases a semaphore: the new owner, if there is one, becomes ready; or the machine stops by the call's alert
+abbrev pub passes_or_alerted : Result (Option ℕ) Refusal → ℕ → ℕ → Call → State → Outcome
+passes_or_alerted (Ok owner) semaphore t call s = passes owner semaphore t call s
+passes_or_alerted (Err why) semaphore t call s = alerted (code_of why) t call s

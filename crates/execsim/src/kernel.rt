@@ -73,7 +73,7 @@ impl<S: ListSpace> Kernel<S> {
     }
 
     /// The program of task t.
-    fn program(&self, t: TaskId) -> &Program
+    pub(crate) fn program(&self, t: TaskId) -> &Program
         requires { t < length self.now.scripts.programs }
         ensures { result.now ≡ program_of self.now.scripts t }
     {

@@ -13,6 +13,7 @@ mod nesting;
 mod plain;
 mod ports;
 mod program;
+mod semaphores;
 mod simulation;
 mod step;
 mod task_signals;

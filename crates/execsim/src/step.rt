@@ -84,6 +84,7 @@ impl<S: ListSpace> Kernel<S> {
             Word::Lists(word) => self.does_lists(word, t, call, out),
             Word::Memory(word) => self.does_memory(word, t, call, out),
             Word::Ports(word) => self.does_ports(word, t, call, out),
+            Word::Semaphores(word) => self.does_semaphores(word, t, call, out),
         }
     }
 

@@ -6,6 +6,8 @@ ghost use Rattle.execlist.specs.Lists.{times};
 ghost use Rattle.taskq.specs.Tasks.{is_live, is_ready};
 ghost use Rattle.scheduler.specs.Dispatch as dispatch;
 ghost use Rattle.scheduler.specs.Schedule.{status_of, priority_of, is_absent, leaves, removed};
+ghost use Rattle.execmodel.specs.State.{on_heap};
+ghost use Rattle.execmodel.specs.Semaphores.{dropped};
 ghost use Rattle.execmodel.specs.Tasks.{is_live_task, is_priority, is_caller, found_number, does_set_task_pri, does_add_task, does_rem_task, does_find_task, does_tasks};
 ghost use Rattle.execsim.specs.Agreement.{Follows};
 ghost use Rattle.execsim.specs.Views.{call_view};
@@ -77,12 +79,17 @@ impl<S: ListSpace> Kernel<S> {
         self.sched.leave();
     }
 
-    /// Ends a live task that does not run.
+    /// Ends a live task that does not run; where it waits for a semaphore, it does so no more.
     fn remove_task(&mut self, t: TaskId)
         requires live { IsTrue (is_live (status_of self.old.schedule t)) }
+        requires known { t < length self.old.scripts.programs }
         requires stopped { self.old.schedule.running ≢ Some t }
-        ensures { self.new ≡ record self.old { schedule = removed t self.old.schedule } }
+        ensures { self.new ≡ record self.old {
+          schedule = removed t self.old.schedule;
+          memory = on_heap (dropped t) self.old.memory;
+        } }
     {
+        self.memory.drop_waiter(t);
         self.sched.remove(t);
     }
 

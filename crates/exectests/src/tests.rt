@@ -4,6 +4,7 @@ mod comparing;
 mod event_texts;
 mod heap_lists;
 mod heap_ports;
+mod heap_semaphores;
 mod lists;
 mod machine_files;
 mod memory;

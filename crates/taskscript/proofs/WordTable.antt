@@ -2,7 +2,7 @@
 use Rattle.std.proofs.Common.{◌≡◌, ◌≤◌, lit≤, false, nat_le, length, Some, refl}
 use Rattle.std.specs.Prelude.{slice_index}
 use Rattle.taskscript.specs.declared.word.Word.{Word}
-use Rattle.taskscript.specs.declared.word.Word.TheVariants.{Plain, Signals, Nesting, Tasks, Lists, Memory, Ports}
+use Rattle.taskscript.specs.declared.word.Word.TheVariants.{Plain, Signals, Nesting, Tasks, Lists, Memory, Ports, Semaphores}
 use Rattle.taskscript.specs.declared.word.plain.PlainWord.TheVariants.{Set, Add, Sub, And, Or, Jump, JumpZ, JumpNZ, Print}
 use Rattle.taskscript.specs.declared.word.task_signals.SignalWord.TheVariants.{AllocSignal, FreeSignal, SetSignal, Signal, Wait}
 use Rattle.taskscript.specs.declared.word.nesting.NestingWord.TheVariants.{Forbid, Permit, Disable, Enable}
@@ -10,6 +10,7 @@ use Rattle.taskscript.specs.declared.word.tasks.TaskWord.TheVariants.{SetTaskPri
 use Rattle.taskscript.specs.declared.word.lists.ListWord.TheVariants.{NewList, FreeList, NewNode, FreeNode, AddHead, AddTail, Enqueue, Insert, Remove, RemHead, RemTail, First, Last, Succ, Pred, FindName}
 use Rattle.taskscript.specs.declared.word.memory.MemoryWord.TheVariants.{AllocMem, FreeMem, AvailMem}
 use Rattle.taskscript.specs.declared.word.ports.PortWord.TheVariants.{CreateMsgPort, DeleteMsgPort, AddPort, RemPort, FindPort, PortSignal, PortIgnore, NewMsg, FreeMsg, MsgWord, SetMsgWord, MsgType, PutMsg, GetMsg, WaitPort, ReplyMsg}
+use Rattle.taskscript.specs.declared.word.semaphores.SemaphoreWord.TheVariants.{NewSem, FreeSem, ObtainSemaphore, AttemptSemaphore, ReleaseSemaphore}
 use Rattle.taskscript.specs.Words.{word_text, word_of, kinds}
 
 -- no word has more than four arguments
@@ -71,6 +72,11 @@ few_kinds (Ports PutMsg) = lit≤ tt
 few_kinds (Ports GetMsg) = lit≤ tt
 few_kinds (Ports WaitPort) = lit≤ tt
 few_kinds (Ports ReplyMsg) = lit≤ tt
+few_kinds (Semaphores NewSem) = lit≤ tt
+few_kinds (Semaphores FreeSem) = lit≤ tt
+few_kinds (Semaphores ObtainSemaphore) = lit≤ tt
+few_kinds (Semaphores AttemptSemaphore) = lit≤ tt
+few_kinds (Semaphores ReleaseSemaphore) = lit≤ tt
 
 -- a word is the word of its text
 pub word_known : (w : Word) → word_of (word_text w) ≡ Some w
@@ -131,6 +137,11 @@ word_known (Ports PutMsg) = refl
 word_known (Ports GetMsg) = refl
 word_known (Ports WaitPort) = refl
 word_known (Ports ReplyMsg) = refl
+word_known (Semaphores NewSem) = refl
+word_known (Semaphores FreeSem) = refl
+word_known (Semaphores ObtainSemaphore) = refl
+word_known (Semaphores AttemptSemaphore) = refl
+word_known (Semaphores ReleaseSemaphore) = refl
 
 -- a word begins with no small letter
 pub word_is_capital : (w : Word) → nat_le 97 (slice_index (word_text w) 0) ≡ false
@@ -191,3 +202,8 @@ word_is_capital (Ports PutMsg) = refl
 word_is_capital (Ports GetMsg) = refl
 word_is_capital (Ports WaitPort) = refl
 word_is_capital (Ports ReplyMsg) = refl
+word_is_capital (Semaphores NewSem) = refl
+word_is_capital (Semaphores FreeSem) = refl
+word_is_capital (Semaphores ObtainSemaphore) = refl
+word_is_capital (Semaphores AttemptSemaphore) = refl
+word_is_capital (Semaphores ReleaseSemaphore) = refl

@@ -19,6 +19,7 @@ pub mod PlainWords
 pub mod PortWords
 pub mod Records
 pub mod Rows
+pub mod SemaphoreWords
 pub mod SignalWords
 pub mod TaskWords
 pub mod Tree

@@ -39,6 +39,6 @@ pub use name::Name;
 pub use reading::read_machine;
 pub use variable::{Variable, VariableName};
 pub use word::{
-    Kind, ListWord, MemoryWord, NestingWord, PlainWord, PortWord, SignalWord, TaskWord, Word,
-    word_of,
+    Kind, ListWord, MemoryWord, NestingWord, PlainWord, PortWord, SemaphoreWord, SignalWord,
+    TaskWord, Word, word_of,
 };

@@ -11,6 +11,7 @@ mod nesting;
 mod plain;
 mod ports;
 mod row;
+mod semaphores;
 mod task_signals;
 mod tasks;
 
@@ -21,6 +22,7 @@ pub use plain::PlainWord;
 pub use ports::PortWord;
 pub use row::Kind;
 use row::Row;
+pub use semaphores::SemaphoreWord;
 pub use task_signals::SignalWord;
 pub use tasks::TaskWord;
 
@@ -41,6 +43,8 @@ pub enum Word {
     Memory(MemoryWord),
     /// A call on message ports and messages.
     Ports(PortWord),
+    /// A call on signal semaphores.
+    Semaphores(SemaphoreWord),
 }
 
 impl Word {
@@ -55,6 +59,7 @@ impl Word {
             Word::Lists(word) => word.row(),
             Word::Memory(word) => word.row(),
             Word::Ports(word) => word.row(),
+            Word::Semaphores(word) => word.row(),
         }
     }
 
@@ -98,4 +103,5 @@ pub fn word_of(text: &str) -> Option<Word>
         .or(found(&lists::ALL, text))
         .or(found(&memory::ALL, text))
         .or(found(&ports::ALL, text))
+        .or(found(&semaphores::ALL, text))
 }

@@ -4,7 +4,7 @@ use execsim::SimFault;
 use std::test::*;
 use taskscript::{EventFault, FileFault};
 
-static REFUSED: [Refused; 5] = [
+static REFUSED: [Refused; 7] = [
     Refused {
         name: "AllocVec is no command",
         machine: "[[task]]\nname = \"a\"\ncode = [\"AllocVec 8 1\"]\n",
@@ -14,6 +14,18 @@ static REFUSED: [Refused; 5] = [
     Refused {
         name: "BeginIO is no command",
         machine: "[[task]]\nname = \"a\"\ncode = [\"BeginIO 4096\"]\n",
+        events: "run 1\n",
+        fault: SimFault::File(FileFault::BadCommand),
+    },
+    Refused {
+        name: "ObtainSemaphoreShared is no command",
+        machine: "[[task]]\nname = \"a\"\ncode = [\"ObtainSemaphoreShared 4096\"]\n",
+        events: "run 1\n",
+        fault: SimFault::File(FileFault::BadCommand),
+    },
+    Refused {
+        name: "Procure is no command",
+        machine: "[[task]]\nname = \"a\"\ncode = [\"Procure 4096 8192\"]\n",
         events: "run 1\n",
         fault: SimFault::File(FileFault::BadCommand),
     },

@@ -10,8 +10,8 @@ use std::alloc::Global;
 use std::process::Abort;
 use std::test::Fail;
 
-/// A machine of a run. `Task`, `Pool` and `Tasks` have 4,096 bytes of public memory from $1000 on; lines of a task stand each in single
-/// quotes.
+/// A machine of a run. `Task`, `Pool`, `Tasks` and `Three` have 4,096 bytes of public memory from $1000 on; lines of a task stand each in
+/// single quotes.
 #[derive(Clone, Copy)]
 pub(crate) enum Machine {
     /// A whole machine file.
@@ -24,6 +24,8 @@ pub(crate) enum Machine {
     Region(usize, &'static str),
     /// Two tasks with these lines: `a` of priority 1, and `b` of priority 0.
     Tasks(&'static str, &'static str),
+    /// Three tasks `a`, `b` and `c` of priority 0, with these lines.
+    Three(&'static str, &'static str, &'static str),
 }
 
 /// A run, with its whole trace and how it ends.
@@ -104,6 +106,12 @@ fn text_of(alloc: Global, machine: Machine) -> Result<String, Fail> {
             "[[region]]\nbase = 4096\nsize = 4096\n\
              [[task]]\nname = \"a\"\npri = 1\ncode = [{lines_of_a}]\n\
              [[task]]\nname = \"b\"\ncode = [{lines_of_b}]\n"
+        )?,
+        Machine::Three(lines_of_a, lines_of_b, lines_of_c) => format!(in alloc;
+            "[[region]]\nbase = 4096\nsize = 4096\n\
+             [[task]]\nname = \"a\"\ncode = [{lines_of_a}]\n\
+             [[task]]\nname = \"b\"\ncode = [{lines_of_b}]\n\
+             [[task]]\nname = \"c\"\ncode = [{lines_of_c}]\n"
         )?,
     };
     Ok(text)

@@ -6,7 +6,7 @@ use std::test::*;
 use taskscript::FileFault;
 
 /// The lines that are no commands, each BadCommand, by groups, each group with its name.
-static NO_COMMANDS: [(&str, &[&str]); 10] = [
+static NO_COMMANDS: [(&str, &[&str]); 11] = [
     (
         "a line of another form is no command",
         &[
@@ -110,6 +110,32 @@ static NO_COMMANDS: [(&str, &[&str]); 10] = [
             "ReplyMsg p m",
             "createmsgport",
             "Putmsg p m",
+        ],
+    ),
+    (
+        "a word of semaphores in another form is no command",
+        &[
+            "NewSem 0",
+            "s = NewSem 0",
+            "v = FreeSem s",
+            "FreeSem",
+            "FreeSem s 1",
+            "FreeSem \"s\"",
+            "v = ObtainSemaphore s",
+            "ObtainSemaphore",
+            "ObtainSemaphore s 1",
+            "ObtainSemaphore \"s\"",
+            "AttemptSemaphore",
+            "v = AttemptSemaphore",
+            "v = AttemptSemaphore s 1",
+            "v = AttemptSemaphore \"s\"",
+            "v = ReleaseSemaphore s",
+            "ReleaseSemaphore",
+            "ReleaseSemaphore s 1",
+            "ReleaseSemaphore \"s\"",
+            "newsem",
+            "Obtainsemaphore s",
+            "InitSemaphore s",
         ],
     ),
     (

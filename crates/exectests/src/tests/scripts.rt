@@ -6,9 +6,10 @@ use std::alloc::{AllocError, Global};
 use std::process::Abort;
 use std::test::*;
 use taskscript::Variable::{self, Private, Shared};
-use taskscript::Word::{self, Lists, Plain, Ports, Signals, Tasks};
+use taskscript::Word::{self, Lists, Plain, Ports, Semaphores, Signals, Tasks};
 use taskscript::{
-    Argument, Command, FileFault, ListWord, PlainWord, PortWord, SignalWord, TaskWord, read_machine,
+    Argument, Command, FileFault, ListWord, PlainWord, PortWord, SemaphoreWord, SignalWord,
+    TaskWord, read_machine,
 };
 
 /// An argument, as a case writes it.
@@ -34,7 +35,7 @@ type Line = (
 );
 
 /// The lines that are commands, by groups, each group with its name. The target is numbered before the arguments.
-static COMMANDS: [(&str, &[Line]); 7] = [
+static COMMANDS: [(&str, &[Line]); 8] = [
     (
         "each word of lists and nodes is read",
         &[
@@ -234,6 +235,41 @@ static COMMANDS: [(&str, &[Line]); 7] = [
                 Ports(PortWord::ReplyMsg),
                 None,
                 &[Number(0x1028)],
+            ),
+        ],
+    ),
+    (
+        "each word of semaphores is read",
+        &[
+            (
+                "@s = NewSem",
+                Semaphores(SemaphoreWord::NewSem),
+                Some(Shared(0)),
+                &[],
+            ),
+            (
+                "FreeSem s",
+                Semaphores(SemaphoreWord::FreeSem),
+                None,
+                &[Held(Private(0))],
+            ),
+            (
+                "ObtainSemaphore @s",
+                Semaphores(SemaphoreWord::ObtainSemaphore),
+                None,
+                &[Held(Shared(0))],
+            ),
+            (
+                "g = AttemptSemaphore s",
+                Semaphores(SemaphoreWord::AttemptSemaphore),
+                Some(Private(0)),
+                &[Held(Private(1))],
+            ),
+            (
+                "ReleaseSemaphore $1050",
+                Semaphores(SemaphoreWord::ReleaseSemaphore),
+                None,
+                &[Number(0x1050)],
             ),
         ],
     ),

@@ -1,4 +1,4 @@
-use Rattle.execmodel.proofs.Keeping.{plain_words_change_scripts, signal_words_change_the_schedule, nesting_words_change_the_schedule, task_words_change_the_schedule, list_words_change_the_memory, memory_words_change_the_memory, port_words_change_ports_and_schedule}
+use Rattle.execmodel.proofs.Keeping.{plain_words_change_scripts, signal_words_change_the_schedule, nesting_words_change_the_schedule, task_words_change_states_priorities_and_objects, list_words_change_the_memory, memory_words_change_the_memory, port_words_change_ports_and_schedule, semaphore_words_change_states_and_objects}
 use Rattle.execmodel.proofs.laws.each_group_keeps_to_its_part.Goals as goal
 
 pub returns-clause-plain : goal.returns-clause-plain
@@ -11,7 +11,7 @@ pub returns-clause-nesting : goal.returns-clause-nesting
 returns-clause-nesting c = nesting_words_change_the_schedule
 
 pub returns-clause-tasks : goal.returns-clause-tasks
-returns-clause-tasks c = task_words_change_the_schedule
+returns-clause-tasks c = task_words_change_states_priorities_and_objects
 
 pub returns-clause-lists : goal.returns-clause-lists
 returns-clause-lists c = list_words_change_the_memory
@@ -21,3 +21,6 @@ returns-clause-memory c = memory_words_change_the_memory
 
 pub returns-clause-ports : goal.returns-clause-ports
 returns-clause-ports c = port_words_change_ports_and_schedule
+
+pub returns-clause-semaphores : goal.returns-clause-semaphores
+returns-clause-semaphores c = semaphore_words_change_states_and_objects

@@ -2,7 +2,7 @@
 use Rattle.std.proofs.Common.{ℕ, ◌<◌, sym, ap, ◌∙◌, arith}
 use Rattle.std.specs.Option.{option_and_then}
 use Rattle.execheap.specs.declared.kind.Kind.{Kind}
-use Rattle.execheap.specs.declared.kind.Kind.TheVariants.{List, Message, Node, Port}
+use Rattle.execheap.specs.declared.kind.Kind.TheVariants.{List, Message, Node, Port, Semaphore}
 use Rattle.execheap.specs.Tags.{kind_code, number_of}
 use Rattle.execheap.proofs.SoundObjects.{number_lives}
 use Rattle.execheap.proofs.objects.Objects.number_at.Goals as goal
@@ -12,6 +12,7 @@ few List = omega arith
 few Node = omega arith
 few Port = omega arith
 few Message = omega arith
+few Semaphore = omega arith
 
 pub returns-in-Some-clause-live : goal.returns-in-Some-clause-live
 returns-in-Some-clause-live g c =

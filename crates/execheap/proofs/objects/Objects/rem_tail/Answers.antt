@@ -5,4 +5,4 @@ use Rattle.execheap.proofs.objects.Objects.rem_tail.Goals as goal
 
 pub invariant_of-self : goal.invariant_of-self
 invariant_of-self g c =
-    taken_sound c.self.invariant c.rem_tail.result c.args.h _ c.rem_tail.ensures.taken c.rem_tail.ensures.homes refl refl refl refl refl refl
+    taken_sound c.self.invariant c.rem_tail.result c.args.h _ c.rem_tail.ensures.taken c.rem_tail.ensures.homes refl refl refl refl refl refl refl refl

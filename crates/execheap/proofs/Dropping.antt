@@ -1,0 +1,146 @@
+-- A task that waits for no semaphore any more, and one that begins to wait: by number and by address it is the same.
+use Rattle.std.proofs.Common.{◌≡◌, ℕ, zero, suc, ◌<◌, ◌/◌, ◌%◌, lit≤, [], ◌∷◌, ◌++◌, Bool, true, false, map, length, refl, ap, sym, ◌∙◌, arith}
+use Rattle.std.specs.Prelude.{Option, Some, None, if◌then◌else◌, slice_set, ◌==◌, IsTrue}
+use Rattle.std.specs.List.{list_any}
+use Rattle.std.proofs.Math.Path.{fun_ext}
+use Rattle.std.proofs.lemmas.Simd.{map-map}
+use Rattle.std.proofs.lemmas.List.{length-set}
+use Rattle.execlist.specs.Order.{without}
+use Rattle.execlist.specs.Lists.{is_at}
+use Rattle.memlist.proofs.Answered.{nat_eq-other}
+use Rattle.sigsem.specs.Semaphores as sems
+use Rattle.sigsem.specs.Semaphores.{Semaphores, dropped_from, sem_at, waiters_of, waits_at}
+use Rattle.execlist.specs.Pool.{slot}
+use Rattle.memlist.specs.Memory.{IsWellFormed}
+use Rattle.execmodel.specs.State.{Object, Semaphore, Block, on_heap}
+use Rattle.execmodel.specs.Semaphores as model
+use Rattle.execmodel.specs.Semaphores.{left_by_task}
+use Rattle.execheap.specs.Tags.{tag_of}
+use Rattle.execheap.specs.Numbered.{Numbered, contents, IsSound, number_at, object_of, shown_object, shown_entry, shown_heap, shown_memory}
+use Rattle.execheap.specs.Changes.{on_semaphores, semaphore_obtained}
+use Rattle.execheap.proofs.Mapped.{stands_by_times, without_absent}
+use Rattle.execheap.proofs.Owning.{attempted_heap, entered_heap, heap_owned, queue_heap, released_heap}
+use Rattle.execheap.proofs.Posted.{item_known}
+use Rattle.execheap.proofs.Relisted.{Tells, sequence_set}
+use Rattle.execheap.proofs.Shown.{number_live, sem_shown, tells, waiters_shown}
+use Rattle.execheap.proofs.Tagging.{either_number}
+
+-- ---- the queues without a task
+
+module _ {m : Semaphores} (held : sems.IsSound m) (t : ℕ) where
+  -- a task stands in the queue where it waits, and in no other
+  stands_where : (k : ℕ) → list_any (λ other. other == t) (waiters_of k m) ≡ is_at (waits_at t m) k
+  stands_where k = stands_by_times t (waiters_of k m) (is_at (waits_at t m) k) (held.stands k t)
+
+  queue_known : (j : ℕ) → waits_at t m ≡ Some j → j < length m.queues
+  queue_known j waits = omega (arith, held.each_queue, item_known m.sems.slots j (held.live t j waits))
+
+  -- leaving a task out of every queue takes it from the one that has it
+  waiters_from : (o : Option ℕ) → waits_at t m ≡ o → (k : ℕ) → waiters_of k (dropped_from o t m) ≡ without t (waiters_of k m)
+  waiters_from None none k = sym (without_absent t (waiters_of k m) (stands_where k ∙ ap (λ o. is_at o k) none))
+  waiters_from (Some j) waits k =
+      sequence_set m.queues j (without t (waiters_of j m)) k (queue_known j waits)
+      ∙ either_number k j (λ b. (if b then without t (waiters_of j m) else waiters_of k m) ≡ without t (waiters_of k m))
+      (λ same. ap (λ i. without t (waiters_of i m)) (sym same))
+      (λ other. sym (without_absent t (waiters_of k m)
+      (stands_where k ∙ ap (λ o. is_at o k) waits ∙ nat_eq-other j k (λ same. other (sym same)))))
+
+  pub waiters_without : (k : ℕ) → waiters_of k (sems.dropped t m) ≡ without t (waiters_of k m)
+  waiters_without k = waiters_from (waits_at t m) refl k
+
+  -- the semaphores stay as they are
+  sem_from : (o : Option ℕ) (k : ℕ) → sem_at k (dropped_from o t m) ≡ sem_at k m
+  sem_from None k = refl
+  sem_from (Some j) k = refl
+
+  pub sem_beside : (k : ℕ) → sem_at k (sems.dropped t m) ≡ sem_at k m
+  sem_beside k = sem_from (waits_at t m) k
+
+  queues_from : (o : Option ℕ) → length (dropped_from o t m).queues ≡ length m.queues
+  queues_from None = refl
+  queues_from (Some j) = length-set m.queues j (without t (waiters_of j m))
+
+  pub queues_kept : length (sems.dropped t m).queues ≡ length m.queues
+  queues_kept = queues_from (waits_at t m)
+
+-- ---- a task that is dropped
+
+module _ (s : Numbered) (held : sems.IsSound s.sems) (t : ℕ) where
+  abbrev without_task : Numbered
+  without_task = on_semaphores (sems.dropped t) s
+
+  object_dropped : (k m : ℕ) → object_of k m (contents without_task) ≡ left_by_task t (object_of k m (contents s))
+  object_dropped zero m = refl
+  object_dropped (suc zero) m = refl
+  object_dropped (suc (suc zero)) m = refl
+  object_dropped (suc (suc (suc zero))) m = refl
+  object_dropped (suc (suc (suc (suc zero)))) m = λ i. Semaphore (sem_beside held t m i) (waiters_without held t m i)
+  object_dropped (suc (suc (suc (suc (suc k))))) m = refl
+
+  shown_dropped : (tag : ℕ) → shown_object (contents without_task) tag ≡ left_by_task t (shown_object (contents s) tag)
+  shown_dropped zero = refl
+  shown_dropped (suc j) = object_dropped (j % 8) (j / 8)
+
+  pub dropped_heap : shown_heap without_task ≡ model.dropped t (shown_heap s)
+  unfolding shown_heap model.dropped
+  dropped_heap =
+      ap (λ (f : ℕ × (ℕ × ℕ) → ℕ × Block). map f s.memory.blocks)
+      (fun_ext (λ (entry : ℕ × (ℕ × ℕ)). ap (λ (object : Object). (entry.0, record { size = entry.1.0; object = object })) (shown_dropped entry.1.1)))
+      ∙ sym (map-map (λ (entry : ℕ × Block). (entry.0, record entry.1 { object = left_by_task t entry.1.object })) (shown_entry (contents s)) s.memory.blocks)
+
+  -- ---- a task that waits, or has the semaphore at once
+
+  module _ (n semaphore : ℕ) (found : number_at 4 semaphore s ≡ Some n) (told : Tells s semaphore (tag_of 4 n)) (live : IsTrue (sems.is_sem n s.sems)) where
+    known : n < length (sems.dropped t s.sems).queues
+    known = omega (arith, queues_kept held t, held.each_queue, item_known s.sems.sems.slots n live)
+
+    -- the queue by address of a task that waits
+    behind : waiters_of n (sems.dropped t s.sems) ++ t ∷ [] ≡ without t (model.waiters_of semaphore (shown_heap s)) ++ t ∷ []
+    behind = ap (λ queue. queue ++ t ∷ []) (waiters_without held t n ∙ ap (without t) (sym (waiters_shown s semaphore n found)))
+
+    queued_heap : shown_heap (on_semaphores (λ m. sems.queued n t (sems.dropped t m)) s) ≡ model.queued t semaphore (shown_heap s)
+    unfolding model.queued
+    queued_heap =
+        queue_heap without_task n semaphore found told known (waiters_of n (sems.dropped t s.sems) ++ t ∷ []) (slice_set (sems.dropped t s.sems).places t (Some n))
+        ∙ (λ i. model.with_semaphore semaphore ((sem_beside held t n ∙ sym (sem_shown s semaphore n found)) i) (behind i) (dropped_heap i))
+
+    pub obtained_heap : shown_heap (on_semaphores (semaphore_obtained n t) s) ≡ model.obtained t semaphore (shown_heap s)
+    unfolding model.obtained
+    obtained_heap =
+        either (sems.is_open n t s.sems)
+        ∙ ap (λ sem. if model.is_open t sem then model.entered t semaphore (shown_heap s) else model.queued t semaphore (shown_heap s))
+        (sym (sem_shown s semaphore n found))
+      where
+        either : (b : Bool) → shown_heap (on_semaphores (λ m. if b then sems.entered n t m else sems.queued n t (sems.dropped t m)) s)
+            ≡ (if b then model.entered t semaphore (shown_heap s) else model.queued t semaphore (shown_heap s))
+        either true = entered_heap s n semaphore found told live t
+        either false = queued_heap
+
+-- ---- the memory that is shown
+
+module _ (s : Numbered) (held : sems.IsSound s.sems) (t : ℕ) where
+  pub dropped_shown : shown_memory (on_semaphores (sems.dropped t) s) ≡ on_heap (model.dropped t) (shown_memory s)
+  dropped_shown = heap_owned s (sems.dropped t s.sems) (model.dropped t (shown_heap s)) (dropped_heap s held t)
+
+module _ {s : Numbered} (sound : IsSound s) (held : sems.IsSound s.sems) (formed : IsWellFormed s.memory.regions s.memory.blocks) where
+  module _ (n semaphore : ℕ) (here : slot s.semaphore_places n ≡ Some semaphore) (live : IsTrue (sems.is_sem n s.sems)) where
+    begins : number_at 4 semaphore s ≡ Some n
+    begins = number_live sound 4 n semaphore (lit≤ tt) here
+
+    just_there : Tells s semaphore (tag_of 4 n)
+    just_there = tells sound formed 4 n semaphore (lit≤ tt) here
+
+    has_queue : n < length s.sems.queues
+    has_queue = omega (arith, held.each_queue, item_known s.sems.sems.slots n live)
+
+    pub obtained_shown : (t : ℕ) → shown_memory (on_semaphores (semaphore_obtained n t) s) ≡ on_heap (model.obtained t semaphore) (shown_memory s)
+    obtained_shown t = heap_owned s (semaphore_obtained n t s.sems) (model.obtained t semaphore (shown_heap s))
+        (obtained_heap s held t n semaphore begins just_there live)
+
+    pub attempted_shown : (t : ℕ) → shown_memory (on_semaphores (sems.attempted n t) s) ≡ on_heap (model.attempted t semaphore) (shown_memory s)
+    attempted_shown t = heap_owned s (sems.attempted n t s.sems) (model.attempted t semaphore (shown_heap s))
+        (attempted_heap s n semaphore begins just_there live t)
+
+    pub released_shown : shown_memory (on_semaphores (sems.let_go n) s) ≡ on_heap (model.released semaphore) (shown_memory s)
+    released_shown = heap_owned s (sems.let_go n s.sems) (model.released semaphore (shown_heap s))
+        (released_heap s n semaphore begins just_there live has_queue)

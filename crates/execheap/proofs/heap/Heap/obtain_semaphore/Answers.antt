@@ -1,0 +1,51 @@
+-- The task has the semaphore that is shown, or waits there and nowhere else.
+use Rattle.std.proofs.Common.{◌≡◌, ap, sym, subst, ◌∙◌}
+use Rattle.std.specs.Prelude.{IfOk, OnOk}
+use Rattle.execmodel.specs.State.{Memory, on_heap}
+use Rattle.execmodel.specs.Semaphores.{obtain_alert, obtained, outcome_for, sem_of}
+use Rattle.sigsem.specs.Faults.{fault_or}
+use Rattle.sigsem.specs.Semaphores.{Semaphores, deep_fault, outcome}
+use Rattle.execheap.specs.Changes.{semaphore_obtained}
+use Rattle.execheap.specs.Refusals.{alert_of, told}
+use Rattle.execheap.specs.Numbered.{shown_heap, shown_memory}
+use Rattle.execheap.proofs.Dropping.{obtained_shown}
+use Rattle.execheap.proofs.SemaphoreAlerts.{obtain_refused, obtain_told, sem_of_shown, told_answer, told_next}
+use Rattle.execheap.proofs.heap.Heap.obtain_semaphore.Goals as goal
+
+pub returns-in-Err-clause-alert : goal.returns-in-Err-clause-alert
+returns-in-Err-clause-alert g c =
+    sym (obtain_refused c.args.semaphore (shown_heap c.self.inside.objects) (sym c.in-Err.ensures.alert) c.args.task)
+    ∙ ap (λ (m : Memory). obtain_alert c.args.task c.args.semaphore m.heap) c.self.view_is
+
+-- any refusal by number is told as one
+refusal_told : (g : _) (c : goal.After-told g) → c.told.result
+    ≡ told (fault_or (deep_fault c.in-Ok.n c.args.task c.self.inside.objects.sems) (outcome c.in-Ok.n c.args.task c.self.inside.objects.sems))
+refusal_told g c = c.told.ensures ∙ ap told c.obtain.ensures.answer
+
+pub returns-in-Ok-clause-alert : goal.returns-in-Ok-clause-alert
+returns-in-Ok-clause-alert g c =
+    let s = c.self.inside.objects in
+    ap alert_of (refusal_told g c)
+    ∙ obtain_told c.facts.ensures.sound c.in-Ok.n c.args.semaphore c.in-Ok.ensures.found c.args.task (outcome c.in-Ok.n c.args.task s.sems)
+    ∙ ap (λ (m : Memory). obtain_alert c.args.task c.args.semaphore m.heap) c.self.view_is
+
+pub returns-in-Ok-clause-answer : goal.returns-in-Ok-clause-answer
+returns-in-Ok-clause-answer g c =
+    let s = c.self.inside.objects in
+    let asked = outcome_for c.args.task (sem_of c.args.semaphore c.args.self.now.heap) in
+    subst (λ r. IfOk r (λ how. how ≡ asked)) (sym (refusal_told g c))
+    (told_answer (deep_fault c.in-Ok.n c.args.task s.sems) (outcome c.in-Ok.n c.args.task s.sems) asked
+    (ap (outcome_for c.args.task) (sym (sem_of_shown c.facts.ensures.sound c.in-Ok.n c.args.semaphore c.in-Ok.ensures.found))
+    ∙ ap (λ (m : Memory). outcome_for c.args.task (sem_of c.args.semaphore m.heap)) c.self.view_is))
+
+pub returns-in-Ok-clause-next : goal.returns-in-Ok-clause-next
+returns-in-Ok-clause-next g c =
+    let f = c.facts.ensures in
+    let s = c.self.inside.objects in
+    let e = c.in-Ok.ensures in
+    subst (λ r. OnOk r (shown_memory c.obtain.new.self ≡ on_heap (obtained c.args.task c.args.semaphore) c.args.self.now))
+    (sym (refusal_told g c))
+    (told_next (deep_fault c.in-Ok.n c.args.task s.sems) (outcome c.in-Ok.n c.args.task s.sems) s.sems (semaphore_obtained c.in-Ok.n c.args.task s.sems)
+    (λ done. ap shown_memory c.obtain.ensures.next ∙ ap (λ (m : Semaphores). shown_memory (record s { sems = m })) done
+    ∙ obtained_shown f.sound f.sems f.memory c.in-Ok.n c.args.semaphore e.found e.live c.args.task
+    ∙ ap (on_heap (obtained c.args.task c.args.semaphore)) c.self.view_is))

@@ -1,0 +1,51 @@
+-- The semaphore that is shown is handed on, or its owner has to release it once less.
+use Rattle.std.proofs.Common.{◌≡◌, ap, sym, subst, ◌∙◌}
+use Rattle.std.specs.Prelude.{IfOk, OnOk}
+use Rattle.execmodel.specs.State.{Memory, on_heap}
+use Rattle.execmodel.specs.Semaphores.{heir, release_alert, released}
+use Rattle.sigsem.specs.Faults.{fault_or}
+use Rattle.sigsem.specs.Semaphores as sems
+use Rattle.sigsem.specs.Semaphores.{Semaphores, let_go, release_fault}
+use Rattle.execheap.specs.Refusals.{alert_of, told}
+use Rattle.execheap.specs.Numbered.{shown_heap, shown_memory}
+use Rattle.execheap.proofs.Dropping.{released_shown}
+use Rattle.execheap.proofs.SemaphoreAlerts.{heir_shown, release_refused, release_told, told_answer, told_next}
+use Rattle.execheap.proofs.heap.Heap.release_semaphore.Goals as goal
+
+pub returns-in-Err-clause-alert : goal.returns-in-Err-clause-alert
+returns-in-Err-clause-alert g c =
+    sym (release_refused c.args.semaphore (shown_heap c.self.inside.objects) (sym c.in-Err.ensures.alert) c.args.task)
+    ∙ ap (λ (m : Memory). release_alert c.args.task c.args.semaphore m.heap) c.self.view_is
+
+-- any refusal by number is told as one
+refusal_told : (g : _) (c : goal.After-told g) → c.told.result
+    ≡ told (fault_or (release_fault c.in-Ok.n c.args.task c.self.inside.objects.sems) (sems.heir c.in-Ok.n c.self.inside.objects.sems))
+refusal_told g c = c.told.ensures ∙ ap told c.release.ensures.answer
+
+pub returns-in-Ok-clause-alert : goal.returns-in-Ok-clause-alert
+returns-in-Ok-clause-alert g c =
+    let s = c.self.inside.objects in
+    ap alert_of (refusal_told g c)
+    ∙ release_told c.facts.ensures.sound c.in-Ok.n c.args.semaphore c.in-Ok.ensures.found c.args.task (sems.heir c.in-Ok.n s.sems)
+    ∙ ap (λ (m : Memory). release_alert c.args.task c.args.semaphore m.heap) c.self.view_is
+
+pub returns-in-Ok-clause-answer : goal.returns-in-Ok-clause-answer
+returns-in-Ok-clause-answer g c =
+    let s = c.self.inside.objects in
+    let next = heir c.args.semaphore c.args.self.now.heap in
+    subst (λ r. IfOk r (λ owner. owner ≡ next)) (sym (refusal_told g c))
+    (told_answer (release_fault c.in-Ok.n c.args.task s.sems) (sems.heir c.in-Ok.n s.sems) next
+    (sym (heir_shown c.facts.ensures.sound c.in-Ok.n c.args.semaphore c.in-Ok.ensures.found)
+    ∙ ap (λ (m : Memory). heir c.args.semaphore m.heap) c.self.view_is))
+
+pub returns-in-Ok-clause-next : goal.returns-in-Ok-clause-next
+returns-in-Ok-clause-next g c =
+    let f = c.facts.ensures in
+    let s = c.self.inside.objects in
+    let e = c.in-Ok.ensures in
+    subst (λ r. OnOk r (shown_memory c.release.new.self ≡ on_heap (released c.args.semaphore) c.args.self.now))
+    (sym (refusal_told g c))
+    (told_next (release_fault c.in-Ok.n c.args.task s.sems) (sems.heir c.in-Ok.n s.sems) s.sems (let_go c.in-Ok.n s.sems)
+    (λ done. ap shown_memory c.release.ensures.next ∙ ap (λ (m : Semaphores). shown_memory (record s { sems = m })) done
+    ∙ released_shown f.sound f.sems f.memory c.in-Ok.n c.args.semaphore e.found e.live
+    ∙ ap (on_heap (released c.args.semaphore)) c.self.view_is))

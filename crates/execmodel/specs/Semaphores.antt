@@ -1,0 +1,262 @@
+-- Signal semaphores (RKM Libraries, Exec Semaphores). A semaphore has an owner or none, how often the owner has to release it, and the tasks
+-- that wait for it, in order of request. An address where no semaphore begins is the alert HANDLE; a semaphore that is owned where it must
+-- not be, or not owned by the caller, or obtained too often is the alert SEM (own choice).
+use Rattle.std.specs.Prelude.{ℕ, ◌+◌, ◌-◌, ◌==◌, ◌&&◌, ◌||◌, Bool, true, false, not, if◌then◌else◌, nat_lt, is_some, drop, find, map, codes, List, [], ◌∷◌, ◌++◌, Option, None, Some}
+use Rattle.std.specs.List.{list_any}
+use Rattle.std.specs.Option.{option_map}
+use Rattle.execlist.specs.Order.{first, without}
+use Rattle.execlist.specs.Lists.{is_at}
+use Rattle.scheduler.specs.Schedule.{Schedule, is_at_semaphore, status_of, waits_at_semaphore}
+use Rattle.sigsem.specs.declared.semaphore.Sem.{Sem}
+use Rattle.sigsem.specs.declared.semaphore.Obtained.{Obtained}
+use Rattle.sigsem.specs.declared.semaphore.Obtained.TheVariants.{Owner, Waits}
+use Rattle.sigsem.specs.Semaphores.{deepest, free_sem, owned_by}
+use Rattle.taskscript.specs.declared.word.semaphores.SemaphoreWord.{SemaphoreWord}
+use Rattle.taskscript.specs.declared.word.semaphores.SemaphoreWord.TheVariants as word
+use Rattle.execmodel.specs.State.{Call, Scripts, Object, Plain, ListHead, Node, MsgPort, Message, Semaphore, Block, Heap, State, Outcome, asked, passed, left, leaving, program_of, on_schedule, on_memory, on_heap}
+use Rattle.execmodel.specs.Calls.{argument, done, answered, waiting}
+use Rattle.execmodel.specs.Scheduling.{arrives}
+use Rattle.execmodel.specs.Memory.{allocates as memory_allocated, freed}
+use Rattle.execmodel.specs.Objects.{object_at, is_kind, place_for_object, replaced, unless}
+
+-- ---- semaphores in memory
+
+abbrev pub is_semaphore : Object → Bool
+is_semaphore Plain = false
+is_semaphore (ListHead nodes) = false
+is_semaphore (Node key) = false
+is_semaphore (MsgPort port messages) = false
+is_semaphore (Message content) = false
+is_semaphore (Semaphore sem waiters) = true
+
+-- a semaphore begins at an address
+unfoldable pub is_semaphore_at : ℕ → Heap → Bool
+is_semaphore_at address heap = is_kind is_semaphore (object_at address heap)
+
+abbrev pub sem_in : Object → Sem
+sem_in Plain = free_sem
+sem_in (ListHead nodes) = free_sem
+sem_in (Node key) = free_sem
+sem_in (MsgPort port messages) = free_sem
+sem_in (Message content) = free_sem
+sem_in (Semaphore sem waiters) = sem
+
+abbrev pub sem_of_object : Option Object → Sem
+sem_of_object None = free_sem
+sem_of_object (Some object) = sem_in object
+
+-- the owner, if there is one, and the count of the semaphore that begins at an address
+unfoldable pub sem_of : ℕ → Heap → Sem
+sem_of semaphore heap = sem_of_object (object_at semaphore heap)
+
+abbrev pub waiters_in : Object → List ℕ
+waiters_in Plain = []
+waiters_in (ListHead nodes) = []
+waiters_in (Node key) = []
+waiters_in (MsgPort port messages) = []
+waiters_in (Message content) = []
+waiters_in (Semaphore sem waiters) = waiters
+
+abbrev pub waiters_of_object : Option Object → List ℕ
+waiters_of_object None = []
+waiters_of_object (Some object) = waiters_in object
+
+-- the tasks that wait for the semaphore that begins at an address
+unfoldable pub waiters_of : ℕ → Heap → List ℕ
+waiters_of semaphore heap = waiters_of_object (object_at semaphore heap)
+
+-- the semaphore that begins at an address becomes another
+unfoldable pub with_semaphore : ℕ → Sem → List ℕ → Heap → Heap
+with_semaphore address sem waiters heap = map (replaced address (Semaphore sem waiters)) heap
+
+-- the alert of a call on a semaphore
+unfoldable pub semaphore_alert : ℕ → Heap → Option (List ℕ)
+semaphore_alert semaphore heap = if not (is_semaphore_at semaphore heap) then Some (codes "HANDLE") else None
+
+-- ---- owners
+
+-- some task owns a semaphore
+abbrev pub is_owned : Sem → Bool
+is_owned sem = is_some sem.owner
+
+-- task t owns a semaphore
+abbrev pub is_owner : ℕ → Sem → Bool
+is_owner t sem = is_at sem.owner t
+
+-- task t may have a semaphore at once: no other task owns it
+abbrev pub is_open : ℕ → Sem → Bool
+is_open t sem = not (is_owned sem) || is_owner t sem
+
+-- task t owns a semaphore so often that once more is too often
+abbrev pub is_too_deep : ℕ → Sem → Bool
+is_too_deep t sem = is_owner t sem && nat_lt deepest (sem.count + 1)
+
+-- the owner of a semaphore is to release it once more, and no more than that
+abbrev pub is_last : Sem → Bool
+is_last sem = sem.count == 1
+
+-- the task owns the semaphore, and has to release it once more than before
+unfoldable pub entered : ℕ → ℕ → Heap → Heap
+entered t semaphore heap =
+    with_semaphore semaphore (record { owner = Some t; count = (sem_of semaphore heap).count + 1 }) (waiters_of semaphore heap) heap
+
+-- ---- waiting tasks
+
+abbrev pub left_by_task : ℕ → Object → Object
+left_by_task t Plain = Plain
+left_by_task t (ListHead nodes) = ListHead nodes
+left_by_task t (Node key) = Node key
+left_by_task t (MsgPort port messages) = MsgPort port messages
+left_by_task t (Message content) = Message content
+left_by_task t (Semaphore sem waiters) = Semaphore sem (without t waiters)
+
+-- task t waits for no semaphore; the others keep their order
+unfoldable pub dropped : ℕ → Heap → Heap
+dropped t heap = map (λ (entry : ℕ × Block). (entry.0, record entry.1 { object = left_by_task t entry.1.object })) heap
+
+-- task t waits for the semaphore, behind those that wait there, and for no other
+unfoldable pub queued : ℕ → ℕ → Heap → Heap
+queued t semaphore heap =
+    with_semaphore semaphore (sem_of semaphore heap) (without t (waiters_of semaphore heap) ++ t ∷ []) (dropped t heap)
+
+-- a task waits for the semaphore of an entry
+abbrev pub has_waiter : ℕ → ℕ × Block → Bool
+has_waiter t entry = list_any (λ other. other == t) (waiters_in entry.1.object)
+
+-- the address of the semaphore that task t waits for, if it waits for one
+abbrev pub awaited_by : ℕ → Heap → Option ℕ
+awaited_by t heap = option_map (λ (entry : ℕ × Block). entry.0) (find (has_waiter t) heap)
+
+-- the mark of a task that is removed, if it waits for a semaphore
+abbrev pub leaving_queue : Option ℕ → ℕ → Outcome → Outcome
+leaving_queue None t o = o
+leaving_queue (Some semaphore) t o = leaving (left semaphore t) o
+
+-- ---- making and freeing
+
+-- a SignalSemaphore takes 46 bytes, by the include file exec/semaphores.h
+abbrev pub semaphore_size : ℕ
+semaphore_size = 46
+
+-- NewSem: answers the address of a new semaphore, which no task owns, or 0 (autodoc exec.library/InitSemaphore; that it takes the memory:
+-- own choice)
+unfoldable pub does_new_sem : ℕ → Call → State → Outcome
+does_new_sem t call s =
+    memory_allocated t call semaphore_size (Semaphore free_sem []) (place_for_object is_semaphore semaphore_size s.memory) s
+
+-- the alert of a call that frees a semaphore: no task is to own it
+unfoldable pub free_sem_alert : ℕ → Heap → Option (List ℕ)
+free_sem_alert semaphore heap =
+    if not (is_semaphore_at semaphore heap) then Some (codes "HANDLE")
+    else (if is_owned (sem_of semaphore heap) then Some (codes "SEM") else None)
+
+-- FreeSem semaphore: a semaphore that no task owns is freed (own choice)
+unfoldable pub does_free_sem : ℕ → Call → State → Outcome
+does_free_sem t call s =
+    let semaphore = argument 0 call in
+    unless (free_sem_alert semaphore s.memory.heap) t call (λ s. done t call (on_memory (freed semaphore) s)) s
+
+-- ---- obtaining
+
+-- the alert of a call by which task t asks for a semaphore: where it owns it, the count must not go past 32767
+unfoldable pub obtain_alert : ℕ → ℕ → Heap → Option (List ℕ)
+obtain_alert t semaphore heap =
+    if not (is_semaphore_at semaphore heap) then Some (codes "HANDLE")
+    else (if is_too_deep t (sem_of semaphore heap) then Some (codes "SEM") else None)
+
+-- a task that asks for a semaphore owns it, or waits for it
+abbrev pub outcome_for : ℕ → Sem → Obtained
+outcome_for t sem = if is_open t sem then Owner else Waits
+
+-- the semaphore is the task's at once, or the task waits for it
+unfoldable pub obtained : ℕ → ℕ → Heap → Heap
+obtained t semaphore heap = if is_open t (sem_of semaphore heap) then entered t semaphore heap else queued t semaphore heap
+
+-- a task that owns the semaphore goes on, and one that does not waits
+abbrev pub obtains : Obtained → ℕ → ℕ → Call → State → Outcome
+obtains Owner semaphore t call s = done t call s
+obtains Waits semaphore t call s = leaving (asked semaphore t) (waiting t call (on_schedule (waits_at_semaphore t) s))
+
+-- the call is one in which its task has waited
+abbrev pub is_tried_again : ℕ → Scripts → Bool
+is_tried_again t scripts = is_some (program_of scripts t).kept
+
+-- ObtainSemaphore semaphore: a free semaphore is the task's, with the count 1; the owner's count is one more; any other task waits, behind
+-- those that asked before. The call of a task that has waited is complete, and checks nothing: a release has made the task the owner
+-- (autodoc exec.library/ObtainSemaphore; the alerts: own choice).
+unfoldable pub does_obtain_semaphore : ℕ → Call → State → Outcome
+does_obtain_semaphore t call s =
+    let semaphore = argument 0 call in
+    if is_tried_again t s.scripts then done t call s
+    else unless (obtain_alert t semaphore s.memory.heap) t call
+    (λ s. obtains (outcome_for t (sem_of semaphore s.memory.heap)) semaphore t call (on_memory (on_heap (obtained t semaphore)) s)) s
+
+-- the semaphore is the task's at once, or nothing changes
+unfoldable pub attempted : ℕ → ℕ → Heap → Heap
+attempted t semaphore heap = if is_open t (sem_of semaphore heap) then entered t semaphore heap else heap
+
+-- AttemptSemaphore semaphore: where ObtainSemaphore would make the task the owner this does the same and answers 1; where the task would
+-- have to wait, nothing changes and the answer is 0 (autodoc exec.library/AttemptSemaphore; the alerts: own choice)
+unfoldable pub does_attempt_semaphore : ℕ → Call → State → Outcome
+does_attempt_semaphore t call s =
+    let semaphore = argument 0 call in
+    unless (obtain_alert t semaphore s.memory.heap) t call
+    (λ s. answered t call (if is_open t (sem_of semaphore s.memory.heap) then 1 else 0) (on_memory (on_heap (attempted t semaphore)) s)) s
+
+-- ---- releasing
+
+-- the alert of ReleaseSemaphore for task t: it has to own the semaphore
+unfoldable pub release_alert : ℕ → ℕ → Heap → Option (List ℕ)
+release_alert t semaphore heap =
+    if not (is_semaphore_at semaphore heap) then Some (codes "HANDLE")
+    else (if is_owner t (sem_of semaphore heap) then None else Some (codes "SEM"))
+
+-- the task that a release makes the owner: the last release the first one that waits, and else none
+unfoldable pub heir : ℕ → Heap → Option ℕ
+heir semaphore heap = if is_last (sem_of semaphore heap) then first (waiters_of semaphore heap) else None
+
+-- a semaphore whose owner is that task, which has to release it once, or which no task owns
+abbrev pub owned_next : Option ℕ → Sem
+owned_next None = free_sem
+owned_next (Some t) = owned_by t
+
+-- the semaphore is the first waiter's, which waits no more, or is owned by no task where none waits
+unfoldable pub handed_on : ℕ → Heap → Heap
+handed_on semaphore heap =
+    with_semaphore semaphore (owned_next (first (waiters_of semaphore heap))) (drop 1 (waiters_of semaphore heap)) heap
+
+-- the owner has to release the semaphore once less
+unfoldable pub released_once : ℕ → Heap → Heap
+released_once semaphore heap =
+    with_semaphore semaphore (record (sem_of semaphore heap) { count = (sem_of semaphore heap).count - 1 }) (waiters_of semaphore heap) heap
+
+-- the last release hands the semaphore on
+unfoldable pub released : ℕ → Heap → Heap
+released semaphore heap = if is_last (sem_of semaphore heap) then handed_on semaphore heap else released_once semaphore heap
+
+-- a task that waits for a semaphore becomes ready
+unfoldable pub woken : ℕ → Schedule → Schedule
+woken t s = if is_at_semaphore (status_of s t) then arrives t s else s
+
+-- the new owner, if there is one, becomes ready
+abbrev pub passes : Option ℕ → ℕ → ℕ → Call → State → Outcome
+passes None semaphore t call s = done t call s
+passes (Some owner) semaphore t call s = leaving (passed semaphore owner) (done t call (on_schedule (woken owner) s))
+
+-- ReleaseSemaphore semaphore: the owner has to release the semaphore once less. The last release hands it on: the first of the tasks that
+-- wait there is the owner with the count 1, and ready; where none waits, no task owns it (autodoc exec.library/ReleaseSemaphore; the
+-- alerts: own choice).
+unfoldable pub does_release_semaphore : ℕ → Call → State → Outcome
+does_release_semaphore t call s =
+    let semaphore = argument 0 call in
+    unless (release_alert t semaphore s.memory.heap) t call
+    (λ s. passes (heir semaphore s.memory.heap) semaphore t call (on_memory (on_heap (released semaphore)) s)) s
+
+-- ---- the words of this group
+
+abbrev pub does_semaphores : SemaphoreWord → ℕ → Call → State → Outcome
+does_semaphores word.NewSem t call s = does_new_sem t call s
+does_semaphores word.FreeSem t call s = does_free_sem t call s
+does_semaphores word.ObtainSemaphore t call s = does_obtain_semaphore t call s
+does_semaphores word.AttemptSemaphore t call s = does_attempt_semaphore t call s
+does_semaphores word.ReleaseSemaphore t call s = does_release_semaphore t call s

@@ -1,0 +1,6 @@
+use Rattle.execsim.proofs.Obtaining.{semaphore_made}
+use Rattle.execsim.proofs.kernel.Kernel.new_sem.Goals as goal
+
+pub returns : goal.returns
+returns g c = semaphore_made _ _ _ c.make_semaphore-semaphore.ensures.address c.make_semaphore-semaphore.ensures.next
+    (rw c.unwrap_or.ensures at c.answered.ensures)

@@ -1,0 +1,5 @@
+use Rattle.execsim.proofs.Obtaining.{waits}
+use Rattle.execsim.proofs.kernel.Kernel.obtains.Goals as goal
+
+pub returns-in-Waits : goal.returns-in-Waits
+returns-in-Waits g c = rw (c.in-Ok.is, c.in-Waits.is) (waits _ _ _ c.wait_at_semaphore.ensures c.waiting.ensures)

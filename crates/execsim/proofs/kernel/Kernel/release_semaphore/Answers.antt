@@ -1,0 +1,10 @@
+use Rattle.execsim.specs.Views.{call_view}
+use Rattle.execsim.proofs.Obtaining.{release_tried}
+use Rattle.execsim.proofs.kernel.Kernel.release_semaphore.Goals as goal
+
+pub returns : goal.returns
+returns g c = rw (← c.self.view_is) (release_tried _ (call_view c.args.call.now) _ _
+    (rw c.number-semaphore.ensures at c.release_semaphore-tried.ensures.alert)
+    (rw c.number-semaphore.ensures at c.release_semaphore-tried.ensures.answer)
+    (rw c.number-semaphore.ensures at c.release_semaphore-tried.ensures.next) c.release_semaphore-tried.ensures.kept
+    c.passes.ensures)

@@ -1,0 +1,202 @@
+//! Signal semaphores: how they are made and freed, obtained and released. A semaphore is named by the address of its block. The calls of
+//! `Heap` have the effects on memory; which task waits and which is made ready is done here.
+ghost use Rattle.std.specs.Prelude.{◌≡◌, ◌<◌, [], length, if◌then◌else◌, Some};
+ghost use Rattle.scheduler.specs.Schedule.{waits_at_semaphore};
+ghost use Rattle.sigsem.specs.Semaphores.{free_sem};
+ghost use Rattle.execmodel.specs.State.{Semaphore};
+ghost use Rattle.execmodel.specs.Calls.{argument};
+ghost use Rattle.execmodel.specs.Memory.{placed};
+ghost use Rattle.execmodel.specs.Objects.{place_for_object};
+ghost use Rattle.execmodel.specs.Semaphores.{is_semaphore, is_tried_again, semaphore_size, does_semaphores};
+ghost use Rattle.execmodel.specs.Semaphores.{does_new_sem, does_free_sem, does_obtain_semaphore, does_attempt_semaphore, does_release_semaphore};
+ghost use Rattle.execsim.specs.Actions.{obtains_or_alerted, passes_or_alerted, woken};
+ghost use Rattle.execsim.specs.Agreement.{Follows};
+ghost use Rattle.execsim.specs.Views.{call_view};
+
+use crate::kernel::Kernel;
+use crate::program::Call;
+use execheap::Refusal;
+use execlist::space::ListSpace;
+use exectrace::Sink;
+use sigsem::semaphore::Obtained;
+use taskq::TaskId;
+use taskscript::SemaphoreWord;
+
+/// What AttemptSemaphore answers: 1 for a task that has the semaphore, and else 0.
+fn attempted(has: bool) -> u32
+    ensures { result ≡ (if has then 1 else 0) }
+{
+    if has { 1 } else { 0 }
+}
+
+impl<S: ListSpace> Kernel<S> {
+    // ---- made and freed
+
+    /// A new semaphore, which no task owns, if there is room for one.
+    fn make_semaphore(&mut self) -> Option<u32>
+        ensures address { result ≡ place_for_object is_semaphore semaphore_size self.old.memory }
+        ensures next { self.new ≡ record self.old { memory = placed semaphore_size (Semaphore free_sem []) result self.old.memory } }
+    {
+        self.memory.new_semaphore()
+    }
+
+    /// NewSem: answers the address of a new semaphore, which no task owns, or 0 (autodoc exec.library/InitSemaphore; that it takes the
+    /// memory: own choice).
+    fn new_sem<W: Sink>(&mut self, t: TaskId, call: &Call, out: &mut W)
+        requires { t < length self.old.scripts.programs }
+        ensures { Follows (does_new_sem t (call_view call.now)) self.old self.new (W.tape out.old) (W.tape out.new) }
+    {
+        let semaphore = self.make_semaphore();
+        self.answered(t, call, semaphore.unwrap_or(0), out);
+    }
+
+    /// FreeSem semaphore: frees a semaphore. HANDLE where none begins there, SEM where a task owns it (own choice).
+    fn free_sem<W: Sink>(&mut self, t: TaskId, call: &Call, out: &mut W)
+        requires { t < length self.old.scripts.programs }
+        ensures { Follows (does_free_sem t (call_view call.now)) self.old self.new (W.tape out.old) (W.tape out.new) }
+    {
+        let semaphore = call.number(0);
+        let tried = self.memory.free_semaphore(semaphore);
+        self.concluded(tried, t, call, out);
+    }
+
+    // ---- obtaining
+
+    /// Whether task t has waited in the call that it tries.
+    fn is_tried_again(&self, t: TaskId) -> bool
+        requires { t < length self.now.scripts.programs }
+        ensures { result ≡ is_tried_again t self.now.scripts }
+    {
+        self.program(t).kept().is_some()
+    }
+
+    /// The running task waits for a semaphore.
+    fn wait_at_semaphore(&mut self, t: TaskId)
+        requires { self.old.schedule.running ≡ Some t }
+        ensures { self.new ≡ record self.old { schedule = waits_at_semaphore t self.old.schedule } }
+    {
+        self.sched.wait_sem();
+    }
+
+    /// A call by which task t asks for a semaphore: it is done where the task has it, else the task waits; or it is refused by its alert.
+    fn obtains<W: Sink>(
+        &mut self,
+        tried: Result<Obtained, Refusal>,
+        t: TaskId,
+        call: &Call,
+        out: &mut W,
+    )
+        requires known { t < length self.old.scripts.programs }
+        requires runs { self.old.schedule.running ≡ Some t }
+        ensures { Follows (obtains_or_alerted tried (argument 0 (call_view call.now)) t (call_view call.now)) self.old self.new (W.tape out.old) (W.tape out.new) }
+    {
+        match tried {
+            Ok(how) => match how {
+                Obtained::Owner => self.done(t, call, out),
+                Obtained::Waits => {
+                    self.wait_at_semaphore(t);
+                    self.waiting(t, call, out);
+                }
+            },
+            Err(why) => self.refused(why, t, call, out),
+        }
+    }
+
+    /// ObtainSemaphore semaphore: a free semaphore is the caller's, with the count 1; the owner's count is one more; any other task waits,
+    /// behind those that asked before. The call of a task that has waited is complete. HANDLE where no semaphore begins there, SEM where the
+    /// count would go past 32767 (autodoc exec.library/ObtainSemaphore; the alerts: own choice).
+    fn obtain_semaphore<W: Sink>(&mut self, t: TaskId, call: &Call, out: &mut W)
+        requires known { t < length self.old.scripts.programs }
+        requires runs { self.old.schedule.running ≡ Some t }
+        ensures { Follows (does_obtain_semaphore t (call_view call.now)) self.old self.new (W.tape out.old) (W.tape out.new) }
+    {
+        if self.is_tried_again(t) {
+            self.done(t, call, out);
+        } else {
+            let semaphore = call.number(0);
+            let tried = self.memory.obtain_semaphore(t, semaphore);
+            self.obtains(tried, t, call, out);
+        }
+    }
+
+    /// AttemptSemaphore semaphore: as ObtainSemaphore where no wait is needed, and answers 1; else nothing changes and the answer is 0.
+    /// HANDLE where no semaphore begins there, SEM where the count would go past 32767 (autodoc exec.library/AttemptSemaphore; the alerts:
+    /// own choice).
+    fn attempt_semaphore<W: Sink>(&mut self, t: TaskId, call: &Call, out: &mut W)
+        requires { t < length self.old.scripts.programs }
+        ensures { Follows (does_attempt_semaphore t (call_view call.now)) self.old self.new (W.tape out.old) (W.tape out.new) }
+    {
+        let semaphore = call.number(0);
+        match self.memory.attempt_semaphore(t, semaphore) {
+            Ok(has) => self.answered(t, call, attempted(has), out),
+            Err(why) => self.refused(why, t, call, out),
+        }
+    }
+
+    // ---- releasing
+
+    /// A task becomes ready, if there is one of that number and it waits for a semaphore.
+    fn wake(&mut self, t: TaskId)
+        ensures { self.new ≡ record self.old { schedule = woken t self.old.schedule } }
+    {
+        if t < self.programs.len() && self.sched.is_at_semaphore(t) {
+            self.sched.wake_sem(t);
+        }
+    }
+
+    /// A call that releases a semaphore: the new owner, if there is one, becomes ready; or the call is refused by its alert.
+    fn passes<W: Sink>(
+        &mut self,
+        tried: Result<Option<TaskId>, Refusal>,
+        t: TaskId,
+        call: &Call,
+        out: &mut W,
+    )
+        requires { t < length self.old.scripts.programs }
+        ensures { Follows (passes_or_alerted tried (argument 0 (call_view call.now)) t (call_view call.now)) self.old self.new (W.tape out.old) (W.tape out.new) }
+    {
+        match tried {
+            Ok(heir) => match heir {
+                Some(owner) => {
+                    self.wake(owner);
+                    self.done(t, call, out);
+                }
+                None => self.done(t, call, out),
+            },
+            Err(why) => self.refused(why, t, call, out),
+        }
+    }
+
+    /// ReleaseSemaphore semaphore: the owner has to release the semaphore once less. The last release hands it on: the first of the tasks
+    /// that wait there is the owner with the count 1, and ready; where none waits, no task owns it. HANDLE where no semaphore begins there,
+    /// SEM where the caller does not own it (autodoc exec.library/ReleaseSemaphore; the alerts: own choice).
+    fn release_semaphore<W: Sink>(&mut self, t: TaskId, call: &Call, out: &mut W)
+        requires { t < length self.old.scripts.programs }
+        ensures { Follows (does_release_semaphore t (call_view call.now)) self.old self.new (W.tape out.old) (W.tape out.new) }
+    {
+        let semaphore = call.number(0);
+        let tried = self.memory.release_semaphore(t, semaphore);
+        self.passes(tried, t, call, out);
+    }
+
+    /// A call of task t on semaphores, by its word.
+    pub(crate) fn does_semaphores<W: Sink>(
+        &mut self,
+        word: SemaphoreWord,
+        t: TaskId,
+        call: &Call,
+        out: &mut W,
+    )
+        requires known { t < length self.old.scripts.programs }
+        requires runs { self.old.schedule.running ≡ Some t }
+        ensures { Follows (does_semaphores word t (call_view call.now)) self.old self.new (W.tape out.old) (W.tape out.new) }
+    {
+        match word {
+            SemaphoreWord::NewSem => self.new_sem(t, call, out),
+            SemaphoreWord::FreeSem => self.free_sem(t, call, out),
+            SemaphoreWord::ObtainSemaphore => self.obtain_semaphore(t, call, out),
+            SemaphoreWord::AttemptSemaphore => self.attempt_semaphore(t, call, out),
+            SemaphoreWord::ReleaseSemaphore => self.release_semaphore(t, call, out),
+        }
+    }
+}
