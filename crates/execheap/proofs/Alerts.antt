@@ -1,5 +1,5 @@
 -- The alerts of the calls on lists and nodes by address, told by number.
-use Rattle.std.proofs.Common.{◌≡◌, ℕ, zero, suc, lit≤, List, Bool, true, false, map, refl, ap, sym, ◌∙◌}
+use Rattle.std.proofs.Common.{◌≡◌, ℕ, zero, suc, List, Bool, true, false, map, refl, ap, sym, ◌∙◌}
 use Rattle.std.specs.Prelude.{Option, None, Some, codes, is_some, not, if◌then◌else◌, unwrap_or, IsSome}
 use Rattle.std.specs.Option.{option_map, ForSome}
 use Rattle.execlist.specs.Order.{first}
@@ -9,11 +9,14 @@ use Rattle.execmodel.specs.Lists.{find_alert, free_list_alert, free_node_alert, 
 use Rattle.execmodel.specs.Lists.{is_linked, is_list_at, is_node_at, is_pred_at, is_pred_in, nodes_of, pred_alert, predecessor}
 use Rattle.execmodel.specs.Lists.{searched, sequence_with, stands_in}
 use Rattle.execlist.specs.Pool.{slot}
-use Rattle.execheap.specs.Numbered.{Numbered, IsSound, IsSpace, address_in, number_at, shown_heap}
+use Rattle.execheap.specs.declared.kind.Kind.TheVariants as variant
+use Rattle.execheap.specs.Numbered.{Numbered, IsSound, IsSpace, address_in, shown_heap, places}
+use Rattle.execheap.specs.Table.{number_at}
 use Rattle.execheap.specs.Refusals.{is_none_or_in}
 use Rattle.execheap.proofs.Linked.{is_linked_shown, sequence_shown, some_is, stands_shown, told_apart}
 use Rattle.execheap.proofs.Mapped.{first-map, part_after-map}
-use Rattle.execheap.proofs.Shown.{list_at_shown, node_at_shown, nodes_shown, number_placed, number_same}
+use Rattle.execheap.proofs.Matching.{number_placed, number_same}
+use Rattle.execheap.proofs.Shown.{list_at_shown, node_at_shown, nodes_shown}
 
 -- ---- one test of a call
 
@@ -42,7 +45,7 @@ refused_first false next e = e
 
 -- ---- the alert of a list
 
-module _ (s : Numbered) (list : ℕ) (none : number_at 0 list s ≡ None) where
+module _ (s : Numbered) (list : ℕ) (none : number_at variant.List list s.table ≡ None) where
   no_list : is_list_at list (shown_heap s) ≡ false
   no_list = list_at_shown s list ∙ ap is_some none
 
@@ -58,7 +61,7 @@ pub is_some_map : {A B : Type 0} (f : A → B) (o : Option A) → is_some (optio
 is_some_map f None = refl
 is_some_map f (Some a) = refl
 
-module _ (s : Numbered) (list h : ℕ) (found : number_at 0 list s ≡ Some h) where
+module _ (s : Numbered) (list h : ℕ) (found : number_at variant.List list s.table ≡ Some h) where
   list_there : is_list_at list (shown_heap s) ≡ true
   list_there = list_at_shown s list ∙ ap is_some found
 
@@ -69,8 +72,8 @@ module _ (s : Numbered) (list h : ℕ) (found : number_at 0 list s ≡ Some h) w
   has_first : is_some (first (nodes_of list (shown_heap s))) ≡ is_some (first (sequence s.sequences h))
   has_first =
       ap (λ nodes. is_some (first nodes)) (nodes_shown s list h found)
-      ∙ ap is_some (first-map (address_in s.nodes.slots) (sequence s.sequences h))
-      ∙ is_some_map (address_in s.nodes.slots) (first (sequence s.sequences h))
+      ∙ ap is_some (first-map (address_in (places variant.Node s)) (sequence s.sequences h))
+      ∙ is_some_map (address_in (places variant.Node s)) (first (sequence s.sequences h))
 
   -- a list that is to be freed is refused where it holds a node
   pub free_list_found : {held : Option ℕ} → first (sequence s.sequences h) ≡ held
@@ -82,7 +85,7 @@ module _ (s : Numbered) (list h : ℕ) (found : number_at 0 list s ≡ Some h) w
 
 -- ---- the alerts of a node
 
-module _ (s : Numbered) (node : ℕ) (none : number_at 1 node s ≡ None) where
+module _ (s : Numbered) (node : ℕ) (none : number_at variant.Node node s.table ≡ None) where
   no_node : is_node_at node (shown_heap s) ≡ false
   no_node = node_at_shown s node ∙ ap is_some none
 
@@ -94,14 +97,14 @@ module _ (s : Numbered) (node : ℕ) (none : number_at 1 node s ≡ None) where
   unfolding linked_alert
   linked_refused = ap (λ b. handle_unless b (link_unless (is_linked node (shown_heap s)))) no_node
 
-node_there : (s : Numbered) (node n : ℕ) → number_at 1 node s ≡ Some n → is_node_at node (shown_heap s) ≡ true
+node_there : (s : Numbered) (node n : ℕ) → number_at variant.Node node s.table ≡ Some n → is_node_at node (shown_heap s) ≡ true
 node_there s node n found = node_at_shown s node ∙ ap is_some found
 
 module _ {s : Numbered} (sound : IsSound s) (space : IsSpace s) where
-  module _ (node n : ℕ) (found : number_at 1 node s ≡ Some n) {list : Option ℕ} (at : home s.homes n ≡ list) where
+  module _ (node n : ℕ) (found : number_at variant.Node node s.table ≡ Some n) {list : Option ℕ} (at : home s.homes n ≡ list) where
     -- a node is linked where a list has it by number
     linked_where : is_linked node (shown_heap s) ≡ is_some list
-    linked_where = is_linked_shown sound space n node (number_placed sound 1 n node (lit≤ tt) found) ∙ ap is_some at
+    linked_where = is_linked_shown sound space n node (number_placed sound.table variant.Node n node found) ∙ ap is_some at
 
     pub free_node_found : free_node_alert node (shown_heap s) ≡ link_if (is_some list) None
     unfolding free_node_alert
@@ -131,12 +134,12 @@ module _ (list node : ℕ) (heap : Heap) where
 
 -- ---- the alert of a predecessor
 
-pub pred_refused : (s : Numbered) (pred : ℕ) → (pred ≡ 0 → ⊥) → number_at 1 pred s ≡ None
+pub pred_refused : (s : Numbered) (pred : ℕ) → (pred ≡ 0 → ⊥) → number_at variant.Node pred s.table ≡ None
     → pred_alert (predecessor pred) (shown_heap s) ≡ Some (codes "HANDLE")
 pred_refused s zero some none = absurd (some refl)
 pred_refused s (suc pred) some none = ap (λ b. handle_unless b None) (no_node s (suc pred) none)
 
-pub pred_found : (s : Numbered) (pred p : ℕ) → number_at 1 pred s ≡ Some p → pred_alert (predecessor pred) (shown_heap s) ≡ None
+pub pred_found : (s : Numbered) (pred p : ℕ) → number_at variant.Node pred s.table ≡ Some p → pred_alert (predecessor pred) (shown_heap s) ≡ None
 pred_found s zero p found = refl
 pred_found s (suc pred) p found = ap (λ b. handle_unless b None) (node_there s (suc pred) p found)
 
@@ -162,10 +165,10 @@ module _ (s : Numbered) (list node pred : ℕ) (listed : list_alert list (shown_
   unfolding insert_alert list_alert
   past_list = ap (λ b. handle_unless b (after_list list node pred (shown_heap s))) (is_there (is_list_at list (shown_heap s)) listed)
 
-  pub insert_by_node : number_at 1 node s ≡ None → insert_alert list node pred (shown_heap s) ≡ Some (codes "HANDLE")
+  pub insert_by_node : number_at variant.Node node s.table ≡ None → insert_alert list node pred (shown_heap s) ≡ Some (codes "HANDLE")
   insert_by_node none = past_list ∙ ap (λ b. handle_unless b (after_node list node pred (shown_heap s))) (no_node s node none)
 
-  module _ {n : ℕ} (found : number_at 1 node s ≡ Some n) where
+  module _ {n : ℕ} (found : number_at variant.Node node s.table ≡ Some n) where
     past_node : insert_alert list node pred (shown_heap s) ≡ after_node list node pred (shown_heap s)
     past_node = past_list ∙ ap (λ b. handle_unless b (after_node list node pred (shown_heap s))) (node_there s node n found)
 
@@ -190,29 +193,29 @@ module _ (s : Numbered) (list node pred : ℕ) (listed : list_alert list (shown_
       pub insert_by_link : {h : ℕ} → home s.homes n ≡ Some h → insert_alert list node pred (shown_heap s) ≡ Some (codes "LINK")
       insert_by_link linked = past_link linked
 
-module _ {s : Numbered} (sound : IsSound s) (space : IsSpace s) (list h : ℕ) (placed : slot s.lists.slots h ≡ Some list) where
+module _ {s : Numbered} (sound : IsSound s) (space : IsSpace s) (list h : ℕ) (placed : slot (places variant.List s) h ≡ Some list) where
   -- what begins at the address of a list is that list
-  list_numbered : list_alert list (shown_heap s) ≡ None → number_at 0 list s ≡ Some h
-  list_numbered listed = elim (number_at 0 list s) as (λ o. number_at 0 list s ≡ o → o ≡ Some h) [
+  list_numbered : list_alert list (shown_heap s) ≡ None → number_at variant.List list s.table ≡ Some h
+  list_numbered listed = elim (number_at variant.List list s.table) as (λ o. number_at variant.List list s.table ≡ o → o ≡ Some h) [
     | None ↦ λ none. let bad : true ≡ false = ap is_some (sym (list_refused s list none) ∙ listed) in cc
-    | Some k ↦ λ found. ap Some (number_same sound 0 k h list (lit≤ tt) (number_placed sound 0 k list (lit≤ tt) found) placed)
+    | Some k ↦ λ found. ap Some (number_same sound.table variant.List k h list (number_placed sound.table variant.List k list found) placed)
   ] refl
 
   -- a predecessor stands in the list of that address where it stands in the list of its number
-  pred_in_shown : (p : Option ℕ) → number_at 0 list s ≡ Some h → ForSome p (λ m. IsSome (slot s.nodes.slots m))
-      → is_pred_in (option_map (address_in s.nodes.slots) p) list (shown_heap s) ≡ is_none_or_in p h s.homes
+  pred_in_shown : (p : Option ℕ) → number_at variant.List list s.table ≡ Some h → ForSome p (λ m. IsSome (slot (places variant.Node s) m))
+      → is_pred_in (option_map (address_in (places variant.Node s)) p) list (shown_heap s) ≡ is_none_or_in p h s.homes
   pred_in_shown None found live = refl
   pred_in_shown (Some m) found live =
-      let lives = some_is (slot s.nodes.slots m) (live m refl) in
-      ap (stands_in (address_in s.nodes.slots m)) (nodes_shown s list h found)
-      ∙ ap (λ a. stands_in a (map (address_in s.nodes.slots) (sequence s.sequences h))) (ap (λ o. unwrap_or o 0) lives.1)
+      let lives = some_is (slot (places variant.Node s) m) (live m refl) in
+      ap (stands_in (address_in (places variant.Node s) m)) (nodes_shown s list h found)
+      ∙ ap (λ a. stands_in a (map (address_in (places variant.Node s)) (sequence s.sequences h))) (ap (λ o. unwrap_or o 0) lives.1)
       ∙ stands_shown sound space h m lives.0 lives.1
 
   -- where the list, the node and the predecessor are there, and the node is not linked, the predecessor has to stand in the list
   pub insert_found : (node pred : ℕ) {n : ℕ} (p : Option ℕ) {stands : Bool} → list_alert list (shown_heap s) ≡ None
-      → number_at 1 node s ≡ Some n → pred_alert (predecessor pred) (shown_heap s) ≡ None
-      → option_map (address_in s.nodes.slots) p ≡ predecessor pred
-      → ForSome p (λ m. IsSome (slot s.nodes.slots m)) → home s.homes n ≡ None → is_none_or_in p h s.homes ≡ stands
+      → number_at variant.Node node s.table ≡ Some n → pred_alert (predecessor pred) (shown_heap s) ≡ None
+      → option_map (address_in (places variant.Node s)) p ≡ predecessor pred
+      → ForSome p (λ m. IsSome (slot (places variant.Node s) m)) → home s.homes n ≡ None → is_none_or_in p h s.homes ≡ stands
       → insert_alert list node pred (shown_heap s) ≡ link_unless stands
   insert_found node pred p listed found preceded is live unlinked stands =
       past_link s list node pred listed found preceded sound space unlinked
@@ -224,28 +227,28 @@ module _ {s : Numbered} (sound : IsSound s) (space : IsSpace s) (list h : ℕ) (
 abbrev searched_after : ℕ → Heap → List ℕ
 searched_after start heap = part_after start (sequence_with start heap)
 
-module _ (s : Numbered) (start h : ℕ) (found : number_at 0 start s ≡ Some h) where
+module _ (s : Numbered) (start h : ℕ) (found : number_at variant.List start s.table ≡ Some h) where
   pub find_list : find_alert start (shown_heap s) ≡ None
   unfolding find_alert
   find_list = ap (λ b. if b then None else linked_alert start (shown_heap s)) (list_there s start h found)
 
-  pub searched_list : searched start (shown_heap s) ≡ map (address_in s.nodes.slots) (sequence s.sequences h)
+  pub searched_list : searched start (shown_heap s) ≡ map (address_in (places variant.Node s)) (sequence s.sequences h)
   unfolding searched
   searched_list =
       ap (λ b. if b then nodes_of start (shown_heap s) else searched_after start (shown_heap s)) (list_there s start h found)
       ∙ nodes_shown s start h found
 
-pub find_node : (s : Numbered) (start : ℕ) → number_at 0 start s ≡ None
+pub find_node : (s : Numbered) (start : ℕ) → number_at variant.List start s.table ≡ None
     → find_alert start (shown_heap s) ≡ linked_alert start (shown_heap s)
 unfolding find_alert
 find_node s start none = ap (λ b. if b then None else linked_alert start (shown_heap s)) (no_list s start none)
 
-pub searched_node : {s : Numbered} → IsSound s → IsSpace s → (start n h : ℕ) → number_at 0 start s ≡ None
-    → slot s.nodes.slots n ≡ Some start → home s.homes n ≡ Some h
-    → searched start (shown_heap s) ≡ map (address_in s.nodes.slots) (part_after n (sequence s.sequences h))
+pub searched_node : {s : Numbered} → IsSound s → IsSpace s → (start n h : ℕ) → number_at variant.List start s.table ≡ None
+    → slot (places variant.Node s) n ≡ Some start → home s.homes n ≡ Some h
+    → searched start (shown_heap s) ≡ map (address_in (places variant.Node s)) (part_after n (sequence s.sequences h))
 unfolding searched
 searched_node {s} sound space start n h none placed linked =
     ap (λ b. if b then nodes_of start (shown_heap s) else searched_after start (shown_heap s)) (no_list s start none)
     ∙ ap (part_after start) (sequence_shown sound space n start h placed linked)
-    ∙ ap (λ a. part_after a (map (address_in s.nodes.slots) (sequence s.sequences h))) (sym (ap (λ o. unwrap_or o 0) placed))
-    ∙ part_after-map (address_in s.nodes.slots) n (sequence s.sequences h) (told_apart sound space h n start placed)
+    ∙ ap (λ a. part_after a (map (address_in (places variant.Node s)) (sequence s.sequences h))) (sym (ap (λ o. unwrap_or o 0) placed))
+    ∙ part_after-map (address_in (places variant.Node s)) n (sequence s.sequences h) (told_apart sound space h n start placed)

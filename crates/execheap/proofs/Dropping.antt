@@ -1,5 +1,5 @@
 -- A task that waits for no semaphore any more, and one that begins to wait: by number and by address it is the same.
-use Rattle.std.proofs.Common.{◌≡◌, ℕ, zero, suc, ◌<◌, ◌/◌, ◌%◌, lit≤, [], ◌∷◌, ◌++◌, Bool, true, false, map, length, refl, ap, sym, ◌∙◌, arith}
+use Rattle.std.proofs.Common.{◌≡◌, ℕ, ◌<◌, [], ◌∷◌, ◌++◌, Bool, true, false, map, length, refl, ap, sym, ◌∙◌, arith}
 use Rattle.std.specs.Prelude.{Option, Some, None, if◌then◌else◌, slice_set, ◌==◌, IsTrue}
 use Rattle.std.specs.List.{list_any}
 use Rattle.std.proofs.Math.Path.{fun_ext}
@@ -15,14 +15,20 @@ use Rattle.memlist.specs.Memory.{IsWellFormed}
 use Rattle.execmodel.specs.State.{Object, Semaphore, Block, on_heap}
 use Rattle.execmodel.specs.Semaphores as model
 use Rattle.execmodel.specs.Semaphores.{left_by_task}
-use Rattle.execheap.specs.Tags.{tag_of}
-use Rattle.execheap.specs.Numbered.{Numbered, contents, IsSound, number_at, object_of, shown_object, shown_entry, shown_heap, shown_memory}
+use Rattle.execheap.specs.declared.kind.Kind.{Kind}
+use Rattle.execheap.specs.declared.kind.Kind.TheVariants as variant
+use Rattle.execheap.specs.declared.tag.Tagged.{Tagged}
+use Rattle.execheap.specs.declared.tag.Tagged.TheVariants as tag
+use Rattle.execheap.specs.Tags.{tagged}
+use Rattle.execheap.specs.Numbered.{Numbered, IsSound, object_of, shown_entry, shown_heap, shown_memory, shown_tagged, places}
+use Rattle.execheap.specs.Table.{number_at}
 use Rattle.execheap.specs.Changes.{on_semaphores, semaphore_obtained}
 use Rattle.execheap.proofs.Mapped.{stands_by_times, without_absent}
 use Rattle.execheap.proofs.Owning.{attempted_heap, entered_heap, heap_owned, queue_heap, released_heap}
 use Rattle.execheap.proofs.Posted.{item_known}
 use Rattle.execheap.proofs.Relisted.{Tells, sequence_set}
-use Rattle.execheap.proofs.Shown.{number_live, sem_shown, tells, waiters_shown}
+use Rattle.execheap.proofs.Matching.{number_live}
+use Rattle.execheap.proofs.Shown.{sem_shown, tells, waiters_shown}
 use Rattle.execheap.proofs.Tagging.{either_number}
 
 -- ---- the queues without a task
@@ -69,28 +75,24 @@ module _ (s : Numbered) (held : sems.IsSound s.sems) (t : ℕ) where
   abbrev without_task : Numbered
   without_task = on_semaphores (sems.dropped t) s
 
-  object_dropped : (k m : ℕ) → object_of k m (contents without_task) ≡ left_by_task t (object_of k m (contents s))
-  object_dropped zero m = refl
-  object_dropped (suc zero) m = refl
-  object_dropped (suc (suc zero)) m = refl
-  object_dropped (suc (suc (suc zero))) m = refl
-  object_dropped (suc (suc (suc (suc zero)))) m = λ i. Semaphore (sem_beside held t m i) (waiters_without held t m i)
-  object_dropped (suc (suc (suc (suc (suc k))))) m = refl
+  object_dropped : (k : Kind) (m : ℕ) → object_of k m without_task ≡ left_by_task t (object_of k m s)
+  object_dropped variant.Semaphore m = λ i. Semaphore (sem_beside held t m i) (waiters_without held t m i)
+  object_dropped _ m = refl
 
-  shown_dropped : (tag : ℕ) → shown_object (contents without_task) tag ≡ left_by_task t (shown_object (contents s) tag)
-  shown_dropped zero = refl
-  shown_dropped (suc j) = object_dropped (j % 8) (j / 8)
+  shown_dropped : (x : Tagged) → shown_tagged without_task x ≡ left_by_task t (shown_tagged s x)
+  shown_dropped (tag.Object k m) = object_dropped k m
+  shown_dropped _ = refl
 
   pub dropped_heap : shown_heap without_task ≡ model.dropped t (shown_heap s)
   unfolding shown_heap model.dropped
   dropped_heap =
-      ap (λ (f : ℕ × (ℕ × ℕ) → ℕ × Block). map f s.memory.blocks)
-      (fun_ext (λ (entry : ℕ × (ℕ × ℕ)). ap (λ (object : Object). (entry.0, record { size = entry.1.0; object = object })) (shown_dropped entry.1.1)))
-      ∙ sym (map-map (λ (entry : ℕ × Block). (entry.0, record entry.1 { object = left_by_task t entry.1.object })) (shown_entry (contents s)) s.memory.blocks)
+      ap (λ (f : ℕ × (ℕ × ℕ) → ℕ × Block). map f s.table.memory.blocks)
+      (fun_ext (λ (entry : ℕ × (ℕ × ℕ)). ap (λ (object : Object). (entry.0, record { size = entry.1.0; object = object })) (shown_dropped (tagged entry.1.1))))
+      ∙ sym (map-map (λ (entry : ℕ × Block). (entry.0, record entry.1 { object = left_by_task t entry.1.object })) (shown_entry s) s.table.memory.blocks)
 
   -- ---- a task that waits, or has the semaphore at once
 
-  module _ (n semaphore : ℕ) (found : number_at 4 semaphore s ≡ Some n) (told : Tells s semaphore (tag_of 4 n)) (live : IsTrue (sems.is_sem n s.sems)) where
+  module _ (n semaphore : ℕ) (found : number_at variant.Semaphore semaphore s.table ≡ Some n) (told : Tells s semaphore variant.Semaphore n) (live : IsTrue (sems.is_sem n s.sems)) where
     known : n < length (sems.dropped t s.sems).queues
     known = omega (arith, queues_kept held t, held.each_queue, item_known s.sems.sems.slots n live)
 
@@ -122,13 +124,13 @@ module _ (s : Numbered) (held : sems.IsSound s.sems) (t : ℕ) where
   pub dropped_shown : shown_memory (on_semaphores (sems.dropped t) s) ≡ on_heap (model.dropped t) (shown_memory s)
   dropped_shown = heap_owned s (sems.dropped t s.sems) (model.dropped t (shown_heap s)) (dropped_heap s held t)
 
-module _ {s : Numbered} (sound : IsSound s) (held : sems.IsSound s.sems) (formed : IsWellFormed s.memory.regions s.memory.blocks) where
-  module _ (n semaphore : ℕ) (here : slot s.semaphore_places n ≡ Some semaphore) (live : IsTrue (sems.is_sem n s.sems)) where
-    begins : number_at 4 semaphore s ≡ Some n
-    begins = number_live sound 4 n semaphore (lit≤ tt) here
+module _ {s : Numbered} (sound : IsSound s) (held : sems.IsSound s.sems) (formed : IsWellFormed s.table.memory.regions s.table.memory.blocks) where
+  module _ (n semaphore : ℕ) (here : slot (places variant.Semaphore s) n ≡ Some semaphore) (live : IsTrue (sems.is_sem n s.sems)) where
+    begins : number_at variant.Semaphore semaphore s.table ≡ Some n
+    begins = number_live sound.table variant.Semaphore n semaphore here
 
-    just_there : Tells s semaphore (tag_of 4 n)
-    just_there = tells sound formed 4 n semaphore (lit≤ tt) here
+    just_there : Tells s semaphore variant.Semaphore n
+    just_there = tells sound.table formed variant.Semaphore n semaphore here
 
     has_queue : n < length s.sems.queues
     has_queue = omega (arith, held.each_queue, item_known s.sems.sems.slots n live)

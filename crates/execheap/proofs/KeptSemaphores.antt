@@ -7,77 +7,80 @@ use Rattle.sigsem.specs.declared.fault.SemFault.{SemFault}
 use Rattle.sigsem.specs.declared.semaphore.Sem.{Sem}
 use Rattle.sigsem.specs.Faults.{fault_or, kept_or}
 use Rattle.sigsem.specs.Semaphores.{Semaphores, attempted, dropped, dropped_from, entered, free_sem, handed_on, is_last, is_open, is_sem, let_go, obtained, owned_by, queued, sem_at, waiters_of, waits_at, with_sem}
-use Rattle.execheap.proofs.SoundPorts.{still_there}
+use Rattle.execheap.specs.declared.kind.Kind.{Kind}
+use Rattle.execheap.specs.declared.kind.Kind.TheVariants as variant
+use Rattle.execheap.specs.Table.{pool_of}
+use Rattle.execheap.specs.Numbered.{Numbered, Fits, IsKept, own_shape, shape}
+use Rattle.execheap.proofs.Stepping.{shape_lives, shape_written}
 
 -- ---- what stays
 
--- the same semaphores live, and there is room for as many semaphores and as many tasks
-pub record IsKept (m q : Semaphores) : Type 0 where
-  pub live : (n : ℕ) → is_sem n q ≡ is_sem n m
-  pub each_semaphore : length q.sems.slots ≡ length m.sems.slots
+-- the same semaphores live and are free, and there is room for as many tasks
+pub record IsAlike (m q : Semaphores) : Type 0 where
+  pub same : shape q.sems ≡ shape m.sems
   pub each_task : length q.places ≡ length m.places
 
-pub kept_same : (m : Semaphores) → IsKept m m
-kept_same m = record { live = λ n. refl; each_semaphore = refl; each_task = refl }
+pub same_live : {m q : Semaphores} → IsAlike m q → (n : ℕ) → is_sem n q ≡ is_sem n m
+same_live {m} {q} alike n = sym (shape_lives m.sems q.sems alike.same n)
+
+pub kept_same : (m : Semaphores) → IsAlike m m
+kept_same m = record { same = refl; each_task = refl }
 
 -- a semaphore that lives becomes another
-kept_written : (n : ℕ) (sem : Sem) (m : Semaphores) → IsTrue (is_sem n m) → IsKept m (with_sem n sem m)
+kept_written : (n : ℕ) (sem : Sem) (m : Semaphores) → IsTrue (is_sem n m) → IsAlike m (with_sem n sem m)
 kept_written n sem m lives = record {
-  live = still_there m.sems.slots n sem lives;
-  each_semaphore = length-set m.sems.slots n (Some sem);
+  same = shape_written m.sems n sem lives;
   each_task = refl;
 }
 
-pub kept_queued : (n t : ℕ) (m : Semaphores) → IsKept m (queued n t m)
-kept_queued n t m = record { live = λ k. refl; each_semaphore = refl; each_task = length-set m.places t (Some n) }
+pub kept_queued : (n t : ℕ) (m : Semaphores) → IsAlike m (queued n t m)
+kept_queued n t m = record { same = refl; each_task = length-set m.places t (Some n) }
 
-pub kept_attempted : (n t : ℕ) (m : Semaphores) → IsTrue (is_sem n m) → IsKept m (attempted n t m)
+pub kept_attempted : (n t : ℕ) (m : Semaphores) → IsTrue (is_sem n m) → IsAlike m (attempted n t m)
 kept_attempted n t m lives = by_case (is_open n t m) where
-  by_case : (b : Bool) → IsKept m (if b then entered n t m else m)
+  by_case : (b : Bool) → IsAlike m (if b then entered n t m else m)
   by_case true = kept_written n (record { owner = Some t; count = (sem_at n m).count + 1 }) m lives
   by_case false = kept_same m
 
-pub kept_obtained : (n t : ℕ) (m : Semaphores) → IsTrue (is_sem n m) → IsKept m (obtained n t m)
+pub kept_obtained : (n t : ℕ) (m : Semaphores) → IsTrue (is_sem n m) → IsAlike m (obtained n t m)
 kept_obtained n t m lives = by_case (is_open n t m) where
-  by_case : (b : Bool) → IsKept m (if b then entered n t m else queued n t m)
+  by_case : (b : Bool) → IsAlike m (if b then entered n t m else queued n t m)
   by_case true = kept_written n (record { owner = Some t; count = (sem_at n m).count + 1 }) m lives
   by_case false = kept_queued n t m
 
-kept_handed : (n : ℕ) (o : Option ℕ) (m : Semaphores) → IsTrue (is_sem n m) → IsKept m (handed_on n o m)
+kept_handed : (n : ℕ) (o : Option ℕ) (m : Semaphores) → IsTrue (is_sem n m) → IsAlike m (handed_on n o m)
 kept_handed n None m lives = kept_written n free_sem m lives
 kept_handed n (Some t) m lives = record {
-  live = still_there m.sems.slots n (owned_by t) lives;
-  each_semaphore = length-set m.sems.slots n (Some (owned_by t));
+  same = shape_written m.sems n (owned_by t) lives;
   each_task = length-set m.places t None;
 }
 
-pub kept_let_go : (n : ℕ) (m : Semaphores) → IsTrue (is_sem n m) → IsKept m (let_go n m)
+pub kept_let_go : (n : ℕ) (m : Semaphores) → IsTrue (is_sem n m) → IsAlike m (let_go n m)
 kept_let_go n m lives = by_case (is_last n m) where
   less : Sem
   less = record (sem_at n m) { count = (sem_at n m).count - 1 }
 
-  by_case : (b : Bool) → IsKept m (if b then handed_on n (first (waiters_of n m)) m else with_sem n less m)
+  by_case : (b : Bool) → IsAlike m (if b then handed_on n (first (waiters_of n m)) m else with_sem n less m)
   by_case true = kept_handed n (first (waiters_of n m)) m lives
   by_case false = kept_written n less m lives
 
-kept_dropped_from : (o : Option ℕ) (t : ℕ) (m : Semaphores) → IsKept m (dropped_from o t m)
+kept_dropped_from : (o : Option ℕ) (t : ℕ) (m : Semaphores) → IsAlike m (dropped_from o t m)
 kept_dropped_from None t m = kept_same m
-kept_dropped_from (Some n) t m = record { live = λ k. refl; each_semaphore = refl; each_task = length-set m.places t None }
+kept_dropped_from (Some n) t m = record { same = refl; each_task = length-set m.places t None }
 
-pub kept_dropped : (t : ℕ) (m : Semaphores) → IsKept m (dropped t m)
+pub kept_dropped : (t : ℕ) (m : Semaphores) → IsAlike m (dropped t m)
 kept_dropped t m = kept_dropped_from (waits_at t m) t m
 
-pub kept_then : (m q r : Semaphores) → IsKept m q → IsKept q r → IsKept m r
+pub kept_then : (m q r : Semaphores) → IsAlike m q → IsAlike q r → IsAlike m r
 kept_then m q r here there = record {
-  live = λ n. there.live n ∙ here.live n;
-  each_semaphore = there.each_semaphore ∙ here.each_semaphore;
+  same = there.same ∙ here.same;
   each_task = there.each_task ∙ here.each_task;
 }
 
 -- a call that may be refused
-pub kept_unless : (fault : Option SemFault) (m q r : Semaphores) → q ≡ kept_or fault m r → IsKept m r → IsKept m q
-kept_unless None m q r is kept = subst (IsKept m) (sym is) kept
-kept_unless (Some fault) m q r is kept = subst (IsKept m) (sym is) (kept_same m)
+pub kept_unless : (fault : Option SemFault) (m q r : Semaphores) → q ≡ kept_or fault m r → IsAlike m r → IsAlike m q
+kept_unless None m q r is kept = subst (IsAlike m) (sym is) kept
+kept_unless (Some fault) m q r is kept = subst (IsAlike m) (sym is) (kept_same m)
 
 -- ---- what an answer tells
 
@@ -86,3 +89,21 @@ pub not_refused : {A : Type 0} (fault : Option SemFault) (value answer : A) (res
     → result ≡ fault_or fault value → result ≡ Ok answer → q ≡ kept_or fault old new → q ≡ new
 not_refused None value answer result old new q is ok next = next
 not_refused (Some fault) value answer result old new q is ok next = let bad : false ≡ true = ap is_ok (sym is ∙ ok) in cc
+
+-- ---- the objects
+
+-- all objects are kept where semaphores are alike
+pub kept_sems : {s : Numbered} → IsKept s → (q : Semaphores) → IsAlike s.sems q → IsKept (record s { sems = q })
+kept_sems {s} kept q alike = record {
+  live_nodes = kept.live_nodes;
+  live_lists = kept.live_lists;
+  each_list = kept.each_list;
+  each_node = kept.each_node;
+  in_step = in_step;
+  apt = record { own_signals = kept.apt.own_signals; each_task = alike.each_task ∙ kept.apt.each_task };
+} where
+  in_step : (k : Kind) → Fits (own_shape k (record s { sems = q })) (pool_of k s.table)
+  in_step variant.Port = kept.in_step variant.Port
+  in_step variant.Message = kept.in_step variant.Message
+  in_step variant.Semaphore = alike.same ∙ kept.in_step variant.Semaphore
+  in_step _ = tt

@@ -1,15 +1,17 @@
 -- A semaphore that changes: by number and by address it is the same one.
-use Rattle.std.proofs.Common.{◌≡◌, ℕ, zero, suc, ◌+◌, ◌-◌, ◌<◌, lit≤, List, Bool, true, false, drop, map, length, slice_set, refl, ap, sym, ◌∙◌, arith}
+use Rattle.std.proofs.Common.{◌≡◌, ℕ, ◌+◌, ◌-◌, ◌<◌, List, Bool, true, false, drop, map, length, slice_set, refl, ap, sym, ◌∙◌}
 use Rattle.std.specs.Prelude.{Option, Some, None, if◌then◌else◌, nat_eq, ◌&&◌, IsTrue}
 use Rattle.execlist.specs.Order.{first}
-use Rattle.memlist.proofs.Answered.{nat_eq-other}
 use Rattle.sigsem.specs.declared.semaphore.Sem.{Sem}
 use Rattle.sigsem.specs.Semaphores as sems
 use Rattle.sigsem.specs.Semaphores.{Semaphores, free_sem, owned_by, sem_at, waiters_of, with_sem}
-use Rattle.execmodel.specs.State.{Plain, Semaphore, Heap, on_heap}
+use Rattle.execmodel.specs.State.{Semaphore, Heap, on_heap}
 use Rattle.execmodel.specs.Semaphores as model
-use Rattle.execheap.specs.Tags.{tag_of}
-use Rattle.execheap.specs.Numbered.{Numbered, contents, number_at, object_of, shown_heap, shown_memory, shown_public}
+use Rattle.execheap.specs.declared.kind.Kind.{Kind}
+use Rattle.execheap.specs.declared.kind.Kind.TheVariants as variant
+use Rattle.execheap.specs.Tags.{is_same}
+use Rattle.execheap.specs.Numbered.{Numbered, object_of, shown_heap, shown_memory, shown_public, places}
+use Rattle.execheap.specs.Table.{number_at}
 use Rattle.execheap.specs.Changes.{on_semaphores}
 use Rattle.execheap.proofs.Posted.{item_known, none_left, same_at, written_at}
 use Rattle.execheap.proofs.Relisted.{Tells, object_replaced, sequence_set}
@@ -20,8 +22,8 @@ use Rattle.execheap.proofs.Shown.{sem_shown, waiters_shown}
 pub heap_owned : (s : Numbered) (q : Semaphores) (heap : Heap) → shown_heap (record s { sems = q }) ≡ heap
     → shown_memory (record s { sems = q }) ≡ on_heap (λ old. heap) (shown_memory s)
 heap_owned s q heap is = λ i. record {
-  regions = s.memory.regions;
-  pool = length s.lists.slots;
+  regions = s.table.memory.regions;
+  pool = s.table.pool;
   heap = is i;
   public = map (shown_public s) s.ports.public;
 }
@@ -39,23 +41,18 @@ module _ (s : Numbered) (q : Semaphores) where
     either_sem true sem other queue rest = refl
     either_sem false sem other queue rest = refl
 
-    sem_set : (k m : ℕ) → object_of k m (contents beside) ≡ (if nat_eq k 4 && nat_eq m n then Semaphore sem queue else object_of k m (contents s))
-    sem_set zero m = refl
-    sem_set (suc zero) m = refl
-    sem_set (suc (suc zero)) m = refl
-    sem_set (suc (suc (suc zero))) m = refl
-    sem_set (suc (suc (suc (suc zero)))) m =
+    sem_set : (k : Kind) (m : ℕ) → object_of k m beside ≡ (if is_same k variant.Semaphore && nat_eq m n then Semaphore sem queue else object_of k m s)
+    sem_set variant.Semaphore m =
         (λ i. Semaphore (sems m i) (queues m i)) ∙ either_sem (nat_eq m n) sem (sem_at m s.sems) queue (waiters_of m s.sems)
-    sem_set (suc (suc (suc (suc (suc k))))) m =
-        sym (ap (λ b. if b && nat_eq m n then Semaphore sem queue else Plain) (nat_eq-other (suc (suc (suc (suc (suc k))))) 4 (omega arith)))
+    sem_set _ m = refl
 
-    pub with_semaphore_shown : Tells s address (tag_of 4 n) → shown_heap beside ≡ model.with_semaphore address sem queue (shown_heap s)
+    pub with_semaphore_shown : Tells s address variant.Semaphore n → shown_heap beside ≡ model.with_semaphore address sem queue (shown_heap s)
     unfolding model.with_semaphore
-    with_semaphore_shown told = object_replaced s beside address (Semaphore sem queue) 4 n (lit≤ tt) sem_set told refl
+    with_semaphore_shown told = object_replaced s beside address (Semaphore sem queue) variant.Semaphore n sem_set told refl
 
 -- ---- the changes, where a number begins at an address
 
-module _ (s : Numbered) (n semaphore : ℕ) (found : number_at 4 semaphore s ≡ Some n) (told : Tells s semaphore (tag_of 4 n)) where
+module _ (s : Numbered) (n semaphore : ℕ) (found : number_at variant.Semaphore semaphore s.table ≡ Some n) (told : Tells s semaphore variant.Semaphore n) where
   sem_is : model.sem_of semaphore (shown_heap s) ≡ sem_at n s.sems
   sem_is = sem_shown s semaphore n found
 

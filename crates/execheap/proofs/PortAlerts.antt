@@ -1,5 +1,5 @@
 -- The alerts of the calls on ports and messages by address, told by number.
-use Rattle.std.proofs.Common.{◌≡◌, ℕ, zero, suc, lit≤, List, Bool, true, false, refl, ap, ◌∙◌, arith}
+use Rattle.std.proofs.Common.{◌≡◌, ℕ, zero, suc, List, Bool, true, false, refl, ap, ◌∙◌, arith}
 use Rattle.std.specs.Prelude.{Option, None, Some, codes, is_some, nat_eq, if◌then◌else◌}
 use Rattle.memlist.proofs.Answered.{nat_eq-other}
 use Rattle.execmodel.specs.State.{Heap}
@@ -8,26 +8,29 @@ use Rattle.msgport.specs.Port.{wait_bit}
 use Rattle.msgport.specs.Ports as ports
 use Rattle.msgport.specs.Ports.{is_linked, message_at, port_at}
 use Rattle.execlist.specs.Pool.{slot}
-use Rattle.execheap.specs.Numbered.{Numbered, IsSound, number_at, shown_heap}
+use Rattle.execheap.specs.declared.kind.Kind.TheVariants as variant
+use Rattle.execheap.specs.Numbered.{Numbered, IsSound, shown_heap, places}
+use Rattle.execheap.specs.Table.{number_at}
 use Rattle.execheap.proofs.Alerts.{handle_unless, is_there, link_if, refused_first}
 use Rattle.execheap.proofs.Queued.{is_queued_shown}
-use Rattle.execheap.proofs.Shown.{content_shown, message_at_shown, number_live, port_at_shown, port_shown}
+use Rattle.execheap.proofs.Matching.{number_live}
+use Rattle.execheap.proofs.Shown.{content_shown, message_at_shown, port_at_shown, port_shown}
 
 -- ---- the alert of a port, and of a message
 
-pub port_refused : (s : Numbered) (port : ℕ) → number_at 2 port s ≡ None → port_alert port (shown_heap s) ≡ Some (codes "HANDLE")
+pub port_refused : (s : Numbered) (port : ℕ) → number_at variant.Port port s.table ≡ None → port_alert port (shown_heap s) ≡ Some (codes "HANDLE")
 unfolding port_alert
 port_refused s port none = ap (λ b. handle_unless b None) (port_at_shown s port ∙ ap is_some none)
 
-pub port_found : (s : Numbered) (port p : ℕ) → number_at 2 port s ≡ Some p → port_alert port (shown_heap s) ≡ None
+pub port_found : (s : Numbered) (port p : ℕ) → number_at variant.Port port s.table ≡ Some p → port_alert port (shown_heap s) ≡ None
 unfolding port_alert
 port_found s port p found = ap (λ b. handle_unless b None) (port_at_shown s port ∙ ap is_some found)
 
-pub message_refused : (s : Numbered) (message : ℕ) → number_at 3 message s ≡ None → message_alert message (shown_heap s) ≡ Some (codes "HANDLE")
+pub message_refused : (s : Numbered) (message : ℕ) → number_at variant.Message message s.table ≡ None → message_alert message (shown_heap s) ≡ Some (codes "HANDLE")
 unfolding message_alert
 message_refused s message none = ap (λ b. handle_unless b None) (message_at_shown s message ∙ ap is_some none)
 
-pub message_found : (s : Numbered) (message m : ℕ) → number_at 3 message s ≡ Some m → message_alert message (shown_heap s) ≡ None
+pub message_found : (s : Numbered) (message m : ℕ) → number_at variant.Message message s.table ≡ Some m → message_alert message (shown_heap s) ≡ None
 unfolding message_alert
 message_found s message m found = ap (λ b. handle_unless b None) (message_at_shown s message ∙ ap is_some found)
 
@@ -89,7 +92,7 @@ module _ (message : ℕ) (heap : Heap) where
     unfolding put_alert port_alert
     put_by_message there = ap (λ b. handle_unless b (loose_alert message heap)) (is_there (is_port_at port heap) there)
 
-module _ {s : Numbered} (sound : IsSound s) (held : ports.IsSound s.ports) (m message : ℕ) (here : slot s.message_places m ≡ Some message) where
+module _ {s : Numbered} (sound : IsSound s) (held : ports.IsSound s.ports) (m message : ℕ) (here : slot (places variant.Message s) m ≡ Some message) where
   pub loose_found : {linked : Bool} → message_alert message (shown_heap s) ≡ None → is_linked m s.ports ≡ linked
       → loose_alert message (shown_heap s) ≡ link_if linked None
   loose_found there is =
@@ -98,12 +101,12 @@ module _ {s : Numbered} (sound : IsSound s) (held : ports.IsSound s.ports) (m me
 -- ---- what begins at an address that has an alert no more
 
 module _ {s : Numbered} (sound : IsSound s) where
-  pub reply_of : (m message : ℕ) → slot s.message_places m ≡ Some message → (content_of message (shown_heap s)).reply ≡ (message_at m s.ports).reply
-  reply_of m message here = ap (λ content. content.reply) (content_shown s message m (number_live sound 3 m message (lit≤ tt) here))
+  pub reply_of : (m message : ℕ) → slot (places variant.Message s) m ≡ Some message → (content_of message (shown_heap s)).reply ≡ (message_at m s.ports).reply
+  reply_of m message here = ap (λ content. content.reply) (content_shown s message m (number_live sound.table variant.Message m message here))
 
   -- ---- the alert of a port to wait at
 
-  module _ (task p port : ℕ) (here : slot s.port_places p ≡ Some port) where
+  module _ (task p port : ℕ) (here : slot (places variant.Port s) p ≡ Some port) where
     abbrev waits : Bool → Option (List ℕ)
     waits may = if may then None else Some (codes "PORT")
 
@@ -112,7 +115,7 @@ module _ {s : Numbered} (sound : IsSound s) where
     unfolding wait_alert port_alert
     wait_found there is =
         ap (λ b. handle_unless b (waits (is_some (wait_bit task (port_of port (shown_heap s)))))) (is_there (is_port_at port (shown_heap s)) there)
-        ∙ ap (λ q. waits (is_some (wait_bit task q))) (port_shown s port p (number_live sound 2 p port (lit≤ tt) here))
+        ∙ ap (λ q. waits (is_some (wait_bit task q))) (port_shown s port p (number_live sound.table variant.Port p port here))
         ∙ ap (λ o. waits (is_some o)) is
 
 pub wait_refused : (task port : ℕ) (heap : Heap) {why : List ℕ} → port_alert port heap ≡ Some why → wait_alert task port heap ≡ Some why

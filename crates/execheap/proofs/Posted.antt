@@ -1,5 +1,5 @@
 -- A port or a message that changes, put at a port or taken off one: by number and by address it is the same.
-use Rattle.std.proofs.Common.{◌≡◌, ℕ, zero, suc, ◌<◌, ◌/◌, ◌%◌, lit≤, List, [], ◌∷◌, ◌++◌, Bool, true, false, drop, map, length, slice_set, refl, ap, sym, ◌∙◌, arith}
+use Rattle.std.proofs.Common.{◌≡◌, ℕ, ◌<◌, List, [], ◌∷◌, ◌++◌, Bool, true, false, drop, map, length, slice_set, refl, ap, sym, ◌∙◌, arith}
 use Rattle.std.specs.Prelude.{Option, Some, None, if◌then◌else◌, is_some, nat_eq, option_map, unwrap_or, ◌&&◌, IsTrue}
 use Rattle.std.proofs.lemmas.List.{drop-map, map-append}
 use Rattle.std.proofs.Math.Path.{fun_ext}
@@ -8,29 +8,35 @@ use Rattle.execlist.specs.Lists.{sequence}
 use Rattle.execlist.specs.Pool.{slot}
 use Rattle.execlist.proofs.Pools.{slot_known}
 use Rattle.memlist.specs.Memory.{IsWellFormed}
-use Rattle.memlist.proofs.Answered.{nat_eq-other}
 use Rattle.msgport.specs.declared.message.Message.{Message as Content}
 use Rattle.msgport.specs.declared.action.PortAction.{PortAction}
 use Rattle.msgport.specs.Port.{Port, new_port}
 use Rattle.msgport.specs.Ports as ports
 use Rattle.msgport.specs.Ports.{MessagePorts, message_at, messages_of, new_message, port_at, with_message, with_port}
-use Rattle.execmodel.specs.State.{Object, Plain, MsgPort, Message, Block, Heap, on_heap}
+use Rattle.execmodel.specs.State.{Object, MsgPort, Message, Block, Heap, on_heap}
+use Rattle.execmodel.specs.Objects.{replaced}
 use Rattle.execmodel.specs.Ports as model
-use Rattle.execheap.specs.Tags.{tag_of}
-use Rattle.execheap.specs.Numbered.{Numbered, contents, IsSound, address_in, number_at, object_of, shown_object, shown_heap, shown_memory, shown_public}
+use Rattle.execheap.specs.declared.kind.Kind.{Kind}
+use Rattle.execheap.specs.declared.kind.Kind.TheVariants as variant
+use Rattle.execheap.specs.declared.tag.Tagged.{Tagged}
+use Rattle.execheap.specs.declared.tag.Tagged.TheVariants as tag
+use Rattle.execheap.specs.Tags.{is_same, tagged}
+use Rattle.execheap.specs.Numbered.{Numbered, IsSound, address_in, object_of, shown_heap, shown_memory, shown_public, shown_tagged, places}
+use Rattle.execheap.specs.Table.{number_at}
 use Rattle.execheap.specs.Changes.{on_ports}
 use Rattle.execheap.proofs.Linked.{some_is}
 use Rattle.execheap.proofs.Mapped.{first-map}
 use Rattle.execheap.proofs.Relisted.{Tells, item_set, object_replaced}
-use Rattle.execheap.proofs.Shown.{content_shown, messages_shown, number_live, port_shown, tells}
+use Rattle.execheap.proofs.Matching.{number_live}
+use Rattle.execheap.proofs.Shown.{content_shown, message_at_shown, messages_shown, port_shown, tells}
 use Rattle.execheap.proofs.Tagging.{either_number}
 
 -- ---- other ports, and the same blocks
 
 pub heap_beside : (s : Numbered) (q : MessagePorts) (heap : Heap) {public : List _} → shown_heap (record s { ports = q }) ≡ heap
     → map (shown_public (record s { ports = q })) q.public ≡ public
-    → shown_memory (record s { ports = q }) ≡ record { regions = s.memory.regions; pool = length s.lists.slots; heap = heap; public = public }
-heap_beside s q heap is listed = λ i. record { regions = s.memory.regions; pool = length s.lists.slots; heap = is i; public = listed i }
+    → shown_memory (record s { ports = q }) ≡ record { regions = s.table.memory.regions; pool = s.table.pool; heap = heap; public = public }
+heap_beside s q heap is listed = λ i. record { regions = s.table.memory.regions; pool = s.table.pool; heap = is i; public = listed i }
 
 module _ (s : Numbered) (q : MessagePorts) where
   abbrev beside : Numbered
@@ -38,24 +44,21 @@ module _ (s : Numbered) (q : MessagePorts) where
 
   -- the same objects where the ports, their messages and what these hold are the same
   module _ (ports : q.ports ≡ s.ports.ports) (queues : q.queues ≡ s.ports.queues) (messages : q.messages ≡ s.ports.messages) where
-    object_same : (k m : ℕ) → object_of k m (contents beside) ≡ object_of k m (contents s)
-    object_same zero m = refl
-    object_same (suc zero) m = refl
-    object_same (suc (suc zero)) m =
-        λ i. MsgPort (unwrap_or (slot (ports i).slots m) (new_port 0 0)) (map (address_in s.message_places) (sequence (queues i) m))
-    object_same (suc (suc (suc zero))) m = λ i. Message (unwrap_or (slot (messages i).slots m) (new_message 0 0))
-    object_same (suc (suc (suc (suc zero)))) m = refl
-    object_same (suc (suc (suc (suc (suc k))))) m = refl
+    object_same : (k : Kind) (m : ℕ) → object_of k m beside ≡ object_of k m s
+    object_same variant.Port m =
+        λ i. MsgPort (unwrap_or (slot (ports i).slots m) (new_port 0 0)) (map (address_in (places variant.Message s)) (sequence (queues i) m))
+    object_same variant.Message m = λ i. Message (unwrap_or (slot (messages i).slots m) (new_message 0 0))
+    object_same _ m = refl
 
-    shown_same : (tag : ℕ) → shown_object (contents beside) tag ≡ shown_object (contents s) tag
-    shown_same zero = refl
-    shown_same (suc n) = object_same (n % 8) (n / 8)
+    shown_same : (x : Tagged) → shown_tagged beside x ≡ shown_tagged s x
+    shown_same (tag.Object k m) = object_same k m
+    shown_same _ = refl
 
     pub objects_beside : shown_heap beside ≡ shown_heap s
     unfolding shown_heap
     objects_beside =
-        ap (λ (f : ℕ × (ℕ × ℕ) → ℕ × Block). map f s.memory.blocks)
-        (fun_ext (λ (entry : ℕ × (ℕ × ℕ)). ap (λ o. (entry.0, record { size = entry.1.0; object = o })) (shown_same entry.1.1)))
+        ap (λ (f : ℕ × (ℕ × ℕ) → ℕ × Block). map f s.table.memory.blocks)
+        (fun_ext (λ (entry : ℕ × (ℕ × ℕ)). ap (λ o. (entry.0, record { size = entry.1.0; object = o })) (shown_same (tagged entry.1.1))))
 
   -- ---- one port is another, or has other messages
 
@@ -63,29 +66,25 @@ module _ (s : Numbered) (q : MessagePorts) where
       (ports : (m : ℕ) → port_at m q ≡ (if nat_eq m p then port else port_at m s.ports))
       (queues : (m : ℕ) → messages_of m q ≡ (if nat_eq m p then queue else messages_of m s.ports)) where
     abbrev replaced_port : Object
-    replaced_port = MsgPort port (map (address_in s.message_places) queue)
+    replaced_port = MsgPort port (map (address_in (places variant.Message s)) queue)
 
     either_port : (b : Bool) (port other : Port) (queue rest : List ℕ)
-        → MsgPort (if b then port else other) (map (address_in s.message_places) (if b then queue else rest))
-        ≡ (if b then MsgPort port (map (address_in s.message_places) queue) else MsgPort other (map (address_in s.message_places) rest))
+        → MsgPort (if b then port else other) (map (address_in (places variant.Message s)) (if b then queue else rest))
+        ≡ (if b then MsgPort port (map (address_in (places variant.Message s)) queue) else MsgPort other (map (address_in (places variant.Message s)) rest))
     either_port true port other queue rest = refl
     either_port false port other queue rest = refl
 
-    port_set : (k m : ℕ) → object_of k m (contents beside) ≡ (if nat_eq k 2 && nat_eq m p then replaced_port else object_of k m (contents s))
-    port_set zero m = refl
-    port_set (suc zero) m = refl
-    port_set (suc (suc zero)) m =
-        (λ i. MsgPort (ports m i) (map (address_in s.message_places) (queues m i)))
+    port_set : (k : Kind) (m : ℕ) → object_of k m beside ≡ (if is_same k variant.Port && nat_eq m p then replaced_port else object_of k m s)
+    port_set variant.Port m =
+        (λ i. MsgPort (ports m i) (map (address_in (places variant.Message s)) (queues m i)))
         ∙ either_port (nat_eq m p) port (port_at m s.ports) queue (messages_of m s.ports)
-    port_set (suc (suc (suc zero))) m = λ i. Message (unwrap_or (slot (messages i).slots m) (new_message 0 0))
-    port_set (suc (suc (suc (suc zero)))) m = refl
-    port_set (suc (suc (suc (suc (suc k))))) m =
-        sym (ap (λ b. if b && nat_eq m p then replaced_port else Plain) (nat_eq-other (suc (suc (suc (suc (suc k))))) 2 (omega arith)))
+    port_set variant.Message m = λ i. Message (unwrap_or (slot (messages i).slots m) (new_message 0 0))
+    port_set _ m = refl
 
-    pub with_port_shown : Tells s address (tag_of 2 p)
-        → shown_heap beside ≡ model.with_port address port (map (address_in s.message_places) queue) (shown_heap s)
+    pub with_port_shown : Tells s address variant.Port p
+        → shown_heap beside ≡ model.with_port address port (map (address_in (places variant.Message s)) queue) (shown_heap s)
     unfolding model.with_port
-    with_port_shown told = object_replaced s beside address replaced_port 2 p (lit≤ tt) port_set told refl
+    with_port_shown told = object_replaced s beside address replaced_port variant.Port p port_set told refl
 
   -- ---- one message is another
 
@@ -95,19 +94,18 @@ module _ (s : Numbered) (q : MessagePorts) where
     either_content true content other = refl
     either_content false content other = refl
 
-    content_set : (k n : ℕ) → object_of k n (contents beside) ≡ (if nat_eq k 3 && nat_eq n m then Message content else object_of k n (contents s))
-    content_set zero n = refl
-    content_set (suc zero) n = refl
-    content_set (suc (suc zero)) n =
-        λ i. MsgPort (unwrap_or (slot (ports i).slots n) (new_port 0 0)) (map (address_in s.message_places) (sequence (queues i) n))
-    content_set (suc (suc (suc zero))) n = ap Message (messages n) ∙ either_content (nat_eq n m) content (message_at n s.ports)
-    content_set (suc (suc (suc (suc zero)))) n = refl
-    content_set (suc (suc (suc (suc (suc k))))) n =
-        sym (ap (λ b. if b && nat_eq n m then Message content else Plain) (nat_eq-other (suc (suc (suc (suc (suc k))))) 3 (omega arith)))
+    content_set : (k : Kind) (n : ℕ) → object_of k n beside ≡ (if is_same k variant.Message && nat_eq n m then Message content else object_of k n s)
+    content_set variant.Port n =
+        λ i. MsgPort (unwrap_or (slot (ports i).slots n) (new_port 0 0)) (map (address_in (places variant.Message s)) (sequence (queues i) n))
+    content_set variant.Message n = ap Message (messages n) ∙ either_content (nat_eq n m) content (message_at n s.ports)
+    content_set _ n = refl
 
-    pub with_content_shown : Tells s address (tag_of 3 m) → shown_heap beside ≡ model.with_content address content (shown_heap s)
+    pub with_content_shown : Tells s address variant.Message m → model.is_message_at address (shown_heap s) ≡ true
+        → shown_heap beside ≡ model.with_content address content (shown_heap s)
     unfolding model.with_content
-    with_content_shown told = object_replaced s beside address (Message content) 3 m (lit≤ tt) content_set told refl
+    with_content_shown told begins =
+        object_replaced s beside address (Message content) variant.Message m content_set told refl
+        ∙ sym (ap (λ b. if b then map (replaced address (Message content)) (shown_heap s) else shown_heap s) begins)
 
 -- ---- an item that is written
 
@@ -132,7 +130,7 @@ none_left (x ∷ xs) none = let bad : true ≡ false = ap is_some none in cc
 
 -- ---- the changes, where a number begins at an address
 
-module _ (s : Numbered) (p port : ℕ) (found : number_at 2 port s ≡ Some p) (told : Tells s port (tag_of 2 p)) (live : IsTrue (ports.is_port p s.ports)) where
+module _ (s : Numbered) (p port : ℕ) (found : number_at variant.Port port s.table ≡ Some p) (told : Tells s port variant.Port p) (live : IsTrue (ports.is_port p s.ports)) where
   pub action_heap : (act : PortAction) → shown_heap (on_ports (with_port p (record (port_at p s.ports) { action = act })) s) ≡ model.with_action act port (shown_heap s)
   unfolding model.with_action
   action_heap act =
@@ -143,7 +141,7 @@ module _ (s : Numbered) (p port : ℕ) (found : number_at 2 port s ≡ Some p) (
       ∙ (λ i. model.with_port port (record (sym (port_shown s port p found) i) { action = act }) (sym (messages_shown s port p found) i) (shown_heap s))
 
   module _ (queued : p < length s.ports.queues) where
-    pub appended_heap : (m message : ℕ) → address_in s.message_places m ≡ message
+    pub appended_heap : (m message : ℕ) → address_in (places variant.Message s) m ≡ message
         → shown_heap (on_ports (ports.appended p m) s) ≡ model.appended port message (shown_heap s)
     unfolding model.appended
     appended_heap m message is =
@@ -151,10 +149,10 @@ module _ (s : Numbered) (p port : ℕ) (found : number_at 2 port s ≡ Some p) (
         (same_at (λ k. port_at k s.ports) p) (λ k. item_set s.ports.queues p (messages_of p s.ports ++ m ∷ []) [] k queued) told
         ∙ (λ i. model.with_port port (sym (port_shown s port p found) i) (more i) (shown_heap s))
       where
-        more : map (address_in s.message_places) (messages_of p s.ports ++ m ∷ []) ≡ model.messages_of port (shown_heap s) ++ message ∷ []
+        more : map (address_in (places variant.Message s)) (messages_of p s.ports ++ m ∷ []) ≡ model.messages_of port (shown_heap s) ++ message ∷ []
         more =
-            map-append (address_in s.message_places) (messages_of p s.ports) (m ∷ [])
-            ∙ ap (λ a. map (address_in s.message_places) (messages_of p s.ports) ++ a ∷ []) is
+            map-append (address_in (places variant.Message s)) (messages_of p s.ports) (m ∷ [])
+            ∙ ap (λ a. map (address_in (places variant.Message s)) (messages_of p s.ports) ++ a ∷ []) is
             ∙ ap (λ queue. queue ++ message ∷ []) (sym (messages_shown s port p found))
 
     -- the first message is taken off, if there is one
@@ -164,24 +162,25 @@ module _ (s : Numbered) (p port : ℕ) (found : number_at 2 port s ≡ Some p) (
         off o is
         ∙ (λ i. model.with_port port (sym (port_shown s port p found) i) (fewer i) (shown_heap s))
       where
-        fewer : map (address_in s.message_places) (drop 1 (messages_of p s.ports)) ≡ drop 1 (model.messages_of port (shown_heap s))
-        fewer = sym (ap (drop 1) (messages_shown s port p found) ∙ drop-map (address_in s.message_places) 1 (messages_of p s.ports))
+        fewer : map (address_in (places variant.Message s)) (drop 1 (messages_of p s.ports)) ≡ drop 1 (model.messages_of port (shown_heap s))
+        fewer = sym (ap (drop 1) (messages_shown s port p found) ∙ drop-map (address_in (places variant.Message s)) 1 (messages_of p s.ports))
 
         off : (o : Option ℕ) → first (messages_of p s.ports) ≡ o
-            → shown_heap (on_ports (ports.taken_off p o) s) ≡ model.with_port port (port_at p s.ports) (map (address_in s.message_places) (drop 1 (messages_of p s.ports))) (shown_heap s)
+            → shown_heap (on_ports (ports.taken_off p o) s) ≡ model.with_port port (port_at p s.ports) (map (address_in (places variant.Message s)) (drop 1 (messages_of p s.ports))) (shown_heap s)
         off None none =
             with_port_shown s s.ports p port (port_at p s.ports) (messages_of p s.ports) refl
             (same_at (λ k. port_at k s.ports) p) (same_at (λ k. messages_of k s.ports) p) told
-            ∙ ap (λ queue. model.with_port port (port_at p s.ports) (map (address_in s.message_places) queue) (shown_heap s)) (none_left (messages_of p s.ports) none)
+            ∙ ap (λ queue. model.with_port port (port_at p s.ports) (map (address_in (places variant.Message s)) queue) (shown_heap s)) (none_left (messages_of p s.ports) none)
         off (Some m) is =
             with_port_shown s (ports.taken_off p (Some m) s.ports) p port (port_at p s.ports) (drop 1 (messages_of p s.ports)) refl
             (same_at (λ k. port_at k s.ports) p) (λ k. item_set s.ports.queues p (drop 1 (messages_of p s.ports)) [] k queued) told
 
-module _ (s : Numbered) (m message : ℕ) (found : number_at 3 message s ≡ Some m) (told : Tells s message (tag_of 3 m)) (live : IsTrue (ports.is_message m s.ports)) where
+module _ (s : Numbered) (m message : ℕ) (found : number_at variant.Message message s.table ≡ Some m) (told : Tells s message variant.Message m) (live : IsTrue (ports.is_message m s.ports)) where
   content_heap : (content : Content) → shown_heap (on_ports (with_message m content) s) ≡ model.with_content message content (shown_heap s)
   content_heap content =
       with_content_shown s (with_message m content s.ports) m message content refl refl
       (written_at s.ports.messages.slots m content (new_message 0 0) (item_known s.ports.messages.slots m live)) told
+      (message_at_shown s message ∙ ap is_some found)
 
   pub word_heap : (value : ℕ) → shown_heap (on_ports (with_message m (record (message_at m s.ports) { word = value })) s) ≡ model.with_word message value (shown_heap s)
   unfolding model.with_word
@@ -197,13 +196,13 @@ module _ (s : Numbered) (m message : ℕ) (found : number_at 3 message s ≡ Som
 
 -- ---- the memory that is shown
 
-module _ {s : Numbered} (sound : IsSound s) (held : ports.IsSound s.ports) (formed : IsWellFormed s.memory.regions s.memory.blocks) where
-  module _ (p port : ℕ) (here : slot s.port_places p ≡ Some port) (live : IsTrue (ports.is_port p s.ports)) where
-    port_begins : number_at 2 port s ≡ Some p
-    port_begins = number_live sound 2 p port (lit≤ tt) here
+module _ {s : Numbered} (sound : IsSound s) (held : ports.IsSound s.ports) (formed : IsWellFormed s.table.memory.regions s.table.memory.blocks) where
+  module _ (p port : ℕ) (here : slot (places variant.Port s) p ≡ Some port) (live : IsTrue (ports.is_port p s.ports)) where
+    port_begins : number_at variant.Port port s.table ≡ Some p
+    port_begins = number_live sound.table variant.Port p port here
 
-    port_told : Tells s port (tag_of 2 p)
-    port_told = tells sound formed 2 p port (lit≤ tt) here
+    port_told : Tells s port variant.Port p
+    port_told = tells sound.table formed variant.Port p port here
 
     has_queue : p < length s.ports.queues
     has_queue = omega (arith, held.each_queue, item_known s.ports.ports.slots p live)
@@ -221,21 +220,21 @@ module _ {s : Numbered} (sound : IsSound s) (held : ports.IsSound s.ports) (form
         by_first (Some m) is = heap_beside s (ports.taken_off p (Some m) s.ports) (model.taken_off port (shown_heap s))
             (taken_off_heap s p port port_begins port_told live has_queue (Some m) is) refl
 
-    module _ (m message : ℕ) (there : slot s.message_places m ≡ Some message) (lives : IsTrue (ports.is_message m s.ports)) where
+    module _ (m message : ℕ) (there : slot (places variant.Message s) m ≡ Some message) (lives : IsTrue (ports.is_message m s.ports)) where
       pub posted_shown : (kind : ℕ) → shown_memory (on_ports (ports.posted kind p m) s) ≡ on_heap (model.posted kind port message) (shown_memory s)
       unfolding model.posted
       posted_shown kind =
           let typed : Numbered = on_ports (ports.typed kind m) s in
           heap_beside s (ports.posted kind p m s.ports) (model.posted kind port message (shown_heap s))
           (appended_heap typed p port port_begins port_told live has_queue m message (ap (λ o. unwrap_or o 0) there)
-          ∙ ap (model.appended port message) (typed_heap s m message (number_live sound 3 m message (lit≤ tt) there) (tells sound formed 3 m message (lit≤ tt) there) lives kind)) refl
+          ∙ ap (model.appended port message) (typed_heap s m message (number_live sound.table variant.Message m message there) (tells sound.table formed variant.Message m message there) lives kind)) refl
 
-  module _ (m message : ℕ) (there : slot s.message_places m ≡ Some message) (lives : IsTrue (ports.is_message m s.ports)) where
-    message_begins : number_at 3 message s ≡ Some m
-    message_begins = number_live sound 3 m message (lit≤ tt) there
+  module _ (m message : ℕ) (there : slot (places variant.Message s) m ≡ Some message) (lives : IsTrue (ports.is_message m s.ports)) where
+    message_begins : number_at variant.Message message s.table ≡ Some m
+    message_begins = number_live sound.table variant.Message m message there
 
-    message_told : Tells s message (tag_of 3 m)
-    message_told = tells sound formed 3 m message (lit≤ tt) there
+    message_told : Tells s message variant.Message m
+    message_told = tells sound.table formed variant.Message m message there
 
     pub word_shown : (value : ℕ) → shown_memory (on_ports (with_message m (record (message_at m s.ports) { word = value })) s) ≡ on_heap (model.with_word message value) (shown_memory s)
     word_shown value = heap_beside s (with_message m (record (message_at m s.ports) { word = value }) s.ports) (model.with_word message value (shown_heap s))
@@ -248,13 +247,13 @@ module _ {s : Numbered} (sound : IsSound s) (held : ports.IsSound s.ports) (form
 -- ---- what is looked at
 
 module _ {s : Numbered} (sound : IsSound s) where
-  pub first_message_shown : (p port : ℕ) → slot s.port_places p ≡ Some port
-      → first (model.messages_of port (shown_heap s)) ≡ option_map (address_in s.message_places) (first (messages_of p s.ports))
+  pub first_message_shown : (p port : ℕ) → slot (places variant.Port s) p ≡ Some port
+      → first (model.messages_of port (shown_heap s)) ≡ option_map (address_in (places variant.Message s)) (first (messages_of p s.ports))
   first_message_shown p port here =
-      ap first (messages_shown s port p (number_live sound 2 p port (lit≤ tt) here)) ∙ first-map (address_in s.message_places) (messages_of p s.ports)
+      ap first (messages_shown s port p (number_live sound.table variant.Port p port here)) ∙ first-map (address_in (places variant.Message s)) (messages_of p s.ports)
 
-  pub port_of_shown : (p port : ℕ) → slot s.port_places p ≡ Some port → model.port_of port (shown_heap s) ≡ port_at p s.ports
-  port_of_shown p port here = port_shown s port p (number_live sound 2 p port (lit≤ tt) here)
+  pub port_of_shown : (p port : ℕ) → slot (places variant.Port s) p ≡ Some port → model.port_of port (shown_heap s) ≡ port_at p s.ports
+  port_of_shown p port here = port_shown s port p (number_live sound.table variant.Port p port here)
 
-  pub content_of_shown : (m message : ℕ) → slot s.message_places m ≡ Some message → model.content_of message (shown_heap s) ≡ message_at m s.ports
-  content_of_shown m message here = content_shown s message m (number_live sound 3 m message (lit≤ tt) here)
+  pub content_of_shown : (m message : ℕ) → slot (places variant.Message s) m ≡ Some message → model.content_of message (shown_heap s) ≡ message_at m s.ports
+  content_of_shown m message here = content_shown s message m (number_live sound.table variant.Message m message here)

@@ -1,5 +1,5 @@
 -- Public ports: by number and by address they are the same, in one order.
-use Rattle.std.proofs.Common.{◌≡◌, ℕ, ◌<◌, lit≤, List, [], ◌∷◌, Bool, true, false, cond, map, length, refl, ap, sym, ◌∙◌}
+use Rattle.std.proofs.Common.{◌≡◌, ℕ, ◌<◌, List, [], ◌∷◌, Bool, true, false, cond, map, length, refl, ap, sym, ◌∙◌}
 use Rattle.std.specs.Prelude.{ℤ, Some, None, Option, codes, filter, find, if◌then◌else◌, is_some, not, option_map, unwrap_or, ◌==◌, ◌||◌, ◌≢◌, IsTrue}
 use Rattle.std.specs.List.{AllByRecursion, list_any}
 use Rattle.std.proofs.lemmas.Grind.{get_or-set_at}
@@ -14,14 +14,16 @@ use Rattle.execmodel.specs.Ports.{add_port_alert, delete_alert, is_called, is_po
 use Rattle.execmodel.specs.Ports as model
 use Rattle.execmodel.specs.Tasks.{is_priority}
 use Rattle.execlist.specs.Pool.{slot}
-use Rattle.execheap.specs.Numbered.{Numbered, IsSound, address_in, shown_heap, shown_memory, shown_public}
+use Rattle.execheap.specs.declared.kind.Kind.TheVariants as variant
+use Rattle.execheap.specs.Numbered.{Numbered, IsSound, address_in, shown_heap, shown_memory, shown_public, places}
 use Rattle.execheap.specs.Changes.{on_ports}
 use Rattle.execheap.specs.Listing.{listed}
 use Rattle.execheap.proofs.Alerts.{handle_unless, is_some_map, is_there, link_if, refused_first}
 use Rattle.execheap.proofs.Mapped.{Alike, alike_apart, cond-map, enqueue-map, find-map, first-map, map_agree, members, stands_by_times}
 use Rattle.execheap.proofs.Posted.{heap_beside, objects_beside}
 use Rattle.execheap.proofs.Queued.{port_placed}
-use Rattle.execheap.proofs.Shown.{messages_shown, number_live, number_same}
+use Rattle.execheap.proofs.Matching.{number_live, number_same}
+use Rattle.execheap.proofs.Shown.{messages_shown}
 
 -- ---- sequences
 
@@ -76,25 +78,25 @@ module _ {s : Numbered} (sound : IsSound s) (held : ports.IsSound s.ports) where
   no_public p private q stands same =
       let bad : true ≡ false = sym private ∙ ap not (sym (stands_public p) ∙ ap (λ r. list_any (λ other. other == r) s.ports.public) (sym same) ∙ stands) in cc
 
-  module _ (p port : ℕ) (here : slot s.port_places p ≡ Some port) where
-    address_is : address_in s.port_places p ≡ port
+  module _ (p port : ℕ) (here : slot (places variant.Port s) p ≡ Some port) where
+    address_is : address_in (places variant.Port s) p ≡ port
     address_is = ap (λ o. unwrap_or o 0) here
 
-    apart : (q : ℕ) → IsTrue (ports.is_port q s.ports) → address_in s.port_places q ≡ address_in s.port_places p → q ≡ p
+    apart : (q : ℕ) → IsTrue (ports.is_port q s.ports) → address_in (places variant.Port s) q ≡ address_in (places variant.Port s) p → q ≡ p
     apart q there same =
         let other = port_placed sound held q there in
-        number_same sound 2 q p port (lit≤ tt)
+        number_same sound.table variant.Port q p port
         (other.1 ∙ ap Some (ap (λ o. unwrap_or o 0) (sym other.1) ∙ same ∙ address_is)) here
 
-    ports_apart : Alike (address_in s.port_places) p s.ports.public
-    ports_apart = alike_apart (address_in s.port_places) p s.ports.public (λ q stands same. apart q (public_lives q stands) same)
+    ports_apart : Alike (address_in (places variant.Port s)) p s.ports.public
+    ports_apart = alike_apart (address_in (places variant.Port s)) p s.ports.public (λ q stands same. apart q (public_lives q stands) same)
 
     -- a public port is told by its address
     told_public : AllByRecursion (λ q. ((shown_public s q).port == port) ≡ (q == p)) s.ports.public
     told_public = subst_address (sym address_is) ports_apart
       where
-        subst_address : {a : ℕ} → port ≡ a → AllByRecursion (λ q. (address_in s.port_places q == a) ≡ (q == p)) s.ports.public
-            → AllByRecursion (λ q. (address_in s.port_places q == port) ≡ (q == p)) s.ports.public
+        subst_address : {a : ℕ} → port ≡ a → AllByRecursion (λ q. (address_in (places variant.Port s) q == a) ≡ (q == p)) s.ports.public
+            → AllByRecursion (λ q. (address_in (places variant.Port s) q == port) ≡ (q == p)) s.ports.public
         subst_address same all = rw same all
 
     pub is_public_shown : is_public port (shown_memory s) ≡ ports.is_public p s.ports
@@ -123,7 +125,7 @@ module _ {s : Numbered} (sound : IsSound s) (held : ports.IsSound s.ports) where
       -- those that were public show the same
       public_before : AllByRecursion (λ q. shown_public public_now q ≡ shown_public s q) s.ports.public
       public_before = members (λ q. shown_public public_now q ≡ shown_public s q) s.ports.public
-          (λ q stands. ap (λ (key : Key). record { port = address_in s.port_places q; key = key })
+          (λ q stands. ap (λ (key : Key). record { port = address_in (places variant.Port s) q; key = key })
           (get_or-set_other s.ports.keys p q (record { pri = pri; name = Some name }) blank (no_public p private q stands)))
 
       own_public : shown_public public_now p ≡ under port name pri
@@ -159,9 +161,9 @@ module _ {s : Numbered} (sound : IsSound s) (held : ports.IsSound s.ports) where
         where
           has_shown : is_some (first (model.messages_of port (shown_heap s))) ≡ ports.has_messages p s.ports
           has_shown =
-              ap (λ messages. is_some (first messages)) (messages_shown s port p (number_live sound 2 p port (lit≤ tt) here))
-              ∙ ap is_some (first-map (address_in s.message_places) (ports.messages_of p s.ports))
-              ∙ is_some_map (address_in s.message_places) (first (ports.messages_of p s.ports))
+              ap (λ messages. is_some (first messages)) (messages_shown s port p (number_live sound.table variant.Port p port here))
+              ∙ ap is_some (first-map (address_in (places variant.Message s)) (ports.messages_of p s.ports))
+              ∙ is_some_map (address_in (places variant.Message s)) (first (ports.messages_of p s.ports))
 
       pub private_found : (pri : ℤ) {public : Bool} → is_priority pri ≡ true → ports.is_public p s.ports ≡ public
           → add_port_alert port pri (shown_memory s) ≡ link_if public None
@@ -194,12 +196,12 @@ module _ (port : ℕ) (memory : Memory) {why : List ℕ} (refused : port_alert p
 
 -- ---- the public port of a name
 
-named_public : (s : Numbered) (o : Option ℕ) → port_or_none (option_map (shown_public s) o) ≡ or_none (option_map (address_in s.port_places) o)
+named_public : (s : Numbered) (o : Option ℕ) → port_or_none (option_map (shown_public s) o) ≡ or_none (option_map (address_in (places variant.Port s)) o)
 named_public s None = refl
 named_public s (Some p) = refl
 
 pub found_public : (s : Numbered) (name : List ℕ)
-    → port_or_none (find (is_called name) (map (shown_public s) s.ports.public)) ≡ or_none (option_map (address_in s.port_places) (find (is_named s.ports.keys name) s.ports.public))
+    → port_or_none (find (is_called name) (map (shown_public s) s.ports.public)) ≡ or_none (option_map (address_in (places variant.Port s)) (find (is_named s.ports.keys name) s.ports.public))
 found_public s name =
     ap port_or_none (find-map (shown_public s) (is_called name) (is_named s.ports.keys name) s.ports.public
     (each (λ q. is_called name (shown_public s q) ≡ is_named s.ports.keys name q) (λ q. refl) s.ports.public))

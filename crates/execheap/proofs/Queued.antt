@@ -1,50 +1,58 @@
 -- A message that is in a port: by number it has a place, by address one port has it.
-use Rattle.std.proofs.Common.{◌≡◌, ℕ, zero, suc, ◌/◌, ◌%◌, lit≤, [], ◌∷◌, Bool, true, false, map, refl, ap, sym, ◌∙◌, arith}
-use Rattle.std.specs.Prelude.{Some, None, Option, is_some, nat_eq, ◌==◌, ◌&&◌, ◌||◌, unwrap_or, IsTrue}
+use Rattle.std.proofs.Common.{◌≡◌, ℕ, [], ◌∷◌, Bool, true, false, map, refl, ap, sym, ◌∙◌}
+use Rattle.std.specs.Prelude.{Some, None, Option, is_some, ◌==◌, ◌||◌, unwrap_or, IsTrue}
 use Rattle.std.specs.List.{list_any}
 use Rattle.execlist.specs.Lists.{home, is_at}
 use Rattle.memlist.specs.Blocks.{Blocks}
-use Rattle.memlist.proofs.Answered.{nat_eq-other}
+use Rattle.memlist.proofs.Answered.{nat_eq-same}
 use Rattle.memlist.proofs.Headers.{from_eq}
 use Rattle.msgport.specs.Ports as ports
 use Rattle.msgport.specs.Ports.{is_linked, is_message, messages_of}
 use Rattle.execmodel.specs.Ports.{has_message, is_queued, messages_in}
 use Rattle.execlist.specs.Pool.{slot}
-use Rattle.execheap.specs.Tags.{tag_of}
-use Rattle.execheap.specs.Numbered.{Numbered, contents, IsSound, address_in, object_of, shown_object, shown_entry, shown_heap}
-use Rattle.execheap.proofs.Linked.{and_false, any_found, some_is, turned}
+use Rattle.execheap.specs.declared.kind.Kind.TheVariants as variant
+use Rattle.execheap.specs.declared.tag.Tagged.{Tagged}
+use Rattle.execheap.specs.declared.tag.Tagged.TheVariants as tag
+use Rattle.execheap.specs.Tags.{tag_of, tagged}
+use Rattle.execheap.specs.Table.{pool_of}
+use Rattle.execheap.specs.Numbered.{Numbered, IsSound, address_in, shown_entry, shown_heap, shown_tagged, places}
+use Rattle.execheap.proofs.Linked.{any_found, some_is}
+use Rattle.execheap.proofs.Stepping.{shape_lives}
 use Rattle.execheap.proofs.Mapped.{Alike, alike_apart, stands-map, stands_by_times}
-use Rattle.execheap.proofs.Shown.{number_same, tag_live}
-use Rattle.execheap.proofs.Tagging.{tag_parts}
+use Rattle.execheap.proofs.Matching.{number_same, number_small}
+use Rattle.execheap.proofs.Tagging.{read_tag}
 
 -- ---- the port that has an address, among entries
 
 -- an address stands among the messages of an object
-abbrev Has : ℕ → Numbered → ℕ → Bool
-Has a s tag = list_any (λ other. other == a) (messages_in (shown_object (contents s) tag))
+abbrev Has : ℕ → Numbered → Tagged → Bool
+Has a s x = list_any (λ other. other == a) (messages_in (shown_tagged s x))
 
-in_entries : (s : Numbered) (a : ℕ) (test : ℕ → Bool) → ((tag : ℕ) → Has a s tag ≡ test tag) → (es : Blocks)
-    → list_any (has_message a) (map (shown_entry (contents s)) es) ≡ list_any (λ (e : ℕ × (ℕ × ℕ)). test e.1.1) es
-in_entries s a test has [] = refl
-in_entries s a test has (e ∷ es) = λ i. has e.1.1 i || in_entries s a test has es i
+in_entries : (s : Numbered) (a : ℕ) → (es : Blocks)
+    → list_any (has_message a) (map (shown_entry s) es) ≡ list_any (λ (e : ℕ × (ℕ × ℕ)). Has a s (tagged e.1.1)) es
+in_entries s a [] = refl
+in_entries s a (e ∷ es) = ap (λ b. Has a s (tagged e.1.1) || b) (in_entries s a es)
 
-in_none : (es : Blocks) → list_any (λ (e : ℕ × (ℕ × ℕ)). false) es ≡ false
-in_none [] = refl
-in_none (e ∷ es) = in_none es
+in_none : (test : Tagged → Bool) → ((x : Tagged) → test x ≡ false) → (es : Blocks) → list_any (λ (e : ℕ × (ℕ × ℕ)). test (tagged e.1.1)) es ≡ false
+in_none test none [] = refl
+in_none test none (e ∷ es) = ap (λ b. b || list_any (λ (f : ℕ × (ℕ × ℕ)). test (tagged f.1.1)) es) (none (tagged e.1.1)) ∙ in_none test none es
+
+at_self : (p : ℕ) → is_at (Some p) p ≡ true
+at_self p = nat_eq-same p
 
 home_is : (o : Option ℕ) (p : ℕ) → is_at o p ≡ true → o ≡ Some p
 home_is None p at = let bad : false ≡ true = at in cc
-home_is (Some q) p at = ap Some (sym (from_eq p q (sym (turned q p) ∙ at)))
+home_is (Some q) p at = ap Some (from_eq q p at)
 
 module _ {s : Numbered} (sound : IsSound s) (held : ports.IsSound s.ports) where
   -- ---- messages by number
 
   -- what lives has an address
-  pub message_placed : (m : ℕ) → IsTrue (is_message m s.ports) → (a : ℕ) × (slot s.message_places m ≡ Some a)
-  message_placed m live = some_is (slot s.message_places m) (sound.placed_messages m ∙ live)
+  pub message_placed : (m : ℕ) → IsTrue (is_message m s.ports) → (a : ℕ) × (slot (places variant.Message s) m ≡ Some a)
+  message_placed m live = some_is (slot (places variant.Message s) m) (shape_lives (pool_of variant.Message s.table) s.ports.messages (sound.kept.in_step variant.Message) m ∙ live)
 
-  pub port_placed : (p : ℕ) → IsTrue (ports.is_port p s.ports) → (a : ℕ) × (slot s.port_places p ≡ Some a)
-  port_placed p live = some_is (slot s.port_places p) (sound.placed_ports p ∙ live)
+  pub port_placed : (p : ℕ) → IsTrue (ports.is_port p s.ports) → (a : ℕ) × (slot (places variant.Port s) p ≡ Some a)
+  port_placed p live = some_is (slot (places variant.Port s) p) (shape_lives (pool_of variant.Port s.table) s.ports.ports (sound.kept.in_step variant.Port) p ∙ live)
 
   -- a message that stands in a port has that place
   pub stands_in_port : (p m : ℕ) → list_any (λ other. other == m) (messages_of p s.ports) ≡ is_at (home s.ports.places m) p
@@ -55,56 +63,44 @@ module _ {s : Numbered} (sound : IsSound s) (held : ports.IsSound s.ports) where
   queued_lives p m stands = held.live_message m p (home_is (home s.ports.places m) p (sym (stands_in_port p m) ∙ stands))
 
   -- the address of a live message is that of no other message that lives
-  apart : (n m a : ℕ) → slot s.message_places n ≡ Some a → IsTrue (is_message m s.ports)
-      → address_in s.message_places m ≡ address_in s.message_places n → m ≡ n
+  apart : (n m a : ℕ) → slot (places variant.Message s) n ≡ Some a → IsTrue (is_message m s.ports)
+      → address_in (places variant.Message s) m ≡ address_in (places variant.Message s) n → m ≡ n
   apart n m a here there same =
       let other = message_placed m there in
-      number_same sound 3 m n a (lit≤ tt)
+      number_same sound.table variant.Message m n a
       (other.1 ∙ ap Some (ap (λ o. unwrap_or o 0) (sym other.1) ∙ same ∙ ap (λ o. unwrap_or o 0) here)) here
 
   -- the messages of a port are told from a live message by their addresses
-  pub messages_apart : (p m a : ℕ) → slot s.message_places m ≡ Some a → Alike (address_in s.message_places) m (messages_of p s.ports)
-  messages_apart p m a here = alike_apart (address_in s.message_places) m (messages_of p s.ports)
+  pub messages_apart : (p m a : ℕ) → slot (places variant.Message s) m ≡ Some a → Alike (address_in (places variant.Message s)) m (messages_of p s.ports)
+  messages_apart p m a here = alike_apart (address_in (places variant.Message s)) m (messages_of p s.ports)
       (λ n stands same. apart m n a here (queued_lives p n stands) same)
 
   -- ---- messages by address
 
-  module _ (m a : ℕ) (here : slot s.message_places m ≡ Some a) where
+  module _ (m a : ℕ) (here : slot (places variant.Message s) m ≡ Some a) where
     -- an address stands in the messages of a port where the message's place is that port
-    has_shown : (p : ℕ) → list_any (λ other. other == a) (map (address_in s.message_places) (messages_of p s.ports)) ≡ is_at (home s.ports.places m) p
+    has_shown : (p : ℕ) → list_any (λ other. other == a) (map (address_in (places variant.Message s)) (messages_of p s.ports)) ≡ is_at (home s.ports.places m) p
     has_shown p =
-        ap (λ x. list_any (λ other. other == x) (map (address_in s.message_places) (messages_of p s.ports))) (sym (ap (λ o. unwrap_or o 0) here))
-        ∙ stands-map (address_in s.message_places) m (messages_of p s.ports) (messages_apart p m a here) ∙ stands_in_port p m
+        ap (λ x. list_any (λ other. other == x) (map (address_in (places variant.Message s)) (messages_of p s.ports))) (sym (ap (λ o. unwrap_or o 0) here))
+        ∙ stands-map (address_in (places variant.Message s)) m (messages_of p s.ports) (messages_apart p m a here) ∙ stands_in_port p m
 
-    has_object : (k j : ℕ) → list_any (λ other. other == a) (messages_in (object_of k j (contents s))) ≡ (nat_eq k 2 && is_at (home s.ports.places m) j)
-    has_object zero j = refl
-    has_object (suc zero) j = refl
-    has_object (suc (suc zero)) j = has_shown j
-    has_object (suc (suc (suc zero))) j = refl
-    has_object (suc (suc (suc (suc zero)))) j = refl
-    has_object (suc (suc (suc (suc (suc k))))) j =
-        sym (ap (λ b. b && is_at (home s.ports.places m) j) (nat_eq-other (suc (suc (suc (suc (suc k))))) 2 (omega arith)))
-
-    has_nowhere : home s.ports.places m ≡ None → (tag : ℕ) → Has a s tag ≡ false
-    has_nowhere none zero = refl
-    has_nowhere none (suc j) = has_object (j % 8) (j / 8) ∙ ap (λ o. nat_eq (j % 8) 2 && is_at o (j / 8)) none ∙ and_false (nat_eq (j % 8) 2)
-
-    has_there : (p : ℕ) → home s.ports.places m ≡ Some p → (tag : ℕ) → Has a s tag ≡ nat_eq tag (tag_of 2 p)
-    has_there p there zero = sym (nat_eq-other 0 (tag_of 2 p) (omega arith))
-    has_there p there (suc j) =
-        has_object (j % 8) (j / 8) ∙ ap (λ o. nat_eq (j % 8) 2 && is_at o (j / 8)) there
-        ∙ ap (λ b. nat_eq (j % 8) 2 && b) (turned p (j / 8)) ∙ sym (tag_parts 2 p j (lit≤ tt))
+    has_nowhere : home s.ports.places m ≡ None → (x : Tagged) → Has a s x ≡ false
+    has_nowhere none (tag.Object variant.Port j) = has_shown j ∙ ap (λ o. is_at o j) none
+    has_nowhere none _ = refl
 
     queued_there : (p : ℕ) → home s.ports.places m ≡ Some p → is_queued a (shown_heap s) ≡ true
     unfolding shown_heap is_queued
     queued_there p there =
         let port = port_placed p (held.live_port m p there) in
-        in_entries s a (λ tag. nat_eq tag (tag_of 2 p)) (has_there p there) s.memory.blocks
-        ∙ any_found port.0 (tag_of 2 p) s.memory.blocks (tag_live sound 2 p port.0 (lit≤ tt) port.1)
+        in_entries s a s.table.memory.blocks
+        ∙ any_found (Has a s) port.0 (tag_of variant.Port p) s.table.memory.blocks
+        (ap (Has a s) (read_tag variant.Port p (number_small sound.table variant.Port p port.0 port.1))
+        ∙ has_shown p ∙ ap (λ o. is_at o p) there ∙ at_self p)
+        (sound.table.matched.complete variant.Port p port.0 port.1)
 
     queued_nowhere : home s.ports.places m ≡ None → is_queued a (shown_heap s) ≡ false
     unfolding shown_heap is_queued
-    queued_nowhere none = in_entries s a (λ tag. false) (has_nowhere none) s.memory.blocks ∙ in_none s.memory.blocks
+    queued_nowhere none = in_entries s a s.table.memory.blocks ∙ in_none (Has a s) (has_nowhere none) s.table.memory.blocks
 
     -- a message is queued by address where it is linked by number
     pub is_queued_shown : is_queued a (shown_heap s) ≡ is_linked m s.ports

@@ -1,63 +1,56 @@
 -- An object that changes: by number what it holds is another, by address one block is another.
-use Rattle.std.proofs.Common.{◌≡◌, ℕ, zero, suc, ◌/◌, ◌%◌, ◌<◌, List, [], Bool, true, false, cond, map, length, slice_set, refl, ap, sym, ◌∙◌, lit≤, arith}
+use Rattle.std.proofs.Common.{◌≡◌, ℕ, ◌<◌, List, [], Bool, true, false, cond, map, length, slice_set, refl, ap, sym, ◌∙◌}
 use Rattle.std.specs.Prelude.{Option, nat_eq, slice_index_or, ◌&&◌, if◌then◌else◌}
 use Rattle.std.specs.List.{AllByRecursion}
 use Rattle.std.proofs.lemmas.Simd.{map-map}
 use Rattle.std.proofs.lemmas.List.{get_or-set_other}
 use Rattle.std.proofs.lemmas.Grind.{get_or-set_at}
 use Rattle.execlist.specs.Lists.{sequence}
-use Rattle.memlist.proofs.Answered.{nat_eq-other}
-use Rattle.execmodel.specs.State.{Object, Plain, ListHead, Block}
+use Rattle.execmodel.specs.State.{Object, ListHead, Block}
 use Rattle.execmodel.specs.Lists.{with_nodes}
 use Rattle.execmodel.specs.Objects.{replaced}
-use Rattle.execheap.specs.Tags.{tag_of}
-use Rattle.execheap.specs.Numbered.{Numbered, contents, address_in, object_of, shown_object, shown_entry, shown_heap}
+use Rattle.execheap.specs.declared.kind.Kind.{Kind}
+use Rattle.execheap.specs.declared.kind.Kind.TheVariants as variant
+use Rattle.execheap.specs.declared.tag.Tagged.{Tagged}
+use Rattle.execheap.specs.declared.tag.Tagged.TheVariants as tag
+use Rattle.execheap.specs.Tags.{is_same, tagged}
+use Rattle.execheap.specs.Numbered.{Numbered, address_in, object_of, places, shown_entry, shown_heap, shown_tagged}
 use Rattle.execheap.proofs.Entries.{all_then, map_same}
-use Rattle.execheap.proofs.Tagging.{either_number, tag_parts}
+use Rattle.execheap.proofs.Tagging.{either_number, is_object}
 
--- ---- one tag shows another object
+-- just the block at an address is the object of a kind and a number
+abbrev pub Tells : Numbered → ℕ → Kind → ℕ → Type 0
+Tells s address kind number =
+    AllByRecursion (λ (entry : ℕ × (ℕ × ℕ)). nat_eq entry.0 address ≡ is_object kind number (tagged entry.1.1)) s.table.memory.blocks
 
--- what each tag shows, where one shows an object of its own
-abbrev Shows : Numbered → Numbered → ℕ → Object → Type 0
-Shows old new tag object = (other : ℕ) → shown_object (contents new) other ≡ (if nat_eq other tag then object else shown_object (contents old) other)
+-- an object of a kind and a number is another, and all else is the same
+module _ (old new : Numbered) (address : ℕ) (object : Object) (kind : Kind) (number : ℕ)
+    (same : (k : Kind) (m : ℕ) → object_of k m new ≡ (if is_same k kind && nat_eq m number then object else object_of k m old)) where
+  shows : (x : Tagged) → shown_tagged new x ≡ (if is_object kind number x then object else shown_tagged old x)
+  shows tag.Plain = refl
+  shows (tag.Library i) = refl
+  shows (tag.Object k m) = same k m
 
--- just the block at an address has a tag
-abbrev pub Tells : Numbered → ℕ → ℕ → Type 0
-Tells s address tag = AllByRecursion (λ (entry : ℕ × (ℕ × ℕ)). nat_eq entry.0 address ≡ nat_eq entry.1.1 tag) s.memory.blocks
+  replaced_entry : (entry : ℕ × (ℕ × ℕ)) → nat_eq entry.0 address ≡ is_object kind number (tagged entry.1.1)
+      → shown_entry new entry ≡ replaced address object (shown_entry old entry)
+  replaced_entry entry told =
+      ap (λ (o : Object). (entry.0, record { size = entry.1.0; object = o })) (shows (tagged entry.1.1))
+      ∙ either (is_object kind number (tagged entry.1.1))
+      ∙ ap (λ b. (entry.0, if b then record { size = entry.1.0; object = object } else record { size = entry.1.0; object = shown_tagged old (tagged entry.1.1) })) (sym told)
+    where
+      either : (b : Bool) → ◌≡◌ {A = ℕ × Block} (entry.0, record { size = entry.1.0; object = (if b then object else shown_tagged old (tagged entry.1.1)) })
+          (entry.0, if b then record { size = entry.1.0; object = object } else record { size = entry.1.0; object = shown_tagged old (tagged entry.1.1) })
+      either true = refl
+      either false = refl
 
-module _ (old new : Numbered) (address : ℕ) (object : Object) where
-  module _ (tag : ℕ) (shows : Shows old new tag object) where
-    replaced_entry : (entry : ℕ × (ℕ × ℕ)) → nat_eq entry.0 address ≡ nat_eq entry.1.1 tag
-        → shown_entry (contents new) entry ≡ replaced address object (shown_entry (contents old) entry)
-    replaced_entry entry told =
-        ap (λ (o : Object). (entry.0, record { size = entry.1.0; object = o })) (shows entry.1.1)
-        ∙ either (nat_eq entry.1.1 tag)
-        ∙ ap (λ b. (entry.0, if b then record { size = entry.1.0; object = object } else record { size = entry.1.0; object = shown_object (contents old) entry.1.1 })) (sym told)
-      where
-        either : (b : Bool) → ◌≡◌ {A = ℕ × Block} (entry.0, record { size = entry.1.0; object = (if b then object else shown_object (contents old) entry.1.1) })
-            (entry.0, if b then record { size = entry.1.0; object = object } else record { size = entry.1.0; object = shown_object (contents old) entry.1.1 })
-        either true = refl
-        either false = refl
-
-    shown_replaced : Tells old address tag → new.memory ≡ old.memory → shown_heap new ≡ map (replaced address object) (shown_heap old)
-    unfolding shown_heap
-    shown_replaced told same =
-        ap (λ memory. map (shown_entry (contents new)) memory.blocks) same
-        ∙ map_same (shown_entry (contents new)) (λ entry. replaced address object (shown_entry (contents old) entry)) old.memory.blocks
-        (all_then (λ entry here. replaced_entry entry here) old.memory.blocks told)
-        ∙ sym (map-map (replaced address object) (shown_entry (contents old)) old.memory.blocks)
-
-  -- an object of a kind and a number is another, and all else is the same
-  module _ (kind number : ℕ) (few : kind < 8)
-      (same : (k m : ℕ) → object_of k m (contents new) ≡ (if nat_eq k kind && nat_eq m number then object else object_of k m (contents old))) where
-    shows_parts : Shows old new (tag_of kind number) object
-    shows_parts zero = sym (ap (λ b. if b then object else Plain) (nat_eq-other 0 (tag_of kind number) (omega arith)))
-    shows_parts (suc n) =
-        same (n % 8) (n / 8) ∙ ap (λ b. if b then object else shown_object (contents old) (suc n)) (sym (tag_parts kind number n few))
-
-    pub object_replaced : Tells old address (tag_of kind number) → new.memory ≡ old.memory
-        → shown_heap new ≡ map (replaced address object) (shown_heap old)
-    object_replaced told memory = shown_replaced (tag_of kind number) shows_parts told memory
+  pub object_replaced : Tells old address kind number → new.table.memory ≡ old.table.memory
+      → shown_heap new ≡ map (replaced address object) (shown_heap old)
+  unfolding shown_heap
+  object_replaced told is =
+      ap (λ memory. map (shown_entry new) memory.blocks) is
+      ∙ map_same (shown_entry new) (λ entry. replaced address object (shown_entry old entry)) old.table.memory.blocks
+      (all_then (λ entry here. replaced_entry entry here) old.table.memory.blocks told)
+      ∙ sym (map-map (replaced address object) (shown_entry old) old.table.memory.blocks)
 
 -- ---- an item that is set
 
@@ -81,19 +74,14 @@ module _ (s : Numbered) (homes : List (Option ℕ)) (h list : ℕ) (nodes : List
   relinked = record s { sequences = slice_set s.sequences h nodes; homes = homes }
 
   abbrev relinked_list : Object
-  relinked_list = ListHead (map (address_in s.nodes.slots) nodes)
+  relinked_list = ListHead (map (address_in (places variant.Node s)) nodes)
 
-  object_set : (k m : ℕ) → object_of k m (contents relinked) ≡ (if nat_eq k 0 && nat_eq m h then relinked_list else object_of k m (contents s))
-  object_set zero m =
-      ap (λ seq. ListHead (map (address_in s.nodes.slots) seq)) (sequence_set s.sequences h nodes m known)
-      ∙ either_object (nat_eq m h) (map (address_in s.nodes.slots)) nodes (sequence s.sequences m)
-  object_set (suc zero) m = refl
-  object_set (suc (suc zero)) m = refl
-  object_set (suc (suc (suc zero))) m = refl
-  object_set (suc (suc (suc (suc zero)))) m = refl
-  object_set (suc (suc (suc (suc (suc k))))) m =
-      sym (ap (λ b. if b && nat_eq m h then relinked_list else Plain) (nat_eq-other (suc (suc (suc (suc (suc k))))) 0 (omega arith)))
+  object_set : (k : Kind) (m : ℕ) → object_of k m relinked ≡ (if is_same k variant.List && nat_eq m h then relinked_list else object_of k m s)
+  object_set variant.List m =
+      ap (λ seq. ListHead (map (address_in (places variant.Node s)) seq)) (sequence_set s.sequences h nodes m known)
+      ∙ either_object (nat_eq m h) (map (address_in (places variant.Node s))) nodes (sequence s.sequences m)
+  object_set _ m = refl
 
-  pub with_nodes_shown : Tells s list (tag_of 0 h) → shown_heap relinked ≡ with_nodes list (map (address_in s.nodes.slots) nodes) (shown_heap s)
+  pub with_nodes_shown : Tells s list variant.List h → shown_heap relinked ≡ with_nodes list (map (address_in (places variant.Node s)) nodes) (shown_heap s)
   unfolding with_nodes
-  with_nodes_shown told = object_replaced s relinked list relinked_list 0 h (lit≤ tt) object_set told refl
+  with_nodes_shown told = object_replaced s relinked list relinked_list variant.List h object_set told refl

@@ -1,5 +1,5 @@
 -- The alerts and the answers of the calls on semaphores by address, told by number.
-use Rattle.std.proofs.Common.{◌≡◌, ℕ, lit≤, List, Bool, true, false, refl, ap, sym, ◌∙◌}
+use Rattle.std.proofs.Common.{◌≡◌, ℕ, List, Bool, true, false, refl, ap, sym, ◌∙◌}
 use Rattle.std.specs.Prelude.{Option, None, Some, IfOk, OnOk, codes, is_some, if◌then◌else◌}
 use Rattle.execlist.specs.Order.{first}
 use Rattle.execlist.specs.Pool.{slot}
@@ -10,19 +10,22 @@ use Rattle.sigsem.specs.Semaphores as sems
 use Rattle.sigsem.specs.Semaphores.{deep_fault, release_fault}
 use Rattle.execmodel.specs.State.{Heap}
 use Rattle.execmodel.specs.Semaphores.{free_sem_alert, heir, is_last, is_owned, is_owner, is_semaphore_at, is_too_deep, obtain_alert, release_alert, sem_of, semaphore_alert}
+use Rattle.execheap.specs.declared.kind.Kind.TheVariants as variant
 use Rattle.execheap.specs.Refusals.{alert_of, told}
-use Rattle.execheap.specs.Numbered.{Numbered, IsSound, number_at, shown_heap}
+use Rattle.execheap.specs.Numbered.{Numbered, IsSound, shown_heap, places}
+use Rattle.execheap.specs.Table.{number_at}
 use Rattle.execheap.proofs.Alerts.{handle_unless, refused_first}
-use Rattle.execheap.proofs.Shown.{number_live, semaphore_at_shown, sem_shown, waiters_shown}
+use Rattle.execheap.proofs.Matching.{number_live}
+use Rattle.execheap.proofs.Shown.{semaphore_at_shown, sem_shown, waiters_shown}
 
 -- ---- the alert of a semaphore
 
-pub semaphore_refused : (s : Numbered) (semaphore : ℕ) → number_at 4 semaphore s ≡ None
+pub semaphore_refused : (s : Numbered) (semaphore : ℕ) → number_at variant.Semaphore semaphore s.table ≡ None
     → semaphore_alert semaphore (shown_heap s) ≡ Some (codes "HANDLE")
 unfolding semaphore_alert
 semaphore_refused s semaphore none = ap (λ b. handle_unless b None) (semaphore_at_shown s semaphore ∙ ap is_some none)
 
-pub semaphore_found : (s : Numbered) (semaphore n : ℕ) → number_at 4 semaphore s ≡ Some n → semaphore_alert semaphore (shown_heap s) ≡ None
+pub semaphore_found : (s : Numbered) (semaphore n : ℕ) → number_at variant.Semaphore semaphore s.table ≡ Some n → semaphore_alert semaphore (shown_heap s) ≡ None
 unfolding semaphore_alert
 semaphore_found s semaphore n found = ap (λ b. handle_unless b None) (semaphore_at_shown s semaphore ∙ ap is_some found)
 
@@ -49,9 +52,9 @@ module _ (semaphore : ℕ) (heap : Heap) {why : List ℕ} (refused : semaphore_a
   unfolding release_alert semaphore_alert
   release_refused t = refused_first (is_semaphore_at semaphore heap) (sem_unless (is_owner t (sem_of semaphore heap))) refused
 
-module _ {s : Numbered} (sound : IsSound s) (n semaphore : ℕ) (here : slot s.semaphore_places n ≡ Some semaphore) where
-  begins : number_at 4 semaphore s ≡ Some n
-  begins = number_live sound 4 n semaphore (lit≤ tt) here
+module _ {s : Numbered} (sound : IsSound s) (n semaphore : ℕ) (here : slot (places variant.Semaphore s) n ≡ Some semaphore) where
+  begins : number_at variant.Semaphore semaphore s.table ≡ Some n
+  begins = number_live sound.table variant.Semaphore n semaphore here
 
   there : is_semaphore_at semaphore (shown_heap s) ≡ true
   there = semaphore_at_shown s semaphore ∙ ap is_some begins
@@ -103,7 +106,7 @@ module _ {A : Type 0} where
   told_next None answer old new next = next refl
   told_next (Some fault) answer old new next = tt
 
-  module _ {s : Numbered} (sound : IsSound s) (n semaphore : ℕ) (here : slot s.semaphore_places n ≡ Some semaphore) (t : ℕ) (answer : A) where
+  module _ {s : Numbered} (sound : IsSound s) (n semaphore : ℕ) (here : slot (places variant.Semaphore s) n ≡ Some semaphore) (t : ℕ) (answer : A) where
     pub obtain_told : alert_of (told (fault_or (deep_fault n t s.sems) answer)) ≡ obtain_alert t semaphore (shown_heap s)
     obtain_told = told_if (is_too_deep t (sems.sem_at n s.sems)) TooDeep answer ∙ sym (obtain_found sound n semaphore here t)
 

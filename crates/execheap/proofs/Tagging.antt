@@ -1,39 +1,65 @@
--- Tags: what is written is read, and what is read was written.
-use Rattle.std.proofs.Common.{◌≡◌, ℕ, zero, suc, ◌+◌, ◌*◌, ◌/◌, ◌%◌, ◌<◌, Bool, true, false, cond, refl, ap, sym, ◌∙◌, arith}
-use Rattle.std.specs.Prelude.{None, Some, is_some, nat_eq, ◌&&◌, ◌≢◌, if◌then◌else◌}
-use Rattle.memlist.proofs.Answered.{nat_eq-other, nat_eq-same}
+-- Kinds and tags: what is written is read.
+use Rattle.std.proofs.Common.{◌≡◌, ◌≢◌, ℕ, ◌+◌, ◌*◌, ◌/◌, ◌%◌, ◌<◌, length, Bool, true, false, refl, ap, sym, ◌∙◌, arith}
+use Rattle.std.specs.Prelude.{Some, nat_eq, ◌&&◌, ◌-◌, if◌then◌else◌, slice_get}
+use Rattle.std.proofs.lemmas.Bool.{lt-ltb}
+use Rattle.memlist.proofs.Answered.{cases_eq, nat_eq-other, nat_eq-same}
 use Rattle.memlist.proofs.Headers.{from_eq}
-use Rattle.execlist.specs.Pool.{slot}
-use Rattle.execheap.specs.Tags.{tag_of, number_of}
-use Rattle.execheap.specs.Numbered.{Numbered, contents, object_of, shown_object, place_of_tag, slots_of}
+use Rattle.execheap.proofs.Entries.{some_same}
+use Rattle.execheap.specs.declared.kind.Kind.{Kind}
+use Rattle.execheap.specs.declared.kind.Kind.TheVariants.{List, Node, Port, Message, Semaphore}
+use Rattle.execheap.specs.declared.tag.Tagged.{Tagged}
+use Rattle.execheap.specs.declared.tag.Tagged.TheVariants.{Plain, Object, Library}
+use Rattle.execheap.specs.Tags.{is_same, kind_code, kinds, libraries, object_or_plain, object_tagged, tag_of, tagged}
 
-pub kind_read : (kind number : ℕ) → kind < 8 → (kind + 8 * number) % 8 ≡ kind
-kind_read kind number few = omega (arith, few)
+-- ---- kinds
 
-pub number_read : (kind number : ℕ) → kind < 8 → (kind + 8 * number) / 8 ≡ number
-number_read kind number few = omega (arith, few)
+-- each kind stands at its number
+pub kind_named : (kind : Kind) → slice_get kinds (kind_code kind) ≡ Some kind
+kind_named List = refl
+kind_named Node = refl
+kind_named Port = refl
+kind_named Message = refl
+kind_named Semaphore = refl
 
--- the tag of an object of a kind and a number shows that object, and its place is that of the number
-pub shown_tag : (s : Numbered) (kind number : ℕ) → kind < 8 → shown_object (contents s) (tag_of kind number) ≡ object_of kind number (contents s)
-shown_tag s kind number few = ap (λ k. object_of k ((kind + 8 * number) / 8) (contents s)) (kind_read kind number few) ∙ ap (λ n. object_of kind n (contents s)) (number_read kind number few)
+pub kind_few : (kind : Kind) → kind_code kind < length kinds
+kind_few List = omega arith
+kind_few Node = omega arith
+kind_few Port = omega arith
+kind_few Message = omega arith
+kind_few Semaphore = omega arith
 
-pub place_tag : (s : Numbered) (kind number : ℕ) → kind < 8 → place_of_tag (tag_of kind number) s ≡ slot (slots_of kind s) number
-place_tag s kind number few =
-    ap (λ k. slot (slots_of k s) ((kind + 8 * number) / 8)) (kind_read kind number few) ∙ ap (λ n. slot (slots_of kind s) n) (number_read kind number few)
+-- two kinds are one, or their numbers differ
+pub cases_kind : {C : Type 0} (k j : Kind) → (k ≡ j → C) → (kind_code k ≢ kind_code j → C) → C
+cases_kind k j same other =
+    cases_eq (kind_code k) (kind_code j) (λ e. same (some_same (sym (kind_named k) ∙ ap (slice_get kinds) e ∙ kind_named j))) other
 
--- the tag of a kind and a number names that number
-pub number_tag : (kind number : ℕ) → kind < 8 → number_of kind (tag_of kind number) ≡ Some number
-number_tag kind number few =
-    ap (λ b. if b then Some ((kind + 8 * number) / 8) else None) (ap (λ k. nat_eq k kind) (kind_read kind number few) ∙ nat_eq-same kind)
-    ∙ ap Some (number_read kind number few)
+pub same_self : (k : Kind) → is_same k k ≡ true
+same_self k = nat_eq-same (kind_code k)
 
--- a tag that names a number of a kind is that of the kind and the number
-pub tag_named : (kind tag number : ℕ) → number_of kind tag ≡ Some number → tag ≡ tag_of kind number
-tag_named kind zero number e = let bad : false ≡ true = ap is_some e in cc
-tag_named kind (suc n) number e = elim (nat_eq (n % 8) kind) as (λ b. nat_eq (n % 8) kind ≡ b → cond b (Some (n / 8)) None ≡ Some number → suc n ≡ tag_of kind number) [
-  | true ↦ λ same there. let here : n / 8 ≡ number = cc in omega (arith, from_eq (n % 8) kind same, here)
-  | false ↦ λ other there. let bad : false ≡ true = ap is_some there in cc
-] refl e
+pub same_other : (k j : Kind) → kind_code k ≢ kind_code j → is_same k j ≡ false
+same_other k j other = nat_eq-other (kind_code k) (kind_code j) other
+
+-- ---- tags
+
+pub read_tag : (kind : Kind) (number : ℕ) → number < 1024 → tagged (tag_of kind number) ≡ Object kind number
+unfolding tagged
+read_tag kind number small =
+    ap (λ b. if b then object_tagged (tag_of kind number) else Library (tag_of kind number - libraries))
+    (lt-ltb (tag_of kind number) libraries (omega (arith, small, kind_few kind)))
+    ∙ ap (λ c. object_or_plain (slice_get kinds c) ((kind_code kind + 8 * number) / 8)) (let c : (kind_code kind + 8 * number) % 8 ≡ kind_code kind = omega (arith, kind_few kind) in c)
+    ∙ ap (λ o. object_or_plain o ((kind_code kind + 8 * number) / 8)) (kind_named kind)
+    ∙ ap (Object kind) (let n : (kind_code kind + 8 * number) / 8 ≡ number = omega (arith, kind_few kind) in n)
+
+pub read_plain : tagged 0 ≡ Plain
+unfolding tagged
+read_plain = ap (λ b. if b then object_tagged 0 else Library (0 - libraries)) (lt-ltb 0 libraries (omega arith))
+
+-- two objects of one tag are one
+pub tag_same : {C : Type 0} (k j : Kind) (m n : ℕ) → tag_of k m ≡ tag_of j n → (kind_code k ≡ kind_code j → m ≡ n → C) → C
+tag_same k j m n e f =
+    let code : kind_code k ≡ kind_code j = omega (arith, e, kind_few k, kind_few j) in
+    let number : m ≡ n = omega (arith, e, kind_few k, kind_few j) in
+    f code number
 
 -- ---- two numbers
 
@@ -46,10 +72,22 @@ either_number a b P same other = elim (nat_eq a b) as (λ c. nat_eq a b ≡ c �
   | false ↦ λ e. other (not_eq a b e)
 ] refl
 
--- a tag is that of a kind and a number where its parts are
-pub tag_parts : (kind number n : ℕ) → kind < 8 → nat_eq (suc n) (tag_of kind number) ≡ (nat_eq (n % 8) kind && nat_eq (n / 8) number)
-tag_parts kind number n few = either_number (n % 8) kind (λ b. nat_eq (suc n) (tag_of kind number) ≡ (b && nat_eq (n / 8) number))
-    (λ k. either_number (n / 8) number (λ c. nat_eq (suc n) (tag_of kind number) ≡ c)
-    (λ m. ap (λ z. nat_eq z (tag_of kind number)) (let same : suc n ≡ tag_of kind number = omega (arith, k, m) in same) ∙ nat_eq-same (tag_of kind number))
-    (λ m. nat_eq-other (suc n) (tag_of kind number) (omega (arith, k, m, few))))
-    (λ k. nat_eq-other (suc n) (tag_of kind number) (omega (arith, k, few)))
+-- ---- an object of a kind and a number
+
+-- what a tag says is the object of a kind and a number
+abbrev pub is_object : Kind → ℕ → Tagged → Bool
+is_object kind number (Object k m) = is_same k kind && nat_eq m number
+is_object kind number _ = false
+
+pub object_self : (kind : Kind) (number : ℕ) → is_object kind number (Object kind number) ≡ true
+object_self kind number = ap (λ b. b && nat_eq number number) (same_self kind) ∙ nat_eq-same number
+
+and_false : (b : Bool) → b && false ≡ false
+and_false true = refl
+and_false false = refl
+
+-- another kind or another number is another object
+pub object_other : (kind k : Kind) (number m : ℕ) → (k ≡ kind → m ≢ number) → is_object kind number (Object k m) ≡ false
+object_other kind k number m other = cases_kind k kind
+    (λ e. ap (λ b. is_same k kind && b) (nat_eq-other m number (other e)) ∙ and_false (is_same k kind))
+    (λ ne. ap (λ b. b && nat_eq m number) (same_other k kind ne))

@@ -1,4 +1,5 @@
 pub mod Tags
+pub mod Table
 pub mod Numbered
 pub mod Changes
 pub mod Refusals

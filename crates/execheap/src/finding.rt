@@ -5,7 +5,8 @@ ghost use Rattle.execlist.specs.Lists.{home, part_from, sequence};
 ghost use Rattle.execlist.specs.Order.{first};
 ghost use Rattle.execmodel.specs.Lists.{find_alert, free_list_alert, free_node_alert, insert_alert, link_alert, linked_alert, list_alert, or_none, pred_alert, predecessor, searched};
 ghost use Rattle.execlist.specs.Pool.{slot};
-ghost use Rattle.execheap.specs.Numbered.{address_in, shown_heap};
+ghost use Rattle.execheap.specs.declared.kind.Kind.TheVariants as variant;
+ghost use Rattle.execheap.specs.Numbered.{address_in, places, shown_heap};
 ghost use Rattle.execheap.specs.Refusals.{alert_of, is_none_or_in};
 
 mod ports;
@@ -20,7 +21,7 @@ impl<S: ListSpace> Objects<S> {
     /// The list that begins at an address.
     pub fn list_at(&self, list: u32) -> Result<HeaderId, Refusal>
         ensures alert { alert_of result ≡ list_alert list (shown_heap self.now) }
-        ensures found { IfOk result (λ h. slot self.now.lists.slots h ≡ Some list) }
+        ensures found { IfOk result (λ h. slot (places variant.List self.now) h ≡ Some list) }
     {
         match self.number_at(Kind::List, list) {
             Some(h) => Ok(h),
@@ -31,7 +32,7 @@ impl<S: ListSpace> Objects<S> {
     /// The list that begins at an address, which has no node.
     pub fn empty_list_at(&self, list: u32) -> Result<HeaderId, Refusal>
         ensures alert { alert_of result ≡ free_list_alert list (shown_heap self.now) }
-        ensures found { IfOk result (λ h. slot self.now.lists.slots h ≡ Some list) }
+        ensures found { IfOk result (λ h. slot (places variant.List self.now) h ≡ Some list) }
         ensures empty { IfOk result (λ h. first (sequence self.now.sequences h) ≡ None) }
     {
         match self.number_at(Kind::List, list) {
@@ -46,7 +47,7 @@ impl<S: ListSpace> Objects<S> {
     /// The node that begins at an address, which is not linked.
     pub fn unlinked_node_at(&self, node: u32) -> Result<NodeId, Refusal>
         ensures alert { alert_of result ≡ free_node_alert node (shown_heap self.now) }
-        ensures found { IfOk result (λ n. slot self.now.nodes.slots n ≡ Some node) }
+        ensures found { IfOk result (λ n. slot (places variant.Node self.now) n ≡ Some node) }
         ensures unlinked { IfOk result (λ n. home self.now.homes n ≡ None) }
     {
         self.facts();
@@ -62,7 +63,7 @@ impl<S: ListSpace> Objects<S> {
     /// The node that begins at an address, which is linked, after the list that has it.
     pub fn linked_node_at(&self, node: u32) -> Result<(HeaderId, NodeId), Refusal>
         ensures alert { alert_of result ≡ linked_alert node (shown_heap self.now) }
-        ensures found { IfOk result (λ pair. slot self.now.nodes.slots pair.1 ≡ Some node) }
+        ensures found { IfOk result (λ pair. slot (places variant.Node self.now) pair.1 ≡ Some node) }
         ensures linked { IfOk result (λ pair. home self.now.homes pair.1 ≡ Some pair.0) }
     {
         self.facts();
@@ -78,8 +79,8 @@ impl<S: ListSpace> Objects<S> {
     /// The list that begins at an address, and the node that begins at another and is not linked.
     pub fn to_link(&self, list: u32, node: u32) -> Result<(HeaderId, NodeId), Refusal>
         ensures alert { alert_of result ≡ link_alert list node (shown_heap self.now) }
-        ensures list { IfOk result (λ pair. slot self.now.lists.slots pair.0 ≡ Some list) }
-        ensures node { IfOk result (λ pair. slot self.now.nodes.slots pair.1 ≡ Some node) }
+        ensures list { IfOk result (λ pair. slot (places variant.List self.now) pair.0 ≡ Some list) }
+        ensures node { IfOk result (λ pair. slot (places variant.Node self.now) pair.1 ≡ Some node) }
         ensures unlinked { IfOk result (λ pair. home self.now.homes pair.1 ≡ None) }
     {
         match self.list_at(list) {
@@ -93,7 +94,7 @@ impl<S: ListSpace> Objects<S> {
 
     /// Whether a node, if there is one, stands in a list.
     fn is_in(&self, pred: Option<NodeId>, h: HeaderId) -> bool
-        requires { ForSome pred (λ p. IsSome (slot self.now.nodes.slots p)) }
+        requires { ForSome pred (λ p. IsSome (slot (places variant.Node self.now) p)) }
         ensures { result ≡ is_none_or_in pred h self.now.homes }
     {
         match pred {
@@ -105,8 +106,8 @@ impl<S: ListSpace> Objects<S> {
     /// The node that begins at an address, as a predecessor: address 0 is none.
     fn predecessor_at(&self, pred: u32) -> Result<Option<NodeId>, Refusal>
         ensures alert { alert_of result ≡ pred_alert (predecessor pred) (shown_heap self.now) }
-        ensures found { IfOk result (λ p. option_map (address_in self.now.nodes.slots) p ≡ predecessor pred) }
-        ensures live { IfOk result (λ p. ForSome p (λ n. IsSome (slot self.now.nodes.slots n))) }
+        ensures found { IfOk result (λ p. option_map (address_in (places variant.Node self.now)) p ≡ predecessor pred) }
+        ensures live { IfOk result (λ p. ForSome p (λ n. IsSome (slot (places variant.Node self.now) n))) }
     {
         if pred == 0 {
             return Ok(None);
@@ -126,9 +127,9 @@ impl<S: ListSpace> Objects<S> {
         pred: u32,
     ) -> Result<(HeaderId, NodeId, Option<NodeId>), Refusal>
         ensures alert { alert_of result ≡ insert_alert list node pred (shown_heap self.now) }
-        ensures list { IfOk result (λ three. slot self.now.lists.slots three.0 ≡ Some list) }
-        ensures node { IfOk result (λ three. slot self.now.nodes.slots three.1 ≡ Some node) }
-        ensures pred { IfOk result (λ three. option_map (address_in self.now.nodes.slots) three.2 ≡ predecessor pred) }
+        ensures list { IfOk result (λ three. slot (places variant.List self.now) three.0 ≡ Some list) }
+        ensures node { IfOk result (λ three. slot (places variant.Node self.now) three.1 ≡ Some node) }
+        ensures pred { IfOk result (λ three. option_map (address_in (places variant.Node self.now)) three.2 ≡ predecessor pred) }
         ensures unlinked { IfOk result (λ three. home self.now.homes three.1 ≡ None) }
         ensures pred_in { IfOk result (λ three. ForSome three.2 (λ p. home self.now.homes p ≡ Some three.0)) }
     {
@@ -157,10 +158,10 @@ impl<S: ListSpace> Objects<S> {
     /// Where FindName begins: at the first node of the list that begins at an address, or after the linked node that does.
     pub fn to_search(&self, start: u32) -> Result<(HeaderId, Option<NodeId>), Refusal>
         ensures alert { alert_of result ≡ find_alert start (shown_heap self.now) }
-        ensures live { IfOk result (λ pair. IsSome (slot self.now.lists.slots pair.0)) }
+        ensures live { IfOk result (λ pair. IsSome (slot (places variant.List self.now) pair.0)) }
         ensures after_in { IfOk result (λ pair. ForSome pair.1 (λ n. home self.now.homes n ≡ Some pair.0)) }
         ensures searched { IfOk result (λ pair. searched start (shown_heap self.now)
-            ≡ map (address_in self.now.nodes.slots) (part_from pair.1 (sequence self.now.sequences pair.0))) }
+            ≡ map (address_in (places variant.Node self.now)) (part_from pair.1 (sequence self.now.sequences pair.0))) }
     {
         self.facts();
         match self.number_at(Kind::List, start) {
@@ -174,11 +175,11 @@ impl<S: ListSpace> Objects<S> {
 
     /// The address of a live node, or 0 for none.
     pub fn address_or_0(&self, n: Option<NodeId>) -> u32
-        requires { IfSome n (λ m. IsSome (slot self.now.nodes.slots m)) }
-        ensures { result ≡ or_none (option_map (address_in self.now.nodes.slots) n) }
+        requires { IfSome n (λ m. IsSome (slot (places variant.Node self.now) m)) }
+        ensures { result ≡ or_none (option_map (address_in (places variant.Node self.now)) n) }
     {
         match n {
-            Some(n) => self.address_of(n),
+            Some(n) => self.address_of(Kind::Node, n),
             None => 0,
         }
     }

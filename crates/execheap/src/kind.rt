@@ -1,6 +1,6 @@
-//! The kinds of objects that live at addresses, and the tag that stands beside an object's block.
-ghost use Rattle.std.specs.Prelude.{◌≡◌, ◌≤◌};
-ghost use Rattle.execheap.specs.Tags.{kind_code, number_of, tag_of};
+//! The kinds of objects that live at addresses.
+ghost use Rattle.std.specs.Prelude.{◌≡◌, slice_get};
+ghost use Rattle.execheap.specs.Tags.{kind_code, kinds, size_of};
 
 /// A kind of object.
 #[derive(Clone, Copy, Debug, PartialEq, Eq)]
@@ -11,15 +11,15 @@ pub enum Kind {
     Node,
     /// A message port (RKM Libraries, Exec Messages and Ports).
     Port,
-    /// A message.
+    /// A message (RKM Libraries, Exec Messages and Ports).
     Message,
     /// A semaphore (RKM Libraries, Exec Semaphores).
     Semaphore,
 }
 
 impl Kind {
-    /// The number of the kind, which is below 8.
-    fn code(self) -> u32
+    /// The number of the kind, by which its pool stands in the table.
+    pub fn code(self) -> usize
         ensures { result ≡ kind_code self }
     {
         match self {
@@ -30,27 +30,32 @@ impl Kind {
             Kind::Semaphore => 4,
         }
     }
-}
 
-/// The tag of the object of a kind and a number. Tag 0 is that of a plain block.
-pub fn tag_of(kind: Kind, number: usize) -> u32
-    requires { number ≤ 4096 }
-    ensures { result ≡ tag_of (kind_code kind) number }
-{
-    1 + kind.code() + 8 * number as u32
-}
-
-/// The number of the object that a tag names, if it is of that kind.
-pub fn number_of(kind: Kind, tag: u32) -> Option<usize>
-    ensures { result ≡ number_of (kind_code kind) tag }
-{
-    if tag == 0 {
-        return None;
+    /// The kind of a number, if there is one.
+    pub fn of_code(code: u32) -> Option<Kind>
+        ensures { result ≡ slice_get kinds code }
+    {
+        match code {
+            0 => Some(Kind::List),
+            1 => Some(Kind::Node),
+            2 => Some(Kind::Port),
+            3 => Some(Kind::Message),
+            4 => Some(Kind::Semaphore),
+            _ => None,
+        }
     }
-    let rest = tag - 1;
-    if rest % 8 == kind.code() {
-        Some((rest / 8) as usize)
-    } else {
-        None
+
+    /// The bytes of an object of the kind, by the include files exec/lists.h, exec/nodes.h, exec/ports.h and exec/semaphores.h; a message has
+    /// its word too (own choice).
+    pub fn size(self) -> u32
+        ensures { result ≡ size_of self }
+    {
+        match self {
+            Kind::List => 14,
+            Kind::Node => 14,
+            Kind::Port => 34,
+            Kind::Message => 24,
+            Kind::Semaphore => 46,
+        }
     }
 }

@@ -1,5 +1,6 @@
 //! The memory of a machine and the objects that live in it, by address.
-//! `Heap` is what callers use. `objects` keeps the objects by number, and `finding` finds them by address.
+//! `Heap` is what callers use. `objects` keeps the objects by number, `finding` finds them by address, and `table` tells which
+//! block is an object of which kind and number.
 #![tactic(auto)]
 
 mod finding;
@@ -7,6 +8,8 @@ mod heap;
 mod kind;
 mod objects;
 mod refusal;
+mod table;
+mod tag;
 
 pub use heap::Heap;
 pub use refusal::Refusal;

@@ -3,3 +3,9 @@ pub mod Lists
 pub mod Keys
 pub mod Plain
 pub mod Pool
+pub mod Links
+pub mod Chains
+pub mod Ownership
+pub mod Places
+pub mod Digest
+pub mod DigestKeys

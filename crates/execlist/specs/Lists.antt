@@ -20,6 +20,10 @@ sequence all h = slice_index_or all h []
 abbrev pub home : List (Option ℕ) → ℕ → Option ℕ
 home homes n = slice_index_or homes n None
 
+-- the key of node n
+abbrev pub key_at : List Key → ℕ → Key
+key_at keys n = slice_index_or keys n blank
+
 -- the priority of node n
 abbrev pub pri_of : List Key → ℕ → ℤ
 pri_of keys n = (slice_index_or keys n blank).pri
@@ -53,6 +57,11 @@ put_after (Some p) n xs = part_before p xs ++ p ∷ n ∷ part_after p xs
 abbrev pub part_from : Option ℕ → List ℕ → List ℕ
 part_from None xs = xs
 part_from (Some n) xs = part_after n xs
+
+-- a node and those after it, or none of them
+abbrev pub ahead : Option ℕ → List ℕ → List ℕ
+ahead None xs = []
+ahead (Some n) xs = n ∷ part_after n xs
 
 -- a name or none is that name, byte for byte
 abbrev pub name_is : Option (List ℕ) → List ℕ → Bool

@@ -1,10 +1,15 @@
 //! Lists of Exec: headers that hold sequences of nodes, and the laws of a sequence kept by a key.
-//! `space` is the interface, `plain` a list space in vectors, `laws` what is proved of the definitions alone, and `pool` gives out numbers
+//! `space` is the interface; `plain` is a list space in vectors, and `link` one of cells that `block` links by raw pointers; `key` and
+//! `digest` are what they keep of a node beside its place; `laws` is what is proved of the definitions alone, and `pool` gives out numbers
 //! of headers and nodes.
 #![tactic(auto)]
 
+pub mod block;
+pub mod digest;
 pub mod key;
 pub mod laws;
+pub mod link;
 pub mod plain;
 pub mod pool;
+pub mod search;
 pub mod space;

@@ -1,12 +1,14 @@
 -- The words of a group change their part of the state alone.
-use Rattle.std.proofs.Common.{◌≡◌, ℕ, ℤ, Bool, true, false, List, [], Option, None, Some, ap, ◌∙◌, refl}
-use Rattle.std.specs.Prelude.{◌-◌, negsuc, not, if◌then◌else◌, nat_eq}
+use Rattle.std.proofs.Common.{◌≡◌, ℕ, zero, suc, ℤ, Bool, true, false, List, [], ◌∷◌, Option, None, Some, slice_set, ap, ◌∙◌, refl}
+use Rattle.std.specs.Prelude.{◌-◌, negsuc, not, if◌then◌else◌, nat_eq, slice_index_or}
 use Rattle.std.specs.Int.{cast_signed, w32}
 use Rattle.execlist.specs.Order.{first}
-use Rattle.signals.specs.Signals.{grant, is_own_signal}
-use Rattle.taskq.specs.Tasks.{is_ready}
-use Rattle.scheduler.specs.Schedule.{Schedule, status_of, signals_of, come_for, nesting_of, is_absent, is_at_semaphore, leaves, removed, waits_at_semaphore}
+use Rattle.signals.specs.Signals.{grant, taken_signals}
+use Rattle.taskq.specs.Tasks.{is_ready, is_live}
+use Rattle.scheduler.specs.Schedule.{Schedule, status_of, signals_of, come_for, nesting_of, is_absent, is_at_semaphore, leaves, removed, waits_at_semaphore, allocates as allocates_signal, frees, sets_signals, awaits, waits_for, takes, after_wait, clears_and_waits}
 use Rattle.forbid.specs.Nesting.{Nesting, after_forbid, after_permit, after_disable, after_enable}
+use Rattle.taskscript.specs.declared.variable.Variable.{Variable}
+use Rattle.taskscript.specs.declared.variable.Variable.TheVariants.{Private, Shared}
 use Rattle.taskscript.specs.declared.word.plain.PlainWord.TheVariants as plain
 use Rattle.taskscript.specs.declared.word.task_signals.SignalWord.TheVariants as signals
 use Rattle.taskscript.specs.declared.word.nesting.NestingWord.TheVariants as nesting
@@ -16,20 +18,22 @@ use Rattle.taskscript.specs.declared.word.memory.MemoryWord.TheVariants as memor
 use Rattle.taskscript.specs.declared.word.ports.PortWord.TheVariants as ports
 use Rattle.taskscript.specs.declared.word.semaphores.SemaphoreWord.TheVariants as semaphores
 use Rattle.sigsem.specs.declared.semaphore.Obtained.{Obtained}
+use Rattle.msgport.specs.declared.action.Action.{Action}
+use Rattle.msgport.specs.declared.action.Action.TheVariants as action
 use Rattle.sigsem.specs.declared.semaphore.Obtained.TheVariants.{Owner, Waits}
-use Rattle.execmodel.specs.State.{Call, Object, Plain, ListHead, State, Outcome, on_schedule}
-use Rattle.execmodel.specs.Scheduling.{arrives, added, reprioritized}
-use Rattle.execmodel.specs.Calls.{argument, done, answered, waiting, silent, alerted}
+use Rattle.execmodel.specs.State.{Call, Object, Plain, ListHead, Program, Scripts, State, Outcome, no_program, on_schedule, on_scripts}
+use Rattle.execmodel.specs.Scheduling.{arrives, added, reprioritized, signalled}
+use Rattle.execmodel.specs.Calls.{argument, stored, goes_on, done, answered, waiting, silent, alerted, unless}
 use Rattle.execmodel.specs.Plain.{does_set, does_add, does_sub, does_and, does_or, jumps, does_jump, does_jump_zero, does_jump_not_zero, does_print}
-use Rattle.execmodel.specs.Signals.{is_task, is_mask, waited, does_alloc_signal, does_free_signal, does_set_signal, does_signal, does_wait}
+use Rattle.execmodel.specs.Signals.{mask_alert, free_signal_alert, signal_alert, waited, does_alloc_signal, does_free_signal, does_set_signal, does_signal, does_wait}
 use Rattle.execmodel.specs.Nesting.{counted, does_forbid, does_permit, does_disable, does_enable}
-use Rattle.execmodel.specs.Tasks.{is_live_task, is_priority, is_caller, ends_other, does_set_task_pri, does_add_task, does_rem_task, does_find_task}
-use Rattle.execmodel.specs.Objects.{unless, place_for_object}
-use Rattle.execmodel.specs.Memory.{allocates, place_for, has_only, alloc_bits, block_at, is_named, can_be_asked, does_alloc_mem, does_free_mem, does_avail_mem}
-use Rattle.execmodel.specs.Lists.{is_list, list_size, is_node, node_size, free_list_alert, free_node_alert, link_alert, insert_alert, linked_alert, list_alert, find_alert, does_new_list, does_free_list, does_new_node, does_free_node, does_add_head, does_add_tail, does_enqueue, does_insert, does_remove, does_rem_head, does_rem_tail, does_first, does_last, does_succ, does_pred, does_find_name}
-use Rattle.execmodel.specs.Ports.{is_port, is_message, port_size, message_size, port_created, port_alert, message_alert, messages_of, content_of, delete_alert, add_port_alert, rem_port_alert, reply_port_alert, loose_alert, put_alert, reply_alert, wait_alert, made_public, made_private, replied, delivered, taken, looked, does_create_msg_port, does_delete_msg_port, does_add_port, does_rem_port, does_find_port, does_port_signal, does_port_ignore, does_new_msg, does_free_msg, does_msg_word, does_set_msg_word, does_msg_type, does_put_msg, does_get_msg, does_wait_port, does_reply_msg}
+use Rattle.execmodel.specs.Tasks.{live_task_alert, set_task_pri_alert, add_task_alert, is_caller, ends_other, does_set_task_pri, does_add_task, does_rem_task, does_find_task}
+use Rattle.execmodel.specs.Objects.{place_for_object}
+use Rattle.execmodel.specs.Memory.{allocates, place_for, alloc_alert, free_alert, avail_alert, does_alloc_mem, does_free_mem, does_avail_mem}
+use Rattle.execmodel.specs.Lists.{is_list, list_size, is_node, node_size, free_list_alert, new_node_alert, free_node_alert, link_alert, insert_alert, linked_alert, list_alert, find_alert, does_new_list, does_free_list, does_new_node, does_free_node, does_add_head, does_add_tail, does_enqueue, does_insert, does_remove, does_rem_head, does_rem_tail, does_first, does_last, does_succ, does_pred, does_find_name}
+use Rattle.execmodel.specs.Ports.{is_port, is_message, port_size, message_size, port_created, port_alert, message_alert, port_of, loses, messages_of, content_of, delete_alert, add_port_alert, rem_port_alert, reply_port_alert, loose_alert, put_alert, reply_alert, wait_alert, made_public, made_private, replied, delivered, performed, taken, looked, does_create_msg_port, does_delete_msg_port, does_add_port, does_rem_port, does_find_port, does_port_signal, does_port_ignore, does_new_msg, does_free_msg, does_msg_word, does_set_msg_word, does_msg_type, does_put_msg, does_get_msg, does_wait_port, does_reply_msg}
 use Rattle.execmodel.specs.Semaphores.{awaited_by, free_sem_alert, heir, is_semaphore, is_tried_again, leaving_queue, obtain_alert, obtains, outcome_for, passes, release_alert, sem_of, semaphore_size, woken, does_new_sem, does_free_sem, does_obtain_semaphore, does_attempt_semaphore, does_release_semaphore}
-use Rattle.execmodel.specs.Keeping.{beside_schedule, beside_memory, beside_ports, without_states, without_priorities, beside_semaphores, beside_tasks, PlainWordsChangeScripts, SignalWordsChangeTheSchedule, NestingWordsChangeTheSchedule, TaskWordsChangeStatesPrioritiesAndObjects, ListWordsChangeTheMemory, MemoryWordsChangeTheMemory, PortWordsChangePortsAndSchedule, SemaphoreWordsChangeStatesAndObjects}
+use Rattle.execmodel.specs.Keeping.{without_progress, without_progress_of, without_states, without_priorities, without_signals, beside_plain, beside_signals, beside_nestings, beside_memory, beside_ports, beside_semaphores, beside_tasks, PlainWordsChangeScripts, SignalWordsChangeSignalsAndStates, NestingWordsChangeNestings, TaskWordsChangeStatesPrioritiesAndObjects, ListWordsChangeTheMemory, MemoryWordsChangeTheMemory, PortWordsChangePortsSignalsAndStates, SemaphoreWordsChangeStatesAndObjects}
 
 -- a part that both ways keep
 either : {A : Type 0} (part : State → A) (a : A) (test : Bool) (o p : Outcome) → part o.state ≡ a → part p.state ≡ a
@@ -38,13 +42,6 @@ either part a true o p first second = first
 either part a false o p first second = second
 
 -- A call that may be refused keeps a part that stays where the machine stops, and that the call keeps where it is not refused.
-refused_keeps : {A : Type 0} (part : State → A) (test : Bool) (o : Outcome) (code : List ℕ) (t : ℕ) (call : Call) (s : State)
-    → part (record s { stopped = true }) ≡ part s → part o.state ≡ part s
-    → part (if test then alerted code t call s else o).state ≡ part s
-unfolding alerted
-refused_keeps part true o code t call s stops keeps = stops
-refused_keeps part false o code t call s stops keeps = keeps
-
 unless_keeps : {A : Type 0} (part : State → A) (alert : Option (List ℕ)) (t : ℕ) (call : Call) (effect : State → Outcome) (s : State)
     → part (record s { stopped = true }) ≡ part s → part (effect s).state ≡ part s
     → part (unless alert t call effect s).state ≡ part s
@@ -60,50 +57,132 @@ allocates_keeps : {A : Type 0} (part : State → A) (size : ℕ) (object : Objec
 allocates_keeps part size object None t call s without placed = without
 allocates_keeps part size object (Some address) t call s without placed = placed address
 
-pub plain_words_change_scripts : PlainWordsChangeScripts
-unfolding does_set does_add does_sub does_and does_or jumps does_jump does_jump_zero does_jump_not_zero does_print done silent
-plain_words_change_scripts plain.Set t call s = refl
-plain_words_change_scripts plain.Add t call s = refl
-plain_words_change_scripts plain.Sub t call s = refl
-plain_words_change_scripts plain.And t call s = refl
-plain_words_change_scripts plain.Or t call s = refl
-plain_words_change_scripts plain.Jump t call s = refl
-plain_words_change_scripts plain.JumpZ t call s = refl
-plain_words_change_scripts plain.JumpNZ t call s = refl
-plain_words_change_scripts plain.Print t call s = refl
+-- task t makes progress, and no other: what its program was, but for its progress, it stays
+set_again : (t : ℕ) (program : Program) (programs : List Program)
+    → without_progress program ≡ without_progress (slice_index_or programs t no_program)
+    → slice_set (slice_set programs t program) t (without_progress (slice_index_or (slice_set programs t program) t no_program))
+    ≡ slice_set programs t (without_progress (slice_index_or programs t no_program))
+set_again t program [] same = refl
+set_again zero program (p ∷ programs) same = ap (λ q. q ∷ programs) same
+set_again (suc t) program (p ∷ programs) same = ap (λ rest. p ∷ rest) (set_again t program programs same)
 
-waited_keeps : (t : ℕ) (call : Call) (come : Option ℕ) (s r : State) → beside_schedule r ≡ beside_schedule s
-    → beside_schedule (waited t call come r).state ≡ beside_schedule s
+-- a part of the scripts in which task t goes on
+goes_on_keeps : (t next : ℕ) (scripts : Scripts) → without_progress_of t (goes_on t next scripts) ≡ without_progress_of t scripts
+goes_on_keeps t next scripts = ap (λ programs. record { programs = programs; shared = [] }) (set_again t _ scripts.programs refl)
+
+stored_keeps : (t : ℕ) (target : Option Variable) (value : ℕ) (scripts : Scripts)
+    → without_progress_of t (stored t target value scripts) ≡ without_progress_of t scripts
+stored_keeps t None value scripts = refl
+stored_keeps t (Some (Private k)) value scripts = ap (λ programs. record { programs = programs; shared = [] }) (set_again t _ scripts.programs refl)
+stored_keeps t (Some (Shared k)) value scripts = refl
+
+goes_keeps : (t next : ℕ) (s : State) → beside_plain t (on_scripts (goes_on t next) s) ≡ beside_plain t s
+goes_keeps t next s = ap (λ (scripts : Scripts). record s { scripts = scripts }) (goes_on_keeps t next s.scripts)
+
+silent_keeps : (t : ℕ) (call : Call) (value : ℕ) (s : State) → beside_plain t (silent t call value s).state ≡ beside_plain t s
+unfolding silent
+silent_keeps t call value s = ap (λ (scripts : Scripts). record s { scripts = scripts })
+    (goes_on_keeps t call.next (stored t call.target value s.scripts) ∙ stored_keeps t call.target value s.scripts)
+
+pub plain_words_change_scripts : PlainWordsChangeScripts
+unfolding does_set does_add does_sub does_and does_or jumps does_jump does_jump_zero does_jump_not_zero does_print done
+plain_words_change_scripts plain.Set t call s = silent_keeps t call _ s
+plain_words_change_scripts plain.Add t call s = silent_keeps t call _ s
+plain_words_change_scripts plain.Sub t call s = silent_keeps t call _ s
+plain_words_change_scripts plain.And t call s = silent_keeps t call _ s
+plain_words_change_scripts plain.Or t call s = silent_keeps t call _ s
+plain_words_change_scripts plain.Jump t call s = goes_keeps t _ s
+plain_words_change_scripts plain.JumpZ t call s = goes_keeps t _ s
+plain_words_change_scripts plain.JumpNZ t call s = goes_keeps t _ s
+plain_words_change_scripts plain.Print t call s = goes_keeps t _ s
+
+-- ---- signals
+
+-- a part of the schedule that both ways keep
+either_schedule : {A : Type 0} (part : Schedule → A) (a : A) (test : Bool) (r s : Schedule) → part r ≡ a → part s ≡ a
+    → part (if test then r else s) ≡ a
+either_schedule part a true r s first second = first
+either_schedule part a false r s first second = second
+
+-- what signals and waits leave of the schedule
+abbrev beside_waits : Schedule → Schedule
+beside_waits s = without_signals (without_states s)
+
+allocates_signal_keeps : (t : ℕ) (n : ℤ) (s : Schedule) → beside_waits (allocates_signal t n s) ≡ beside_waits s
+unfolding allocates_signal
+allocates_signal_keeps t n s = refl
+
+frees_keeps : (t n : ℕ) (s : Schedule) → beside_waits (frees t n s) ≡ beside_waits s
+unfolding frees
+frees_keeps t n s = either_schedule beside_waits _ (is_live (status_of s t)) _ _ refl refl
+
+sets_keeps : (t new mask : ℕ) (s : Schedule) → beside_waits (sets_signals t new mask s) ≡ beside_waits s
+unfolding sets_signals
+sets_keeps t new mask s = refl
+
+signalled_keeps : (t mask : ℕ) (s : Schedule) → beside_waits (signalled t mask s) ≡ beside_waits s
+unfolding signalled arrives
+signalled_keeps t mask s =
+    either_schedule beside_waits _ (not (is_live (status_of s t))) _ _ refl
+    (either_schedule beside_waits _ (awaits (status_of s t) _) _ _ refl refl)
+
+after_wait_keeps : (t mask : ℕ) (s : Schedule) → beside_waits (after_wait t mask s) ≡ beside_waits s
+unfolding waits_for takes
+after_wait_keeps t mask s = either_schedule beside_waits _ (nat_eq (taken_signals mask (signals_of s t)) 0) _ _ refl refl
+
+clears_keeps : (t mask : ℕ) (s : Schedule) → beside_waits (clears_and_waits t mask s) ≡ beside_waits s
+unfolding waits_for takes
+clears_keeps t mask s = refl
+
+-- a state in whose schedule signals and the tasks' states change alone
+signals_change : (f : Schedule → Schedule) (s : State) → beside_waits (f s.schedule) ≡ beside_waits s.schedule
+    → beside_signals (on_schedule f s) ≡ beside_signals s
+signals_change f s keeps = ap (λ (r : Schedule). record (beside_signals s) { schedule = r }) keeps
+
+port_signals_change : (f : Schedule → Schedule) (s : State) → beside_waits (f s.schedule) ≡ beside_waits s.schedule
+    → beside_ports (on_schedule f s) ≡ beside_ports s
+port_signals_change f s keeps = ap (λ (r : Schedule). record (beside_ports s) { schedule = r }) keeps
+
+waited_keeps : (t : ℕ) (call : Call) (come : Option ℕ) (s r : State) → beside_signals r ≡ beside_signals s
+    → beside_signals (waited t call come r).state ≡ beside_signals s
 unfolding waiting answered
 waited_keeps t call None s r keeps = keeps
 waited_keeps t call (Some signals) s r keeps = keeps
 
-pub signal_words_change_the_schedule : SignalWordsChangeTheSchedule
+pub signal_words_change_signals_and_states : SignalWordsChangeSignalsAndStates
 unfolding does_alloc_signal does_free_signal does_set_signal does_signal does_wait done answered
-signal_words_change_the_schedule signals.AllocSignal t call s = refl
-signal_words_change_the_schedule signals.FreeSignal t call s =
-    either beside_schedule _ (nat_eq (argument 0 call) 0xffffffff) _ _ refl
-    (refused_keeps beside_schedule (not (is_own_signal (argument 0 call))) _ _ t call s refl refl)
-signal_words_change_the_schedule signals.SetSignal t call s =
-    refused_keeps beside_schedule (not (is_mask (argument 1 call))) _ _ t call s refl refl
-signal_words_change_the_schedule signals.Signal t call s =
-    refused_keeps beside_schedule (not (is_task (argument 0 call) s.scripts)) _ _ t call s refl
-    (refused_keeps beside_schedule (not (is_mask (argument 1 call))) _ _ t call s refl refl)
-signal_words_change_the_schedule signals.Wait t call s =
-    refused_keeps beside_schedule (not (is_mask (argument 0 call))) _ _ t call s refl
-    (waited_keeps t call (come_for (argument 0 call) (signals_of s.schedule t)) s _ refl)
+signal_words_change_signals_and_states signals.AllocSignal t call s =
+    signals_change (allocates_signal t (cast_signed w32 (argument 0 call))) s (allocates_signal_keeps t (cast_signed w32 (argument 0 call)) s.schedule)
+signal_words_change_signals_and_states signals.FreeSignal t call s =
+    either beside_signals _ (nat_eq (argument 0 call) 0xffffffff) _ _ refl
+    (unless_keeps beside_signals (free_signal_alert (argument 0 call)) t call _ s refl
+    (signals_change (frees t (argument 0 call)) s (frees_keeps t (argument 0 call) s.schedule)))
+signal_words_change_signals_and_states signals.SetSignal t call s =
+    unless_keeps beside_signals (mask_alert (argument 1 call)) t call _ s refl
+    (signals_change (sets_signals t (argument 0 call) (argument 1 call)) s (sets_keeps t (argument 0 call) (argument 1 call) s.schedule))
+signal_words_change_signals_and_states signals.Signal t call s =
+    unless_keeps beside_signals (signal_alert (argument 0 call) (argument 1 call) s.scripts) t call _ s refl
+    (signals_change (signalled (argument 0 call - 1) (argument 1 call)) s (signalled_keeps (argument 0 call - 1) (argument 1 call) s.schedule))
+signal_words_change_signals_and_states signals.Wait t call s =
+    unless_keeps beside_signals (mask_alert (argument 0 call)) t call _ s refl
+    (waited_keeps t call (come_for (argument 0 call) (signals_of s.schedule t)) s (on_schedule (after_wait t (argument 0 call)) s)
+    (signals_change (after_wait t (argument 0 call)) s (after_wait_keeps t (argument 0 call) s.schedule)))
 
-counted_keeps : (t : ℕ) (call : Call) (nesting : Option Nesting) (s : State) → beside_schedule (counted t call nesting s).state ≡ beside_schedule s
+-- ---- nesting
+
+counted_keeps : (t : ℕ) (call : Call) (nesting : Option Nesting) (s : State) → beside_nestings (counted t call nesting s).state ≡ beside_nestings s
 unfolding done alerted
 counted_keeps t call None s = refl
 counted_keeps t call (Some nesting) s = refl
 
-pub nesting_words_change_the_schedule : NestingWordsChangeTheSchedule
+pub nesting_words_change_nestings : NestingWordsChangeNestings
 unfolding does_forbid does_permit does_disable does_enable
-nesting_words_change_the_schedule nesting.Forbid t call s = counted_keeps t call (after_forbid (nesting_of s.schedule t)) s
-nesting_words_change_the_schedule nesting.Permit t call s = counted_keeps t call (after_permit (nesting_of s.schedule t)) s
-nesting_words_change_the_schedule nesting.Disable t call s = counted_keeps t call (after_disable (nesting_of s.schedule t)) s
-nesting_words_change_the_schedule nesting.Enable t call s = counted_keeps t call (after_enable (nesting_of s.schedule t)) s
+nesting_words_change_nestings nesting.Forbid t call s = counted_keeps t call (after_forbid (nesting_of s.schedule t)) s
+nesting_words_change_nestings nesting.Permit t call s = counted_keeps t call (after_permit (nesting_of s.schedule t)) s
+nesting_words_change_nestings nesting.Disable t call s = counted_keeps t call (after_disable (nesting_of s.schedule t)) s
+nesting_words_change_nestings nesting.Enable t call s = counted_keeps t call (after_enable (nesting_of s.schedule t)) s
+
+-- ---- lists and memory
 
 pub list_words_change_the_memory : ListWordsChangeTheMemory
 unfolding does_new_list does_free_list does_new_node does_free_node does_add_head does_add_tail does_enqueue does_insert does_remove does_rem_head does_rem_tail does_first does_last does_succ does_pred does_find_name done answered
@@ -112,7 +191,7 @@ list_words_change_the_memory lists.NewList t call s =
 list_words_change_the_memory lists.FreeList t call s =
     unless_keeps beside_memory (free_list_alert (argument 0 call) s.memory.heap) t call _ s refl refl
 list_words_change_the_memory lists.NewNode t call s =
-    refused_keeps beside_memory (not (is_priority (cast_signed w32 (argument 0 call)))) _ _ t call s refl
+    unless_keeps beside_memory (new_node_alert (cast_signed w32 (argument 0 call))) t call _ s refl
     (allocates_keeps beside_memory node_size _ (place_for_object is_node node_size s.memory) t call s refl (λ address. refl))
 list_words_change_the_memory lists.FreeNode t call s =
     unless_keeps beside_memory (free_node_alert (argument 0 call) s.memory.heap) t call _ s refl refl
@@ -144,24 +223,28 @@ list_words_change_the_memory lists.FindName t call s =
 pub memory_words_change_the_memory : MemoryWordsChangeTheMemory
 unfolding does_alloc_mem does_free_mem does_avail_mem done answered
 memory_words_change_the_memory memory.AllocMem t call s =
-    refused_keeps beside_memory (not (has_only alloc_bits (argument 1 call))) _ _ t call s refl
+    unless_keeps beside_memory (alloc_alert (argument 1 call)) t call _ s refl
     (allocates_keeps beside_memory (argument 0 call) Plain (place_for (argument 0 call) (argument 1 call) s.memory) t call s refl
     (λ address. refl))
 memory_words_change_the_memory memory.FreeMem t call s =
-    refused_keeps beside_memory (not (is_named (argument 1 call) (block_at (argument 0 call) s.memory.heap))) _ _ t call s refl refl
+    unless_keeps beside_memory (free_alert (argument 0 call) (argument 1 call) s.memory.heap) t call _ s refl refl
 memory_words_change_the_memory memory.AvailMem t call s =
-    refused_keeps beside_memory (not (can_be_asked (argument 0 call))) _ _ t call s refl refl
+    unless_keeps beside_memory (avail_alert (argument 0 call)) t call _ s refl refl
 
 port_created_keeps : (t : ℕ) (call : Call) (bit place : Option ℕ) (s : State)
     → beside_ports (port_created t call bit place s).state ≡ beside_ports s
 unfolding answered
 port_created_keeps t call None place s = refl
 port_created_keeps t call (Some bit) None s = refl
-port_created_keeps t call (Some bit) (Some address) s = refl
+port_created_keeps t call (Some bit) (Some address) s = port_signals_change (allocates_signal t (negsuc 0)) s (allocates_signal_keeps t (negsuc 0) s.schedule)
+
+performed_keeps : (act : Action) (s : State) → beside_ports (performed act s) ≡ beside_ports s
+performed_keeps (action.Signal task mask) s = port_signals_change (signalled task mask) s (signalled_keeps task mask s.schedule)
+performed_keeps action.Nothing s = refl
 
 replied_keeps : (reply t : ℕ) (call : Call) (message : ℕ) (s : State) → beside_ports (replied reply t call message s).state ≡ beside_ports s
 unfolding done delivered
-replied_keeps reply t call message s = either beside_ports _ (nat_eq reply 0) _ _ refl refl
+replied_keeps reply t call message s = either beside_ports _ (nat_eq reply 0) _ _ refl (performed_keeps _ _)
 
 taken_keeps : (port : ℕ) (message : Option ℕ) (t : ℕ) (call : Call) (s : State)
     → beside_ports (taken port message t call s).state ≡ beside_ports s
@@ -172,63 +255,59 @@ taken_keeps port (Some message) t call s = refl
 looked_keeps : (message : Option ℕ) (mask t : ℕ) (call : Call) (s r : State) → beside_ports r ≡ beside_ports s
     → beside_ports (looked message mask t call r).state ≡ beside_ports s
 unfolding waiting answered
-looked_keeps None mask t call s r keeps = keeps
+looked_keeps None mask t call s r keeps = port_signals_change (clears_and_waits t mask) r (clears_keeps t mask r.schedule) ∙ keeps
 looked_keeps (Some message) mask t call s r keeps = keeps
 
-pub port_words_change_ports_and_schedule : PortWordsChangePortsAndSchedule
+pub port_words_change_ports_signals_and_states : PortWordsChangePortsSignalsAndStates
 unfolding does_create_msg_port does_delete_msg_port does_add_port does_rem_port does_find_port does_port_signal does_port_ignore does_new_msg does_free_msg does_msg_word does_set_msg_word does_msg_type does_put_msg does_get_msg does_wait_port does_reply_msg made_public made_private delivered done answered
-port_words_change_ports_and_schedule ports.CreateMsgPort t call s =
+port_words_change_ports_signals_and_states ports.CreateMsgPort t call s =
     port_created_keeps t call (grant (negsuc 0) (signals_of s.schedule t)) (place_for_object is_port port_size s.memory) s
-port_words_change_ports_and_schedule ports.DeleteMsgPort t call s =
+port_words_change_ports_signals_and_states ports.DeleteMsgPort t call s =
     either beside_ports _ (nat_eq (argument 0 call) 0) _ _ refl
-    (unless_keeps beside_ports (delete_alert (argument 0 call) s.memory) t call _ s refl refl)
-port_words_change_ports_and_schedule ports.AddPort t call s =
+    (unless_keeps beside_ports (delete_alert (argument 0 call) s.memory) t call _ s refl
+    (port_signals_change (frees _ _) s (frees_keeps (port_of (argument 0 call) s.memory.heap).task (port_of (argument 0 call) s.memory.heap).bit s.schedule)))
+port_words_change_ports_signals_and_states ports.AddPort t call s =
     unless_keeps beside_ports (add_port_alert (argument 0 call) (cast_signed w32 (argument 2 call)) s.memory) t call _ s refl refl
-port_words_change_ports_and_schedule ports.RemPort t call s =
+port_words_change_ports_signals_and_states ports.RemPort t call s =
     unless_keeps beside_ports (rem_port_alert (argument 0 call) s.memory) t call _ s refl refl
-port_words_change_ports_and_schedule ports.FindPort t call s = refl
-port_words_change_ports_and_schedule ports.PortSignal t call s =
+port_words_change_ports_signals_and_states ports.FindPort t call s = refl
+port_words_change_ports_signals_and_states ports.PortSignal t call s =
     unless_keeps beside_ports (port_alert (argument 0 call) s.memory.heap) t call _ s refl refl
-port_words_change_ports_and_schedule ports.PortIgnore t call s =
+port_words_change_ports_signals_and_states ports.PortIgnore t call s =
     unless_keeps beside_ports (port_alert (argument 0 call) s.memory.heap) t call _ s refl refl
-port_words_change_ports_and_schedule ports.NewMsg t call s =
+port_words_change_ports_signals_and_states ports.NewMsg t call s =
     unless_keeps beside_ports (reply_port_alert (argument 0 call) s.memory.heap) t call _ s refl
     (allocates_keeps beside_ports message_size _ (place_for_object is_message message_size s.memory) t call s refl (λ address. refl))
-port_words_change_ports_and_schedule ports.FreeMsg t call s =
+port_words_change_ports_signals_and_states ports.FreeMsg t call s =
     unless_keeps beside_ports (loose_alert (argument 0 call) s.memory.heap) t call _ s refl refl
-port_words_change_ports_and_schedule ports.MsgWord t call s =
+port_words_change_ports_signals_and_states ports.MsgWord t call s =
     unless_keeps beside_ports (message_alert (argument 0 call) s.memory.heap) t call _ s refl refl
-port_words_change_ports_and_schedule ports.SetMsgWord t call s =
+port_words_change_ports_signals_and_states ports.SetMsgWord t call s =
     unless_keeps beside_ports (message_alert (argument 0 call) s.memory.heap) t call _ s refl refl
-port_words_change_ports_and_schedule ports.MsgType t call s =
+port_words_change_ports_signals_and_states ports.MsgType t call s =
     unless_keeps beside_ports (message_alert (argument 0 call) s.memory.heap) t call _ s refl refl
-port_words_change_ports_and_schedule ports.PutMsg t call s =
-    unless_keeps beside_ports (put_alert (argument 0 call) (argument 1 call) s.memory.heap) t call _ s refl refl
-port_words_change_ports_and_schedule ports.GetMsg t call s =
+port_words_change_ports_signals_and_states ports.PutMsg t call s =
+    unless_keeps beside_ports (put_alert (argument 0 call) (argument 1 call) s.memory.heap) t call _ s refl (performed_keeps _ _)
+port_words_change_ports_signals_and_states ports.GetMsg t call s =
     unless_keeps beside_ports (port_alert (argument 0 call) s.memory.heap) t call _ s refl
     (taken_keeps (argument 0 call) (first (messages_of (argument 0 call) s.memory.heap)) t call s)
-port_words_change_ports_and_schedule ports.WaitPort t call s =
+port_words_change_ports_signals_and_states ports.WaitPort t call s =
     unless_keeps beside_ports (wait_alert t (argument 0 call) s.memory.heap) t call _ s refl
-    (looked_keeps (first (messages_of (argument 0 call) s.memory.heap)) _ t call s _ refl)
-port_words_change_ports_and_schedule ports.ReplyMsg t call s =
+    (looked_keeps (first (messages_of (argument 0 call) s.memory.heap)) _ t call s _
+    (port_signals_change (loses t call.awaited) s (sets_keeps t 0 call.awaited s.schedule)))
+port_words_change_ports_signals_and_states ports.ReplyMsg t call s =
     unless_keeps beside_ports (reply_alert (argument 0 call) s.memory.heap) t call _ s refl
     (replied_keeps (content_of (argument 0 call) s.memory.heap).reply t call (argument 0 call) s)
-
--- a part of the schedule that both ways keep
-either_schedule : {A : Type 0} (part : Schedule → A) (a : A) (test : Bool) (r s : Schedule) → part r ≡ a → part s ≡ a
-    → part (if test then r else s) ≡ a
-either_schedule part a true r s first second = first
-either_schedule part a false r s first second = second
 
 -- a state in whose schedule the tasks' states change alone, or their priorities too
 states_change : (f : Schedule → Schedule) (s : State) → without_states (f s.schedule) ≡ without_states s.schedule
     → beside_semaphores (on_schedule f s) ≡ beside_semaphores s
-states_change f s keeps = ap (λ (r : Schedule). (r, (s.latched, (s.memory.regions, (s.memory.pool, s.memory.public))))) keeps
+states_change f s keeps = ap (λ (r : Schedule). record (beside_semaphores s) { schedule = r }) keeps
 
 states_and_priorities_change : (f : Schedule → Schedule) (s : State)
     → without_priorities (without_states (f s.schedule)) ≡ without_priorities (without_states s.schedule)
     → beside_tasks (on_schedule f s) ≡ beside_tasks s
-states_and_priorities_change f s keeps = ap (λ (r : Schedule). (r, (s.latched, (s.memory.regions, (s.memory.pool, s.memory.public))))) keeps
+states_and_priorities_change f s keeps = ap (λ (r : Schedule). record (beside_tasks s) { schedule = r }) keeps
 
 reprioritized_keeps : (t : ℕ) (pri : ℤ) (s : Schedule)
     → without_priorities (without_states (reprioritized t pri s)) ≡ without_priorities (without_states s)
@@ -252,16 +331,15 @@ ended_keeps other t call s = left_keeps (awaited_by other s.memory.heap) other _
 pub task_words_change_states_priorities_and_objects : TaskWordsChangeStatesPrioritiesAndObjects
 unfolding does_set_task_pri does_add_task does_rem_task does_find_task done answered leaves
 task_words_change_states_priorities_and_objects tasks.SetTaskPri t call s =
-    refused_keeps beside_tasks (not (is_live_task (argument 0 call) s.scripts s.schedule)) _ _ t call s refl
-    (refused_keeps beside_tasks (not (is_priority (cast_signed w32 (argument 1 call)))) _ _ t call s refl
+    unless_keeps beside_tasks (set_task_pri_alert (argument 0 call) (cast_signed w32 (argument 1 call)) s.scripts s.schedule) t call _ s refl
     (states_and_priorities_change (reprioritized _ _) s
-    (reprioritized_keeps (argument 0 call - 1) (cast_signed w32 (argument 1 call)) s.schedule)))
+    (reprioritized_keeps (argument 0 call - 1) (cast_signed w32 (argument 1 call)) s.schedule))
 task_words_change_states_priorities_and_objects tasks.AddTask t call s =
-    refused_keeps beside_tasks (not (is_task (argument 0 call) s.scripts)) _ _ t call s refl
+    unless_keeps beside_tasks (add_task_alert (argument 0 call) s.scripts) t call _ s refl
     (states_and_priorities_change (added _) s (added_keeps (argument 0 call - 1) s.schedule))
 task_words_change_states_priorities_and_objects tasks.RemTask t call s =
     either beside_tasks _ (is_caller t (argument 0 call)) _ _ refl
-    (refused_keeps beside_tasks (not (is_live_task (argument 0 call) s.scripts s.schedule)) _ _ t call s refl (ended_keeps _ t call s))
+    (unless_keeps beside_tasks (live_task_alert (argument 0 call) s.scripts s.schedule) t call _ s refl (ended_keeps (argument 0 call - 1) t call s))
 task_words_change_states_priorities_and_objects tasks.FindTask t call s = refl
 
 obtains_keeps : (how : Obtained) (semaphore t : ℕ) (call : Call) (s r : State) → beside_semaphores r ≡ beside_semaphores s

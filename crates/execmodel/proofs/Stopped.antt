@@ -1,9 +1,11 @@
 -- A machine that an alert has stopped does nothing.
-use Rattle.std.proofs.Common.{◌≡◌, ℕ, zero, suc, true, List, [], ◌∷◌, ◌++◌, refl, ap, ◌∙◌}
+use Rattle.std.proofs.Common.{◌≡◌, ℕ, zero, suc, Bool, true, false, List, [], ◌∷◌, ◌++◌, refl, ap, sym, ◌∙◌}
+use Rattle.std.specs.Prelude.{if◌then◌else◌}
+use Rattle.std.proofs.lemmas.List.{append-nil}
 use Rattle.taskscript.specs.declared.event.Event.{Event}
 use Rattle.taskscript.specs.declared.event.Event.TheVariants.{Run, Tick}
 use Rattle.execmodel.specs.State.{State, Outcome, quiet, andthen}
-use Rattle.execmodel.specs.Step.{acts, settle, step, steps, tick, ticks, event, events}
+use Rattle.execmodel.specs.Step.{unless_stopped, acts, settle, step, steps, tick, ticks, event, events}
 
 -- an outcome, and then another action
 abbrev after : (State → Outcome) → Outcome → Outcome
@@ -50,3 +52,13 @@ pub events_stopped : (list : List Event) (s : State) → s.stopped ≡ true → 
 unfolding events
 events_stopped [] s h = refl
 events_stopped (e ∷ rest) s h = both_quiet (event e) (events rest) s (event_stopped e s h) (events_stopped rest s h)
+
+-- where the first of two actions stops the machine, the second one does nothing
+ends_there : (test : Bool) (a p : Outcome) → test ≡ true → after (λ s. if test then quiet s else p) a ≡ a
+ends_there true a p e = λ i. record { state = a.state; lines = append-nil a.lines i; marks = append-nil a.marks i }
+ends_there false a p e = let bad : true ≡ false = sym e in cc
+
+pub stopped_between : (first next : State → Outcome) (s : State) → (first s).state.stopped ≡ true
+    → andthen first (unless_stopped next) s ≡ first s
+unfolding andthen
+stopped_between first next s e = ends_there (first s).state.stopped (first s) (next (first s).state) e

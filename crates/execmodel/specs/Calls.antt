@@ -109,3 +109,61 @@ silent t call value s = quiet (on_scripts (λ scripts. goes_on t call.next (stor
 -- The call is refused: it changes nothing, and the machine stops for good (own choice).
 unfoldable pub alerted : List ℕ → ℕ → Call → State → Outcome
 alerted code t call s = says (Alert code (name_of s.schedule t) (word_text call.word)) (record s { stopped = true })
+
+-- ---- who makes a call
+
+-- a task, or the body of a server or a software interrupt of that name
+pub data Caller : Type 0 where
+  ByTask : (task : ℕ) → Caller
+  ByBody : (name : List ℕ) → Caller
+
+-- a shared variable, or none, is given a value; a body has no variables of its own
+abbrev pub stored_shared : Option Variable → ℕ → Scripts → Scripts
+stored_shared None value scripts = scripts
+stored_shared (Some (Private k)) value scripts = scripts
+stored_shared (Some (Shared k)) value scripts = record scripts { shared = slice_set scripts.shared k value }
+
+abbrev pub done_by : Caller → Call → State → Outcome
+done_by (ByTask t) call s = done t call s
+done_by (ByBody name) call s = says (trace.Call name (word_text call.word) call.arguments Done) s
+
+abbrev pub answered_by : Caller → Call → ℕ → State → Outcome
+answered_by (ByTask t) call value s = answered t call value s
+answered_by (ByBody name) call value s =
+    says (trace.Call name (word_text call.word) call.arguments (Answers value)) (on_scripts (stored_shared call.target value) s)
+
+abbrev pub silent_by : Caller → Call → ℕ → State → Outcome
+silent_by (ByTask t) call value s = silent t call value s
+silent_by (ByBody name) call value s = quiet (on_scripts (stored_shared call.target value) s)
+
+abbrev pub alerted_by : List ℕ → Caller → Call → State → Outcome
+alerted_by code (ByTask t) call s = alerted code t call s
+alerted_by code (ByBody name) call s = says (Alert code name (word_text call.word)) (record s { stopped = true })
+
+-- the value of an argument in a body
+abbrev pub evaluated_in_body : Scripts → ArgumentData → Argument
+evaluated_in_body scripts (number n) = Value n
+evaluated_in_body scripts (variable (Private k)) = Value 0
+evaluated_in_body scripts (variable (Shared k)) = Value (slice_index_or scripts.shared k 0)
+evaluated_in_body scripts (quoted name) = Quoted name
+evaluated_in_body scripts (place k) = Value k
+
+-- the call that a command of a body is
+abbrev pub call_in_body : CommandData → Scripts → Call
+call_in_body command scripts = record {
+  word = command.word;
+  target = command.target;
+  arguments = map (evaluated_in_body scripts) command.arguments;
+  next = 0;
+  awaited = 0;
+}
+
+-- ---- refusing
+
+-- a call that may be refused: by its alert, or else it has its effect
+abbrev pub unless_by : Option (List ℕ) → Caller → Call → (State → Outcome) → State → Outcome
+unless_by None c call effect s = effect s
+unless_by (Some code) c call effect s = alerted_by code c call s
+
+abbrev pub unless : Option (List ℕ) → ℕ → Call → (State → Outcome) → State → Outcome
+unless alert t call effect s = unless_by alert (ByTask t) call effect s

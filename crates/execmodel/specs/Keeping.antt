@@ -1,5 +1,5 @@
 -- What the words of a group leave as it is. An alert stops the machine, whatever the word.
-use Rattle.std.specs.Prelude.{◌≡◌, ℕ, Bool, List, [], None}
+use Rattle.std.specs.Prelude.{◌≡◌, ℕ, false, [], None}
 use Rattle.taskscript.specs.declared.word.plain.PlainWord.{PlainWord}
 use Rattle.taskscript.specs.declared.word.task_signals.SignalWord.{SignalWord}
 use Rattle.taskscript.specs.declared.word.nesting.NestingWord.{NestingWord}
@@ -8,9 +8,8 @@ use Rattle.taskscript.specs.declared.word.lists.ListWord.{ListWord}
 use Rattle.taskscript.specs.declared.word.memory.MemoryWord.{MemoryWord}
 use Rattle.taskscript.specs.declared.word.ports.PortWord.{PortWord}
 use Rattle.taskscript.specs.declared.word.semaphores.SemaphoreWord.{SemaphoreWord}
-use Rattle.memlist.specs.declared.region.Region.{Region}
 use Rattle.scheduler.specs.Schedule.{Schedule}
-use Rattle.execmodel.specs.State.{Call, Memory, PublicPort, State, Outcome}
+use Rattle.execmodel.specs.State.{Call, Memory, Program, Scripts, State, Outcome, program_of, with_program}
 use Rattle.execmodel.specs.Plain.{does_plain}
 use Rattle.execmodel.specs.Signals.{does_signals}
 use Rattle.execmodel.specs.Nesting.{does_nesting}
@@ -20,53 +19,103 @@ use Rattle.execmodel.specs.Memory.{does_memory}
 use Rattle.execmodel.specs.Ports.{does_ports}
 use Rattle.execmodel.specs.Semaphores.{does_semaphores}
 
--- all but the scripts
-abbrev pub beside_scripts : State → Schedule × (Memory × (Bool × Bool))
-beside_scripts s = (s.schedule, (s.memory, (s.latched, s.stopped)))
+-- ---- parts blanked out
 
--- all but the scripts, the schedule and whether the machine is stopped
-abbrev pub beside_schedule : State → Memory × Bool
-beside_schedule s = (s.memory, s.latched)
+-- a program whose place, variables and kept call are blanked out
+abbrev pub without_progress : Program → Program
+without_progress program = record program { place = 0; variables = []; kept = None }
 
--- all but the scripts, the memory and whether the machine is stopped; of the memory, which ports are public
-abbrev pub beside_memory : State → Schedule × (Bool × List PublicPort)
-beside_memory s = (s.schedule, (s.latched, s.memory.public))
+-- the scripts with the shared variables, and the progress of task t, blanked out
+abbrev pub without_progress_of : ℕ → Scripts → Scripts
+without_progress_of t scripts = record (with_program t (without_progress (program_of scripts t)) scripts) { shared = [] }
 
--- all but the scripts, the schedule, the objects and whether the machine is stopped
-abbrev pub beside_ports : State → Bool × (List Region × ℕ)
-beside_ports s = (s.latched, (s.memory.regions, s.memory.pool))
+-- nothing to execute, and no variable
+abbrev pub no_scripts : Scripts
+no_scripts = record { programs = []; shared = [] }
 
--- a schedule without the tasks' states: which tasks are ready, in which order, which one runs, which wait, and which were never added
--- or have ended
+-- a schedule without the tasks' states: which are ready, which one runs
 abbrev pub without_states : Schedule → Schedule
 without_states s = record s { queue = record s.queue { ready = []; states = [] }; running = None }
 
--- a schedule without the tasks' priorities
 abbrev pub without_priorities : Schedule → Schedule
 without_priorities s = record s { queue = record s.queue { pris = [] } }
 
--- all but the scripts, the tasks' states, the objects and whether the machine is stopped: of the schedule the tasks' names, priorities,
--- signals and nestings, the quantum, what is left of it, and whether the machine was told to be idle; of the memory all but the blocks
-abbrev pub beside_semaphores : State → Schedule × (Bool × (List Region × (ℕ × List PublicPort)))
-beside_semaphores s = (without_states s.schedule, (s.latched, (s.memory.regions, (s.memory.pool, s.memory.public))))
+abbrev pub without_signals : Schedule → Schedule
+without_signals s = record s { signals = [] }
 
--- the same without the tasks' priorities
-abbrev pub beside_tasks : State → Schedule × (Bool × (List Region × (ℕ × List PublicPort)))
-beside_tasks s =
-    (without_priorities (without_states s.schedule), (s.latched, (s.memory.regions, (s.memory.pool, s.memory.public))))
+abbrev pub without_nestings : Schedule → Schedule
+without_nestings s = record s { nestings = [] }
+
+abbrev pub without_blocks : Memory → Memory
+without_blocks memory = record memory { heap = [] }
+
+abbrev pub without_blocks_and_public_ports : Memory → Memory
+without_blocks_and_public_ports memory = record memory { heap = []; public = [] }
+
+-- ---- what the words of a group leave: a state in which all that they may change is blanked out
+
+abbrev pub beside_plain : ℕ → State → State
+beside_plain t s = record s { scripts = without_progress_of t s.scripts }
+
+abbrev pub beside_signals : State → State
+beside_signals s = record s {
+  scripts = no_scripts;
+  schedule = without_signals (without_states s.schedule);
+  stopped = false;
+}
+
+abbrev pub beside_nestings : State → State
+beside_nestings s = record s {
+  scripts = no_scripts;
+  schedule = without_nestings s.schedule;
+  stopped = false;
+}
+
+abbrev pub beside_memory : State → State
+beside_memory s = record s {
+  scripts = no_scripts;
+  memory = without_blocks s.memory;
+  stopped = false;
+}
+
+abbrev pub beside_ports : State → State
+beside_ports s = record s {
+  scripts = no_scripts;
+  schedule = without_signals (without_states s.schedule);
+  memory = without_blocks_and_public_ports s.memory;
+  stopped = false;
+}
+
+abbrev pub beside_semaphores : State → State
+beside_semaphores s = record s {
+  scripts = no_scripts;
+  schedule = without_states s.schedule;
+  memory = without_blocks s.memory;
+  stopped = false;
+}
+
+abbrev pub beside_tasks : State → State
+beside_tasks s = record s {
+  scripts = no_scripts;
+  schedule = without_priorities (without_states s.schedule);
+  memory = without_blocks s.memory;
+  stopped = false;
+}
+
+-- ---- the laws
 
 -- an action leaves a part of the state as it is
 abbrev pub Keeps : {A : Type 0} → (State → A) → (State → Outcome) → Type 0
 Keeps part next = (s : State) → part (next s).state ≡ part s
 
 abbrev pub PlainWordsChangeScripts : Type 0
-PlainWordsChangeScripts = (word : PlainWord) (t : ℕ) (call : Call) → Keeps beside_scripts (does_plain word t call)
+PlainWordsChangeScripts = (word : PlainWord) (t : ℕ) (call : Call) → Keeps (beside_plain t) (does_plain word t call)
 
-abbrev pub SignalWordsChangeTheSchedule : Type 0
-SignalWordsChangeTheSchedule = (word : SignalWord) (t : ℕ) (call : Call) → Keeps beside_schedule (does_signals word t call)
+abbrev pub SignalWordsChangeSignalsAndStates : Type 0
+SignalWordsChangeSignalsAndStates = (word : SignalWord) (t : ℕ) (call : Call) → Keeps beside_signals (does_signals word t call)
 
-abbrev pub NestingWordsChangeTheSchedule : Type 0
-NestingWordsChangeTheSchedule = (word : NestingWord) (t : ℕ) (call : Call) → Keeps beside_schedule (does_nesting word t call)
+abbrev pub NestingWordsChangeNestings : Type 0
+NestingWordsChangeNestings = (word : NestingWord) (t : ℕ) (call : Call) → Keeps beside_nestings (does_nesting word t call)
 
 abbrev pub TaskWordsChangeStatesPrioritiesAndObjects : Type 0
 TaskWordsChangeStatesPrioritiesAndObjects = (word : TaskWord) (t : ℕ) (call : Call) → Keeps beside_tasks (does_tasks word t call)
@@ -77,8 +126,8 @@ ListWordsChangeTheMemory = (word : ListWord) (t : ℕ) (call : Call) → Keeps b
 abbrev pub MemoryWordsChangeTheMemory : Type 0
 MemoryWordsChangeTheMemory = (word : MemoryWord) (t : ℕ) (call : Call) → Keeps beside_memory (does_memory word t call)
 
-abbrev pub PortWordsChangePortsAndSchedule : Type 0
-PortWordsChangePortsAndSchedule = (word : PortWord) (t : ℕ) (call : Call) → Keeps beside_ports (does_ports word t call)
+abbrev pub PortWordsChangePortsSignalsAndStates : Type 0
+PortWordsChangePortsSignalsAndStates = (word : PortWord) (t : ℕ) (call : Call) → Keeps beside_ports (does_ports word t call)
 
 abbrev pub SemaphoreWordsChangeStatesAndObjects : Type 0
 SemaphoreWordsChangeStatesAndObjects =

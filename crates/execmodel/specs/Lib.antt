@@ -1,3 +1,4 @@
+pub mod Blocks
 pub mod State
 pub mod Scheduling
 pub mod Calls
@@ -14,8 +15,6 @@ pub mod Interrupts
 pub mod Step
 pub mod Keeping
 pub mod Runs
-pub mod MemoryRuns
-pub mod ListRuns
-pub mod PortRuns
-pub mod SemaphoreRuns
-pub mod QuantumRuns
+pub mod Queues
+pub mod Marks
+pub mod Laws

@@ -1,36 +1,28 @@
 -- Lists of nodes (RKM Libraries, Exec Lists and Queues). A list is the sequence of its nodes, by their addresses; no node stands in two
 -- lists, nor twice in one. An address where no object of the kind begins is the alert HANDLE; a node that is linked where it must not
 -- be, or the other way, is the alert LINK (own choice).
-use Rattle.std.specs.Prelude.{ℕ, zero, suc, Bool, true, false, not, ◌-◌, ◌==◌, if◌then◌else◌, nat_eq, is_some, length, map, take, drop, find, unwrap_or, codes, List, [], ◌∷◌, ◌++◌, Option, None, Some}
+use Rattle.std.specs.Prelude.{ℕ, zero, suc, ℤ, Bool, true, false, not, ◌-◌, ◌==◌, if◌then◌else◌, nat_eq, is_some, length, map, take, drop, find, unwrap_or, codes, List, [], ◌∷◌, ◌++◌, Option, None, Some}
 use Rattle.std.specs.List.{list_any}
 use Rattle.std.specs.Int.{cast_signed, w32}
 use Rattle.execlist.specs.Order.{enqueue, first, without}
 use Rattle.execlist.specs.Lists.{Key, blank, last, name_is, part_after, part_before, put_after}
 use Rattle.taskscript.specs.declared.word.lists.ListWord.{ListWord}
 use Rattle.taskscript.specs.declared.word.lists.ListWord.TheVariants as word
-use Rattle.execmodel.specs.State.{Call, Object, Plain, ListHead, Node, MsgPort, Message, Semaphore, Block, Heap, State, Outcome, on_memory, on_heap}
-use Rattle.execmodel.specs.Calls.{argument, name_argument, done, answered, alerted}
+use Rattle.execmodel.specs.State.{Call, Object, ListHead, Node, Block, Heap, State, Outcome, on_memory, on_heap}
+use Rattle.execmodel.specs.Calls.{argument, name_argument, done, answered, unless}
 use Rattle.execmodel.specs.Memory.{allocates, freed}
-use Rattle.execmodel.specs.Objects.{object_at, is_kind, place_for_object, unless}
+use Rattle.execmodel.specs.Objects.{object_at, is_kind, place_for_object}
 use Rattle.execmodel.specs.Tasks.{is_priority}
 
 -- ---- lists and nodes in memory
 
 abbrev pub is_list : Object → Bool
-is_list Plain = false
 is_list (ListHead nodes) = true
-is_list (Node key) = false
-is_list (MsgPort port messages) = false
-is_list (Message content) = false
-is_list (Semaphore sem waiters) = false
+is_list _ = false
 
 abbrev pub is_node : Object → Bool
-is_node Plain = false
-is_node (ListHead nodes) = false
 is_node (Node key) = true
-is_node (MsgPort port messages) = false
-is_node (Message content) = false
-is_node (Semaphore sem waiters) = false
+is_node _ = false
 
 -- a list, or a node, begins at an address
 unfoldable pub is_list_at : ℕ → Heap → Bool
@@ -41,12 +33,8 @@ is_node_at address heap = is_kind is_node (object_at address heap)
 
 -- the nodes of a list
 abbrev pub nodes_in : Object → List ℕ
-nodes_in Plain = []
 nodes_in (ListHead nodes) = nodes
-nodes_in (Node key) = []
-nodes_in (MsgPort port messages) = []
-nodes_in (Message content) = []
-nodes_in (Semaphore sem waiters) = []
+nodes_in _ = []
 
 abbrev pub nodes_of_object : Option Object → List ℕ
 nodes_of_object None = []
@@ -57,12 +45,8 @@ unfoldable pub nodes_of : ℕ → Heap → List ℕ
 nodes_of list heap = nodes_of_object (object_at list heap)
 
 abbrev pub key_in : Object → Key
-key_in Plain = blank
-key_in (ListHead nodes) = blank
 key_in (Node key) = key
-key_in (MsgPort port messages) = blank
-key_in (Message content) = blank
-key_in (Semaphore sem waiters) = blank
+key_in _ = blank
 
 abbrev pub key_of_object : Option Object → Key
 key_of_object None = blank
@@ -95,12 +79,8 @@ with_nodes list nodes heap = map (relisted list nodes) heap
 
 -- a node leaves the sequence that has it
 abbrev pub left_by : ℕ → Object → Object
-left_by node Plain = Plain
 left_by node (ListHead nodes) = ListHead (without node nodes)
-left_by node (Node key) = Node key
-left_by node (MsgPort port messages) = MsgPort port messages
-left_by node (Message content) = Message content
-left_by node (Semaphore sem waiters) = Semaphore sem waiters
+left_by node object = object
 
 unfoldable pub unlinked : ℕ → Heap → Heap
 unlinked node heap = map (λ (entry : ℕ × Block). (entry.0, record entry.1 { object = left_by node entry.1.object })) heap
@@ -134,12 +114,17 @@ does_free_list t call s =
     let list = argument 0 call in
     unless (free_list_alert list s.memory.heap) t call (λ s. done t call (on_memory (freed list) s)) s
 
+-- the alert of NewNode: the priority has to be one that a task may have
+abbrev pub new_node_alert : ℤ → Option (List ℕ)
+new_node_alert pri = if not (is_priority pri) then Some (codes "VALUE") else None
+
 -- NewNode pri name: answers the address of a new node that is not linked, or 0; the priority is read as a signed word (own choice)
 unfoldable pub does_new_node : ℕ → Call → State → Outcome
 does_new_node t call s =
     let pri = cast_signed w32 (argument 0 call) in
-    if not (is_priority pri) then alerted (codes "VALUE") t call s
-    else allocates t call node_size (Node (record { pri = pri; name = name_argument 1 call })) (place_for_object is_node node_size s.memory) s
+    let key : Key = record { pri = pri; name = name_argument 1 call } in
+    unless (new_node_alert pri) t call
+    (λ s. allocates t call node_size (Node key) (place_for_object is_node node_size s.memory) s) s
 
 -- the alert of a call that frees a node: it must not be linked
 unfoldable pub free_node_alert : ℕ → Heap → Option (List ℕ)

@@ -1,6 +1,6 @@
 -- Memory (RKM Libraries, Exec Memory Allocation): blocks that AllocMem gives and FreeMem takes back. The gaps of a region are what its
 -- blocks leave; they are stored nowhere.
-use Rattle.std.specs.Prelude.{ℕ, Bool, true, false, not, ◌&&◌, if◌then◌else◌, nat_eq, nat_lt, bit_and, map, codes, Option, None, Some}
+use Rattle.std.specs.Prelude.{ℕ, Bool, true, false, not, ◌&&◌, if◌then◌else◌, nat_eq, nat_lt, bit_and, map, codes, List, Option, None, Some}
 use Rattle.std.specs.Option.{unwrap_or}
 use Rattle.std.specs.Ordering.{nat_cmp}
 use Rattle.std.specs.FinMap.{find, put}
@@ -9,8 +9,8 @@ use Rattle.memlist.specs.Blocks.{Blocks}
 use Rattle.memlist.specs.Fit.{fit, avail, asks, round}
 use Rattle.taskscript.specs.declared.word.memory.MemoryWord.{MemoryWord}
 use Rattle.taskscript.specs.declared.word.memory.MemoryWord.TheVariants as word
-use Rattle.execmodel.specs.State.{Call, Object, Plain, ListHead, Node, MsgPort, Message, Semaphore, Block, Heap, Memory, State, Outcome, on_memory}
-use Rattle.execmodel.specs.Calls.{argument, done, answered, alerted}
+use Rattle.execmodel.specs.State.{Call, Object, Plain, Block, Heap, Memory, State, Outcome, on_memory}
+use Rattle.execmodel.specs.Calls.{argument, done, answered, unless}
 
 -- ---- the heap
 
@@ -50,29 +50,32 @@ alloc_bits = 0x10007
 abbrev pub allocates : ℕ → Call → ℕ → Object → Option ℕ → State → Outcome
 allocates t call size object place s = answered t call (unwrap_or place 0) (on_memory (placed size object place) s)
 
+-- the alert of AllocMem: it knows no other requirements
+abbrev pub alloc_alert : ℕ → Option (List ℕ)
+alloc_alert reqs = if not (has_only alloc_bits reqs) then Some (codes "VALUE") else None
+
 -- AllocMem size reqs: answers the address of a plain block, or 0 where none fits or the size is 0; the front of the lowest gap of the
 -- suitable region of greatest priority is taken (autodoc exec.library/AllocMem; size 0, and the alert: own choice)
 unfoldable pub does_alloc_mem : ℕ → Call → State → Outcome
 does_alloc_mem t call s =
     let size = argument 0 call in
     let reqs = argument 1 call in
-    if not (has_only alloc_bits reqs) then alerted (codes "VALUE") t call s
-    else allocates t call size Plain (place_for size reqs s.memory) s
+    unless (alloc_alert reqs) t call (λ s. allocates t call size Plain (place_for size reqs s.memory) s) s
 
 -- ---- FreeMem
 
 abbrev pub is_plain : Object → Bool
 is_plain Plain = true
-is_plain (ListHead nodes) = false
-is_plain (Node key) = false
-is_plain (MsgPort port messages) = false
-is_plain (Message content) = false
-is_plain (Semaphore sem waiters) = false
+is_plain _ = false
 
 -- whether there is a plain block, and the size names it: it is not 0 and rounds up to the block's size
 abbrev pub is_named : ℕ → Option Block → Bool
 is_named size None = false
 is_named size (Some block) = is_plain block.object && nat_lt 0 size && nat_eq (round size) block.size
+
+-- the alert of FreeMem: a plain block begins at the address, and the size names it
+abbrev pub free_alert : ℕ → ℕ → Heap → Option (List ℕ)
+free_alert address size heap = if not (is_named size (block_at address heap)) then Some (codes "MEM") else None
 
 -- FreeMem addr size: a plain block that begins at the address, and is of that size rounded up, is freed (autodoc exec.library/FreeMem;
 -- the alert: own choice)
@@ -80,8 +83,7 @@ unfoldable pub does_free_mem : ℕ → Call → State → Outcome
 does_free_mem t call s =
     let address = argument 0 call in
     let size = argument 1 call in
-    if not (is_named size (block_at address s.memory.heap)) then alerted (codes "MEM") t call s
-    else done t call (on_memory (freed address) s)
+    unless (free_alert address size s.memory.heap) t call (λ s. done t call (on_memory (freed address) s)) s
 
 -- ---- AvailMem
 
@@ -93,13 +95,16 @@ avail_bits = 0xb0007
 abbrev pub can_be_asked : ℕ → Bool
 can_be_asked reqs = has_only avail_bits reqs && not (asks 17 reqs && asks 19 reqs)
 
+-- the alert of AvailMem
+abbrev pub avail_alert : ℕ → Option (List ℕ)
+avail_alert reqs = if not (can_be_asked reqs) then Some (codes "VALUE") else None
+
 -- AvailMem reqs: answers the bytes that are free in the suitable regions, or with MEMF_LARGEST their greatest gap, or with MEMF_TOTAL
 -- their installed size (autodoc exec.library/AvailMem; the alert: own choice)
 unfoldable pub does_avail_mem : ℕ → Call → State → Outcome
 does_avail_mem t call s =
     let reqs = argument 0 call in
-    if not (can_be_asked reqs) then alerted (codes "VALUE") t call s
-    else answered t call (avail s.memory.regions (extents s.memory.heap) reqs) s
+    unless (avail_alert reqs) t call (λ s. answered t call (avail s.memory.regions (extents s.memory.heap) reqs) s) s
 
 -- ---- the words of this group
 

@@ -1,17 +1,21 @@
 -- Forbid and Disable (RKM Libraries, Exec Tasks: forbidding task switching). Each task has two counts of its own, which hold again
 -- when it runs again. A count out of its range is the alert NEST (own choice).
-use Rattle.std.specs.Prelude.{ℕ, Bool, if◌then◌else◌, Option, codes}
+use Rattle.std.specs.Prelude.{ℕ, Bool, not, if◌then◌else◌, codes, List, Option, None, Some}
 use Rattle.std.specs.Option.{is_some}
 use Rattle.forbid.specs.Nesting.{Nesting, after_forbid, after_permit, after_disable, after_enable}
 use Rattle.scheduler.specs.Schedule.{nesting_of, nested}
 use Rattle.taskscript.specs.declared.word.nesting.NestingWord.{NestingWord}
 use Rattle.taskscript.specs.declared.word.nesting.NestingWord.TheVariants as word
 use Rattle.execmodel.specs.State.{Call, State, Outcome, on_schedule}
-use Rattle.execmodel.specs.Calls.{done, alerted}
+use Rattle.execmodel.specs.Calls.{done, unless}
+
+-- the alert of such a call: the count has no room for it
+abbrev pub nest_alert : Bool → Option (List ℕ)
+nest_alert fits = if not fits then Some (codes "NEST") else None
 
 -- such a call is done, or refused
 abbrev pub done_or_nest : Bool → ℕ → Call → State → Outcome
-done_or_nest fits t call s = if fits then done t call s else alerted (codes "NEST") t call s
+done_or_nest fits t call s = unless (nest_alert fits) t call (done t call) s
 
 -- a call that gives task t this nesting, or none
 abbrev pub counted : ℕ → Call → Option Nesting → State → Outcome

@@ -1,8 +1,7 @@
 -- Objects: what begins at an address, and where a new object goes. An object takes a block of its own, with MEMF_PUBLIC (own choice).
-use Rattle.std.specs.Prelude.{ℕ, Bool, false, if◌then◌else◌, nat_eq, nat_lt, filter, length, List, Option, None, Some}
+use Rattle.std.specs.Prelude.{ℕ, Bool, false, if◌then◌else◌, nat_eq, nat_lt, filter, length, Option, None, Some}
 use Rattle.std.specs.Option.{option_map}
-use Rattle.execmodel.specs.State.{Call, Object, Block, Heap, Memory, State, Outcome}
-use Rattle.execmodel.specs.Calls.{alerted}
+use Rattle.execmodel.specs.State.{Object, Block, Heap, Memory}
 use Rattle.execmodel.specs.Memory.{block_at, place_for}
 
 -- the object that begins at an address, if a block does
@@ -30,8 +29,3 @@ live kind heap = length (filter (λ (entry : ℕ × Block). kind entry.1.object)
 -- where no gap is large enough (own choice).
 unfoldable pub place_for_object : (Object → Bool) → ℕ → Memory → Option ℕ
 place_for_object kind size memory = if nat_lt (live kind memory.heap) memory.pool then place_for size public_memory memory else None
-
--- a call that may be refused: by its alert, or else it has its effect
-abbrev pub unless : Option (List ℕ) → ℕ → Call → (State → Outcome) → State → Outcome
-unless None t call effect s = effect s
-unless (Some code) t call effect s = alerted code t call s

@@ -3,11 +3,14 @@ use Rattle.std.specs.Prelude.{ℕ, ◌+◌, ◌-◌, ◌%◌, ◌^◌, if◌then
 use Rattle.taskscript.specs.declared.word.plain.PlainWord.{PlainWord}
 use Rattle.taskscript.specs.declared.word.plain.PlainWord.TheVariants as word
 use Rattle.execmodel.specs.State.{Call, State, Outcome, quiet, on_scripts}
-use Rattle.execmodel.specs.Calls.{argument, done, silent, goes_on}
+use Rattle.execmodel.specs.Calls.{Caller, ByTask, argument, done, silent_by, goes_on}
 
 -- Set a: answers a
+abbrev pub does_set_by : Caller → Call → State → Outcome
+does_set_by c call s = silent_by c call (argument 0 call) s
+
 unfoldable pub does_set : ℕ → Call → State → Outcome
-does_set t call s = silent t call (argument 0 call) s
+does_set t call s = does_set_by (ByTask t) call s
 
 -- Print a: its line shows the value
 unfoldable pub does_print : ℕ → Call → State → Outcome
@@ -16,20 +19,32 @@ does_print t call s = done t call s
 -- ---- arithmetic: words of 32 bits, which wrap
 
 -- Add a b: answers the sum
+abbrev pub does_add_by : Caller → Call → State → Outcome
+does_add_by c call s = silent_by c call ((argument 0 call + argument 1 call) % 2 ^ 32) s
+
 unfoldable pub does_add : ℕ → Call → State → Outcome
-does_add t call s = silent t call ((argument 0 call + argument 1 call) % 2 ^ 32) s
+does_add t call s = does_add_by (ByTask t) call s
 
 -- Sub a b: answers the difference
+abbrev pub does_sub_by : Caller → Call → State → Outcome
+does_sub_by c call s = silent_by c call ((argument 0 call + (2 ^ 32 - argument 1 call)) % 2 ^ 32) s
+
 unfoldable pub does_sub : ℕ → Call → State → Outcome
-does_sub t call s = silent t call ((argument 0 call + (2 ^ 32 - argument 1 call)) % 2 ^ 32) s
+does_sub t call s = does_sub_by (ByTask t) call s
 
 -- And a b: answers the bits that both have
+abbrev pub does_and_by : Caller → Call → State → Outcome
+does_and_by c call s = silent_by c call (bit_and (argument 0 call) (argument 1 call)) s
+
 unfoldable pub does_and : ℕ → Call → State → Outcome
-does_and t call s = silent t call (bit_and (argument 0 call) (argument 1 call)) s
+does_and t call s = does_and_by (ByTask t) call s
 
 -- Or a b: answers the bits that either has
+abbrev pub does_or_by : Caller → Call → State → Outcome
+does_or_by c call s = silent_by c call (bit_or (argument 0 call) (argument 1 call)) s
+
 unfoldable pub does_or : ℕ → Call → State → Outcome
-does_or t call s = silent t call (bit_or (argument 0 call) (argument 1 call)) s
+does_or t call s = does_or_by (ByTask t) call s
 
 -- ---- jumps: a label stands for the place of the command after it
 

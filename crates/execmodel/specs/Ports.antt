@@ -18,30 +18,22 @@ use Rattle.msgport.specs.Port.{Port, acting, new_port, wait_bit}
 use Rattle.msgport.specs.Ports.{new_message, nt_freemsg, nt_message, nt_replymsg}
 use Rattle.taskscript.specs.declared.word.ports.PortWord.{PortWord}
 use Rattle.taskscript.specs.declared.word.ports.PortWord.TheVariants as word
-use Rattle.execmodel.specs.State.{Call, Object, Plain, ListHead, Node, MsgPort, Message, Semaphore, Block, Heap, PublicPort, Memory, State, Outcome, put, got, leaving, on_schedule, on_memory, on_heap}
-use Rattle.execmodel.specs.Calls.{argument, name_argument, done, answered, waiting}
+use Rattle.execmodel.specs.State.{Call, Object, MsgPort, Message, Block, Heap, PublicPort, Memory, State, Outcome, put, got, leaving, on_schedule, on_memory, on_heap}
+use Rattle.execmodel.specs.Calls.{Caller, ByTask, argument, name_argument, done, done_by, answered, waiting, unless, unless_by}
 use Rattle.execmodel.specs.Scheduling.{signalled}
 use Rattle.execmodel.specs.Memory.{allocates as memory_allocated, freed, placed}
-use Rattle.execmodel.specs.Objects.{object_at, is_kind, place_for_object, replaced, unless}
+use Rattle.execmodel.specs.Objects.{object_at, is_kind, place_for_object, replaced}
 use Rattle.execmodel.specs.Tasks.{is_priority}
 
 -- ---- ports and messages in memory
 
 abbrev pub is_port : Object → Bool
-is_port Plain = false
-is_port (ListHead nodes) = false
-is_port (Node key) = false
 is_port (MsgPort port messages) = true
-is_port (Message content) = false
-is_port (Semaphore sem waiters) = false
+is_port _ = false
 
 abbrev pub is_message : Object → Bool
-is_message Plain = false
-is_message (ListHead nodes) = false
-is_message (Node key) = false
-is_message (MsgPort port messages) = false
 is_message (Message content) = true
-is_message (Semaphore sem waiters) = false
+is_message _ = false
 
 -- a port, or a message, begins at an address
 unfoldable pub is_port_at : ℕ → Heap → Bool
@@ -51,12 +43,8 @@ unfoldable pub is_message_at : ℕ → Heap → Bool
 is_message_at address heap = is_kind is_message (object_at address heap)
 
 abbrev pub port_in : Object → Port
-port_in Plain = new_port 0 0
-port_in (ListHead nodes) = new_port 0 0
-port_in (Node key) = new_port 0 0
 port_in (MsgPort port messages) = port
-port_in (Message content) = new_port 0 0
-port_in (Semaphore sem waiters) = new_port 0 0
+port_in _ = new_port 0 0
 
 abbrev pub port_of_object : Option Object → Port
 port_of_object None = new_port 0 0
@@ -67,12 +55,8 @@ unfoldable pub port_of : ℕ → Heap → Port
 port_of port heap = port_of_object (object_at port heap)
 
 abbrev pub messages_in : Object → List ℕ
-messages_in Plain = []
-messages_in (ListHead nodes) = []
-messages_in (Node key) = []
 messages_in (MsgPort port messages) = messages
-messages_in (Message content) = []
-messages_in (Semaphore sem waiters) = []
+messages_in _ = []
 
 abbrev pub messages_of_object : Option Object → List ℕ
 messages_of_object None = []
@@ -83,12 +67,8 @@ unfoldable pub messages_of : ℕ → Heap → List ℕ
 messages_of port heap = messages_of_object (object_at port heap)
 
 abbrev pub content_in : Object → Content
-content_in Plain = new_message 0 0
-content_in (ListHead nodes) = new_message 0 0
-content_in (Node key) = new_message 0 0
-content_in (MsgPort port messages) = new_message 0 0
 content_in (Message content) = content
-content_in (Semaphore sem waiters) = new_message 0 0
+content_in _ = new_message 0 0
 
 abbrev pub content_of_object : Option Object → Content
 content_of_object None = new_message 0 0
@@ -105,11 +85,14 @@ has_message message entry = list_any (λ other. other == message) (messages_in e
 unfoldable pub is_queued : ℕ → Heap → Bool
 is_queued message heap = list_any (has_message message) heap
 
+-- a port with these messages begins at an address
 unfoldable pub with_port : ℕ → Port → List ℕ → Heap → Heap
 with_port address port messages heap = map (replaced address (MsgPort port messages)) heap
 
+-- the message that begins at an address gets that content; anything else stays as it is
 unfoldable pub with_content : ℕ → Content → Heap → Heap
-with_content address content heap = map (replaced address (Message content)) heap
+with_content address content heap =
+    if is_message_at address heap then map (replaced address (Message content)) heap else heap
 
 -- the alert of a call on a port, or on a message
 unfoldable pub port_alert : ℕ → Heap → Option (List ℕ)
@@ -304,11 +287,11 @@ does_msg_type t call s =
 
 -- ---- putting and replying
 
--- a message is of that type
+-- a message is of that type; an object of another kind stays as it is
 unfoldable pub typed : ℕ → ℕ → Heap → Heap
 typed kind message heap = with_content message (record (content_of message heap) { kind = kind }) heap
 
--- a message stands last in a port
+-- what begins at an address, of whatever kind, stands last in a port
 unfoldable pub appended : ℕ → ℕ → Heap → Heap
 appended port message heap = with_port port (port_of port heap) (messages_of port heap ++ message ∷ []) heap
 
@@ -317,26 +300,29 @@ unfoldable pub posted : ℕ → ℕ → ℕ → Heap → Heap
 posted kind port message heap = appended port message (typed kind message heap)
 
 -- what is to be done for a message that has arrived
-abbrev pub performed : Action → Schedule → Schedule
-performed (action.Signal task mask) s = signalled task mask s
+abbrev pub performed : Action → State → State
+performed (action.Signal task mask) s = on_schedule (signalled task mask) s
 performed action.Nothing s = s
 
 -- a message is put at a port as one of that type, and the port acts
 unfoldable pub delivered : ℕ → ℕ → ℕ → State → State
 delivered kind port message s =
-    on_schedule (performed (acting (port_of port s.memory.heap))) (on_memory (on_heap (posted kind port message)) s)
+    performed (acting (port_of port s.memory.heap)) (on_memory (on_heap (posted kind port message)) s)
 
 -- the alert of PutMsg: the message must be in no port
 unfoldable pub put_alert : ℕ → ℕ → Heap → Option (List ℕ)
 put_alert port message heap = if not (is_port_at port heap) then Some (codes "HANDLE") else loose_alert message heap
 
 -- PutMsg port message: the message is put at the port, behind those that it has (autodoc exec.library/PutMsg; the alerts: own choice)
-unfoldable pub does_put_msg : ℕ → Call → State → Outcome
-does_put_msg t call s =
+abbrev pub does_put_msg_by : Caller → Call → State → Outcome
+does_put_msg_by c call s =
     let port = argument 0 call in
     let message = argument 1 call in
-    unless (put_alert port message s.memory.heap) t call
-    (λ s. leaving (put port message) (done t call (delivered nt_message port message s))) s
+    unless_by (put_alert port message s.memory.heap) c call
+    (λ s. leaving (put port message) (done_by c call (delivered nt_message port message s))) s
+
+unfoldable pub does_put_msg : ℕ → Call → State → Outcome
+does_put_msg t call s = does_put_msg_by (ByTask t) call s
 
 -- the alert of ReplyMsg: the message must be in no port, and its reply port is to live, if it has one
 unfoldable pub reply_alert : ℕ → Heap → Option (List ℕ)
@@ -396,7 +382,10 @@ unfoldable pub does_wait_port : ℕ → Call → State → Outcome
 does_wait_port t call s =
     let port = argument 0 call in
     unless (wait_alert t port s.memory.heap) t call
-    (λ s. looked (first (messages_of port s.memory.heap)) (2 ^ (port_of port s.memory.heap).bit) t call (on_schedule (loses t call.awaited) s)) s
+    (λ s.
+    let mask = 2 ^ (port_of port s.memory.heap).bit in
+    let cleared = on_schedule (loses t call.awaited) s in
+    looked (first (messages_of port s.memory.heap)) mask t call cleared) s
 
 -- ---- the words of this group
 

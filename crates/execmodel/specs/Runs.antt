@@ -1,51 +1,86 @@
--- Small machines and their whole traces, as the definitions compute them.
-use Rattle.std.specs.Prelude.{◌≡◌, ℕ, ℤ, true, pos, List, [], ◌∷◌, None, Some, codes}
+-- Small machines and their whole traces, as the definitions compute them: a few, one for the chief rule of each group of words.
+use Rattle.std.specs.Prelude.{◌≡◌, ℕ, ℤ, true, false, pos, negsuc, List, [], ◌∷◌, None, Some, codes}
 use Rattle.exectrace.specs.Trace.{printed}
 use Rattle.taskscript.specs.declared.word.Word.{Word}
-use Rattle.taskscript.specs.declared.word.Word.TheVariants.{Plain, Signals, Nesting, Tasks}
-use Rattle.taskscript.specs.declared.word.plain.PlainWord.TheVariants.{Set, Add, Sub, And, Jump, JumpZ, Print}
-use Rattle.taskscript.specs.declared.word.task_signals.SignalWord.TheVariants.{AllocSignal, FreeSignal, Signal, Wait}
-use Rattle.taskscript.specs.declared.word.nesting.NestingWord.TheVariants.{Forbid, Permit}
-use Rattle.taskscript.specs.declared.word.tasks.TaskWord.TheVariants.{SetTaskPri, AddTask, RemTask}
+use Rattle.taskscript.specs.declared.word.Word.TheVariants.{Plain, Signals, Nesting, Tasks, Memory, Lists, Ports, Semaphores}
+use Rattle.taskscript.specs.declared.word.plain.PlainWord.TheVariants.{Set, Add, Sub, And, JumpZ, Print}
+use Rattle.taskscript.specs.declared.word.task_signals.SignalWord.TheVariants.{Signal, Wait, SetSignal}
+use Rattle.taskscript.specs.declared.word.nesting.NestingWord.TheVariants.{Forbid, Permit, Disable, Enable}
+use Rattle.taskscript.specs.declared.word.tasks.TaskWord.TheVariants.{SetTaskPri, AddTask, RemTask, FindTask}
 use Rattle.taskscript.specs.declared.variable.Variable.TheVariants.{Private, Shared}
 use Rattle.taskscript.specs.declared.event.Event.{Event}
-use Rattle.taskscript.specs.declared.event.Event.TheVariants.{Run}
-use Rattle.taskscript.specs.Commands.{ArgumentData, number, variable, place, CommandData}
+use Rattle.taskscript.specs.declared.event.Event.TheVariants.{Run, Tick}
+use Rattle.taskscript.specs.Commands.{ArgumentData, number, variable, place, CommandData, quoted}
 use Rattle.taskscript.specs.File.{MachineData, TaskData}
 use Rattle.memlist.specs.declared.region.Region.{Region}
 use Rattle.execmodel.specs.Step.{run}
+use Rattle.taskscript.specs.declared.word.memory.MemoryWord.TheVariants.{AllocMem, AvailMem}
+use Rattle.taskscript.specs.declared.word.lists.ListWord.TheVariants.{NewList, FreeList, NewNode, AddHead, Enqueue, First, Last, Succ}
+use Rattle.taskscript.specs.declared.word.ports.PortWord.TheVariants.{CreateMsgPort, DeleteMsgPort, AddPort, RemPort, FindPort, NewMsg, MsgType, PutMsg, GetMsg, WaitPort, ReplyMsg}
+use Rattle.taskscript.specs.declared.word.semaphores.SemaphoreWord.{SemaphoreWord}
+use Rattle.taskscript.specs.declared.word.semaphores.SemaphoreWord.TheVariants.{NewSem, FreeSem, ObtainSemaphore, AttemptSemaphore, ReleaseSemaphore}
+use Rattle.execmodel.specs.State.{Mark, put, got, asked, passed, left}
 
 -- a command without a target
 abbrev pub command : Word → List ArgumentData → CommandData
 command word arguments = record { word = word; target = None; arguments = arguments }
 
-abbrev pub task : List ℕ → ℤ → List CommandData → TaskData
-task name pri code = record { name = name; pri = pri; start = true; code = code }
-
-abbrev pub machine : List TaskData → MachineData
-machine tasks = record { quantum = 4; pool = 64; regions = []; tasks = tasks }
-
--- the bytes that a machine writes over these events
-abbrev pub trace_of : List TaskData → List Event → List ℕ
-trace_of tasks events = printed (run (machine tasks) events).lines
-
--- so many bytes of public memory
-abbrev pub room : ℕ → List Region
-room size = record { base = 4096; size = size; attrs = 1; pri = pos 0 } ∷ []
-
--- the bytes that a machine of so much memory writes, where so many objects of each kind may live
-abbrev pub trace_over : ℕ → ℕ → List TaskData → List Event → List ℕ
-trace_over size pool tasks list = printed (run (record { quantum = 4; pool = pool; regions = room size; tasks = tasks }) list).lines
-
--- one task
-abbrev pub alone : List CommandData → List TaskData
-alone code = task (codes "a") (pos 0) code ∷ []
+-- a command whose answer goes into a variable of its task
+abbrev pub into : ℕ → Word → List ArgumentData → CommandData
+into k word arguments = record { word = word; target = Some (Private k); arguments = arguments }
 
 -- a command whose answer goes into a shared variable
 abbrev pub into_shared : ℕ → Word → List ArgumentData → CommandData
 into_shared k word arguments = record { word = word; target = Some (Shared k); arguments = arguments }
 
--- ---- machines
+abbrev pub task : List ℕ → ℤ → List CommandData → TaskData
+task name pri code = record { name = name; pri = pri; start = true; code = code }
+
+-- one task, or three of one priority
+abbrev pub alone : List CommandData → List TaskData
+alone code = task (codes "a") (pos 0) code ∷ []
+
+abbrev pub three_equals : List CommandData → List CommandData → List CommandData → List TaskData
+three_equals first second third = task (codes "a") (pos 0) first ∷ task (codes "b") (pos 0) second ∷ task (codes "c") (pos 0) third ∷ []
+
+-- two tasks, the second one of a lower priority
+abbrev pub beside : List CommandData → List CommandData → List TaskData
+beside first second = task (codes "a") (pos 0) first ∷ task (codes "b") (negsuc 0) second ∷ []
+
+-- a machine without memory and tasks
+abbrev pub bare : MachineData
+bare = record { quantum = 4; pool = 64; regions = []; tasks = [] }
+
+-- so many bytes of public memory
+abbrev pub room : ℕ → List Region
+room size = record { base = 4096; size = size; attrs = 1; pri = pos 0 } ∷ []
+
+-- public memory, and chip memory of a greater priority
+abbrev pub public_and_chip : List Region
+public_and_chip =
+    record { base = 4096; size = 16; attrs = 1; pri = pos 0 }
+    ∷ record { base = 8192; size = 16; attrs = 3; pri = pos 5 } ∷ []
+
+-- the bytes that a machine writes over these events, and the marks that it leaves; in a mark the first task is 0
+abbrev pub trace : MachineData → List Event → List ℕ
+trace machine list = printed (run machine list).lines
+
+abbrev pub marks : MachineData → List Event → List Mark
+marks machine list = (run machine list).marks
+
+-- a new semaphore, whose address goes into the first shared variable
+abbrev pub makes : CommandData
+makes = into_shared 0 (Semaphores NewSem) []
+
+-- a word with the semaphore whose address stands in the first shared variable
+abbrev pub its : SemaphoreWord → CommandData
+its word = command (Semaphores word) (variable (Shared 0) ∷ [])
+
+-- the first task gets a priority below that of the others
+abbrev pub steps_back : CommandData
+steps_back = command (Tasks SetTaskPri) (number 1 ∷ number 0xffffffff ∷ [])
+
+-- ---- machines: a list, a node and the like take 16 bytes, a port 40, a message 24, and a semaphore 48
 
 abbrev pub prints_once : List TaskData
 prints_once = task (codes "a") (pos 0) (command (Plain Print) (number 1 ∷ []) ∷ []) ∷ []
@@ -54,9 +89,6 @@ abbrev pub signals_nobody : List TaskData
 signals_nobody =
     task (codes "a") (pos 0) (command (Signals Signal) (number 3 ∷ number 0x1000 ∷ []) ∷ [])
     ∷ task (codes "b") (pos 0) (command (Plain Print) (number 1 ∷ []) ∷ []) ∷ []
-
-abbrev pub waits_for_a_signal_of_exec : List TaskData
-waits_for_a_signal_of_exec = task (codes "a") (pos 0) (command (Signals Wait) (number 0x800 ∷ []) ∷ []) ∷ []
 
 abbrev pub wakes_a_higher_one : List TaskData
 wakes_a_higher_one =
@@ -85,10 +117,6 @@ waits_for_what_was_asked =
     (record { word = (Plain Set); target = Some (Shared 0); arguments = number 0x2000 ∷ [] }
     ∷ command (Signals Signal) (number 1 ∷ number 0x1000 ∷ []) ∷ []) ∷ []
 
--- a command whose answer goes into a variable of its task
-abbrev pub into : ℕ → Word → List ArgumentData → CommandData
-into k word arguments = record { word = word; target = Some (Private k); arguments = arguments }
-
 -- 0 less 1, and 1 more, is 0 again, so the jump is made, past a command; then the lower bits are masked
 abbrev pub calculates_and_jumps : List TaskData
 calculates_and_jumps = task (codes "a") (pos 0)
@@ -99,17 +127,6 @@ calculates_and_jumps = task (codes "a") (pos 0)
     ∷ into 2 (Plain And) (variable (Private 0) ∷ number 0xf0 ∷ [])
     ∷ command (Plain Print) (variable (Private 2) ∷ []) ∷ []) ∷ []
 
-abbrev pub allocates_signals : List TaskData
-allocates_signals = task (codes "a") (pos 0)
-    (command (Signals AllocSignal) (number 16 ∷ []) ∷ command (Signals AllocSignal) (number 16 ∷ []) ∷ command (Signals AllocSignal) (number 3 ∷ [])
-    ∷ command (Signals FreeSignal) (number 16 ∷ []) ∷ command (Signals AllocSignal) (number 16 ∷ [])
-    ∷ command (Signals FreeSignal) (number 0xffffffff ∷ []) ∷ command (Signals FreeSignal) (number 15 ∷ []) ∷ []) ∷ []
-
--- a loop
-abbrev pub allocates_the_highest : List TaskData
-allocates_the_highest = task (codes "a") (pos 0)
-    (command (Signals AllocSignal) (number 0xffffffff ∷ []) ∷ command (Plain Jump) (place 0 ∷ []) ∷ []) ∷ []
-
 -- the higher task is signalled under Forbid
 abbrev pub signals_under_forbid : List TaskData
 signals_under_forbid =
@@ -117,95 +134,232 @@ signals_under_forbid =
     (command (Nesting Forbid) [] ∷ command (Signals Signal) (number 2 ∷ number 0x1000 ∷ []) ∷ command (Plain Print) (number 1 ∷ []) ∷ command (Nesting Permit) [] ∷ [])
     ∷ task (codes "b") (pos 5) (command (Signals Wait) (number 0x1000 ∷ []) ∷ []) ∷ []
 
-abbrev pub waits_under_forbid : List TaskData
-waits_under_forbid =
-    task (codes "a") (pos 1) (command (Nesting Forbid) [] ∷ command (Signals Wait) (number 0x1000 ∷ []) ∷ command (Nesting Permit) [] ∷ command (Nesting Permit) [] ∷ [])
-    ∷ task (codes "b") (pos 0) (command (Signals Signal) (number 1 ∷ number 0x1000 ∷ []) ∷ command (Plain Print) (number 1 ∷ []) ∷ []) ∷ []
+abbrev pub shares_the_processor : List TaskData
+shares_the_processor =
+    task (codes "a") (pos 0) (command (Plain Print) (number 1 ∷ []) ∷ command (Plain Print) (number 2 ∷ []) ∷ command (Plain Print) (number 3 ∷ []) ∷ [])
+    ∷ task (codes "b") (pos 0) (command (Plain Print) (number 4 ∷ []) ∷ command (Signals Signal) (number 3 ∷ number 0x1000 ∷ []) ∷ command (Plain Print) (number 5 ∷ []) ∷ [])
+    ∷ task (codes "c") (pos 1) (command (Signals Wait) (number 0x1000 ∷ []) ∷ command (Plain Print) (number 9 ∷ []) ∷ []) ∷ []
 
--- a ready task is given the priority that it has
-abbrev pub gives_the_same_priority : List TaskData
-gives_the_same_priority =
-    task (codes "a") (pos 1) (command (Tasks SetTaskPri) (number 2 ∷ number 0 ∷ []) ∷ command (Tasks RemTask) (number 1 ∷ []) ∷ [])
-    ∷ task (codes "b") (pos 0) (command (Plain Print) (number 2 ∷ []) ∷ [])
-    ∷ task (codes "c") (pos 0) (command (Plain Print) (number 3 ∷ []) ∷ []) ∷ []
+abbrev pub disables : List TaskData
+disables = task (codes "a") (pos 0) (command (Nesting Disable) [] ∷ command (Nesting Enable) [] ∷ command (Plain Print) (number 1 ∷ []) ∷ []) ∷ []
 
--- -5 is the word $FFFFFFFB
-abbrev pub gives_itself_priorities : List TaskData
-gives_itself_priorities =
+-- looks for another task before it is added, and after it has ended
+abbrev pub finds_another : List TaskData
+finds_another =
     task (codes "a") (pos 0)
-    (command (Tasks SetTaskPri) (number 1 ∷ number 0xfffffffb ∷ []) ∷ command (Tasks SetTaskPri) (number 1 ∷ number 0 ∷ []) ∷ command (Tasks SetTaskPri) (number 1 ∷ number 128 ∷ []) ∷ []) ∷ []
+    (command (Tasks FindTask) (quoted (codes "b") ∷ []) ∷ command (Tasks AddTask) (number 2 ∷ []) ∷ command (Tasks AddTask) (number 2 ∷ []) ∷ command (Tasks FindTask) (quoted (codes "b") ∷ [])
+    ∷ command (Tasks SetTaskPri) (number 2 ∷ number 1 ∷ []) ∷ command (Tasks FindTask) (number 0 ∷ []) ∷ command (Tasks AddTask) (number 2 ∷ []) ∷ command (Tasks SetTaskPri) (number 2 ∷ number 0 ∷ []) ∷ [])
+    ∷ record (task (codes "b") (pos 0) (command (Plain Print) (number 7 ∷ []) ∷ [])) { start = false } ∷ []
 
-abbrev pub adds_an_ended_one : List TaskData
-adds_an_ended_one =
-    task (codes "a") (pos 0) (command (Tasks RemTask) (number 2 ∷ []) ∷ command (Tasks AddTask) (number 2 ∷ []) ∷ command (Tasks RemTask) (number 2 ∷ []) ∷ [])
-    ∷ task (codes "b") (pos 0) (command (Plain Print) (number 7 ∷ []) ∷ []) ∷ []
+abbrev pub takes_all : List CommandData
+takes_all =
+    command (Memory AllocMem) (number 7 ∷ number 1 ∷ [])
+    ∷ command (Memory AllocMem) (number 0 ∷ number 1 ∷ [])
+    ∷ command (Memory AllocMem) (number 8 ∷ number 1 ∷ [])
+    ∷ command (Memory AllocMem) (number 9 ∷ number 1 ∷ [])
+    ∷ command (Memory AvailMem) (number 1 ∷ [])
+    ∷ command (Memory AllocMem) (number 1 ∷ number 1 ∷ []) ∷ []
+
+abbrev pub asks_by_attributes : List CommandData
+asks_by_attributes =
+    command (Memory AllocMem) (number 8 ∷ number 1 ∷ [])
+    ∷ command (Memory AllocMem) (number 16 ∷ number 1 ∷ [])
+    ∷ command (Memory AllocMem) (number 8 ∷ number 2 ∷ [])
+    ∷ command (Memory AllocMem) (number 8 ∷ number 4 ∷ [])
+    ∷ command (Memory AllocMem) (number 0xffffffff ∷ number 1 ∷ [])
+    ∷ command (Memory AvailMem) (number 1 ∷ [])
+    ∷ command (Memory AvailMem) (number 0x80002 ∷ [])
+    ∷ command (Memory AvailMem) (number 0xa0000 ∷ []) ∷ []
+
+abbrev pub sorts_by_priority : List CommandData
+sorts_by_priority =
+    into 0 (Lists NewList) []
+    ∷ into 1 (Lists NewNode) (number 0 ∷ number 0 ∷ [])
+    ∷ into 2 (Lists NewNode) (number 5 ∷ number 0 ∷ [])
+    ∷ into 3 (Lists NewNode) (number 0 ∷ number 0 ∷ [])
+    ∷ command (Lists Enqueue) (variable (Private 0) ∷ variable (Private 1) ∷ [])
+    ∷ command (Lists Enqueue) (variable (Private 0) ∷ variable (Private 2) ∷ [])
+    ∷ command (Lists Enqueue) (variable (Private 0) ∷ variable (Private 3) ∷ [])
+    ∷ command (Lists First) (variable (Private 0) ∷ [])
+    ∷ command (Lists Succ) (variable (Private 2) ∷ [])
+    ∷ command (Lists Succ) (variable (Private 1) ∷ [])
+    ∷ command (Lists Succ) (variable (Private 3) ∷ []) ∷ []
+
+abbrev pub frees_a_list_in_use : List CommandData
+frees_a_list_in_use =
+    into 0 (Lists NewList) []
+    ∷ into 1 (Lists NewNode) (number 0 ∷ number 0 ∷ [])
+    ∷ command (Lists AddHead) (variable (Private 0) ∷ variable (Private 1) ∷ [])
+    ∷ command (Lists Last) (variable (Private 0) ∷ [])
+    ∷ command (Lists FreeList) (variable (Private 0) ∷ []) ∷ []
+
+-- one list and one node at most
+abbrev pub fills_the_pool : List CommandData
+fills_the_pool =
+    command (Lists NewList) []
+    ∷ command (Lists NewList) []
+    ∷ command (Lists NewNode) (number 0xffffffff ∷ number 0 ∷ [])
+    ∷ command (Lists NewNode) (number 0 ∷ number 0 ∷ [])
+    ∷ command (Lists NewNode) (number 128 ∷ number 0 ∷ []) ∷ []
+
+abbrev pub takes_three_messages : List TaskData
+takes_three_messages = beside
+    (into 0 (Ports CreateMsgPort) []
+    ∷ into 1 (Ports NewMsg) (number 0 ∷ number 1 ∷ [])
+    ∷ into 2 (Ports NewMsg) (number 0 ∷ number 2 ∷ [])
+    ∷ into 3 (Ports NewMsg) (number 0 ∷ number 3 ∷ [])
+    ∷ command (Ports PutMsg) (variable (Private 0) ∷ variable (Private 1) ∷ [])
+    ∷ command (Ports PutMsg) (variable (Private 0) ∷ variable (Private 2) ∷ [])
+    ∷ command (Ports PutMsg) (variable (Private 0) ∷ variable (Private 3) ∷ [])
+    ∷ command (Signals SetSignal) (number 0 ∷ number 0 ∷ [])
+    ∷ command (Ports GetMsg) (variable (Private 0) ∷ [])
+    ∷ command (Ports GetMsg) (variable (Private 0) ∷ [])
+    ∷ command (Ports GetMsg) (variable (Private 0) ∷ [])
+    ∷ command (Ports GetMsg) (variable (Private 0) ∷ [])
+    ∷ command (Ports WaitPort) (variable (Private 0) ∷ []) ∷ [])
+    (command (Signals Signal) (number 1 ∷ number 0x80000000 ∷ []) ∷ [])
+
+abbrev pub names_two_ports : List CommandData
+names_two_ports =
+    into 0 (Ports CreateMsgPort) []
+    ∷ into 1 (Ports CreateMsgPort) []
+    ∷ command (Ports AddPort) (variable (Private 0) ∷ quoted (codes "x") ∷ number 0 ∷ [])
+    ∷ command (Ports AddPort) (variable (Private 1) ∷ quoted (codes "x") ∷ number 1 ∷ [])
+    ∷ command (Ports FindPort) (quoted (codes "x") ∷ [])
+    ∷ command (Ports RemPort) (variable (Private 1) ∷ [])
+    ∷ command (Ports FindPort) (quoted (codes "x") ∷ [])
+    ∷ command (Ports RemPort) (variable (Private 1) ∷ []) ∷ []
+
+abbrev pub replies_to_a_public_port : List CommandData
+replies_to_a_public_port =
+    into 0 (Ports CreateMsgPort) []
+    ∷ into 1 (Ports NewMsg) (variable (Private 0) ∷ number 7 ∷ [])
+    ∷ command (Ports AddPort) (variable (Private 0) ∷ quoted (codes "box") ∷ number 0 ∷ [])
+    ∷ into 2 (Ports FindPort) (quoted (codes "box") ∷ [])
+    ∷ command (Ports PutMsg) (variable (Private 2) ∷ variable (Private 1) ∷ [])
+    ∷ into 3 (Ports GetMsg) (variable (Private 2) ∷ [])
+    ∷ command (Ports ReplyMsg) (variable (Private 3) ∷ [])
+    ∷ command (Ports MsgType) (variable (Private 3) ∷ [])
+    ∷ command (Ports DeleteMsgPort) (variable (Private 0) ∷ []) ∷ []
+
+-- the first task has to release the semaphore twice, and the others wait for it
+abbrev pub hands_on : List TaskData
+hands_on = three_equals
+    (makes
+    ∷ its ObtainSemaphore
+    ∷ its ObtainSemaphore
+    ∷ steps_back
+    ∷ its ReleaseSemaphore
+    ∷ its ReleaseSemaphore
+    ∷ its ReleaseSemaphore ∷ [])
+    (its ObtainSemaphore ∷ its ReleaseSemaphore ∷ [])
+    (its ObtainSemaphore ∷ [])
+
+-- the first of those that wait is removed
+abbrev pub removes_a_waiter : List TaskData
+removes_a_waiter = three_equals
+    (makes ∷ its AttemptSemaphore ∷ steps_back ∷ command (Tasks RemTask) (number 2 ∷ []) ∷ its ReleaseSemaphore ∷ [])
+    (its ObtainSemaphore ∷ [])
+    (its AttemptSemaphore ∷ its ObtainSemaphore ∷ its FreeSem ∷ [])
+
+-- no task waits for the semaphore that is released
+abbrev pub releases_to_nobody : List CommandData
+releases_to_nobody = makes ∷ its ObtainSemaphore ∷ its ReleaseSemaphore ∷ its FreeSem ∷ []
 
 -- ---- statements
 
-abbrev pub CalculatesAndJumps : Type 0
-CalculatesAndJumps = trace_of calculates_and_jumps (Run 6 ∷ []) ≡ codes "switch a\na Print $000000F0\na RemTask $00000000\nidle\n"
-
-abbrev pub AllocatesSignals : Type 0
-AllocatesSignals = trace_of allocates_signals (Run 7 ∷ [])
-    ≡ codes "switch a\na AllocSignal $00000010 -> $00000010\na AllocSignal $00000010 -> $FFFFFFFF\na AllocSignal $00000003 -> $FFFFFFFF\na FreeSignal $00000010\na AllocSignal $00000010 -> $00000010\na FreeSignal $FFFFFFFF\nalert MASK a FreeSignal\n"
-
-abbrev pub AllocatesTheHighest : Type 0
-AllocatesTheHighest = trace_of allocates_the_highest (Run 3 ∷ [])
-    ≡ codes "switch a\na AllocSignal $FFFFFFFF -> $0000001F\na AllocSignal $FFFFFFFF -> $0000001E\n"
-
 abbrev pub PrintsOnce : Type 0
-PrintsOnce = trace_of prints_once (Run 2 ∷ []) ≡ codes "switch a\na Print $00000001\na RemTask $00000000\nidle\n"
-
-abbrev pub StartsWithoutEvents : Type 0
-StartsWithoutEvents = trace_of prints_once [] ≡ codes "switch a\n"
-
-abbrev pub IdlesWithoutTasks : Type 0
-IdlesWithoutTasks = trace_of [] (Run 1 ∷ []) ≡ codes "idle\n"
-
-abbrev pub IdlesOnce : Type 0
-IdlesOnce = trace_of [] (Run 1 ∷ Run 3 ∷ []) ≡ codes "idle\n"
-
-abbrev pub SignalAsksForATask : Type 0
-SignalAsksForATask = trace_of signals_nobody (Run 1 ∷ []) ≡ codes "switch a\nalert HANDLE a Signal\n"
+PrintsOnce = trace (record bare { tasks = prints_once }) (Run 2 ∷ []) ≡ codes "switch a\na Print $00000001\na RemTask $00000000\nidle\n"
 
 abbrev pub NothingFollowsAnAlert : Type 0
-NothingFollowsAnAlert = trace_of signals_nobody (Run 1 ∷ Run 5 ∷ []) ≡ codes "switch a\nalert HANDLE a Signal\n"
-
-abbrev pub WaitAsksForSignalsOfScripts : Type 0
-WaitAsksForSignalsOfScripts = trace_of waits_for_a_signal_of_exec (Run 1 ∷ []) ≡ codes "switch a\nalert MASK a Wait\n"
+NothingFollowsAnAlert = trace (record bare { tasks = signals_nobody }) (Run 1 ∷ Run 5 ∷ []) ≡ codes "switch a\nalert HANDLE a Signal\n"
 
 abbrev pub SignalWakesAHigherTask : Type 0
-SignalWakesAHigherTask = trace_of wakes_a_higher_one (Run 6 ∷ [])
+SignalWakesAHigherTask = trace (record bare { tasks = wakes_a_higher_one }) (Run 6 ∷ [])
     ≡ codes "switch b\nb Wait $00001000 waits\nswitch a\na Signal $00000002 $00001000\nswitch b\nb Wait $00001000 -> $00001000\nb RemTask $00000000\nswitch a\na Print $00000001\na RemTask $00000000\nidle\n"
 
 abbrev pub EqualPriorityDoesNotPreempt : Type 0
-EqualPriorityDoesNotPreempt = trace_of wakes_an_equal (Run 4 ∷ [])
+EqualPriorityDoesNotPreempt = trace (record bare { tasks = wakes_an_equal }) (Run 4 ∷ [])
     ≡ codes "switch a\na Wait $00001000 waits\nswitch b\nb Signal $00000001 $00001000\nb Print $00000002\nb RemTask $00000000\nswitch a\n"
 
 abbrev pub APreemptedTaskArrivesAnew : Type 0
-APreemptedTaskArrivesAnew = trace_of is_preempted_among_equals (Run 5 ∷ [])
+APreemptedTaskArrivesAnew = trace (record bare { tasks = is_preempted_among_equals }) (Run 5 ∷ [])
     ≡ codes "switch c\nc Wait $00001000 waits\nswitch a\na Signal $00000003 $00001000\nswitch c\nc Wait $00001000 -> $00001000\nc RemTask $00000000\nswitch b\nb Print $00000002\n"
 
 abbrev pub AWaitKeepsItsMask : Type 0
-AWaitKeepsItsMask = trace_of waits_for_what_was_asked (Run 7 ∷ [])
+AWaitKeepsItsMask = trace (record bare { tasks = waits_for_what_was_asked }) (Run 7 ∷ [])
     ≡ codes "switch a\na Wait $00001000 waits\nswitch b\nb Signal $00000001 $00001000\nswitch a\na Wait $00001000 -> $00001000\na Print $00001000\na RemTask $00000000\nswitch b\n"
 
+abbrev pub CalculatesAndJumps : Type 0
+CalculatesAndJumps = trace (record bare { tasks = calculates_and_jumps }) (Run 6 ∷ []) ≡ codes "switch a\na Print $000000F0\na RemTask $00000000\nidle\n"
+
 abbrev pub ForbidKeepsOthersOff : Type 0
-ForbidKeepsOthersOff = trace_of signals_under_forbid (Run 6 ∷ [])
+ForbidKeepsOthersOff = trace (record bare { tasks = signals_under_forbid }) (Run 6 ∷ [])
     ≡ codes "switch b\nb Wait $00001000 waits\nswitch a\na Forbid\na Signal $00000002 $00001000\na Print $00000001\na Permit\nswitch b\nb Wait $00001000 -> $00001000\n"
 
-abbrev pub AWaitBreaksForbid : Type 0
-AWaitBreaksForbid = trace_of waits_under_forbid (Run 6 ∷ [])
-    ≡ codes "switch a\na Forbid\na Wait $00001000 waits\nswitch b\nb Signal $00000001 $00001000\nswitch a\na Wait $00001000 -> $00001000\na Permit\nalert NEST a Permit\n"
+abbrev pub AnEndedQuantumLetsAnEqualRun : Type 0
+AnEndedQuantumLetsAnEqualRun = trace (record bare { quantum = 1; tasks = shares_the_processor }) (Run 2 ∷ Tick 1 ∷ Run 6 ∷ [])
+    ≡ codes "switch c\nc Wait $00001000 waits\nswitch a\na Print $00000001\nserve VERTB\nswitch b\nb Print $00000004\nb Signal $00000003 $00001000\nswitch c\nc Wait $00001000 -> $00001000\nc Print $00000009\nc RemTask $00000000\nswitch a\na Print $00000002\n"
 
-abbrev pub TheSamePriorityArrivesAnew : Type 0
-TheSamePriorityArrivesAnew = trace_of gives_the_same_priority (Run 2 ∷ [])
-    ≡ codes "switch a\na SetTaskPri $00000002 $00000000 -> $00000000\na RemTask $00000001\nswitch c\n"
+abbrev pub TicksUnderDisableAreServedOnce : Type 0
+TicksUnderDisableAreServedOnce = trace (record bare { tasks = disables }) (Run 1 ∷ Tick 3 ∷ Run 2 ∷ [])
+    ≡ codes "switch a\na Disable\na Enable\nserve VERTB\na Print $00000001\n"
 
-abbrev pub APriorityIsASignedWord : Type 0
-APriorityIsASignedWord = trace_of gives_itself_priorities (Run 3 ∷ [])
-    ≡ codes "switch a\na SetTaskPri $00000001 $FFFFFFFB -> $00000000\na SetTaskPri $00000001 $00000000 -> $FFFFFFFB\nalert VALUE a SetTaskPri\n"
+abbrev pub ALiveTaskIsFoundByItsName : Type 0
+ALiveTaskIsFoundByItsName = trace (record bare { tasks = finds_another }) (Run 10 ∷ [])
+    ≡ codes "switch a\na FindTask \"b\" -> $00000000\na AddTask $00000002 -> $00000002\na AddTask $00000002 -> $00000000\na FindTask \"b\" -> $00000002\na SetTaskPri $00000002 $00000001 -> $00000000\nswitch b\nb Print $00000007\nb RemTask $00000000\nswitch a\na FindTask $00000000 -> $00000001\na AddTask $00000002 -> $00000000\nalert HANDLE a SetTaskPri\n"
 
-abbrev pub AnEndedTaskIsNotAdded : Type 0
-AnEndedTaskIsNotAdded = trace_of adds_an_ended_one (Run 3 ∷ [])
-    ≡ codes "switch a\na RemTask $00000002\na AddTask $00000002 -> $00000000\nalert HANDLE a RemTask\n"
+abbrev pub SizesRoundUp : Type 0
+SizesRoundUp = trace (record bare { regions = room 32; tasks = alone takes_all }) (Run 6 ∷ [])
+    ≡ codes "switch a\na AllocMem $00000007 $00000001 -> $00001000\na AllocMem $00000000 $00000001 -> $00000000\na AllocMem $00000008 $00000001 -> $00001008\na AllocMem $00000009 $00000001 -> $00001010\na AvailMem $00000001 -> $00000000\na AllocMem $00000001 $00000001 -> $00000000\n"
+
+abbrev pub SuitableRegionsAreTriedByPriority : Type 0
+SuitableRegionsAreTriedByPriority = trace (record bare { regions = public_and_chip; tasks = alone asks_by_attributes }) (Run 8 ∷ [])
+    ≡ codes "switch a\na AllocMem $00000008 $00000001 -> $00002000\na AllocMem $00000010 $00000001 -> $00001000\na AllocMem $00000008 $00000002 -> $00002008\na AllocMem $00000008 $00000004 -> $00000000\na AllocMem $FFFFFFFF $00000001 -> $00000000\na AvailMem $00000001 -> $00000000\na AvailMem $00080002 -> $00000010\nalert VALUE a AvailMem\n"
+
+abbrev pub EqualsStandInOrderOfArrival : Type 0
+EqualsStandInOrderOfArrival = trace (record bare { regions = room 64; tasks = alone sorts_by_priority }) (Run 11 ∷ [])
+    ≡ codes "switch a\na NewList -> $00001000\na NewNode $00000000 $00000000 -> $00001010\na NewNode $00000005 $00000000 -> $00001020\na NewNode $00000000 $00000000 -> $00001030\na Enqueue $00001000 $00001010\na Enqueue $00001000 $00001020\na Enqueue $00001000 $00001030\na First $00001000 -> $00001020\na Succ $00001020 -> $00001010\na Succ $00001010 -> $00001030\na Succ $00001030 -> $00000000\n"
+
+abbrev pub AListInUseIsNotFreed : Type 0
+AListInUseIsNotFreed = trace (record bare { regions = room 64; tasks = alone frees_a_list_in_use }) (Run 5 ∷ [])
+    ≡ codes "switch a\na NewList -> $00001000\na NewNode $00000000 $00000000 -> $00001010\na AddHead $00001000 $00001010\na Last $00001000 -> $00001010\nalert LINK a FreeList\n"
+
+abbrev pub EachKindHasItsPool : Type 0
+EachKindHasItsPool = trace (record bare { pool = 1; regions = room 64; tasks = alone fills_the_pool }) (Run 5 ∷ [])
+    ≡ codes "switch a\na NewList -> $00001000\na NewList -> $00000000\na NewNode $FFFFFFFF $00000000 -> $00001010\na NewNode $00000000 $00000000 -> $00000000\nalert VALUE a NewNode\n"
+
+abbrev pub MessagesAreTakenInOrderOfArrival : Type 0
+MessagesAreTakenInOrderOfArrival = trace (record bare { regions = room 112; tasks = takes_three_messages }) (Run 15 ∷ [])
+    ≡ codes "switch a\na CreateMsgPort -> $00001000\na NewMsg $00000000 $00000001 -> $00001028\na NewMsg $00000000 $00000002 -> $00001040\na NewMsg $00000000 $00000003 -> $00001058\na PutMsg $00001000 $00001028\na PutMsg $00001000 $00001040\na PutMsg $00001000 $00001058\na SetSignal $00000000 $00000000 -> $80000000\na GetMsg $00001000 -> $00001028\na GetMsg $00001000 -> $00001040\na GetMsg $00001000 -> $00001058\na GetMsg $00001000 -> $00000000\na WaitPort $00001000 waits\nswitch b\nb Signal $00000001 $80000000\nswitch a\na WaitPort $00001000 waits\nswitch b\n"
+
+abbrev pub MarksTellWhatCameAndWhatWasTaken : Type 0
+MarksTellWhatCameAndWhatWasTaken = marks (record bare { regions = room 112; tasks = takes_three_messages }) (Run 15 ∷ [])
+    ≡ put 4096 4136 ∷ put 4096 4160 ∷ put 4096 4184 ∷ got 4096 4136 ∷ got 4096 4160 ∷ got 4096 4184 ∷ []
+
+abbrev pub ThePublicPortOfGreatestPriorityIsFound : Type 0
+ThePublicPortOfGreatestPriorityIsFound = trace (record bare { regions = room 80; tasks = alone names_two_ports }) (Run 8 ∷ [])
+    ≡ codes "switch a\na CreateMsgPort -> $00001000\na CreateMsgPort -> $00001028\na AddPort $00001000 \"x\" $00000000\na AddPort $00001028 \"x\" $00000001\na FindPort \"x\" -> $00001028\na RemPort $00001028\na FindPort \"x\" -> $00001000\nalert LINK a RemPort\n"
+
+abbrev pub AReplyGoesToTheReplyPort : Type 0
+AReplyGoesToTheReplyPort = trace (record bare { regions = room 64; tasks = alone replies_to_a_public_port }) (Run 9 ∷ [])
+    ≡ codes "switch a\na CreateMsgPort -> $00001000\na NewMsg $00001000 $00000007 -> $00001028\na AddPort $00001000 \"box\" $00000000\na FindPort \"box\" -> $00001000\na PutMsg $00001000 $00001028\na GetMsg $00001000 -> $00001028\na ReplyMsg $00001028\na MsgType $00001028 -> $00000007\nalert PORT a DeleteMsgPort\n"
+
+abbrev pub ASemaphoreIsHandedToTheFirstThatAsked : Type 0
+ASemaphoreIsHandedToTheFirstThatAsked = trace (record bare { regions = room 48; tasks = hands_on }) (Run 14 ∷ [])
+    ≡ codes "switch a\na NewSem -> $00001000\na ObtainSemaphore $00001000\na ObtainSemaphore $00001000\na SetTaskPri $00000001 $FFFFFFFF -> $00000000\nswitch b\nb ObtainSemaphore $00001000 waits\nswitch c\nc ObtainSemaphore $00001000 waits\nswitch a\na ReleaseSemaphore $00001000\na ReleaseSemaphore $00001000\nswitch b\nb ObtainSemaphore $00001000\nb ReleaseSemaphore $00001000\nb RemTask $00000000\nswitch c\nc ObtainSemaphore $00001000\nc RemTask $00000000\nswitch a\nalert SEM a ReleaseSemaphore\n"
+
+abbrev pub MarksTellWhoAskedAndWhoGotIt : Type 0
+MarksTellWhoAskedAndWhoGotIt = marks (record bare { regions = room 48; tasks = hands_on }) (Run 14 ∷ [])
+    ≡ asked 4096 1 ∷ asked 4096 2 ∷ passed 4096 1 ∷ passed 4096 2 ∷ []
+
+abbrev pub ARemovedTaskLeavesTheQueue : Type 0
+ARemovedTaskLeavesTheQueue = trace (record bare { regions = room 48; tasks = removes_a_waiter }) (Run 10 ∷ [])
+    ≡ codes "switch a\na NewSem -> $00001000\na AttemptSemaphore $00001000 -> $00000001\na SetTaskPri $00000001 $FFFFFFFF -> $00000000\nswitch b\nb ObtainSemaphore $00001000 waits\nswitch c\nc AttemptSemaphore $00001000 -> $00000000\nc ObtainSemaphore $00001000 waits\nswitch a\na RemTask $00000002\na ReleaseSemaphore $00001000\nswitch c\nc ObtainSemaphore $00001000\nalert SEM c FreeSem\n"
+
+abbrev pub MarksTellWhoAskedAndWhoLeft : Type 0
+MarksTellWhoAskedAndWhoLeft = marks (record bare { regions = room 48; tasks = removes_a_waiter }) (Run 10 ∷ [])
+    ≡ asked 4096 1 ∷ asked 4096 2 ∷ left 4096 1 ∷ passed 4096 2 ∷ []
+
+abbrev pub WhereNoTaskWaitsThereIsNoMark : Type 0
+WhereNoTaskWaitsThereIsNoMark = marks (record bare { regions = room 48; tasks = alone releases_to_nobody }) (Run 4 ∷ []) ≡ []

@@ -11,9 +11,13 @@ use Rattle.scheduler.specs.declared.Switch.TheVariants.{To, Idle}
 
 -- ---- moving between states
 
+-- task t stands last in the ready sequence
+abbrev pub stands_last : ℕ → Schedule → Schedule
+stands_last t s = record s { queue = record s.queue { ready = s.queue.ready ++ t ∷ [] } }
+
 -- task t becomes ready, behind all others
 unfoldable pub arrives : ℕ → Schedule → Schedule
-arrives t s = record s { queue = record s.queue { states = (with_status t Ready s).queue.states; ready = s.queue.ready ++ t ∷ [] } }
+arrives t s = stands_last t (with_status t Ready s)
 
 -- ---- the switch of a settle
 

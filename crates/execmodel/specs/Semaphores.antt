@@ -13,33 +13,25 @@ use Rattle.sigsem.specs.declared.semaphore.Obtained.TheVariants.{Owner, Waits}
 use Rattle.sigsem.specs.Semaphores.{deepest, free_sem, owned_by}
 use Rattle.taskscript.specs.declared.word.semaphores.SemaphoreWord.{SemaphoreWord}
 use Rattle.taskscript.specs.declared.word.semaphores.SemaphoreWord.TheVariants as word
-use Rattle.execmodel.specs.State.{Call, Scripts, Object, Plain, ListHead, Node, MsgPort, Message, Semaphore, Block, Heap, State, Outcome, asked, passed, left, leaving, program_of, on_schedule, on_memory, on_heap}
-use Rattle.execmodel.specs.Calls.{argument, done, answered, waiting}
+use Rattle.execmodel.specs.State.{Call, Scripts, Object, Semaphore, Block, Heap, State, Outcome, asked, passed, left, leaving, program_of, on_schedule, on_memory, on_heap}
+use Rattle.execmodel.specs.Calls.{argument, done, answered, waiting, unless}
 use Rattle.execmodel.specs.Scheduling.{arrives}
 use Rattle.execmodel.specs.Memory.{allocates as memory_allocated, freed}
-use Rattle.execmodel.specs.Objects.{object_at, is_kind, place_for_object, replaced, unless}
+use Rattle.execmodel.specs.Objects.{object_at, is_kind, place_for_object, replaced}
 
 -- ---- semaphores in memory
 
 abbrev pub is_semaphore : Object → Bool
-is_semaphore Plain = false
-is_semaphore (ListHead nodes) = false
-is_semaphore (Node key) = false
-is_semaphore (MsgPort port messages) = false
-is_semaphore (Message content) = false
 is_semaphore (Semaphore sem waiters) = true
+is_semaphore _ = false
 
 -- a semaphore begins at an address
 unfoldable pub is_semaphore_at : ℕ → Heap → Bool
 is_semaphore_at address heap = is_kind is_semaphore (object_at address heap)
 
 abbrev pub sem_in : Object → Sem
-sem_in Plain = free_sem
-sem_in (ListHead nodes) = free_sem
-sem_in (Node key) = free_sem
-sem_in (MsgPort port messages) = free_sem
-sem_in (Message content) = free_sem
 sem_in (Semaphore sem waiters) = sem
+sem_in _ = free_sem
 
 abbrev pub sem_of_object : Option Object → Sem
 sem_of_object None = free_sem
@@ -50,12 +42,8 @@ unfoldable pub sem_of : ℕ → Heap → Sem
 sem_of semaphore heap = sem_of_object (object_at semaphore heap)
 
 abbrev pub waiters_in : Object → List ℕ
-waiters_in Plain = []
-waiters_in (ListHead nodes) = []
-waiters_in (Node key) = []
-waiters_in (MsgPort port messages) = []
-waiters_in (Message content) = []
 waiters_in (Semaphore sem waiters) = waiters
+waiters_in _ = []
 
 abbrev pub waiters_of_object : Option Object → List ℕ
 waiters_of_object None = []
@@ -103,12 +91,8 @@ entered t semaphore heap =
 -- ---- waiting tasks
 
 abbrev pub left_by_task : ℕ → Object → Object
-left_by_task t Plain = Plain
-left_by_task t (ListHead nodes) = ListHead nodes
-left_by_task t (Node key) = Node key
-left_by_task t (MsgPort port messages) = MsgPort port messages
-left_by_task t (Message content) = Message content
 left_by_task t (Semaphore sem waiters) = Semaphore sem (without t waiters)
+left_by_task t object = object
 
 -- task t waits for no semaphore; the others keep their order
 unfoldable pub dropped : ℕ → Heap → Heap

@@ -1,5 +1,5 @@
 -- Signals of tasks (RKM Libraries, Exec Signals).
-use Rattle.std.specs.Prelude.{ℕ, ◌-◌, Bool, not, ◌&&◌, if◌then◌else◌, nat_eq, nat_lt, nat_le, bit_and, length, codes, Option, None, Some}
+use Rattle.std.specs.Prelude.{ℕ, ◌-◌, Bool, not, ◌&&◌, if◌then◌else◌, nat_eq, nat_lt, nat_le, bit_and, length, codes, List, Option, None, Some}
 use Rattle.std.specs.Int.{cast_signed, cast_unsigned, w32}
 use Rattle.signals.specs.Signals.{grant, grant_number, is_own_signal}
 use Rattle.scheduler.specs.Schedule.{signals_of, come_for, after_wait, allocates, frees, sets_signals}
@@ -7,7 +7,7 @@ use Rattle.taskscript.specs.declared.word.task_signals.SignalWord.{SignalWord}
 use Rattle.taskscript.specs.declared.word.task_signals.SignalWord.TheVariants as word
 use Rattle.execmodel.specs.State.{Call, Scripts, State, Outcome, on_schedule}
 use Rattle.execmodel.specs.Scheduling.{signalled}
-use Rattle.execmodel.specs.Calls.{argument, done, answered, waiting, alerted}
+use Rattle.execmodel.specs.Calls.{Caller, ByTask, argument, done, done_by, answered, waiting, unless, unless_by}
 
 -- there is a task of that number; the first one is 1
 abbrev pub is_task : ℕ → Scripts → Bool
@@ -16,6 +16,10 @@ is_task number scripts = nat_lt 0 number && nat_le number (length scripts.progra
 -- a mask of signals that scripts may name: 12 to 31, and not those that Exec itself uses (own choice)
 abbrev pub is_mask : ℕ → Bool
 is_mask mask = nat_eq (bit_and mask 0xfff) 0
+
+-- the alert of a mask
+abbrev pub mask_alert : ℕ → Option (List ℕ)
+mask_alert mask = if not (is_mask mask) then Some (codes "MASK") else None
 
 -- ---- allocating signals
 
@@ -26,13 +30,16 @@ does_alloc_signal t call s =
     let n = cast_signed w32 (argument 0 call) in
     answered t call (cast_unsigned w32 (grant_number (grant n (signals_of s.schedule t)))) (on_schedule (allocates t n) s)
 
+-- the alert of FreeSignal: the number is that of a signal that a task may allocate
+abbrev pub free_signal_alert : ℕ → Option (List ℕ)
+free_signal_alert n = if not (is_own_signal n) then Some (codes "MASK") else None
+
 -- FreeSignal a: the signal is not allocated any more; -1 does nothing (autodoc exec.library/FreeSignal; the alert: own choice)
 unfoldable pub does_free_signal : ℕ → Call → State → Outcome
 does_free_signal t call s =
     let n = argument 0 call in
     if nat_eq n 0xffffffff then done t call s
-    else (if not (is_own_signal n) then alerted (codes "MASK") t call s
-    else done t call (on_schedule (frees t n) s))
+    else unless (free_signal_alert n) t call (λ s. done t call (on_schedule (frees t n) s)) s
 
 -- SetSignal new mask: answers the received signals; those of the mask become as in new (autodoc exec.library/SetSignal; the alert:
 -- own choice)
@@ -40,19 +47,25 @@ unfoldable pub does_set_signal : ℕ → Call → State → Outcome
 does_set_signal t call s =
     let new = argument 0 call in
     let mask = argument 1 call in
-    if not (is_mask mask) then alerted (codes "MASK") t call s
-    else answered t call (signals_of s.schedule t).received (on_schedule (sets_signals t new mask) s)
+    unless (mask_alert mask) t call
+    (λ s. answered t call (signals_of s.schedule t).received (on_schedule (sets_signals t new mask) s)) s
 
 -- ---- signalling and waiting
 
+-- the alert of Signal: there is a task of that number, and the mask is one of scripts
+abbrev pub signal_alert : ℕ → ℕ → Scripts → Option (List ℕ)
+signal_alert number mask scripts = if not (is_task number scripts) then Some (codes "HANDLE") else mask_alert mask
+
 -- Signal t mask: the task of that number receives the signals of the mask (autodoc exec.library/Signal; the alerts: own choice)
-unfoldable pub does_signal : ℕ → Call → State → Outcome
-does_signal t call s =
+abbrev pub does_signal_by : Caller → Call → State → Outcome
+does_signal_by c call s =
     let other = argument 0 call in
     let mask = argument 1 call in
-    if not (is_task other s.scripts) then alerted (codes "HANDLE") t call s
-    else (if not (is_mask mask) then alerted (codes "MASK") t call s
-    else done t call (on_schedule (signalled (other - 1) mask) s))
+    unless_by (signal_alert other mask s.scripts) c call
+    (λ s. done_by c call (on_schedule (signalled (other - 1) mask) s)) s
+
+unfoldable pub does_signal : ℕ → Call → State → Outcome
+does_signal t call s = does_signal_by (ByTask t) call s
 
 -- how a Wait ends whose signals have come, or have not
 abbrev pub waited : ℕ → Call → Option ℕ → State → Outcome
@@ -64,8 +77,8 @@ waited t call (Some signals) s = answered t call signals s
 unfoldable pub does_wait : ℕ → Call → State → Outcome
 does_wait t call s =
     let mask = argument 0 call in
-    if not (is_mask mask) then alerted (codes "MASK") t call s
-    else waited t call (come_for mask (signals_of s.schedule t)) (on_schedule (after_wait t mask) s)
+    unless (mask_alert mask) t call
+    (λ s. waited t call (come_for mask (signals_of s.schedule t)) (on_schedule (after_wait t mask) s)) s
 
 -- ---- the words of this group
 

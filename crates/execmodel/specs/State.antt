@@ -7,11 +7,7 @@ use Rattle.taskscript.specs.declared.variable.Variable.{Variable}
 use Rattle.taskscript.specs.Commands.{CommandData}
 use Rattle.taskscript.specs.File.{MachineData, TaskData}
 use Rattle.scheduler.specs.Schedule.{Schedule, unstarted}
-use Rattle.memlist.specs.declared.region.Region.{Region}
-use Rattle.execlist.specs.Lists.{Key}
-use Rattle.msgport.specs.Port.{Port}
-use Rattle.msgport.specs.declared.message.Message.{Message as Content}
-use Rattle.sigsem.specs.declared.semaphore.Sem.{Sem}
+pub use Rattle.execmodel.specs.Blocks.{Object, Plain, ListHead, Node, MsgPort, Message, Semaphore, Block, Heap, PublicPort, Memory, on_heap}
 
 -- a command of a task with the values that its arguments had when it was first tried, and the place of the command after it; and, where
 -- the task waits in it at a port, the signals that it waits for, else 0
@@ -35,44 +31,6 @@ pub record Program : Type 0 where
 pub record Scripts : Type 0 where
   pub programs : List Program
   pub shared : List ℕ
-
--- what a block of memory holds
-pub data Object : Type 0 where
-  -- nothing that Exec knows of: AllocMem gave the block
-  Plain : Object
-  -- the header of a list, with the addresses of its nodes from the first to the last (RKM Libraries, Exec Lists and Queues)
-  ListHead : (nodes : List ℕ) → Object
-  -- a node, with its priority and its name or none
-  Node : (key : Key) → Object
-  -- a message port, with the addresses of its messages in order of arrival (RKM Libraries, Exec Messages and Ports)
-  MsgPort : (port : Port) (messages : List ℕ) → Object
-  -- a message, with its type, its word, and the address of its reply port or 0
-  Message : (content : Content) → Object
-  -- a semaphore, with its owner or none, how often the owner has to release it, and the tasks that wait for it in order of request
-  -- (RKM Libraries, Exec Semaphores)
-  Semaphore : (sem : Sem) (waiters : List ℕ) → Object
-
--- a block of memory, and what begins there
-pub record Block : Type 0 where
-  pub size : ℕ
-  pub object : Object
-
--- the blocks by address, in order of address
-abbrev pub Heap : Type 0
-Heap = List (ℕ × Block)
-
--- a public port: its address, and its priority and its name
-pub record PublicPort : Type 0 where
-  pub port : ℕ
-  pub key : Key
-
--- the regions of memory in the order of the file, how many objects of each kind may live, the blocks that are allocated, and the public
--- ports in order of arrival
-pub record Memory : Type 0 where
-  pub regions : List Region
-  pub pool : ℕ
-  pub heap : Heap
-  pub public : List PublicPort
 
 pub record State : Type 0 where
   -- the tasks' names, priorities, states and signals, the ready sequence, and the running task
@@ -143,10 +101,6 @@ on_scripts f s = record s { scripts = f s.scripts }
 
 abbrev pub on_memory : (Memory → Memory) → State → State
 on_memory f s = record s { memory = f s.memory }
-
--- an action on the blocks and what begins there
-abbrev pub on_heap : (Heap → Heap) → Memory → Memory
-on_heap f memory = record memory { heap = f memory.heap }
 
 -- ---- the first state
 

@@ -35,9 +35,13 @@ announced (Some switch.Idle) s = says Idle s
 unfoldable pub switches : State → Outcome
 switches s = announced (switch_of s.schedule) (on_schedule rescheduled s)
 
+-- an action, unless an alert has stopped the machine
+abbrev pub unless_stopped : (State → Outcome) → State → Outcome
+unless_stopped next s = if s.stopped then quiet s else next s
+
 -- what follows each action: what is requested is served, and then there is at most one switch; a stopped machine stays as it is
 unfoldable pub settle : State → Outcome
-settle s = if s.stopped then quiet s else andthen interrupts switches s
+settle s = unless_stopped (andthen interrupts (unless_stopped switches)) s
 
 -- ---- step
 
@@ -73,7 +77,7 @@ acting s = task_step s.schedule.running s
 
 -- a stopped machine does nothing
 unfoldable pub acts : State → Outcome
-acts s = if s.stopped then quiet s else acting s
+acts s = unless_stopped acting s
 
 -- the running task does one command, and then the machine settles
 unfoldable pub step : State → Outcome
@@ -88,7 +92,7 @@ steps (suc n) s = andthen (steps n) step s
 
 -- one tick: VERTB is requested, and the machine settles; a stopped machine does nothing
 unfoldable pub tick : State → Outcome
-tick s = if s.stopped then quiet s else settle (on_latch true s)
+tick s = unless_stopped (λ s. settle (on_latch true s)) s
 
 -- so many ticks
 unfoldable pub ticks : ℕ → State → Outcome

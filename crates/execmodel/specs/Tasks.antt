@@ -7,7 +7,7 @@ use Rattle.taskscript.specs.declared.word.tasks.TaskWord.{TaskWord}
 use Rattle.taskscript.specs.declared.word.tasks.TaskWord.TheVariants as word
 use Rattle.execmodel.specs.State.{Call, Scripts, State, Outcome, on_schedule, on_memory, on_heap}
 use Rattle.execmodel.specs.Scheduling.{added, reprioritized}
-use Rattle.execmodel.specs.Calls.{argument, name_argument, done, answered, alerted}
+use Rattle.execmodel.specs.Calls.{argument, name_argument, done, answered, unless}
 use Rattle.execmodel.specs.Signals.{is_task}
 use Rattle.execmodel.specs.Semaphores.{awaited_by, dropped, leaving_queue}
 
@@ -19,23 +19,40 @@ is_live_task number scripts schedule = is_task number scripts && is_live (status
 abbrev pub is_priority : ℤ → Bool
 is_priority pri = int_le (negsuc 127) pri && int_le pri (pos 127)
 
+-- the alert of a call on a live task
+abbrev pub live_task_alert : ℕ → Scripts → Schedule → Option (List ℕ)
+live_task_alert number scripts schedule = if not (is_live_task number scripts schedule) then Some (codes "HANDLE") else None
+
+-- the alert of SetTaskPri: the task lives, and may have the priority
+abbrev pub set_task_pri_alert : ℕ → ℤ → Scripts → Schedule → Option (List ℕ)
+set_task_pri_alert number pri scripts schedule =
+    if not (is_live_task number scripts schedule) then Some (codes "HANDLE")
+    else (if not (is_priority pri) then Some (codes "VALUE") else None)
+
 -- SetTaskPri task pri: answers the old priority; a ready task arrives anew. The priority is read as a signed word, and answered as
 -- one (autodoc exec.library/SetTaskPri).
 unfoldable pub does_set_task_pri : ℕ → Call → State → Outcome
 does_set_task_pri t call s =
     let number = argument 0 call in
     let pri = cast_signed w32 (argument 1 call) in
-    if not (is_live_task number s.scripts s.schedule) then alerted (codes "HANDLE") t call s
-    else (if not (is_priority pri) then alerted (codes "VALUE") t call s
-    else answered t call (cast_unsigned w32 (priority_of s.schedule (number - 1))) (on_schedule (reprioritized (number - 1) pri) s))
+    unless (set_task_pri_alert number pri s.scripts s.schedule) t call
+    (λ s.
+    let old = priority_of s.schedule (number - 1) in
+    answered t call (cast_unsigned w32 old) (on_schedule (reprioritized (number - 1) pri) s)) s
+
+-- the alert of AddTask: there is a task of that number
+abbrev pub add_task_alert : ℕ → Scripts → Option (List ℕ)
+add_task_alert number scripts = if not (is_task number scripts) then Some (codes "HANDLE") else None
 
 -- AddTask task: begins a task that never was added, and answers its number; 0 for any other (autodoc exec.library/AddTask; that an
 -- ended task is not begun again: own choice)
 unfoldable pub does_add_task : ℕ → Call → State → Outcome
 does_add_task t call s =
     let number = argument 0 call in
-    if not (is_task number s.scripts) then alerted (codes "HANDLE") t call s
-    else answered t call (if is_absent (status_of s.schedule (number - 1)) then number else 0) (on_schedule (added (number - 1)) s)
+    unless (add_task_alert number s.scripts) t call
+    (λ s.
+    let begun = if is_absent (status_of s.schedule (number - 1)) then number else 0 in
+    answered t call begun (on_schedule (added (number - 1)) s)) s
 
 -- the number names the caller: 0, or its own
 abbrev pub is_caller : ℕ → ℕ → Bool
@@ -44,8 +61,9 @@ is_caller t number = nat_eq number 0 || nat_eq (number - 1) t
 -- a task that does not run ends; where it waits for a semaphore, it does so no more
 abbrev pub ends_other : ℕ → ℕ → Call → State → Outcome
 ends_other other t call s =
-    leaving_queue (awaited_by other s.memory.heap) other
-    (done t call (on_schedule (removed other) (on_memory (on_heap (dropped other)) s)))
+    let out_of_queues = on_memory (on_heap (dropped other)) s in
+    let ended = on_schedule (removed other) out_of_queues in
+    leaving_queue (awaited_by other s.memory.heap) other (done t call ended)
 
 -- RemTask task: ends the caller, or another live task, which is ready or waits. What it owns stays its own (autodoc exec.library/RemTask;
 -- the alert, and that a waiting task may be ended: own choice).
@@ -53,8 +71,7 @@ unfoldable pub does_rem_task : ℕ → Call → State → Outcome
 does_rem_task t call s =
     let number = argument 0 call in
     if is_caller t number then done t call (on_schedule (leaves t) s)
-    else (if not (is_live_task number s.scripts s.schedule) then alerted (codes "HANDLE") t call s
-    else ends_other (number - 1) t call s)
+    else unless (live_task_alert number s.scripts s.schedule) t call (ends_other (number - 1) t call) s
 
 -- the number of a task, or 0 for none
 abbrev pub number_or_none : Option ℕ → ℕ

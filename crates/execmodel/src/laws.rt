@@ -1,32 +1,77 @@
 //! Laws of whole runs and of words: functions without effect whose contracts say what the definitions amount to.
 ghost use Rattle.std.specs.Prelude.{◌≡◌, true, List};
 ghost use Rattle.taskscript.specs.declared.event.Event.{Event};
-ghost use Rattle.execmodel.specs.Keeping.{PlainWordsChangeScripts, SignalWordsChangeTheSchedule, NestingWordsChangeTheSchedule, TaskWordsChangeStatesPrioritiesAndObjects, ListWordsChangeTheMemory, MemoryWordsChangeTheMemory, PortWordsChangePortsAndSchedule, SemaphoreWordsChangeStatesAndObjects};
-ghost use Rattle.execmodel.specs.State.{State, quiet};
-ghost use Rattle.execmodel.specs.Step.{event, events};
+ghost use Rattle.execmodel.specs.Keeping.{PlainWordsChangeScripts, SignalWordsChangeSignalsAndStates, NestingWordsChangeNestings, TaskWordsChangeStatesPrioritiesAndObjects, ListWordsChangeTheMemory, MemoryWordsChangeTheMemory, PortWordsChangePortsSignalsAndStates, SemaphoreWordsChangeStatesAndObjects};
+ghost use Rattle.execmodel.specs.Laws.{FirstInFirstOut, EachByteHasOneOwner, FreeMemRefusesObjects, OwnersChangeAtTheLastRelease, FreeSemaphoresHaveNoWaiters, EachStateIsSettled, SwitchesGoToTheChosen, OnlySwitchesSaySo};
+ghost use Rattle.execmodel.specs.State.{State, Outcome, quiet, andthen};
+ghost use Rattle.execmodel.specs.Step.{unless_stopped, event, events};
 
-/// After an alert no event does anything: the state stays as it is, no line is printed and no mark is left.
+/// After an alert no event does anything: the state stays as it is, no line is printed and no mark is left. Where an alert comes between
+/// two parts of an action, as in the midst of a settle, the second part does nothing.
 ///
 /// Source: own choice.
 pub fn an_alert_ends_all()
     ensures event { (e : Event) (s : State) → s.stopped ≡ true → event e s ≡ quiet s }
     ensures events { (list : List Event) (s : State) → s.stopped ≡ true → events list s ≡ quiet s }
+    ensures between { (first next : State → Outcome) (s : State) → (first s).state.stopped ≡ true
+        → andthen first (unless_stopped next) s ≡ first s }
 {}
 
-/// The words of a group change their part of the state, and leave the others as they are: plain words change what tasks execute and
-/// the variables; words of signals and nesting the schedule too, and words of lists and memory the blocks of memory and the objects in
-/// them. Words of ports change the schedule, the objects and which ports are public. Words of semaphores change the objects and which
-/// tasks are ready, running or waiting, and words of tasks these and the priorities: both leave the tasks' names, signals and nestings,
-/// the quantum, what is left of it and the idle mark as they are. An alert stops the machine, whatever the word.
+/// The words of a group change their part of the state, and leave all else as it is: plain words the shared variables, and of the
+/// programs the caller's progress alone (its place, its variables and the call that it waits in). Words of signals change signals and
+/// which tasks are ready, running or waiting; words of nesting the nestings; words of lists and memory the blocks of memory and the
+/// objects in them; words of ports these, which ports are public, signals, and which tasks are ready, running or waiting; words of
+/// semaphores the objects and which tasks are ready, running or waiting, and words of tasks these and the priorities. Each word may
+/// change the scripts, and an alert stops the machine.
 ///
 /// Source: own choice.
 pub fn each_group_keeps_to_its_part()
     ensures plain { PlainWordsChangeScripts }
-    ensures signals { SignalWordsChangeTheSchedule }
-    ensures nesting { NestingWordsChangeTheSchedule }
+    ensures signals { SignalWordsChangeSignalsAndStates }
+    ensures nesting { NestingWordsChangeNestings }
     ensures tasks { TaskWordsChangeStatesPrioritiesAndObjects }
     ensures lists { ListWordsChangeTheMemory }
     ensures memory { MemoryWordsChangeTheMemory }
-    ensures ports { PortWordsChangePortsAndSchedule }
+    ensures ports { PortWordsChangePortsSignalsAndStates }
     ensures semaphores { SemaphoreWordsChangeStatesAndObjects }
+{}
+
+/// Messages leave a port in the order in which they came: over every stretch of every run, the messages that the port had at first and
+/// those that were put there, less each that was then taken out, are those that GetMsg answered, in order, followed by those that the
+/// port has at last.
+///
+/// Source: RKM Libraries, Exec Messages and Ports.
+pub fn fifo()
+    ensures { FirstInFirstOut }
+{}
+
+/// Each byte has one owner: in every state of every run each unit of 8 bytes of a region lies in exactly one block or gap, and their sizes
+/// add up to the region's. An object begins at a block of its own, which FreeMem refuses.
+///
+/// Source: RKM Libraries, Exec Memory Allocation.
+pub fn one_owner()
+    ensures tiles { EachByteHasOneOwner }
+    ensures refuses { FreeMemRefusesObjects }
+{}
+
+/// A semaphore excludes: its owner changes only from none, or at the release that brings its count to zero; and nobody waits for one that
+/// no task owns.
+///
+/// Source: RKM Libraries, Exec Semaphores.
+pub fn exclusion()
+    ensures owners { OwnersChangeAtTheLastRelease }
+    ensures idle { FreeSemaphoresHaveNoWaiters }
+{}
+
+/// After the start and after each step and tick of every run, unless an alert stopped the machine: where no task runs none is ready; where
+/// switching is allowed no ready task has a higher priority than the running one; and a request is left only where interrupts are not
+/// allowed. A switch to a task is to the earliest among those of greatest priority, of the ready tasks and the one that ran until then,
+/// which comes last; and a task that runs leaves for one of its own priority only where its quantum has ended. Nothing else says that a
+/// switch is made.
+///
+/// Source: RKM Libraries, Exec Tasks: task scheduling.
+pub fn priority()
+    ensures settled { EachStateIsSettled }
+    ensures switched { SwitchesGoToTheChosen }
+    ensures only { OnlySwitchesSaySo }
 {}

@@ -11,14 +11,14 @@ use Rattle.taskscript.specs.declared.fault.FileFault.{FileFault}
 use Rattle.taskscript.specs.declared.fault.EventFault.{EventFault}
 use Rattle.execmodel.specs.State.{State, Outcome, andthen, booted}
 use Rattle.execmodel.specs.Step.{starts, events, run}
-use Rattle.execsim.specs.Agreement.{Seen, Agrees, Follows}
+use Rattle.execsim.specs.Agreement.{Seen, Agrees, FollowsWhileGood}
 use Rattle.execsim.specs.declared.machine.Flow.{Flow}
 use Rattle.execsim.specs.Headline.{Shown, Acts, Finishes, Simulates, flow_of, end_of, end_for, ended}
 
 pub acts_by : {next : State → Outcome} {old new : Shown} {mid : Seen} {a b : Tape} {failed : Bool} {result : Result Flow WriteFault}
-    → Follows next old.seen mid a b → a.state ≡ Good → Finishes (record { seen = mid; failed = failed }) new b result → Acts next old new a b result
+    → FollowsWhileGood next old.seen mid a b → a.state ≡ Good → Finishes (record { seen = mid; failed = failed }) new b result → Acts next old new a b result
 acts_by {result = result} follows good finishes = record {
-  agrees = λ s e. rw finishes.same (follows.agrees s e);
+  agrees = λ s e whole. rw finishes.same (follows.agrees s e (finishes.written.0 whole));
   writes = λ s e. puts_written result (follows.prints s e) good finishes.written;
   going = finishes.going;
   failing = finishes.failing;
@@ -39,7 +39,7 @@ simulates file script machine list (Ok flow) reads_file reads_events agrees acts
   reads_file = reads_file;
   reads_events = reads_events;
   writes = acts.writes (booted machine) agrees;
-  ends = ap end_for acts.going.0 ∙ end-flow _ ∙ ap end_of (acts.agrees (booted machine) agrees).stopped;
+  ends = ap end_for acts.going.0 ∙ end-flow _ ∙ ap end_of (acts.agrees (booted machine) agrees refl).stopped;
 }
 simulates file script machine list (Err why) reads_file reads_events agrees acts = record {
   machine = machine;

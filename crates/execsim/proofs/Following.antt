@@ -1,13 +1,15 @@
 -- Actions that follow one another, and the actions of one layer.
-use Rattle.std.proofs.Common.{◌≡◌, Bool, ap, sym, ◌∙◌, subst, append-nil}
+use Rattle.std.proofs.Common.{◌≡◌, ◌≢◌, ◌⊎◌, inl, inr, refl, Bool, ap, sym, ◌∙◌, subst, append-nil}
 use Rattle.std.proofs.lemmas.Grind.{flat_map-append}
 use Rattle.exectrace.specs.Sink.{Tape, Puts}
-use Rattle.exectrace.specs.Trace.{TraceLine, printed_line}
-use Rattle.exectrace.proofs.Pieces.{puts_none, puts_then, put_same}
+use Rattle.exectrace.specs.declared.sinks.SinkState.{SinkState}
+use Rattle.exectrace.specs.declared.sinks.SinkState.TheVariants.{Good, Empty, Failed}
+use Rattle.exectrace.specs.Trace.{TraceLine, printed_line, printed}
+use Rattle.exectrace.proofs.Pieces.{puts_none, puts_nothing, puts_then, put_same}
 use Rattle.scheduler.specs.Schedule.{Schedule}
 use Rattle.execmodel.specs.State.{State, Scripts, Memory, Outcome, Mark, leaving, quiet, says, andthen, on_schedule, on_scripts, on_memory}
 use Rattle.execmodel.specs.Interrupts.{on_latch}
-use Rattle.execsim.specs.Agreement.{Seen, Agrees, Follows, Moves, in_order, ports_in_order}
+use Rattle.execsim.specs.Agreement.{Seen, Agrees, Follows, FollowsWhileGood, Moves, in_order, ports_in_order}
 
 -- What the state that is agreed with holds, by what the machine shows.
 
@@ -147,3 +149,58 @@ follows_then {f} {g} p q = record {
   agrees = λ s e. q.agrees (f s).state (p.agrees s e);
   prints = λ s e. puts_then _ (p.prints s e) (q.prints (f s).state (p.agrees s e)) (flat_map-append printed_line (f s).lines (g (f s).state).lines);
 }
+
+-- Actions while the sink is good.
+
+is_good : (state : SinkState) → (state ≡ Good) ⊎ (state ≢ Good)
+is_good Good = inl refl
+is_good (Empty n) = inr (λ e. cc)
+is_good Failed = inr (λ e. cc)
+
+pub while_good : {f : State → Outcome} {m n : Seen} {a b : Tape} → a.state ≡ Good → Follows f m n a b → FollowsWhileGood f m n a b
+while_good good follows = record { agrees = λ s e end. follows.agrees s e; prints = follows.prints; afterwards = λ bad. absurd (bad good) }
+
+-- nothing is done any more
+pub stays_behind : {f : State → Outcome} (m : Seen) {t : Tape} → t.state ≢ Good → FollowsWhileGood f m m t t
+stays_behind m bad = record { agrees = λ s e good. absurd (bad good); prints = λ s e. puts_nothing _ bad; afterwards = λ b. refl }
+
+pub follows_nothing_yet : (m : Seen) (t : Tape) → FollowsWhileGood quiet m m t t
+follows_nothing_yet m t = record { agrees = λ s e good. e; prints = λ s e. puts_none t; afterwards = λ bad. refl }
+
+pub while_good_as : {f g : State → Outcome} {m n : Seen} {a b : Tape} → ((s : State) → Agrees m s → f s ≡ g s) → FollowsWhileGood g m n a b → FollowsWhileGood f m n a b
+while_good_as is follows = record {
+  agrees = λ s e good. rw (is s e) (follows.agrees s e good);
+  prints = λ s e. rw (is s e) (follows.prints s e);
+  afterwards = follows.afterwards;
+}
+
+module _ {f g : State → Outcome} {m n o : Seen} {a b c : Tape} (p : FollowsWhileGood f m n a b) (q : FollowsWhileGood g n o b c) where
+  untouched : a.state ≢ Good → c ≡ a
+  untouched bad =
+      let first : b ≡ a = p.afterwards bad in
+      let still : b.state ≢ Good = (λ e. bad (ap (λ (t : Tape). t.state) (sym first) ∙ e)) in
+      q.afterwards still ∙ first
+
+  then_going : b.state ≡ Good → FollowsWhileGood (andthen f g) m o a c
+  unfolding andthen
+  then_going good = record {
+    agrees = λ s e end. q.agrees (f s).state (p.agrees s e good) end;
+    prints = λ s e. puts_then _ (p.prints s e) (q.prints (f s).state (p.agrees s e good)) (flat_map-append printed_line (f s).lines (g (f s).state).lines);
+    afterwards = untouched;
+  }
+
+  then_failed : b.state ≢ Good → FollowsWhileGood (andthen f g) m o a c
+  unfolding andthen
+  then_failed bad =
+      let same : c ≡ b = q.afterwards bad in
+      record {
+        agrees = λ s e end. absurd (bad (ap (λ (t : Tape). t.state) (sym same) ∙ end));
+        prints = λ s e.
+            let lost = printed (g (f s).state).lines in
+            puts_then _ (p.prints s e) (subst (λ (t : Tape). Puts b t lost) (sym same) (puts_nothing lost bad))
+            (flat_map-append printed_line (f s).lines (g (f s).state).lines);
+        afterwards = untouched;
+      }
+
+  pub while_good_then : FollowsWhileGood (andthen f g) m o a c
+  while_good_then = elim (is_good b.state) [ inl good ↦ then_going good | inr bad ↦ then_failed bad ]

@@ -5,9 +5,9 @@ use Rattle.std.specs.Int.{cast_signed, w32}
 use Rattle.std.specs.Option.{unwrap_or}
 use Rattle.exectrace.specs.Sink.{Tape}
 use Rattle.execmodel.specs.State.{Call, Heap, ListHead, Memory, Node, Object, State, Outcome, on_memory}
-use Rattle.execmodel.specs.Calls.{argument, name_argument, done, answered, alerted}
+use Rattle.execmodel.specs.Calls.{unless, argument, name_argument, done, answered, alerted}
 use Rattle.execmodel.specs.Memory.{allocates, placed}
-use Rattle.execmodel.specs.Objects.{place_for_object, unless}
+use Rattle.execmodel.specs.Objects.{place_for_object}
 use Rattle.execmodel.specs.Lists.{does_new_list, does_new_node, is_list, is_node, list_size, node_size}
 use Rattle.execmodel.specs.Tasks.{is_priority}
 use Rattle.execheap.specs.declared.refusal.Refusal.{Refusal}

@@ -8,9 +8,9 @@ use Rattle.sigsem.specs.Semaphores.{free_sem}
 use Rattle.sigsem.specs.declared.semaphore.Obtained.{Obtained}
 use Rattle.sigsem.specs.declared.semaphore.Obtained.TheVariants.{Waits}
 use Rattle.execmodel.specs.State.{Call, Heap, Memory, State, Outcome, Semaphore, asked, passed, on_schedule, on_memory, on_heap}
-use Rattle.execmodel.specs.Calls.{argument, done, answered, waiting, alerted}
+use Rattle.execmodel.specs.Calls.{unless, argument, done, answered, waiting, alerted}
 use Rattle.execmodel.specs.Memory.{placed}
-use Rattle.execmodel.specs.Objects.{place_for_object, unless}
+use Rattle.execmodel.specs.Objects.{place_for_object}
 use Rattle.execmodel.specs.Scheduling as scheduling
 use Rattle.execmodel.specs.Semaphores as model
 use Rattle.execmodel.specs.Semaphores.{attempted, heir, is_open, is_semaphore, is_tried_again, obtain_alert, obtained, obtains, outcome_for, passes, release_alert, released, sem_of, semaphore_size}

@@ -12,9 +12,9 @@ use Rattle.msgport.specs.declared.action.Action.TheVariants as action
 use Rattle.msgport.specs.Port.{acting, new_port}
 use Rattle.msgport.specs.Ports.{new_message, nt_freemsg, nt_message, nt_replymsg}
 use Rattle.execmodel.specs.State.{Call, Message, MsgPort, Memory, State, Outcome, put, got, leaving, on_schedule, on_memory, on_heap}
-use Rattle.execmodel.specs.Calls.{argument, name_argument, done, answered, waiting, alerted}
+use Rattle.execmodel.specs.Calls.{unless, argument, name_argument, done, answered, waiting, alerted}
 use Rattle.execmodel.specs.Memory.{freed, placed}
-use Rattle.execmodel.specs.Objects.{place_for_object, unless}
+use Rattle.execmodel.specs.Objects.{place_for_object}
 use Rattle.execmodel.specs.Lists.{or_none}
 use Rattle.execmodel.specs.Tasks.{is_priority}
 use Rattle.execmodel.specs.Ports as model
@@ -23,9 +23,11 @@ use Rattle.execheap.specs.declared.refusal.Refusal.{Refusal}
 use Rattle.execheap.specs.Listing.{listed, replied_by, replying}
 use Rattle.execheap.specs.Refusals.{alert_of, code_of}
 use Rattle.execsim.specs.Actions.{given_back_or_alerted, performed, performed_or_alerted}
-use Rattle.execsim.specs.Agreement.{Seen, Follows, in_order}
+use Rattle.execsim.specs.Agreement.{Seen, Follows, Moves, in_order}
+use Rattle.scheduler.specs.Dispatch.{signalled}
+use Rattle.execmodel.specs.Scheduling.{signalled as model_signalled}
 use Rattle.execsim.specs.Endings.{answered_or_alerted, done_or_alerted}
-use Rattle.execsim.proofs.Following.{reads_schedule, reads_memory, moves_schedule, moves_memory, follows_as, follows_change, follows_leaving}
+use Rattle.execsim.proofs.Following.{reads_schedule, reads_memory, moves_schedule, moves_nowhere, moves_memory, follows_as, follows_change, follows_leaving}
 use Rattle.execsim.proofs.Listing.{follows_allowed, follows_made, follows_refused, room-in_order}
 use Rattle.execsim.proofs.Ordering.{signalled-in_order}
 use Rattle.execsim.proofs.PortOrder.{add_port_alert-in_order, delete_alert-in_order, found-in_order, listed-in_order}
@@ -197,14 +199,14 @@ module _ {m o : Seen} {a b : Tape} (t : ℕ) (call : Call) where
 
 -- ---- putting and replying
 
-pub performed-in_order : (act : Action) (y : Schedule) → performed act (in_order y) ≡ in_order (model.performed act y)
-performed-in_order (action.Signal task mask) y = signalled-in_order task mask y
-performed-in_order action.Nothing y = refl
+performed_moves : {m n : Seen} (act : Action) → n ≡ performed act m → Moves (model.performed act) m n
+performed_moves (action.Signal task mask) is = moves_schedule (model_signalled task mask) (signalled task mask) (signalled-in_order task mask) is
+performed_moves {m} action.Nothing is = rw is (moves_nowhere m)
 
 -- what is to be done for a message is done, and then the call
-pub performed_done : {m n o : Seen} {a b : Tape} (t : ℕ) (call : Call) (act : Action) → n ≡ record m { schedule = performed act m.schedule }
+pub performed_done : {m n o : Seen} {a b : Tape} (t : ℕ) (call : Call) (act : Action) → n ≡ performed act m
     → Follows (done t call) n o a b → Follows (performed_or_alerted (Ok act) t call) m o a b
-performed_done t call act is follows = follows_change (moves_schedule (model.performed act) (performed act) (performed-in_order act) is) follows
+performed_done t call act is follows = follows_change (performed_moves act is) follows
 
 module _ {m o : Seen} {a b : Tape} (t : ℕ) (call : Call) where
   -- a message is put at a port, and what is to be done is done
@@ -213,7 +215,7 @@ module _ {m o : Seen} {a b : Tape} (t : ℕ) (call : Call) where
       → Follows (λ s. done t call (model.delivered kind port message s)) m o a b
   unfolding model.delivered
   delivers kind port message x act acts changed follows = follows_as
-      {g = λ s. done t call (on_schedule (model.performed act) (on_memory (on_heap (posted kind port message)) s))}
+      {g = λ s. done t call (model.performed act (on_memory (on_heap (posted kind port message)) s))}
       (λ s e.
       let same : acting (port_of port s.memory.heap) ≡ act = reads_memory (λ memory. acting (port_of port memory.heap)) (λ y. refl) (sym acts) s e in
       rw same refl)

@@ -6,7 +6,6 @@ use Rattle.exectrace.specs.Sink.{Tape, Puts}
 use Rattle.exectrace.specs.Trace.{TraceLine, printed_line, Switch, Idle, Value, Done}
 use Rattle.exectrace.specs.Trace as trace
 use Rattle.taskscript.specs.declared.event.Event.{Event}
-use Rattle.taskscript.specs.declared.event.Event.TheVariants.{Run, Tick}
 use Rattle.scheduler.specs.Schedule.{name_of, leaves}
 use Rattle.scheduler.specs.Dispatch as dispatch
 use Rattle.scheduler.specs.declared.Switch.{Switch as Choice}
@@ -15,9 +14,9 @@ use Rattle.execmodel.specs.State.{Call, Scripts, State, Outcome, Mark, quiet, an
 use Rattle.execmodel.specs.Scheduling.{rescheduled, added}
 use Rattle.execmodel.specs.Calls.{next_call}
 use Rattle.execmodel.specs.Interrupts.{on_latch, interrupts}
-use Rattle.execmodel.specs.Step.{announced, switches, settle, ends, call_step, task_step, acting, acts, step, steps, tick, ticks, started, all_added, starts, event, events}
-use Rattle.execsim.specs.Agreement.{Seen, Follows, Moves}
-use Rattle.execsim.proofs.Following.{reads_schedule, reads_scripts, reads_stopped, moves_schedule, moves_latch, moves_nowhere, moves_then, follows_as, follows_nothing, follows_saying, follows_change, follows_then}
+use Rattle.execmodel.specs.Step.{announced, unless_stopped, switches, settle, ends, call_step, task_step, acting, acts, step, steps, tick, ticks, started, all_added, starts, event, events}
+use Rattle.execsim.specs.Agreement.{Seen, Follows, FollowsWhileGood, Moves}
+use Rattle.execsim.proofs.Following.{reads_schedule, reads_scripts, reads_stopped, moves_schedule, moves_latch, moves_nowhere, moves_then, follows_as, follows_nothing, follows_saying, follows_change, follows_then, follows_nothing_yet, while_good_as, while_good_then}
 use Rattle.execsim.proofs.Ordering.{by_test, switch_of-in_order, rescheduled-in_order, added-in_order, leaves-in_order}
 
 -- Settle
@@ -41,14 +40,22 @@ announces_idle {m} puts = follows_saying Idle (λ s e. refl) puts (moves_nowhere
 pub announces_none : (m : Seen) (t : Tape) → Follows (announced None) m m t t
 announces_none m t = follows_nothing m t
 
+pub guarded_stopped : {m : Seen} {next : State → Outcome} (t : Tape) → m.stopped ≡ true → Follows (unless_stopped next) m m t t
+guarded_stopped {m} t stopped = follows_as {g = quiet}
+    (λ s e. let same : s.stopped ≡ true = reads_stopped stopped s e in rw same refl) (follows_nothing m t)
+
+pub guarded_going : {m n : Seen} {a b : Tape} {next : State → Outcome} → m.stopped ≡ false → Follows next m n a b → Follows (unless_stopped next) m n a b
+guarded_going {next = next} going follows = follows_as {g = next}
+    (λ s e. let same : s.stopped ≡ false = reads_stopped going s e in rw same refl) follows
+
 pub settle_stopped : {m : Seen} (t : Tape) → m.stopped ≡ true → Follows settle m m t t
 unfolding settle
 settle_stopped {m} t stopped = follows_as {g = quiet}
     (λ s e. let same : s.stopped ≡ true = reads_stopped stopped s e in rw same refl) (follows_nothing m t)
 
-pub settle_going : {m n : Seen} {a b : Tape} → m.stopped ≡ false → Follows (andthen interrupts switches) m n a b → Follows settle m n a b
+pub settle_going : {m n : Seen} {a b : Tape} → m.stopped ≡ false → Follows (andthen interrupts (unless_stopped switches)) m n a b → Follows settle m n a b
 unfolding settle
-settle_going going follows = follows_as {g = andthen interrupts switches}
+settle_going going follows = follows_as {g = andthen interrupts (unless_stopped switches)}
     (λ s e. let same : s.stopped ≡ false = reads_stopped going s e in rw same refl) follows
 
 -- Step
@@ -88,15 +95,15 @@ pub step_as : {m n o : Seen} {a b c : Tape} → Follows acts m n a b → Follows
 unfolding step
 step_as acted settled = follows_then acted settled
 
-pub no_steps : (m : Seen) (t : Tape) → Follows (steps 0) m m t t
+pub no_steps : (m : Seen) (t : Tape) → FollowsWhileGood (steps 0) m m t t
 unfolding steps
-no_steps m t = follows_nothing m t
+no_steps m t = follows_nothing_yet m t
 
-suc_steps : {m n o : Seen} {a b c : Tape} (i : ℕ) → Follows (steps i) m n a b → Follows step n o b c → Follows (steps (suc i)) m o a c
+suc_steps : {m n o : Seen} {a b c : Tape} (i : ℕ) → FollowsWhileGood (steps i) m n a b → FollowsWhileGood step n o b c → FollowsWhileGood (steps (suc i)) m o a c
 unfolding steps
-suc_steps i before last = follows_then before last
+suc_steps i before last = while_good_then before last
 
-pub more_steps : {m n o : Seen} {a b c : Tape} (i : ℕ) → Follows (steps i) m n a b → Follows step n o b c → Follows (steps (i + 1)) m o a c
+pub more_steps : {m n o : Seen} {a b c : Tape} (i : ℕ) → FollowsWhileGood (steps i) m n a b → FollowsWhileGood step n o b c → FollowsWhileGood (steps (i + 1)) m o a c
 more_steps i before last = rw add-one (suc_steps i before last)
 
 -- Run
@@ -111,15 +118,15 @@ unfolding tick
 tick_going going is follows = follows_as {g = λ s. settle (on_latch true s)}
     (λ s e. let same : s.stopped ≡ false = reads_stopped going s e in rw same refl) (follows_change (moves_latch true is) follows)
 
-pub no_ticks : (m : Seen) (t : Tape) → Follows (ticks 0) m m t t
+pub no_ticks : (m : Seen) (t : Tape) → FollowsWhileGood (ticks 0) m m t t
 unfolding ticks
-no_ticks m t = follows_nothing m t
+no_ticks m t = follows_nothing_yet m t
 
-suc_ticks : {m n o : Seen} {a b c : Tape} (i : ℕ) → Follows (ticks i) m n a b → Follows tick n o b c → Follows (ticks (suc i)) m o a c
+suc_ticks : {m n o : Seen} {a b c : Tape} (i : ℕ) → FollowsWhileGood (ticks i) m n a b → FollowsWhileGood tick n o b c → FollowsWhileGood (ticks (suc i)) m o a c
 unfolding ticks
-suc_ticks i before last = follows_then before last
+suc_ticks i before last = while_good_then before last
 
-pub more_ticks : {m n o : Seen} {a b c : Tape} (i : ℕ) → Follows (ticks i) m n a b → Follows tick n o b c → Follows (ticks (i + 1)) m o a c
+pub more_ticks : {m n o : Seen} {a b c : Tape} (i : ℕ) → FollowsWhileGood (ticks i) m n a b → FollowsWhileGood tick n o b c → FollowsWhileGood (ticks (i + 1)) m o a c
 more_ticks i before last = rw add-one (suc_ticks i before last)
 
 pub none_added : (scripts : Scripts) (m : Seen) → Moves (on_schedule (all_added scripts 0)) m m
@@ -145,14 +152,6 @@ starts_as {m} moves follows = follows_as
     {g = λ s. settle (on_schedule (all_added m.scripts (length m.scripts.programs)) s)}
     (λ s e. ap (λ (scripts : Scripts). settle (on_schedule (all_added scripts (length scripts.programs)) s)) (sym e.scripts))
     (follows_change moves follows)
-
-pub event_tick : {m o : Seen} {a b : Tape} (n : ℕ) → Follows (ticks n) m o a b → Follows (event (Tick n)) m o a b
-unfolding event
-event_tick n follows = follows
-
-pub event_run : {m o : Seen} {a b : Tape} (n : ℕ) → Follows (steps n) m o a b → Follows (event (Run n)) m o a b
-unfolding event
-event_run n follows = follows
 
 andthen-assoc : (f g h : State → Outcome) (s : State) → andthen f (andthen g h) s ≡ andthen (andthen f g) h s
 unfolding andthen
@@ -188,12 +187,13 @@ events-more (d ∷ list) e s =
     andthen-second (event d) (events (list ++ e ∷ [])) (andthen (events list) (event e)) s (events-more list e)
     ∙ andthen-assoc (event d) (events list) (event e) s
 
-pub no_events : (m : Seen) (t : Tape) → Follows (events []) m m t t
+pub no_events : (m : Seen) (t : Tape) → FollowsWhileGood (events []) m m t t
 unfolding events
-no_events m t = follows_nothing m t
+no_events m t = follows_nothing_yet m t
 
 pub more_events : {m n o : Seen} {a b c : Tape} (list : List Event) (k : ℕ) (d : Event) → k < length list
-    → Follows (events (take k list)) m n a b → Follows (event (get_or list k d)) n o b c → Follows (events (take (k + 1) list)) m o a c
-more_events list k d within before last = follows_as {g = andthen (events (take k list)) (event (get_or list k d))}
+    → FollowsWhileGood (events (take k list)) m n a b → FollowsWhileGood (event (get_or list k d)) n o b c
+    → FollowsWhileGood (events (take (k + 1) list)) m o a c
+more_events list k d within before last = while_good_as {g = andthen (events (take k list)) (event (get_or list k d))}
     (λ s e. ap (λ (l : List Event). events l s) (take_more list k d within) ∙ events-more (take k list) (get_or list k d) s)
-    (follows_then before last)
+    (while_good_then before last)

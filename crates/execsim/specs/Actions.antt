@@ -10,17 +10,18 @@ use Rattle.execmodel.specs.Calls.{done, alerted}
 use Rattle.execmodel.specs.Ports as model
 use Rattle.execmodel.specs.Semaphores.{obtains, passes}
 use Rattle.sigsem.specs.declared.semaphore.Obtained.{Obtained}
+use Rattle.execsim.specs.Agreement.{Seen}
 use Rattle.execheap.specs.declared.refusal.Refusal.{Refusal}
 use Rattle.execheap.specs.Refusals.{code_of}
 
 -- what is to be done for a message is done
-abbrev pub performed : Action → Schedule → Schedule
-performed (action.Signal task mask) s = signalled task mask s
+abbrev pub performed : Action → Seen → Seen
+performed (action.Signal task mask) s = record s { schedule = signalled task mask s.schedule }
 performed action.Nothing s = s
 
 -- a call that puts a message, for which something is to be done: it is done, or stops the machine by its alert
 abbrev pub performed_or_alerted : Result Action Refusal → ℕ → Call → State → Outcome
-performed_or_alerted (Ok act) t call s = done t call (on_schedule (model.performed act) s)
+performed_or_alerted (Ok act) t call s = done t call (model.performed act s)
 performed_or_alerted (Err why) t call s = alerted (code_of why) t call s
 
 -- a call that frees a port of a task and with a signal: the signal is given back, or the machine stops by the call's alert

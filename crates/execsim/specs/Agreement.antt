@@ -1,7 +1,8 @@
 -- How the machine agrees with the abstract machine, and how a part of it follows an action. The abstract state keeps its ready
 -- tasks and its public ports in order of arrival; the machine keeps both in order of priority. All else is equal.
-use Rattle.std.specs.Prelude.{◌≡◌, ℕ, Bool}
+use Rattle.std.specs.Prelude.{◌≡◌, ◌≢◌, ℕ, Bool}
 use Rattle.exectrace.specs.Sink.{Tape, Puts}
+use Rattle.exectrace.specs.declared.sinks.SinkState.TheVariants.{Good}
 use Rattle.exectrace.specs.Trace.{printed}
 use Rattle.exectrace.specs.Trace as trace
 use Rattle.taskscript.specs.Words.{word_text}
@@ -43,6 +44,12 @@ line_seen t call outcome seen = trace.Call (name_of seen.schedule t) (word_text 
 pub record Follows (next : State → Outcome) (old new : Seen) (before after : Tape) : Type 0 where
   pub agrees : (s : State) → Agrees old s → Agrees new (next s).state
   pub prints : (s : State) → Agrees old s → Puts before after (printed (next s).lines)
+
+-- The same as long as the sink is good. Once it is not, its lines are lost and the machine stays behind the action.
+pub record FollowsWhileGood (next : State → Outcome) (old new : Seen) (before after : Tape) : Type 0 where
+  pub agrees : (s : State) → Agrees old s → after.state ≡ Good → Agrees new (next s).state
+  pub prints : (s : State) → Agrees old s → Puts before after (printed (next s).lines)
+  pub afterwards : before.state ≢ Good → after ≡ before
 
 -- The same of a change of the state alone.
 pub record Moves (next : State → State) (old new : Seen) : Type 0 where

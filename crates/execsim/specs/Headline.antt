@@ -33,9 +33,10 @@ abbrev pub flow_of : Bool → Flow
 flow_of true = Alerted
 flow_of false = Going
 
--- The machine goes on as the action says, from any state that it agrees with, and its lines are written; a failed write fails it.
+-- The machine goes on as the action says, from any state that it agrees with, and its lines are written. A failed write fails it: a first part
+-- of the lines is written, and what the machine holds then is of no account, since it does nothing more.
 pub record Acts (next : State → Outcome) (old new : Shown) (before after : Tape) (result : Result Flow WriteFault) : Type 0 where
-  pub agrees : (s : State) → Agrees old.seen s → Agrees new.seen (next s).state
+  pub agrees : (s : State) → Agrees old.seen s → IsOk result → Agrees new.seen (next s).state
   pub writes : (s : State) → Agrees old.seen s → Writes before after (printed (next s).lines) result
   pub going : IfOk result (λ flow. (flow ≡ flow_of new.seen.stopped) × (new.failed ≡ false))
   pub failing : MatchResult result (λ _. Unit {0}) (λ _. new.failed ≡ true)

@@ -100,22 +100,22 @@ impl<S: ListSpace> Kernel<S> {
     }
 
     /// The value of an argument for task t.
-    fn evaluate(&self, t: TaskId, argument: Argument) -> Arg
+    fn evaluate(&self, t: TaskId, argument: &Argument) -> Arg
         requires { t < length self.now.scripts.programs }
-        ensures { shown_argument result ≡ evaluated t self.now.scripts (argument_view argument) }
+        ensures { shown_argument result ≡ evaluated t self.now.scripts (argument_view argument.now) }
     {
         match argument {
-            Argument::Number(n) => Arg::Value(n),
-            Argument::Variable(variable) => Arg::Value(self.content(t, variable)),
-            Argument::Quoted(name) => Arg::Quoted(name),
-            Argument::Place(place) => Arg::Value(place),
+            Argument::Number(n) => Arg::Value(*n),
+            Argument::Variable(variable) => Arg::Value(self.content(t, *variable)),
+            Argument::Quoted(name) => Arg::Quoted(*name),
+            Argument::Place(place) => Arg::Value(*place),
         }
     }
 
     /// The values of all arguments of a command for task t.
-    fn evaluate_all(&self, t: TaskId, arguments: [Argument; 4]) -> [Arg; 4]
+    fn evaluate_all(&self, t: TaskId, arguments: &[Argument; 4]) -> [Arg; 4]
         requires { t < length self.now.scripts.programs }
-        ensures { map shown_argument result ≡ map (λ a. evaluated t self.now.scripts (argument_view a)) arguments }
+        ensures { map shown_argument result ≡ map (λ a. evaluated t self.now.scripts (argument_view a)) arguments.now }
     {
         let [first, second, third, fourth] = arguments;
         [
@@ -127,14 +127,14 @@ impl<S: ListSpace> Kernel<S> {
     }
 
     /// The call that a command is for task t, where the next command stands at that place.
-    fn call_of(&self, t: TaskId, next: usize, command: Command) -> Call
+    fn call_of(&self, t: TaskId, next: usize, command: &Command) -> Call
         requires { t < length self.now.scripts.programs }
-        ensures { call_view result ≡ call_of t next (command_view command) self.now.scripts }
+        ensures { call_view result ≡ call_of t next (command_view command.now) self.now.scripts }
     {
         Call {
             word: command.word,
             target: command.target,
-            arguments: self.evaluate_all(t, command.arguments),
+            arguments: self.evaluate_all(t, &command.arguments),
             next,
             awaited: 0,
         }
@@ -148,7 +148,7 @@ impl<S: ListSpace> Kernel<S> {
     {
         let program = self.program(t);
         match program.kept() {
-            Some(call) => Some(call),
+            Some(call) => Some(*call),
             None => match program.command() {
                 Some(command) => Some(self.call_of(t, program.next(), command)),
                 None => None,

@@ -19,5 +19,7 @@ mod step;
 mod task_signals;
 mod tasks;
 
+/// Laws of every run of the abstract machine, which the machine follows.
+pub use execmodel::laws;
 pub use machine::{Flow, Machine};
 pub use simulation::{End, SimFault, simulate};

@@ -136,8 +136,8 @@ impl<S: ListSpace> Machine<S> {
     ///
     /// # Errors
     ///
-    /// A write failed: a part of the lines was taken, the sink is then failed or has taken nothing 16 times in a row, and the machine has
-    /// failed. A machine that has failed writes nothing and answers the same again.
+    /// A write failed: a first part of the lines was taken, the sink is then failed or has taken nothing 16 times in a row, and the machine
+    /// has failed. What it holds then is of no account: a machine that has failed writes nothing and answers the same again.
     ///
     /// Source: own choice.
     pub fn start<W: Sink>(&mut self, out: &mut W) -> Result<Flow, WriteFault>
@@ -158,7 +158,7 @@ impl<S: ListSpace> Machine<S> {
     ///
     /// # Errors
     ///
-    /// As those of `start`.
+    /// As those of `start`. After a failed write the rest of the event is not simulated.
     ///
     /// Source: own choice.
     pub fn event<W: Sink>(&mut self, one: Event, out: &mut W) -> Result<Flow, WriteFault>

@@ -303,7 +303,7 @@ impl<S: ListSpace> Kernel<S> {
 
     /// What is to be done for a message that has arrived is done.
     fn perform(&mut self, action: Action)
-        ensures { self.new ≡ record self.old { schedule = performed action self.old.schedule } }
+        ensures { self.new ≡ performed action self.old }
     {
         match action {
             Action::Signal(task, mask) => self.signal_any(task, mask),

@@ -1,5 +1,5 @@
 //! What a task executes: its commands, its own variables, and the call that it waits in.
-ghost use Rattle.std.specs.Prelude.{◌≡◌, ◌<◌, ◌+◌, map, length, Some, None, slice_get, slice_set, slice_index_or};
+ghost use Rattle.std.specs.Prelude.{◌≡◌, ◌<◌, ◌+◌, map, length, Some, None, slice_get, slice_set, slice_index_or, option_copied};
 ghost use Rattle.std.specs.Option.{option_map};
 ghost use Rattle.exectrace.specs.Shown.{shown_argument};
 ghost use Rattle.taskscript.specs.Commands.{command_view};
@@ -116,17 +116,17 @@ impl Program {
     }
 
     /// The call that the task waits in, if any.
-    pub fn kept(&self) -> Option<Call>
-        ensures { option_map call_view result ≡ self.now.kept }
+    pub fn kept(&self) -> Option<&Call>
+        ensures { option_map call_view (option_copied result) ≡ self.now.kept }
     {
-        self.kept
+        self.kept.as_ref()
     }
 
     /// The next command, if any is left.
-    pub fn command(&self) -> Option<Command>
-        ensures { option_map command_view result ≡ slice_get self.now.code self.now.place }
+    pub fn command(&self) -> Option<&Command>
+        ensures { option_map command_view (option_copied result) ≡ slice_get self.now.code self.now.place }
     {
-        self.code.as_slice().get(self.place).copied()
+        self.code.as_slice().get(self.place)
     }
 
     /// The place of the command after the next one.
@@ -158,7 +158,9 @@ impl Program {
         ensures { self.new ≡ record self.old { place = next; kept = None } }
     {
         self.place = next;
-        self.kept = None;
+        if self.kept.is_some() {
+            self.kept = None;
+        }
     }
 
     /// The task will try this call again.

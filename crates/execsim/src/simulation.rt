@@ -6,7 +6,7 @@ ghost use Rattle.taskscript.specs.Events.{script_of};
 ghost use Rattle.execsim.specs.Headline.{Simulates, ended};
 
 use crate::machine::{Flow, Machine};
-use execlist::plain::PlainSpace;
+use execlist::link::LinkSpace;
 use exectrace::{Sink, WriteFault};
 use std::alloc::Global;
 use taskscript::{EventFault, FileFault, read_events, read_machine};
@@ -76,7 +76,7 @@ pub fn simulate<W: Sink>(
         Ok(events) => events,
         Err(fault) => return Err(SimFault::Events(fault)),
     };
-    let mut machine: Machine<PlainSpace> = match Machine::boot(alloc, &file) {
+    let mut machine: Machine<LinkSpace> = match Machine::boot(alloc, &file) {
         Ok(machine) => machine,
         Err(_) => return Err(SimFault::Memory),
     };

@@ -5,9 +5,9 @@ ghost use Rattle.exectrace.specs.Trace.{printed_line};
 ghost use Rattle.scheduler.specs.Dispatch as dispatch;
 ghost use Rattle.scheduler.specs.Schedule.{IsToOneOf};
 ghost use Rattle.execmodel.specs.State.{andthen, on_schedule, program_of};
-ghost use Rattle.execmodel.specs.Step.{announced, switches, settle, does, ends, acts, acting, step, steps, tick, ticks, starts, all_added, event, events};
+ghost use Rattle.execmodel.specs.Step.{announced, unless_stopped, switches, settle, does, ends, acts, acting, step, steps, tick, ticks, starts, all_added, event, events};
 ghost use Rattle.execmodel.specs.Interrupts.{interrupts};
-ghost use Rattle.execsim.specs.Agreement.{Follows, Moves};
+ghost use Rattle.execsim.specs.Agreement.{Follows, FollowsWhileGood, Moves};
 ghost use Rattle.execsim.specs.Views.{call_view};
 
 use crate::kernel::Kernel;
@@ -15,6 +15,7 @@ use crate::program::Call;
 use execlist::space::ListSpace;
 use exectrace::lines::CallOutcome;
 use exectrace::printing::{put_call, put_idle, put_switch};
+use exectrace::sinks::written;
 use exectrace::{Arg, Sink};
 use scheduler::Switch;
 use taskq::TaskId;
@@ -51,11 +52,20 @@ impl<S: ListSpace> Kernel<S> {
         }
     }
 
+    /// The switch, unless an alert has stopped the machine.
+    fn switch_unless_stopped<W: Sink>(&mut self, out: &mut W)
+        ensures { Follows (unless_stopped switches) self.old self.new (W.tape out.old) (W.tape out.new) }
+    {
+        if !self.stopped {
+            self.switch(out);
+        }
+    }
+
     fn serve_and_switch<W: Sink>(&mut self, out: &mut W)
-        ensures { Follows (andthen interrupts switches) self.old self.new (W.tape out.old) (W.tape out.new) }
+        ensures { Follows (andthen interrupts (unless_stopped switches)) self.old self.new (W.tape out.old) (W.tape out.new) }
     {
         self.interrupt(out);
-        self.switch(out);
+        self.switch_unless_stopped(out);
     }
 
     /// What follows each action; a stopped machine stays as it is.
@@ -136,12 +146,22 @@ impl<S: ListSpace> Kernel<S> {
         self.settle(out);
     }
 
+    /// One step, as long as the sink is good; after a failed write nothing more is simulated.
+    fn step_while_good<W: Sink>(&mut self, out: &mut W)
+        ensures { FollowsWhileGood step self.old self.new (W.tape out.old) (W.tape out.new) }
+    {
+        match written(out) {
+            Ok(()) => self.step(out),
+            Err(_) => {}
+        }
+    }
+
     /// So many steps.
     fn steps<W: Sink>(&mut self, n: u32, out: &mut W)
-        ensures { Follows (steps n) self.old self.new (W.tape out.old) (W.tape out.new) }
+        ensures { FollowsWhileGood (steps n) self.old self.new (W.tape out.old) (W.tape out.new) }
     {
         for _done in 0..n {
-            self.step(out);
+            self.step_while_good(out);
         }
     }
 
@@ -157,12 +177,22 @@ impl<S: ListSpace> Kernel<S> {
         }
     }
 
+    /// One tick, as long as the sink is good.
+    fn tick_while_good<W: Sink>(&mut self, out: &mut W)
+        ensures { FollowsWhileGood tick self.old self.new (W.tape out.old) (W.tape out.new) }
+    {
+        match written(out) {
+            Ok(()) => self.tick(out),
+            Err(_) => {}
+        }
+    }
+
     /// So many ticks.
     fn ticks<W: Sink>(&mut self, n: u32, out: &mut W)
-        ensures { Follows (ticks n) self.old self.new (W.tape out.old) (W.tape out.new) }
+        ensures { FollowsWhileGood (ticks n) self.old self.new (W.tape out.old) (W.tape out.new) }
     {
         for _tick in 0..n {
-            self.tick(out);
+            self.tick_while_good(out);
         }
     }
 
@@ -199,7 +229,7 @@ impl<S: ListSpace> Kernel<S> {
     /// One event.
     #[tactic(auto, unfolding(execmodel::specs::Step::event))]
     pub(crate) fn event<W: Sink>(&mut self, one: Event, out: &mut W)
-        ensures { Follows (event one) self.old self.new (W.tape out.old) (W.tape out.new) }
+        ensures { FollowsWhileGood (event one) self.old self.new (W.tape out.old) (W.tape out.new) }
     {
         match one {
             Event::Run(n) => self.steps(n, out),
@@ -209,7 +239,7 @@ impl<S: ListSpace> Kernel<S> {
 
     /// One event after another.
     pub(crate) fn events<W: Sink>(&mut self, list: &[Event], out: &mut W)
-        ensures { Follows (events list.now) self.old self.new (W.tape out.old) (W.tape out.new) }
+        ensures { FollowsWhileGood (events list.now) self.old self.new (W.tape out.old) (W.tape out.new) }
     {
         for one in list {
             self.event(*one, out);

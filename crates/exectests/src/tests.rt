@@ -1,10 +1,12 @@
 //! A module for each part of Exec and for each kind of text. A test is a table of steps where its calls have one shape, and says what a
 //! call answers, not how.
+mod chunks;
 mod comparing;
 mod event_texts;
 mod heap_lists;
 mod heap_ports;
 mod heap_semaphores;
+mod link_lists;
 mod lists;
 mod machine_files;
 mod memory;
@@ -18,3 +20,4 @@ mod semaphores;
 mod task_queue;
 mod task_signals;
 mod traces;
+mod writers;

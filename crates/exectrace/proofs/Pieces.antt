@@ -9,7 +9,7 @@ use Rattle.std.specs.Io.KnownBytes.{Appends}
 use Rattle.exectrace.specs.declared.sinks.SinkState.{SinkState}
 use Rattle.exectrace.specs.declared.sinks.SinkState.TheVariants.{Good, Empty, Failed}
 use Rattle.exectrace.specs.Trace.{TraceLine, printed_line, printed}
-use Rattle.exectrace.specs.Sink.{empties, after_taking, Tape, TakesAll, Breaks, Puts, Writes}
+use Rattle.exectrace.specs.Sink.{empties, after_taking, Tape, TakesAll, Breaks, Puts, Writes, Adds}
 
 -- The bytes that a writer holds.
 
@@ -148,6 +148,40 @@ put_part {a} {b} {xs} p good bad = elim (p.while_good good) [ inl all ↦ absurd
 pub puts_written : {T E : Type 0} {a b : Tape} {xs : List ℕ} (result : Result T E) → Puts a b xs → a.state ≡ Good → (IsOk result ↔ (b.state ≡ Good)) → Writes a b xs result
 puts_written (Ok value) p good whole = put_all p good (whole.0 refl)
 puts_written (Err fault) p good whole = put_part p good (λ still. let bad : false ≡ true = whole.1 still in cc)
+
+-- Lines that are built before they are handed over.
+
+-- the text fits, and nothing is handed over
+pub adds_fitting : (a : Tape) (before after text : List ℕ) → after ≡ before ++ text → Adds a a before after text
+adds_fitting a before after text e = record { handed = []; puts = puts_none a; whole = sym e }
+
+-- the text does not fit: what was built, and the text, are handed over
+pub adds_over : {a b c : Tape} {before after text : List ℕ} → Puts a b before → Puts b c text → after ≡ [] → Adds a c before after text
+adds_over {a} {b} {c} {before} {after} {text} p q e =
+    record { handed = before ++ text; puts = Puts-trans a b c before text p q; whole = rw e (sym (append-nil (before ++ text))) }
+
+-- no text
+pub adds_none : (a : Tape) (before : List ℕ) → Adds a a before before []
+adds_none a before = adds_fitting a before before [] (sym (append-nil before))
+
+-- one text after another, where the bytes are another spelling of the two
+pub adds_then : {a b c : Tape} {built between after xs ys : List ℕ} (text : List ℕ)
+    → Adds a b built between xs → Adds b c between after ys → text ≡ xs ++ ys → Adds a c built after text
+adds_then {a} {b} {c} {built} {between} {after} {xs} {ys} text p q e = record {
+  handed = p.handed ++ q.handed;
+  puts = Puts-trans a b c p.handed q.handed p.puts q.puts;
+  whole = ap (λ zs. built ++ zs) e ∙ sym (append_assoc built xs ys) ∙ ap (λ zs. zs ++ ys) p.whole ∙ append_assoc p.handed between ys
+      ∙ ap (λ zs. p.handed ++ zs) q.whole ∙ sym (append_assoc p.handed q.handed after);
+}
+
+-- another spelling of the same bytes
+pub add_same : {a b : Tape} {built after xs : List ℕ} (ys : List ℕ) → Adds a b built after xs → ys ≡ xs → Adds a b built after ys
+add_same ys p e = rw e p
+
+-- a line that began empty is handed over to its end
+pub adds_all : {a b c : Tape} {built after text : List ℕ} → built ≡ [] → Adds a b built after text → Puts b c after → Puts a c text
+adds_all {a} {b} {c} {built} {after} {text} empty p q =
+    put_same text (Puts-trans a b c p.handed after p.puts q) (sym (ap (λ zs. zs ++ text) empty) ∙ p.whole)
 
 -- Lines.
 

@@ -1,16 +1,17 @@
-//! The printed lines of a trace, piece by piece and without memory.
+//! The printed lines of a trace, without memory: each is built in fixed room and handed over in one piece.
 //!
 //! Each `put` writes to a good sink, and does nothing on one that is not good: the sink's own state remembers that a
 //! write failed, so one call can follow another with no test between, and `written` tells at the end.
 ghost use Rattle.std.specs.Prelude.{◌≡◌, ◌<◌, ◌≤◌, length, map, codes, ◌++◌};
 ghost use Rattle.std.specs.List.{flat_map};
-ghost use Rattle.exectrace.specs.Sink.{Puts, Writes};
+ghost use Rattle.exectrace.specs.Sink.{Adds, Puts, Writes};
 ghost use Rattle.exectrace.specs.Trace.{printed_line, value_text, hex_digit, quoted_count, Switch, Idle, Call, Serve, Timer, Server, Softint, Alert, argument_text, outcome_text};
 ghost use Rattle.exectrace.specs.Shown.{shown, shown_argument, shown_outcome, shown_call};
 ghost use Rattle.exectrace.specs.declared.sinks.SinkState.{SinkState};
 
 use crate::lines::{Arg, CallLine, CallOutcome, Line, Name};
 use crate::sinks::{Sink, WriteFault, put, written};
+use arrayvec::ArrayVec;
 
 /// The digit for a number below 16.
 fn digit(n: u32) -> u8
@@ -37,65 +38,104 @@ fn value_digits(n: u32) -> [u8; 9]
     ]
 }
 
-fn put_value<W: Sink>(n: u32, out: &mut W)
-    ensures { Puts (W.tape out.old) (W.tape out.new) (value_text n) }
+/// A space, `$` and eight digits.
+fn spaced_digits(n: u32) -> [u8; 10]
+    ensures { result ≡ codes " " ++ value_text n }
 {
-    let text = value_digits(n);
-    put(&text, out);
+    let [dollar, a, b, c, d, e, f, g, h] = value_digits(n);
+    [b' ', dollar, a, b, c, d, e, f, g, h]
 }
 
-fn put_text<W: Sink>(text: &str, out: &mut W)
-    ensures { Puts (W.tape out.old) (W.tape out.new) text.now }
+/// ` -> `, `$` and eight digits.
+fn answer_digits(n: u32) -> [u8; 13]
+    ensures { result ≡ codes " -> " ++ value_text n }
 {
-    put(text.as_bytes(), out);
+    let [dollar, a, b, c, d, e, f, g, h] = value_digits(n);
+    [b' ', b'-', b'>', b' ', dollar, a, b, c, d, e, f, g, h]
 }
 
-fn put_name<W: Sink>(name: &Name, out: &mut W)
-    ensures { Puts (W.tape out.old) (W.tape out.new) name.now.bytes }
+/// What is built of a line and is not yet handed over: the room of the longest line of which one argument is quoted.
+type Draft = ArrayVec<u8, 160>;
+
+/// Adds a text to the line. What does not fit its room is handed over at once.
+fn add<W: Sink>(line: &mut Draft, text: &[u8], out: &mut W)
+    ensures { Adds (W.tape out.old) (W.tape out.new) line.old.items line.new.items text.now }
 {
-    put(name.as_str().as_bytes(), out);
+    match line.try_extend_from_slice(text) {
+        Ok(()) => {}
+        Err(_) => {
+            hand_over(line, out);
+            put(text, out);
+            line.clear();
+        }
+    }
 }
 
-/// Writes a text between two others.
+fn add_text<W: Sink>(line: &mut Draft, text: &str, out: &mut W)
+    ensures { Adds (W.tape out.old) (W.tape out.new) line.old.items line.new.items text.now }
+{
+    add(line, text.as_bytes(), out);
+}
+
+fn add_name<W: Sink>(line: &mut Draft, name: &Name, out: &mut W)
+    ensures { Adds (W.tape out.old) (W.tape out.new) line.old.items line.new.items name.now.bytes }
+{
+    add(line, name.as_str().as_bytes(), out);
+}
+
+/// Puts what was built of the line.
+fn hand_over<W: Sink>(line: &Draft, out: &mut W)
+    ensures { Puts (W.tape out.old) (W.tape out.new) line.now.items }
+{
+    put(line.as_slice(), out);
+}
+
+/// Puts a text between two others.
 fn put_between<W: Sink>(before: &[u8], text: &[u8], after: &[u8], out: &mut W)
     ensures { Puts (W.tape out.old) (W.tape out.new) (before.now ++ text.now ++ after.now) }
 {
-    put(before, out);
-    put(text, out);
-    put(after, out);
+    let mut line = Draft::new();
+    add(&mut line, before, out);
+    add(&mut line, text, out);
+    add(&mut line, after, out);
+    hand_over(&line, out);
 }
 
-/// Writes a space and the argument.
-fn put_argument<W: Sink>(argument: &Arg, out: &mut W)
-    ensures { Puts (W.tape out.old) (W.tape out.new) (argument_text (shown_argument argument.now)) }
+/// Adds a space and the argument.
+fn add_argument<W: Sink>(line: &mut Draft, argument: &Arg, out: &mut W)
+    ensures { Adds (W.tape out.old) (W.tape out.new) line.old.items line.new.items (argument_text (shown_argument argument.now)) }
 {
     match argument {
         Arg::Value(n) => {
-            put(b" ", out);
-            put_value(*n, out);
+            let text = spaced_digits(*n);
+            add(line, &text, out);
         }
-        Arg::Quoted(name) => put_between(b" \"", name.as_str().as_bytes(), b"\"", out),
+        Arg::Quoted(name) => {
+            add(line, b" \"", out);
+            add_name(line, name, out);
+            add(line, b"\"", out);
+        }
     }
 }
 
-fn put_arguments<W: Sink>(arguments: &[Arg], out: &mut W)
-    ensures { Puts (W.tape out.old) (W.tape out.new) (flat_map argument_text (map shown_argument arguments.now)) }
+fn add_arguments<W: Sink>(line: &mut Draft, arguments: &[Arg], out: &mut W)
+    ensures { Adds (W.tape out.old) (W.tape out.new) line.old.items line.new.items (flat_map argument_text (map shown_argument arguments.now)) }
 {
     for argument in arguments {
-        put_argument(argument, out);
+        add_argument(line, argument, out);
     }
 }
 
-fn put_outcome<W: Sink>(outcome: CallOutcome, out: &mut W)
-    ensures { Puts (W.tape out.old) (W.tape out.new) (outcome_text (shown_outcome outcome)) }
+fn add_outcome<W: Sink>(line: &mut Draft, outcome: CallOutcome, out: &mut W)
+    ensures { Adds (W.tape out.old) (W.tape out.new) line.old.items line.new.items (outcome_text (shown_outcome outcome)) }
 {
     match outcome {
         CallOutcome::Done => (),
         CallOutcome::Answers(n) => {
-            put(b" -> ", out);
-            put_value(n, out);
+            let text = answer_digits(n);
+            add(line, &text, out);
         }
-        CallOutcome::Waits => put(b" waits", out),
+        CallOutcome::Waits => add(line, b" waits", out),
     }
 }
 
@@ -125,12 +165,14 @@ pub fn put_call<W: Sink>(
     ensures { Puts (W.tape out.old) (W.tape out.new)
         (printed_line (Call name.now.bytes word.now (map shown_argument arguments.now) (shown_outcome outcome))) }
 {
-    put_name(name, out);
-    put(b" ", out);
-    put_text(word, out);
-    put_arguments(arguments, out);
-    put_outcome(outcome, out);
-    put(b"\n", out);
+    let mut line = Draft::new();
+    add_name(&mut line, name, out);
+    add(&mut line, b" ", out);
+    add_text(&mut line, word, out);
+    add_arguments(&mut line, arguments, out);
+    add_outcome(&mut line, outcome, out);
+    add(&mut line, b"\n", out);
+    hand_over(&line, out);
 }
 
 /// Puts `serve SOURCE`: the latch of this interrupt source is served.
@@ -144,9 +186,8 @@ pub fn put_serve<W: Sink>(source: &str, out: &mut W)
 pub fn put_timer<W: Sink>(value: u32, out: &mut W)
     ensures { Puts (W.tape out.old) (W.tape out.new) (printed_line (Timer value)) }
 {
-    put(b"timer ", out);
-    put_value(value, out);
-    put(b"\n", out);
+    let text = value_digits(value);
+    put_between(b"timer ", &text, b"\n", out);
 }
 
 /// Puts `server NAME`: the body of the interrupt server of this name begins.
@@ -168,13 +209,15 @@ pub fn put_softint<W: Sink>(name: &Name, out: &mut W)
 pub fn put_alert<W: Sink>(code: &str, name: &Name, word: &str, out: &mut W)
     ensures { Puts (W.tape out.old) (W.tape out.new) (printed_line (Alert code.now name.now.bytes word.now)) }
 {
-    put(b"alert ", out);
-    put_text(code, out);
-    put(b" ", out);
-    put_name(name, out);
-    put(b" ", out);
-    put_text(word, out);
-    put(b"\n", out);
+    let mut line = Draft::new();
+    add(&mut line, b"alert ", out);
+    add_text(&mut line, code, out);
+    add(&mut line, b" ", out);
+    add_name(&mut line, name, out);
+    add(&mut line, b" ", out);
+    add_text(&mut line, word, out);
+    add(&mut line, b"\n", out);
+    hand_over(&line, out);
 }
 
 fn put_call_line<W: Sink>(call: &CallLine, outcome: CallOutcome, out: &mut W)
@@ -202,7 +245,7 @@ pub fn put_line<W: Sink>(line: &Line, out: &mut W)
     }
 }
 
-/// Writes one line to a good sink, piece by piece and without memory.
+/// Writes one line to a good sink, without memory. The sink is handed the whole line at once, and again what it did not take.
 ///
 /// At most one argument of the line is quoted, and then no line is longer than 160 bytes. `Ok` leaves the sink good,
 /// and all bytes of the line were taken. At `WriteFault` only a first part of them was: the sink failed, or took no

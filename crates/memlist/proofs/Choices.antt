@@ -1,48 +1,30 @@
 -- Searches of the headers: for a gap, for the chosen region, for the home of an address, and for sizes.
-use Rattle.std.proofs.Common.{◌≡◌, ℕ, zero, suc, ◌+◌, ◌<◌, ◌≤◌, max, Bool, true, false, cond, List, [], ◌∷◌, ◌++◌, length, drop, get_or, map, refl, sym, ◌∙◌, ap, subst, arith, ⊎_elim}
-use Rattle.std.specs.Prelude.{◌&&◌, nat_le, nat_lt, Option, Some, None, is_some, IsSomeAnd, IsSome, slice_get}
-use Rattle.std.specs.List.{filter, flat_map, position, position_or_len, sum_by}
-use Rattle.std.proofs.lemmas.Bool.{cases_lt}
-use Rattle.std.proofs.lemmas.List.Folds.{find_at}
+use Rattle.std.proofs.Common.{◌≡◌, ℕ, zero, suc, ◌+◌, ◌<◌, ◌≤◌, max, Bool, true, false, cond, List, [], ◌∷◌, ◌++◌, length, drop, get_or, map, refl, sym, ◌∙◌, ap, subst, arith}
+use Rattle.std.specs.Prelude.{◌&&◌, nat_le, Option, Some, None, is_some, IsSomeAnd, slice_get}
+use Rattle.std.specs.List.{AllByRecursion, filter, flat_map, sum_by}
+use Rattle.std.proofs.lemmas.Bool.Decides.{nat_tests}
 use Rattle.std.proofs.lemmas.List.Sums.{sum_by-append, sum_by-cons}
-use Rattle.std.proofs.lemmas.Option.{slice_get-get_or, slice_get_past}
+use Rattle.std.proofs.lemmas.Option.{slice_get-get_or}
 use Rattle.memlist.specs.declared.gap.Gap.{Gap}
 use Rattle.memlist.specs.declared.memory.Offer.{Offer}
 use Rattle.memlist.specs.declared.region.Region.{Region}
 use Rattle.memlist.specs.Fit.{better, chosen, greatest, is_suitable, lowest_gap}
 use Rattle.memlist.specs.Areas.{Area, area_gaps, regions_of}
 use Rattle.memlist.specs.Choice.{IsLowest, IsOffer, chosen_of, free_of, is_below, is_outranked, largest_of, offers, sizes_of, suitable_of}
-use Rattle.memlist.proofs.Answered.{nat_lt-true, nat_lt-false}
-use Rattle.memlist.proofs.Headers.{from_le}
 
 -- The lowest gap
 
-found_gap : (size : ℕ) (free : List Gap) (o : Option Gap) → lowest_gap size free ≡ o → IsSome o → IsSomeAnd o (λ gap. (lowest_gap size free ≡ Some gap) × (size ≤ gap.size))
-found_gap size free None is some = cc
-found_gap size [] (Some gap) is some = cc
-found_gap size (x ∷ rest) (Some gap) is some =
-    elim (nat_le size x.size) as (λ b. nat_le size x.size ≡ b → cond b (Some x) (lowest_gap size rest) ≡ Some gap → (lowest_gap size (x ∷ rest) ≡ Some gap) × (size ≤ gap.size)) [
-      | true ↦ λ e f. let here : x ≡ gap = cc in (is, subst (λ (g : Gap). size ≤ g.size) here (from_le size x.size e))
-      | false ↦ λ e f. (is, (found_gap size rest (Some gap) f refl).1)
-    ] refl is
+-- the lowest gap that is large enough is the first after those that are not
+pub lowest_after : (size : ℕ) (xs : List Gap) (gap : Gap) (ys : List Gap) → AllByRecursion (λ (gap : Gap). gap.size < size) xs → size ≤ gap.size → lowest_gap size (xs ++ gap ∷ ys) ≡ Some gap
+lowest_after size [] gap ys all fits = ap (λ b. cond b (Some gap) (lowest_gap size ys)) (let e : nat_le size gap.size ≡ true = grind (arith, nat_tests, fits) in e)
+lowest_after size (x ∷ xs) gap ys all fits =
+    ap (λ b. cond b (Some x) (lowest_gap size (xs ++ gap ∷ ys))) (let small = all.0 in let e : nat_le size x.size ≡ false = grind (arith, nat_tests, small) in e)
+    ∙ lowest_after size xs gap ys all.1 fits
 
-nothing : Gap
-nothing = record { address = 0; size = 0 }
-
-lowest_at : (size : ℕ) (free : List Gap) (place : ℕ) → lowest_gap size free ≡ slice_get free place → IsLowest size free (cond (nat_lt place (length free)) (Some place) None)
-lowest_at size free place at =
-    ⊎_elim
-    (λ (within : place < length free).
-    let read = slice_get-get_or free place nothing within in
-    let some : IsSome (slice_get free place) = ap is_some read in
-    let found = found_gap size free (slice_get free place) at some in
-    subst (λ b. IsLowest size free (cond b (Some place) None)) (sym (nat_lt-true place (length free) within)) found)
-    (λ (past : length free ≤ place).
-    subst (λ b. IsLowest size free (cond b (Some place) None)) (sym (nat_lt-false place (length free) past)) (at ∙ slice_get_past free place past))
-    (cases_lt place (length free))
-
-pub lowest_place : (size : ℕ) (free : List Gap) → IsLowest size free (position (λ (gap : Gap). nat_le size gap.size) free)
-lowest_place size free = lowest_at size free (position_or_len (λ (gap : Gap). nat_le size gap.size) free) (find_at (λ (gap : Gap). nat_le size gap.size) free)
+pub lowest_nowhere : (size : ℕ) (xs : List Gap) → AllByRecursion (λ (gap : Gap). gap.size < size) xs → lowest_gap size xs ≡ None
+lowest_nowhere size [] all = refl
+lowest_nowhere size (x ∷ xs) all =
+    ap (λ b. cond b (Some x) (lowest_gap size xs)) (let small = all.0 in let e : nat_le size x.size ≡ false = grind (arith, nat_tests, small) in e) ∙ lowest_nowhere size xs all.1
 
 -- The chosen region
 
@@ -55,7 +37,7 @@ chosen_with size reqs area rest e = ap (λ b. chosen (regions_of (cond b (area �
 same_offer : (areas : List Area) (size reqs : ℕ) (some other : List Area) (offer : Offer) → chosen_of size reqs other ≡ chosen_of size reqs some
     → IsOffer areas size reqs some (Some offer) → IsOffer areas size reqs other (Some offer)
 same_offer areas size reqs some other offer is h =
-    subst (λ (o : Option Region). IsSomeAnd (slice_get areas offer.header) (λ area. (o ≡ Some area.region) × IsLowest size (area_gaps area) (Some offer.gap))) (sym is) h
+    subst (λ (o : Option Region). IsSomeAnd (slice_get areas offer.header) (λ area. (o ≡ Some area.region) × IsLowest size (area_gaps area) (Some offer.before))) (sym is) h
 
 -- an area that offers nothing changes nothing
 pub offer_without : (areas : List Area) (size reqs : ℕ) (area : Area) (rest some : List Area) (later : Option Offer) → some ≡ area ∷ rest → offers size reqs area ≡ false
@@ -65,7 +47,7 @@ offer_without areas size reqs area rest some (Some offer) is e h = same_offer ar
 
 -- nor does one that an offer outranks
 outranked_by : (areas : List Area) (size reqs : ℕ) (area : Area) (rest some : List Area) (offer : Offer) (other : Option Area) → some ≡ area ∷ rest
-    → IsSomeAnd other (λ area. (chosen_of size reqs rest ≡ Some area.region) × IsLowest size (area_gaps area) (Some offer.gap)) → is_below (Some area) other ≡ true
+    → IsSomeAnd other (λ area. (chosen_of size reqs rest ≡ Some area.region) × IsLowest size (area_gaps area) (Some offer.before)) → is_below (Some area) other ≡ true
     → chosen_of size reqs some ≡ chosen_of size reqs rest
 outranked_by areas size reqs area rest some offer None is h below = cc
 outranked_by areas size reqs area rest some offer (Some other) is h below =
@@ -94,15 +76,11 @@ pub offer_chosen : (areas : List Area) (size reqs place : ℕ) (area : Area) (re
 offer_chosen areas size reqs place area rest some None is at above e h = ap (chosen_of size reqs) is ∙ chosen_with size reqs area rest e ∙ ap (better area.region) h
 offer_chosen areas size reqs place area rest some (Some offer) is at above e h =
     let over : is_below (Some area) (slice_get areas offer.header) ≡ false = ap (λ o. is_below o (slice_get areas offer.header)) (sym at) ∙ above in
-    ap (chosen_of size reqs) is ∙ chosen_with size reqs area rest e ∙ better_than size reqs area rest offer.gap (slice_get areas offer.header) h over
-
-lowest_some : (size : ℕ) (free : List Gap) (o : Option Gap) → IsSomeAnd o (λ gap. (lowest_gap size free ≡ Some gap) × (size ≤ gap.size)) → is_some (lowest_gap size free) ≡ true
-lowest_some size free None h = absurd h
-lowest_some size free (Some gap) h = ap is_some h.0
+    ap (chosen_of size reqs) is ∙ chosen_with size reqs area rest e ∙ better_than size reqs area rest offer.before (slice_get areas offer.header) h over
 
 -- whether an area offers a gap, by what was found there
 pub offers_by : (size reqs : ℕ) (area : Area) (gap : ℕ) → is_suitable reqs area.region ≡ true → IsLowest size (area_gaps area) (Some gap) → offers size reqs area ≡ true
-offers_by size reqs area gap fits h = ap (λ b. b && is_some (lowest_gap size (area_gaps area))) fits ∙ lowest_some size (area_gaps area) (slice_get (area_gaps area) gap) h
+offers_by size reqs area gap fits h = ap (λ b. b && is_some (lowest_gap size (area_gaps area))) fits ∙ ap is_some h.lowest
 
 pub offers_none : (size reqs : ℕ) (area : Area) → IsLowest size (area_gaps area) None → offers size reqs area ≡ false
 offers_none size reqs area h = ap (λ o. is_suitable reqs area.region && is_some o) h ∙ elim (is_suitable reqs area.region) as (λ b. b && false ≡ false) [ true ↦ refl | false ↦ refl ]

@@ -1,14 +1,12 @@
 -- What a header's fields keep: places in the table, and the invariant after a block is put and after one is freed.
-use Rattle.std.proofs.Common.{◌≡◌, ◌≢◌, ℕ, zero, suc, ◌+◌, ◌-◌, ◌*◌, ◌/◌, ◌%◌, ◌<◌, ◌≤◌, Bool, true, false, cond, List, [], ◌∷◌, ◌++◌, length, take, drop, set, get_or, replicate, refl, sym, ◌∙◌, ap, subst, arith, length-set}
-use Rattle.std.specs.Prelude.{nat_eq, nat_lt, nat_le, ◌&&◌, IsTrue, IsSome, IsSomeAnd, Option, Some, None, slice_get}
-use Rattle.std.specs.List.{All, AllByRecursion, sum_by}
+use Rattle.std.proofs.Common.{◌≡◌, ◌≢◌, ℕ, zero, suc, ◌+◌, ◌-◌, ◌*◌, ◌/◌, ◌%◌, ◌<◌, ◌≤◌, Bool, true, false, cond, List, [], ◌∷◌, ◌++◌, length, set, get_or, replicate, refl, sym, ◌∙◌, ap, subst, arith, length-set}
+use Rattle.std.specs.Prelude.{nat_eq, nat_lt, nat_le, ◌&&◌, IsTrue, IsSome, Option, Some, None}
+use Rattle.std.specs.List.{AllByRecursion, sum_by}
 use Rattle.std.specs.Ordering.{nat_cmp}
 use Rattle.std.specs.FinMap.{put}
 use Rattle.std.proofs.lemmas.Bool.Decides.{nat_tests}
 use Rattle.std.proofs.lemmas.List.{length-replicate}
-use Rattle.std.proofs.lemmas.List.Elements.{All-from_recursion, All-get_or}
 use Rattle.std.proofs.lemmas.List.Sums.{sum_by-cons, sum_by-append}
-use Rattle.std.proofs.lemmas.Option.{slice_get_within, slice_get-get_or, get_or_from_slice_get}
 use Rattle.memlist.specs.declared.gap.Gap.{Gap}
 use Rattle.memlist.specs.declared.region.Region.{Region}
 use Rattle.memlist.specs.declared.slot.Slot.{Slot}
@@ -16,9 +14,11 @@ use Rattle.memlist.specs.Regions.{region_end, is_aligned, is_in_reach}
 use Rattle.memlist.specs.Blocks.{Blocks, block_at, freed, is_in, stretch, gaps_between}
 use Rattle.memlist.specs.Memory.{IsLaid}
 use Rattle.memlist.specs.Joins.{Around}
+use Rattle.memlist.specs.Chain.{AreApart, IsSpot, Space}
 use Rattle.memlist.specs.Areas.{Area, IsHeader, area_gaps, entries, block_of}
 use Rattle.memlist.proofs.Answered.{cases_eq, found_here, found_later}
-use Rattle.memlist.proofs.Gaps.{stretch_some, stretch_cases, taken, frees, units_used}
+use Rattle.memlist.proofs.Chains.{gaps_apart}
+use Rattle.memlist.proofs.Gaps.{stretch_cases, taken, frees}
 use Rattle.memlist.proofs.Slots.{entries-put, entries-freed, found-entries, found_between}
 
 -- Regions
@@ -149,15 +149,6 @@ place_within region slots address units low high = omega arith
 pub place_of_unit : (base address : ℕ) → base % 8 ≡ 0 → address % 8 ≡ 0 → base ≤ address → address ≡ base + 8 * ((address - base) / 8)
 place_of_unit base address a b low = omega arith
 
--- The gap at a place
-
-pub split_at : (free : List Gap) (place : ℕ) (gap : Gap) → slice_get free place ≡ Some gap → free ≡ take place free ++ gap ∷ drop (place + 1) free
-split_at [] place gap at = cc
-split_at (x ∷ rest) zero gap at = let here : x ≡ gap = cc in ap (λ (g : Gap). g ∷ rest) here
-split_at (x ∷ rest) (suc place) gap at =
-    let next : suc place + 1 ≡ suc (place + 1) = omega arith in
-    ap (λ gaps. x ∷ gaps) (split_at rest place gap at) ∙ ap (λ k. x ∷ (take place rest ++ gap ∷ drop k (x ∷ rest))) (sym next)
-
 filled_slot : (slot : Slot) (v : ℕ × ℕ) → block_of slot ≡ Some v → block_of slot ≡ Some (slot.size, slot.tag)
 filled_slot slot v e =
     let block : ℕ × ℕ = (slot.size, slot.tag) in
@@ -166,72 +157,75 @@ filled_slot slot v e =
       | false ↦ λ f. refl
     ] e
 
--- a gap that was read where one of at least that size is
-pub record IsRead (spaces : List Gap) (place size : ℕ) (gap : Gap) : Type 0 where
-  pub at : slice_get spaces place ≡ Some gap
-  pub fits : size ≤ gap.size
-
-pub read_gap : (spaces : List Gap) (place size : ℕ) (gap : Gap) → IsSomeAnd (slice_get spaces place) (λ gap. size ≤ gap.size) → gap ≡ get_or spaces place gap → IsRead spaces place size gap
-read_gap [] place size gap h is = absurd h
-read_gap (x ∷ rest) zero size gap h is = record { at = ap (λ (g : Gap). Some g) (sym is); fits = subst (λ (g : Gap). size ≤ g.size) (sym is) h }
-read_gap (x ∷ rest) (suc place) size gap h is = let later = read_gap rest place size gap h is in record { at = later.at; fits = later.fits }
-
 -- A table in which no block begins
 
 -- what a header keeps, and what its blocks are
-pub record Keeps (region : Region) (slots : List Slot) (spaces : List Gap) (capacity : ℕ) (blocks : Blocks) : Type 0 where
-  pub header : IsHeader region slots spaces capacity
+pub record Keeps (region : Region) (slots : List Slot) (space : Space) (blocks : Blocks) : Type 0 where
+  pub header : IsHeader region slots space
   pub shown : entries region.base slots ≡ blocks
 
 pub entries-empty : (from n : ℕ) → entries from (replicate n (record { size = 0; tag = 0 })) ≡ []
 entries-empty from zero = refl
 entries-empty from (suc n) = entries-empty (from + 8) n
 
-pub new_header : (region : Region) (slots : List Slot) (spaces : List Gap) (capacity : ℕ) → IsTrue (is_aligned region) → IsTrue (is_in_reach region)
-    → slots ≡ replicate (region.size / 8) (record { size = 0; tag = 0 }) → spaces ≡ record { address = region.base; size = region.size } ∷ [] → region.size / 8 ≤ capacity
-    → Keeps region slots spaces capacity []
-new_header region slots spaces capacity aligned reach empty whole room =
+pub new_header : (region : Region) (slots : List Slot) (space : Space) → IsTrue (is_aligned region) → IsTrue (is_in_reach region)
+    → slots ≡ replicate (region.size / 8) (record { size = 0; tag = 0 })
+    → space ≡ record { base = region.base; end = region_end region; gaps = stretch region.base (region_end region) }
+    → Keeps region slots space []
+new_header region slots space aligned reach empty whole =
     let a = aligned_region region aligned in
     let blocks = ap (entries region.base) empty ∙ entries-empty region.base (region.size / 8) in
     let units = ap (λ (xs : List Slot). length xs) empty ∙ length-replicate (region.size / 8) (record { size = 0; tag = 0 }) in
-    let size : region_end region - region.base ≡ region.size = omega arith in
     record {
       header = record {
         aligned = aligned;
         in_reach = reach;
         units = omega (arith, units, a.size);
         laid = subst (λ bs. IsLaid region.base bs (region_end region)) (sym blocks) (omega arith);
-        free = whole ∙ ap (λ n. record { address = region.base; size = n } ∷ []) (sym size) ∙ sym (stretch_some region.base (region_end region) (omega (arith, a.some)))
-            ∙ ap (λ bs. gaps_between region.base bs (region_end region)) (sym blocks);
-        room = omega (arith, units, room);
+        base = ap (λ (s : Space). s.base) whole;
+        end = ap (λ (s : Space). s.end) whole;
+        free = ap (λ (s : Space). s.gaps) whole ∙ ap (λ bs. gaps_between region.base bs (region_end region)) (sym blocks);
       };
       shown = blocks;
     }
+
+pub among : (P : Gap → Type 0) (xs : List Gap) (gap : Gap) (ys : List Gap) → AllByRecursion P (xs ++ gap ∷ ys) → P gap
+among P [] gap ys all = all.0
+among P (x ∷ xs) gap ys all = among P xs gap ys all.1
 
 -- A block is put
 
 pub end_aligned : (region : Region) → IsAligned region → region_end region % 8 ≡ 0
 end_aligned region a = omega (arith, a.base, a.size)
 
-module _ (region : Region) (slots : List Slot) (spaces : List Gap) (capacity : ℕ) (h : IsHeader region slots spaces capacity) where
-  pub gap_within : (place : ℕ) (gap : Gap) → slice_get spaces place ≡ Some gap → IsGapWithin region.base (region_end region) gap
-  gap_within place gap at =
+module _ (region : Region) (slots : List Slot) (space : Space) (h : IsHeader region slots space) where
+  pub gaps_placed : AreApart space.base space.gaps space.end
+  gaps_placed =
       let a = aligned_region region h.aligned in
-      let all : AllByRecursion (IsGapWithin region.base (region_end region)) spaces =
-      subst (AllByRecursion (IsGapWithin region.base (region_end region))) (sym h.free)
-      (gaps_within region.base (entries region.base slots) (region_end region) a.base (end_aligned region a) h.laid) in
-      subst (IsGapWithin region.base (region_end region)) (get_or_from_slice_get spaces place gap gap at)
-      (All-get_or (IsGapWithin region.base (region_end region)) spaces place gap (slice_get_within spaces place gap at) (All-from_recursion (IsGapWithin region.base (region_end region)) spaces all))
+      let apart = gaps_apart region.base (entries region.base slots) (region_end region) a.base (end_aligned region a) h.laid in
+      subst (λ to. AreApart space.base space.gaps to) (sym h.end)
+      (subst (λ from. AreApart from space.gaps (region_end region)) (sym h.base)
+      (subst (λ gaps. AreApart region.base gaps (region_end region)) (sym h.free) apart))
 
-  pub keeps_taken : (place n tag unit : ℕ) (gap : Gap) → slice_get spaces place ≡ Some gap → 0 < n → n % 8 ≡ 0 → n ≤ gap.size → unit ≡ (gap.address - region.base) / 8
-      → Keeps region (set slots unit (record { size = n; tag = tag }))
-      (take place spaces ++ (stretch (gap.address + n) (gap.address + gap.size) ++ drop (place + 1) spaces)) capacity
-      (put nat_cmp gap.address (n, tag) (entries region.base slots))
-  keeps_taken place n tag unit gap at some whole fits is_unit =
+  -- where a gap begins, there is its unit
+  pub spot_within : (n before : ℕ) (spot : IsSpot n space.gaps before) → IsGapWithin region.base (region_end region) spot.gap
+  spot_within n before spot =
       let a = aligned_region region h.aligned in
-      let w = gap_within place gap at in
+      let all : AllByRecursion (IsGapWithin region.base (region_end region)) (spot.below ++ spot.gap ∷ spot.above) =
+      subst (AllByRecursion (IsGapWithin region.base (region_end region))) (sym h.free ∙ spot.is)
+      (gaps_within region.base (entries region.base slots) (region_end region) a.base (end_aligned region a) h.laid) in
+      among (IsGapWithin region.base (region_end region)) spot.below spot.gap spot.above all
+
+  pub keeps_taken : (before n tag unit : ℕ) (spot : IsSpot n space.gaps before) → 0 < n → n % 8 ≡ 0 → unit ≡ (spot.gap.address - region.base) / 8
+      → Keeps region (set slots unit (record { size = n; tag = tag }))
+      (record space { gaps = spot.below ++ (stretch (spot.gap.address + n) (spot.gap.address + spot.gap.size) ++ spot.above) })
+      (put nat_cmp spot.gap.address (n, tag) (entries region.base slots))
+  keeps_taken before n tag unit spot some whole is_unit =
+      let a = aligned_region region h.aligned in
+      let w = spot_within n before spot in
       let slot : Slot = record { size = n; tag = tag } in
-      let t = taken region.base (entries region.base slots) (region_end region) n tag (take place spaces) gap (drop (place + 1) spaces) some whole a.base fits h.laid (sym h.free ∙ split_at spaces place gap at) in
+      let gap = spot.gap in
+      let t = taken region.base (entries region.base slots) (region_end region) n tag spot.below gap spot.above some whole a.base spot.fits h.laid (sym h.free ∙ spot.is) in
       let inside = place_within region slots gap.address h.units w.low (omega (arith, w.high, w.some)) in
       let blocks = entries-put region.base gap.address slots unit n tag (subst (λ k. k < length slots) (sym is_unit) inside) some
       (place_of_unit region.base gap.address a.base w.place w.low ∙ ap (λ k. region.base + 8 * k) (sym is_unit)) in
@@ -241,8 +235,9 @@ module _ (region : Region) (slots : List Slot) (spaces : List Gap) (capacity : �
           in_reach = h.in_reach;
           units = ap (λ k. 8 * k) (length-set slots unit slot) ∙ h.units;
           laid = subst (λ bs. IsLaid region.base bs (region_end region)) (sym blocks) t.laid;
+          base = h.base;
+          end = h.end;
           free = sym t.gaps ∙ ap (λ bs. gaps_between region.base bs (region_end region)) (sym blocks);
-          room = subst (λ k. k ≤ capacity) (sym (length-set slots unit slot)) h.room;
         };
         shown = blocks;
       }
@@ -250,15 +245,11 @@ module _ (region : Region) (slots : List Slot) (spaces : List Gap) (capacity : �
   pub live_within : (address n tag : ℕ) → block_at address (entries region.base slots) ≡ Some (n, tag) → IsWithin region.base (region_end region) address n
   live_within address n tag found = block_within region.base (entries region.base slots) (region_end region) address n tag h.laid found
 
-  pub keeps_freed : (address n tag unit : ℕ) (spaces' : List Gap) (capacity' : ℕ) → block_at address (entries region.base slots) ≡ Some (n, tag) → capacity ≤ capacity' → unit ≡ (address - region.base) / 8
-      → ((around : Around spaces address n) → spaces' ≡ around.below ++ record { address = around.start; size = around.end - around.start } ∷ around.above)
-      → Keeps region (set slots unit (record { size = 0; tag = 0 })) spaces' capacity' (freed address (entries region.base slots))
-  keeps_freed address n tag unit spaces' capacity' found more is_unit joined =
-      let a = aligned_region region h.aligned in
-      let w = live_within address n tag found in
-      let slot : Slot = record { size = 0; tag = 0 } in
+  -- the gaps round a block, and what they are once it is freed
+  pub round_freed : (address n tag : ℕ) → block_at address (entries region.base slots) ≡ Some (n, tag) → Around space.gaps address n
+  round_freed address n tag found =
       let f = frees region.base (entries region.base slots) (region_end region) address n tag h.laid found in
-      let around : Around spaces address n = record {
+      record {
         below = f.around.below;
         start = f.around.start;
         end = f.around.end;
@@ -268,7 +259,18 @@ module _ (region : Region) (slots : List Slot) (spaces : List Gap) (capacity : �
         high = f.around.high;
         ended = f.around.ended;
         begun = f.around.begun;
-      } in
+      }
+
+  pub keeps_freed : (address n tag unit : ℕ) (space' : Space) → block_at address (entries region.base slots) ≡ Some (n, tag) → unit ≡ (address - region.base) / 8
+      → ((around : Around space.gaps address n) → space' ≡ record space { gaps = around.below ++ record { address = around.start; size = around.end - around.start } ∷ around.above })
+      → Keeps region (set slots unit (record { size = 0; tag = 0 })) space' (freed address (entries region.base slots))
+  unfolding round_freed
+  keeps_freed address n tag unit space' found is_unit joined =
+      let a = aligned_region region h.aligned in
+      let w = live_within address n tag found in
+      let slot : Slot = record { size = 0; tag = 0 } in
+      let f = frees region.base (entries region.base slots) (region_end region) address n tag h.laid found in
+      let is = joined (round_freed address n tag found) in
       let inside = place_within region slots address h.units w.low (omega (arith, w.high, w.some)) in
       let blocks = entries-freed region.base address slots unit 0 (subst (λ k. k < length slots) (sym is_unit) inside)
       (place_of_unit region.base address a.base w.place w.low ∙ ap (λ k. region.base + 8 * k) (sym is_unit)) in
@@ -278,25 +280,12 @@ module _ (region : Region) (slots : List Slot) (spaces : List Gap) (capacity : �
           in_reach = h.in_reach;
           units = ap (λ k. 8 * k) (length-set slots unit slot) ∙ h.units;
           laid = subst (λ bs. IsLaid region.base bs (region_end region)) (sym blocks) f.laid;
-          free = joined around ∙ sym f.after ∙ ap (λ bs. gaps_between region.base bs (region_end region)) (sym blocks);
-          room = subst (λ k. k ≤ capacity') (sym (length-set slots unit slot)) (omega (arith, h.room));
+          base = ap (λ (s : Space). s.base) is ∙ h.base;
+          end = ap (λ (s : Space). s.end) is ∙ h.end;
+          free = ap (λ (s : Space). s.gaps) is ∙ sym f.after ∙ ap (λ bs. gaps_between region.base bs (region_end region)) (sym blocks);
         };
         shown = blocks;
       }
-
-  -- a block that lives leaves room for one more gap
-  pub room_left : (address n tag : ℕ) → block_at address (entries region.base slots) ≡ Some (n, tag) → length spaces < capacity
-  room_left address n tag found =
-      let a = aligned_region region h.aligned in
-      let used = units_used region.base (entries region.base slots) (region_end region) a.base (end_aligned region a) h.laid in
-      let gaps = ap (λ (gs : List Gap). length gs) h.free in
-      omega (arith, used, gaps, h.units, h.room, some_block address (entries region.base slots) (n, tag) found)
-
-  pub all_in_reach : All (λ (gap : Gap). gap.address + gap.size ≤ 2147483648) spaces
-  all_in_reach k d within =
-      let at = slice_get-get_or spaces k d within in
-      let w = gap_within k (get_or spaces k d) at in
-      omega (arith, w.high, reach_region region h.in_reach)
 
   pub found_slot : (address unit : ℕ) (slot : Slot) → IsTrue (is_in region address) → address % 8 ≡ 0 → unit ≡ (address - region.base) / 8 → slot ≡ get_or slots unit slot
       → block_of slot ≡ block_at address (entries region.base slots)
@@ -310,7 +299,7 @@ module _ (region : Region) (slots : List Slot) (spaces : List Gap) (capacity : �
   pub found_odd : (address : ℕ) → address % 8 ≢ 0 → block_at address (entries region.base slots) ≡ None
   found_odd address odd = found_between address region.base (entries region.base slots) (region_end region) odd h.laid
 
-  pub free_bound : sum_by (λ (gap : Gap). gap.size) spaces ≤ region.size
+  pub free_bound : sum_by (λ (gap : Gap). gap.size) space.gaps ≤ region.size
   free_bound =
       let fill = sizes_fill region.base (entries region.base slots) (region_end region) h.laid in
       let gaps = ap (λ (gs : List Gap). sum_by (λ (gap : Gap). gap.size) gs) h.free in
@@ -344,6 +333,6 @@ pub live_shown : (region : Region) (slots : List Slot) (area : Area) (address : 
     → IsSome (block_at address area.blocks) → IsSome (block_at address (entries region.base slots))
 live_shown region slots area address is some = subst (λ (a : Area). IsSome (block_at address a.blocks)) (sym is) some
 
-pub gaps_shown : (region : Region) (slots : List Slot) (spaces : List Gap) (capacity : ℕ) (area : Area) → IsHeader region slots spaces capacity
-    → record { region = region; blocks = entries region.base slots } ≡ area → spaces ≡ area_gaps area
-gaps_shown region slots spaces capacity area h is = h.free ∙ ap area_gaps is
+pub gaps_shown : (region : Region) (slots : List Slot) (space : Space) (area : Area) → IsHeader region slots space
+    → record { region = region; blocks = entries region.base slots } ≡ area → space.gaps ≡ area_gaps area
+gaps_shown region slots space area h is = h.free ∙ ap area_gaps is

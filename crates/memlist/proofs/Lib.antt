@@ -2,6 +2,9 @@ pub mod Answered
 pub mod Gaps
 pub mod Edits
 pub mod Slots
+pub mod Chains
+pub mod Writing
+pub mod Walking
 pub mod Headers
 pub mod Choices
 pub mod Merged

@@ -1,13 +1,13 @@
 -- A memory as a whole: what its headers keep, where a block fits, and what a change of one header does to its value.
-use Rattle.std.proofs.Common.{◌≡◌, ◌≢◌, ℕ, zero, suc, ◌+◌, ◌^◌, ◌<◌, ◌≤◌, Bool, true, false, cond, List, [], ◌∷◌, ◌++◌, length, set, get_or, map, refl, sym, ◌∙◌, ap, subst, arith}
+use Rattle.std.proofs.Common.{◌≡◌, ◌≢◌, ℕ, zero, suc, ◌+◌, ◌*◌, ◌^◌, ◌<◌, ◌≤◌, Bool, true, false, cond, List, [], ◌∷◌, ◌++◌, length, set, get_or, map, refl, sym, ◌∙◌, ap, subst, arith}
 use Rattle.std.specs.Prelude.{bit_and, nat_eq, nat_le, not, ◌&&◌, Option, Some, None, is_some, slice_get, IsSome, IsSomeAnd, IfSome}
 use Rattle.std.specs.List.{AllByRecursion, filter, flat_map, list_all, sum_by}
 use Rattle.std.specs.Option.{option_map, option_and_then}
 use Rattle.std.specs.Ordering.{nat_cmp}
 use Rattle.std.specs.FinMap.{put}
-use Rattle.std.proofs.lemmas.List.Elements.{All-from_recursion, All-get_or, recursion_from_All}
+use Rattle.std.proofs.lemmas.List.Elements.{recursion_from_All}
 use Rattle.std.proofs.lemmas.List.Sums.{sum_by-cons}
-use Rattle.std.proofs.lemmas.Option.{slice_get_within, slice_get-get_or, get_or_from_slice_get}
+use Rattle.std.proofs.lemmas.Option.{slice_get-get_or}
 use Rattle.memlist.specs.declared.gap.Gap.{Gap}
 use Rattle.memlist.specs.declared.memory.Offer.{Offer}
 use Rattle.memlist.specs.declared.region.MemFault.{MemFault}
@@ -18,10 +18,12 @@ use Rattle.memlist.specs.Regions.{are_apart, are_small, is_aligned, is_in_reach,
 use Rattle.memlist.specs.Blocks.{Blocks, block_at, freed, gaps, is_in}
 use Rattle.memlist.specs.Fit.{asks, avail, chosen, fit, free_sizes, front, greatest, has_room, is_suitable, lowest_gap, round}
 use Rattle.memlist.specs.Memory.{Memory, without_block}
-use Rattle.memlist.specs.Areas.{Area, AreMemory, IsLaidArea, area_gaps, empty_area, memory_of, merged, regions_of}
+use Rattle.memlist.specs.Chain.{IsLinked, first_or}
+use Rattle.memlist.specs.Areas.{Area, AreMemory, IsFreeChain, IsLaidArea, area_gaps, empty_area, memory_of, merged, regions_of}
 use Rattle.memlist.specs.Choice.{IsHome, IsLowest, IsOffer, chosen_of, free_of, installed_of, largest_of, offers, sizes_of, suitable_of}
 use Rattle.memlist.proofs.Answered.{nat_eq-other}
-use Rattle.memlist.proofs.Headers.{IsAligned, IsGapWithin, aligned_region, and_left, and_right, end_aligned, from_le, gaps_within, sizes_fill}
+use Rattle.memlist.proofs.Headers.{IsAligned, IsGapWithin, aligned_region, among, and_left, and_right, end_aligned, from_le, gaps_within, sizes_fill}
+use Rattle.memlist.proofs.Chains.{apart_count, gaps_apart, read_chain}
 use Rattle.memlist.proofs.Choices.{free-cons}
 use Rattle.memlist.proofs.Together.{AreApart, apart_areas, at_place, found_in_none, found_of_area, gaps_of_area, is_in-true, merged-freed, merged-put}
 
@@ -75,37 +77,32 @@ pub aligned_at : (areas : List Area) (place : ℕ) (area : Area) → AreMemory a
 aligned_at areas place area m at = aligned_region area.region (list_all_at areas place area at (sound_regions TOTAL_LIMIT (regions_of areas) m.sound).aligned)
 
 -- a gap of an area lies in its region
-pub gap_inside : (areas : List Area) (place : ℕ) (area : Area) (which : ℕ) (gap : Gap) → AreMemory areas → slice_get areas place ≡ Some area → slice_get (area_gaps area) which ≡ Some gap → is_in area.region gap.address ≡ true
-gap_inside areas place area which gap m at read =
+pub gap_inside : (areas : List Area) (place : ℕ) (area : Area) (xs : List Gap) (gap : Gap) (ys : List Gap) → AreMemory areas → slice_get areas place ≡ Some area → area_gaps area ≡ xs ++ gap ∷ ys → is_in area.region gap.address ≡ true
+gap_inside areas place area xs gap ys m at read =
     let a = aligned_at areas place area m at in
     let laid = at_place IsLaidArea areas place area at m.laid in
     let all = gaps_within area.region.base area.blocks (region_end area.region) a.base (end_aligned area.region a) laid in
-    let w = subst (IsGapWithin area.region.base (region_end area.region)) (get_or_from_slice_get (area_gaps area) which gap gap read)
-    (All-get_or (IsGapWithin area.region.base (region_end area.region)) (area_gaps area) which gap (slice_get_within (area_gaps area) which gap read)
-    (All-from_recursion (IsGapWithin area.region.base (region_end area.region)) (area_gaps area) all)) in
+    let w = among (IsGapWithin area.region.base (region_end area.region)) xs gap ys (subst (AllByRecursion (IsGapWithin area.region.base (region_end area.region))) read all) in
     is_in-true area.region gap.address w.low (omega (arith, w.high, w.some))
 
 -- the gap of an offer, and the address at which it was taken
-pub record IsOffered (size : ℕ) (free : List Gap) (place taken : ℕ) : Type 0 where
+pub record IsOffered (size : ℕ) (free : List Gap) (taken : ℕ) : Type 0 where
+  pub below : List Gap
   pub gap : Gap
-  pub at : slice_get free place ≡ Some gap
+  pub above : List Gap
+  pub is : free ≡ below ++ gap ∷ above
   pub lowest : lowest_gap size free ≡ Some gap
   pub address : taken ≡ gap.address
 
-offered_by : (size : ℕ) (free : List Gap) (place address : ℕ) (o : Option Gap) → slice_get free place ≡ o
-    → IsSomeAnd o (λ gap. (lowest_gap size free ≡ Some gap) × (size ≤ gap.size)) → IfSome o (λ gap. address ≡ gap.address) → IsOffered size free place address
-offered_by size free place address None at h front = absurd h
-offered_by size free place address (Some gap) at h front = record { gap = gap; at = at; lowest = h.0; address = front }
-
-pub offered_gap : (size : ℕ) (free : List Gap) (place address : ℕ) → IsLowest size free (Some place) → IfSome (slice_get free place) (λ gap. address ≡ gap.address) → IsOffered size free place address
-offered_gap size free place address h front = offered_by size free place address (slice_get free place) refl h front
-
-fits_by : (size : ℕ) (free : List Gap) (o : Option Gap) → IsSomeAnd o (λ gap. (lowest_gap size free ≡ Some gap) × (size ≤ gap.size)) → IsSomeAnd o (λ gap. size ≤ gap.size)
-fits_by size free None h = absurd h
-fits_by size free (Some gap) h = h.1
-
-pub offered_fits : (size : ℕ) (free : List Gap) (place : ℕ) → IsLowest size free (Some place) → IsSomeAnd (slice_get free place) (λ gap. size ≤ gap.size)
-offered_fits size free place h = fits_by size free (slice_get free place) h
+pub offered_gap : (size : ℕ) (free : List Gap) (before address : ℕ) → IsLowest size free (Some before) → IfSome (lowest_gap size free) (λ gap. address ≡ gap.address) → IsOffered size free address
+offered_gap size free before address h front = record {
+  below = h.below;
+  gap = h.gap;
+  above = h.above;
+  is = h.is;
+  lowest = h.lowest;
+  address = subst (λ o. IfSome o (λ gap. address ≡ gap.address)) h.lowest front;
+}
 
 some_within : {X : Type 0} (P : X → Type 0) (xs : List X) (place : ℕ) → IsSomeAnd (slice_get xs place) P → place < length xs
 some_within P [] place h = absurd h
@@ -113,7 +110,7 @@ some_within P (x ∷ xs) zero h = omega arith
 some_within P (x ∷ xs) (suc place) h = let later = some_within P xs place h in omega (arith, later)
 
 pub offer_within : (areas : List Area) (size reqs : ℕ) (some : List Area) (offer : Offer) → IsOffer areas size reqs some (Some offer) → offer.header < length areas
-offer_within areas size reqs some offer h = some_within (λ (area : Area). (chosen_of size reqs some ≡ Some area.region) × IsLowest size (area_gaps area) (Some offer.gap)) areas offer.header h
+offer_within areas size reqs some offer h = some_within (λ (area : Area). (chosen_of size reqs some ≡ Some area.region) × IsLowest size (area_gaps area) (Some offer.before)) areas offer.header h
 
 pub home_within : (areas : List Area) (place a : ℕ) → IsHome a areas (Some place) → place < length areas
 home_within areas place a h = some_within (λ (area : Area). is_in area.region a ≡ true) areas place h
@@ -322,3 +319,44 @@ module _ (areas : List Area) (reqs : ℕ) where
       ap (λ b. avail_by b (asks 19 reqs) (greatest (free_sizes (regions_of areas) (merged areas) reqs)) (total_size (filter (is_suitable reqs) (regions_of areas))) (sum_by (λ n. n) (free_sizes (regions_of areas) (merged areas) reqs))) e
       ∙ ap (λ b. avail_by false b (greatest (free_sizes (regions_of areas) (merged areas) reqs)) (total_size (filter (is_suitable reqs) (regions_of areas))) (sum_by (λ n. n) (free_sizes (regions_of areas) (merged areas) reqs))) f
       ∙ ap (sum_by (λ n. n)) (free_sizes_of areas reqs m)
+
+-- The words of a region
+
+pub region_at : (areas : List Area) (k : ℕ) (area : Area) → slice_get areas k ≡ Some area → slice_get (regions_of areas) k ≡ Some area.region
+region_at [] k area at = cc
+region_at (x ∷ rest) zero area at = let same : x ≡ area = cc in ap (λ (a : Area). Some a.region) same
+region_at (x ∷ rest) (suc k) area at = region_at rest k area at
+
+pub free_chain : (areas : List Area) (k : ℕ) (area : Area) (words : List ℕ) → AreMemory areas → slice_get areas k ≡ Some area → 4 * length words ≡ area.region.size
+    → IsLinked area.region.base words (area_gaps area) 0 → IfSome (slice_get (regions_of areas) k) (λ region. IsFreeChain region words (gaps region (merged areas)))
+free_chain areas k area words m at size linked =
+    let a = aligned_at areas k area m at in
+    let laid = at_place IsLaidArea areas k area at m.laid in
+    let apart = gaps_apart area.region.base area.blocks (region_end area.region) a.base (end_aligned area.region a) laid in
+    let count = apart_count area.region.base (area_gaps area) (region_end area.region) apart in
+    let shown = gaps_of_area areas k area (apart_memory areas m) m.laid at in
+    let chained : IsFreeChain area.region words (area_gaps area) = record {
+      size = size;
+      apart = apart;
+      linked = linked;
+      read = read_chain (length words) area.region.base words area.region.base (area_gaps area) (region_end area.region) (omega (arith, a.above)) (omega (arith, count, size)) apart linked;
+    } in
+    subst (λ o. IfSome o (λ region. IsFreeChain region words (gaps region (merged areas)))) (sym (region_at areas k area at))
+    (subst (IsFreeChain area.region words) (sym shown) chained)
+
+pub free_head : (areas : List Area) (k head : ℕ) (area : Area) → AreMemory areas → slice_get areas k ≡ Some area → head ≡ first_or 0 (area_gaps area)
+    → IfSome (slice_get (regions_of areas) k) (λ region. head ≡ first_or 0 (gaps region (merged areas)))
+free_head areas k head area m at is =
+    let shown = gaps_of_area areas k area (apart_memory areas m) m.laid at in
+    subst (λ o. IfSome o (λ region. head ≡ first_or 0 (gaps region (merged areas)))) (sym (region_at areas k area at)) (is ∙ ap (first_or 0) (sym shown))
+
+-- the area at a place that was read
+pub read_area : (areas : List Area) (k : ℕ) (area : Area) → k < length (regions_of areas) → area ≡ get_or areas k area → slice_get areas k ≡ Some area
+read_area [] k area within is = absurd (omega arith)
+read_area (x ∷ rest) zero area within is = ap (λ (a : Area). Some a) (sym is)
+read_area (x ∷ rest) (suc k) area within is = read_area rest k area (omega arith) is
+
+pub within_areas : (areas : List Area) (k : ℕ) → k < length (regions_of areas) → k < length areas
+within_areas [] k h = absurd (omega arith)
+within_areas (x ∷ rest) zero h = omega arith
+within_areas (x ∷ rest) (suc k) h = let later = within_areas rest k (omega arith) in omega (arith, later)

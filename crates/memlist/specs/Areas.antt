@@ -1,5 +1,5 @@
 -- One region at a time: the value that a `MemHeader` is seen as, and how the headers of a memory show its blocks.
-use Rattle.std.specs.Prelude.{◌≡◌, ℕ, ◌+◌, ◌*◌, ◌≤◌, nat_eq, if◌then◌else◌, IsTrue, List, [], ◌∷◌, length, map, Option, None, Some}
+use Rattle.std.specs.Prelude.{◌≡◌, ℕ, ◌+◌, ◌*◌, nat_eq, if◌then◌else◌, IsTrue, List, [], ◌∷◌, length, map, Option, None, Some}
 use Rattle.std.specs.List.{AllByRecursion}
 use Rattle.std.specs.Ordering.{nat_cmp}
 use Rattle.std.specs.FinMap.{put}
@@ -10,6 +10,7 @@ use Rattle.memlist.specs.declared.region.TheConstants.{TOTAL_LIMIT}
 use Rattle.memlist.specs.Regions.{region_end, is_aligned, is_in_reach, regions_fault}
 use Rattle.memlist.specs.Blocks.{Blocks, gaps_between}
 use Rattle.memlist.specs.Memory.{IsLaid, Memory}
+use Rattle.memlist.specs.Chain.{AreApart, IsLinked, Space, chain, first_or}
 
 -- a region and the blocks that lie in it
 pub record Area : Type 0 where
@@ -35,14 +36,23 @@ entries from [] = []
 entries from (slot ∷ rest) =
     if nat_eq slot.size 0 then entries (from + 8) rest else (from, (slot.size, slot.tag)) ∷ entries (from + 8) rest
 
--- what a header keeps true of its fields: the gaps are those that the blocks leave, and there is room for each
-pub record IsHeader (region : Region) (slots : List Slot) (spaces : List Gap) (capacity : ℕ) : Type 0 where
+-- what a header keeps true of its fields: the chunks are the gaps that the blocks leave
+pub record IsHeader (region : Region) (slots : List Slot) (space : Space) : Type 0 where
   pub aligned : IsTrue (is_aligned region)
   pub in_reach : IsTrue (is_in_reach region)
   pub units : 8 * length slots ≡ region.size
   pub laid : IsLaid region.base (entries region.base slots) (region_end region)
-  pub free : spaces ≡ gaps_between region.base (entries region.base slots) (region_end region)
-  pub room : length slots ≤ capacity
+  pub base : space.base ≡ region.base
+  pub end : space.end ≡ region_end region
+  pub free : space.gaps ≡ gaps_between region.base (entries region.base slots) (region_end region)
+
+-- The words of a region are the chain of its gaps: each gap's first two words hold where the next one begins and its size, the
+-- list that is read from the first one on is that of all gaps, and these are in order of address and do not touch.
+pub record IsFreeChain (region : Region) (words : List ℕ) (free : List Gap) : Type 0 where
+  pub size : 4 * length words ≡ region.size
+  pub apart : AreApart region.base free (region_end region)
+  pub linked : IsLinked region.base words free 0
+  pub read : chain (length words) region.base words (first_or 0 free) ≡ free
 
 -- the blocks of two lists together, in order of address
 abbrev pub put_all : Blocks → Blocks → Blocks

@@ -1,11 +1,12 @@
 -- How the headers of a memory are searched: for the home of an address, for a gap, and for the sizes of gaps.
-use Rattle.std.specs.Prelude.{◌≡◌, ℕ, ◌≤◌, Bool, true, false, ◌&&◌, int_lt, List, map, Option, None, Some, is_some, IsSomeAnd, slice_get}
+use Rattle.std.specs.Prelude.{◌≡◌, ℕ, Bool, true, false, ◌&&◌, int_lt, List, map, Option, None, Some, is_some, IsSomeAnd, slice_get}
 use Rattle.std.specs.List.{All, filter, flat_map, sum_by}
 use Rattle.memlist.specs.declared.gap.Gap.{Gap}
 use Rattle.memlist.specs.declared.memory.Offer.{Offer}
 use Rattle.memlist.specs.declared.region.Region.{Region}
 use Rattle.memlist.specs.Regions.{total_size}
 use Rattle.memlist.specs.Blocks.{is_in}
+use Rattle.memlist.specs.Chain.{IsSpot}
 use Rattle.memlist.specs.Fit.{chosen, greatest, is_suitable, lowest_gap}
 use Rattle.memlist.specs.Areas.{Area, area_gaps, regions_of}
 
@@ -14,10 +15,10 @@ abbrev pub IsHome : ℕ → List Area → Option ℕ → Type 0
 IsHome address areas None = All (λ (area : Area). is_in area.region address ≡ false) areas
 IsHome address areas (Some place) = IsSomeAnd (slice_get areas place) (λ area. is_in area.region address ≡ true)
 
--- the place of the lowest gap of at least a size
+-- after which chunk the lowest gap of at least a size comes
 abbrev pub IsLowest : ℕ → List Gap → Option ℕ → Type 0
 IsLowest size free None = lowest_gap size free ≡ None
-IsLowest size free (Some place) = IsSomeAnd (slice_get free place) (λ gap. (lowest_gap size free ≡ Some gap) × (size ≤ gap.size))
+IsLowest size free (Some before) = IsSpot size free before
 
 -- whether an area is suitable and has a gap of at least a size
 abbrev pub offers : ℕ → ℕ → Area → Bool
@@ -31,7 +32,7 @@ chosen_of size reqs areas = chosen (regions_of (filter (offers size reqs) areas)
 abbrev pub IsOffer : List Area → ℕ → ℕ → List Area → Option Offer → Type 0
 IsOffer areas size reqs some None = chosen_of size reqs some ≡ None
 IsOffer areas size reqs some (Some offer) =
-    IsSomeAnd (slice_get areas offer.header) (λ area. (chosen_of size reqs some ≡ Some area.region) × IsLowest size (area_gaps area) (Some offer.gap))
+    IsSomeAnd (slice_get areas offer.header) (λ area. (chosen_of size reqs some ≡ Some area.region) × IsLowest size (area_gaps area) (Some offer.before))
 
 -- the suitable areas
 abbrev pub suitable_of : ℕ → List Area → List Area

@@ -1,5 +1,5 @@
 -- The gaps round a block: what is there before it is freed, and what it joins.
-use Rattle.std.specs.Prelude.{◌≡◌, ℕ, zero, suc, ◌+◌, ◌<◌, ◌≤◌, nat_eq, if◌then◌else◌, List, [], ◌∷◌, ◌++◌, Option, None, Some, slice_get}
+use Rattle.std.specs.Prelude.{◌≡◌, ℕ, ◌+◌, ◌<◌, ◌≤◌, List, [], ◌∷◌, ◌++◌}
 use Rattle.memlist.specs.declared.gap.Gap.{Gap}
 use Rattle.memlist.specs.Blocks.{stretch}
 
@@ -24,20 +24,3 @@ pub record Around (free : List Gap) (address n : ℕ) : Type 0 where
   pub high : address + n ≤ end
   pub ended : AllEndBefore start below
   pub begun : IsSpread (end + 1) above
-
-abbrev pub joined_start : Option Gap → ℕ → ℕ
-joined_start None address = address
-joined_start (Some gap) address = if nat_eq (gap.address + gap.size) address then gap.address else address
-
-abbrev pub joined_end : Option Gap → ℕ → ℕ
-joined_end None address = address
-joined_end (Some gap) address = if nat_eq gap.address address then gap.address + gap.size else address
-
--- where the gap before a place begins, if it ends at an address, and else that address
-abbrev pub lower_start : List Gap → ℕ → ℕ → ℕ
-lower_start free zero address = address
-lower_start free (suc place) address = joined_start (slice_get free place) address
-
--- where the gap at a place ends, if it begins at an address, and else that address
-abbrev pub upper_end : List Gap → ℕ → ℕ → ℕ
-upper_end free place address = joined_end (slice_get free place) address

@@ -6,3 +6,4 @@ pub mod Pieces
 pub mod Areas
 pub mod Joins
 pub mod Choice
+pub mod Chain

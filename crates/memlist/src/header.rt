@@ -1,19 +1,20 @@
 //! One region with its blocks and its gaps, as Exec keeps it behind a MemHeader.
 //!
-//! The blocks stand in a table with a slot for each unit of 8 bytes, so that a look-up is an index; the gaps stand in
-//! a vector in order of address.
-ghost use Rattle.std.specs.Prelude.{◌≡◌, ◌+◌, ◌-◌, ◌/◌, ◌%◌, ◌<◌, ◌≤◌, [], IsTrue, IsSome, IfOk, IsSomeAnd, IfSome, int_lt, slice_get, map};
+//! The blocks stand in a table with a slot for each unit of 8 bytes, so that a look-up is an index; the gaps are chunks in
+//! the region's own words.
+ghost use Rattle.std.specs.Prelude.{◌≡◌, ◌-◌, ◌*◌, ◌/◌, ◌%◌, ◌<◌, ◌≤◌, [], IsTrue, IsSome, IfOk, IfSome, int_lt, length, map};
 ghost use Rattle.std.specs.List.{sum_by};
 ghost use Rattle.memlist.specs.Regions.{is_aligned, is_in_reach};
 ghost use Rattle.memlist.specs.Blocks.{block_at, freed, is_in, with_block};
-ghost use Rattle.memlist.specs.Fit.{greatest, is_suitable};
+ghost use Rattle.memlist.specs.Fit.{greatest, is_suitable, lowest_gap};
+ghost use Rattle.memlist.specs.Chain.{IsLinked, IsSpot, first_or};
 ghost use Rattle.memlist.specs.Areas.{Area, IsLaidArea, area_gaps};
 ghost use Rattle.memlist.specs.Choice.{IsLowest};
 ghost use Rattle.memlist.specs.declared.gap.Gap.{Gap};
 
-use crate::gap::{Gap, first_of, join, largest, shorten, total};
 use crate::region::{Region, UNIT};
 use crate::slot::Slot;
+use crate::space::FreeSpace;
 use std::alloc::{AllocError, Global};
 use std::marker::Model;
 
@@ -22,22 +23,21 @@ use std::marker::Model;
 pub struct MemHeader {
     region: Region,
     slots: Vec<Slot>,
-    gaps: Vec<Gap>,
+    space: FreeSpace,
 }
 
 impl Model for MemHeader {
-    ghost use Rattle.std.specs.Prelude.{vec_capacity};
     ghost use Rattle.memlist.specs.Areas.{Area, IsHeader, entries};
 
     ghost Value = { Area };
 
     ghost view = { λ h. record { region = h.region; blocks = entries h.region.base h.slots.items } };
 
-    ghost invariant = { λ h. IsHeader h.region h.slots.items h.gaps.items (vec_capacity h.gaps) };
+    ghost invariant = { λ h. IsHeader h.region h.slots.items h.space };
 }
 
 impl MemHeader {
-    /// A region in which nothing is allocated, with room for each block and each gap that it may ever have.
+    /// A region in which nothing is allocated, with a slot for each unit and a word for each 4 bytes.
     pub fn new(alloc: Global, region: Region) -> Result<MemHeader, AllocError>
         requires aligned { IsTrue (is_aligned region) }
         requires in_reach { IsTrue (is_in_reach region) }
@@ -46,15 +46,11 @@ impl MemHeader {
     {
         let units = (region.size / UNIT) as usize;
         let slots = vec![in alloc; Slot::EMPTY; units]?;
-        let mut gaps = Vec::with_capacity(alloc, units)?;
-        gaps.push(Gap {
-            address: region.base,
-            size: region.size,
-        })?;
+        let space = FreeSpace::new(alloc, region.base, region.size)?;
         Ok(MemHeader {
             region,
             slots,
-            gaps,
+            space,
         })
     }
 
@@ -78,6 +74,21 @@ impl MemHeader {
         self.region.pri < other.region.pri
     }
 
+    /// The words of the region.
+    pub fn words(&self) -> &[u32]
+        ensures len { 4 * length result.now ≡ self.now.region.size }
+        ensures linked { IsLinked self.now.region.base result.now (area_gaps self.now) 0 }
+    {
+        self.space.words()
+    }
+
+    /// Where the first chunk begins, or 0 where nothing is free.
+    pub fn head(&self) -> u32
+        ensures { result ≡ first_or 0 (area_gaps self.now) }
+    {
+        self.space.head()
+    }
+
     /// Whether an address lies in the region.
     pub fn holds(&self, address: u32) -> bool
         ensures { result ≡ is_in self.now.region address }
@@ -98,27 +109,27 @@ impl MemHeader {
         }
     }
 
-    /// The place of the lowest gap of at least that many bytes.
-    pub fn lowest_gap(&self, size: u64) -> Option<usize>
+    /// The chunk before the lowest gap of at least that many bytes, or 0 where that gap is the first.
+    pub fn lowest_gap(&self, size: u64) -> Option<u32>
         ensures { IsLowest size (area_gaps self.now) result }
     {
-        first_of(&self.gaps, size)
+        self.space.lowest_gap(size)
     }
 
-    /// Puts a block at the front of the gap at a place, and answers its address.
-    pub fn take(&mut self, place: usize, size: u64, tag: u32) -> u32
+    /// Puts a block at the front of the lowest gap that has room for it, which is the one after the chunk at an address, or the
+    /// first where that is 0; and answers the block's address.
+    pub fn take(&mut self, before: u32, size: u64, tag: u32) -> u32
         requires some { 0 < size }
         requires whole { size % 8 ≡ 0 }
-        requires fits { IsSomeAnd (slice_get (area_gaps self.old) place) (λ gap. size ≤ gap.size) }
-        ensures front { IfSome (slice_get (area_gaps self.old) place) (λ gap. result ≡ gap.address) }
+        requires fits { IsSpot size (area_gaps self.old) before }
+        ensures front { IfSome (lowest_gap size (area_gaps self.old)) (λ gap. result ≡ gap.address) }
         ensures taken { self.new ≡ record self.old { blocks = with_block result size tag self.old.blocks } }
         ensures laid { IsLaidArea self.new }
     {
-        let gap = self.gaps[place];
+        let region = self.region;
         let size = size as u32;
-        let address = gap.address;
-        self.slots[place_of(self.region, address)] = Slot { size, tag };
-        shorten(&mut self.gaps, place, gap, size);
+        let address = self.space.take(before, size);
+        self.slots[place_of(region, address)] = Slot { size, tag };
         address
     }
 
@@ -131,7 +142,7 @@ impl MemHeader {
         let place = place_of(self.region, address);
         let size = self.slots[place].size;
         self.slots[place] = Slot::EMPTY;
-        join(&mut self.gaps, address, size);
+        self.space.join(address, size);
     }
 
     /// The bytes that are free.
@@ -139,14 +150,14 @@ impl MemHeader {
         ensures value { result ≡ sum_by (λ (gap : Gap). gap.size) (area_gaps self.now) }
         ensures bound { result ≤ self.now.region.size }
     {
-        total(&self.gaps)
+        self.space.total()
     }
 
     /// The size of the greatest gap, or 0 where there is none.
     pub fn largest_gap(&self) -> u32
         ensures { result ≡ greatest (map (λ (gap : Gap). gap.size) (area_gaps self.now)) }
     {
-        largest(&self.gaps)
+        self.space.largest()
     }
 }
 

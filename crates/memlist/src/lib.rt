@@ -7,9 +7,11 @@
 pub use memory::{MemList, NotABlock};
 pub use region::{MemFault, Region, TOTAL_LIMIT, check_regions};
 
+mod chunk;
 mod gap;
 mod header;
 pub mod laws;
 mod memory;
 mod region;
 mod slot;
+mod space;

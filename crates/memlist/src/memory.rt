@@ -2,10 +2,11 @@
 ghost use Rattle.std.specs.Prelude.{◌≡◌, ◌+◌, ◌*◌, ◌^◌, ◌<◌, ◌≤◌, not, ◌&&◌, IsTrue, IsSome, IsSomeAnd, IfOk, IfErr, IfSome, OnOk, OnErr, None, Some, is_ok, int_lt, unwrap_or, length, drop, map, slice_get};
 ghost use Rattle.std.specs.List.{list_all};
 ghost use Rattle.memlist.specs.Regions.{is_aligned, is_in_reach, regions_fault};
-ghost use Rattle.memlist.specs.Blocks.{block_at};
+ghost use Rattle.memlist.specs.Blocks.{block_at, gaps};
+ghost use Rattle.memlist.specs.Chain.{first_or};
 ghost use Rattle.memlist.specs.Fit.{asks, avail, fit, round};
 ghost use Rattle.memlist.specs.Memory.{IsWellFormed, Memory, allocated, can_free, names, untouched, without_block};
-ghost use Rattle.memlist.specs.Areas.{Area, empty_area};
+ghost use Rattle.memlist.specs.Areas.{Area, IsFreeChain, empty_area};
 ghost use Rattle.memlist.specs.Choice.{IsHome, IsOffer, free_of, installed_of, is_outranked, largest_of};
 
 use crate::header::MemHeader;
@@ -44,11 +45,11 @@ impl Model for MemList {
 #[error("no plain block of that size begins there")]
 pub struct NotABlock;
 
-/// Where a block may be put: the place of a header, and that of a gap in it.
+/// Where a block may be put: the place of a header, and in it the chunk before the gap, or 0 where the gap is the first.
 #[derive(Clone, Copy, Debug)]
 pub struct Offer {
     pub header: usize,
-    pub gap: usize,
+    pub before: u32,
 }
 
 impl MemList {
@@ -92,7 +93,7 @@ impl MemList {
         }
         let size = round(size);
         match choose(&self.headers, size, reqs) {
-            Some(offer) => Some(self.headers[offer.header].take(offer.gap, size, tag)),
+            Some(offer) => Some(self.headers[offer.header].take(offer.before, size, tag)),
             None => None,
         }
     }
@@ -130,6 +131,30 @@ impl MemList {
             Some(place) => self.headers[place].block_at(address),
             None => None,
         }
+    }
+
+    /// The words of a region, named by its place in the machine's file: word i stands for the region's base plus 4 times i.
+    /// The first two words of each free chunk are the address of the next chunk, or 0 at the end, and its size in bytes.
+    /// Read from `head` on, the chain is exactly the region's gaps, in order of address, and no two of them touch. It takes
+    /// no memory.
+    ///
+    /// Source: RKM Libraries, Exec Memory Allocation (MemChunk); the call is own choice.
+    pub fn words(&self, k: usize) -> &[u32]
+        requires { k < length self.now.regions }
+        ensures { IfSome (slice_get self.now.regions k) (λ region. IsFreeChain region result.now (gaps region self.now.blocks)) }
+    {
+        self.headers[k].words()
+    }
+
+    /// Where the first free chunk of a region begins, or 0 where nothing of it is free. The region is named by its place in
+    /// the machine's file. It takes no memory.
+    ///
+    /// Source: RKM Libraries, Exec Memory Allocation (MemHeader, mh_First); the call is own choice.
+    pub fn head(&self, k: usize) -> u32
+        requires { k < length self.now.regions }
+        ensures { IfSome (slice_get self.now.regions k) (λ region. result ≡ first_or 0 (gaps region self.now.blocks)) }
+    {
+        self.headers[k].head()
     }
 
     /// The bytes that are free in the regions that have each of bits 0 to 2 that is asked for; with bit 17 (MEMF_LARGEST)
@@ -224,7 +249,10 @@ fn better(
         return later;
     }
     match header.lowest_gap(size) {
-        Some(gap) => Some(Offer { header: place, gap }),
+        Some(before) => Some(Offer {
+            header: place,
+            before,
+        }),
         None => later,
     }
 }

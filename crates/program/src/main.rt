@@ -1,17 +1,10 @@
 //! The command `execsim`: it simulates the machine of one file under the events of another, and prints the trace.
 #![tactic(auto)]
 
-mod arguments;
-mod command_line;
-mod ending;
-mod fault;
-mod files;
-mod lent;
-mod running;
 #[cfg(test)]
 mod tests;
 
-use crate::arguments::run_on_arguments;
+use execrun::run_on_arguments;
 use std::process::ExitCode;
 
 /// Runs the program on the process's own arguments and streams, and ends with its status.

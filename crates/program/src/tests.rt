@@ -2,10 +2,7 @@
 mod doubles;
 
 use self::doubles::{Broken, Shelf};
-use crate::ending::{Ending, Status, report};
-use crate::fault::Fault;
-use crate::files::FILE_LIMIT;
-use crate::running::run;
+use execrun::{Ending, FILE_LIMIT, Fault, Status, report, run};
 use execsim::SimFault;
 use std::alloc::Global;
 use std::io::BufWriter;

@@ -7,7 +7,8 @@ ghost use Rattle.execmodel.specs.Lists.{or_none};
 ghost use Rattle.execmodel.specs.Ports.{add_port_alert, content_of, delete_alert, loose_alert, message_alert, port_alert, put_alert, rem_port_alert, reply_alert, reply_port_alert, wait_alert};
 ghost use Rattle.msgport.specs.Port.{wait_bit};
 ghost use Rattle.msgport.specs.Ports.{has_messages, is_message, is_port, is_public, port_at};
-ghost use Rattle.execheap.specs.Numbered.{address_in, shown_heap, shown_memory};
+ghost use Rattle.execheap.specs.declared.kind.Kind.TheVariants as variant;
+ghost use Rattle.execheap.specs.Numbered.{address_in, places, shown_heap, shown_memory};
 ghost use Rattle.execheap.specs.Refusals.{alert_of};
 
 use crate::kind::Kind;
@@ -21,7 +22,7 @@ impl<S: ListSpace> Objects<S> {
     /// The port that begins at an address.
     pub fn port_at(&self, port: u32) -> Result<PortId, Refusal>
         ensures alert { alert_of result ≡ port_alert port (shown_heap self.now) }
-        ensures found { IfOk result (λ p. slot self.now.port_places p ≡ Some port) }
+        ensures found { IfOk result (λ p. slot (places variant.Port self.now) p ≡ Some port) }
         ensures live { IfOk result (λ p. IsTrue (is_port p self.now.ports)) }
     {
         self.facts();
@@ -34,7 +35,7 @@ impl<S: ListSpace> Objects<S> {
     /// The port that begins at an address, which has no message and is not public.
     pub fn port_to_delete(&self, port: u32) -> Result<PortId, Refusal>
         ensures alert { alert_of result ≡ delete_alert port (shown_memory self.now) }
-        ensures found { IfOk result (λ p. slot self.now.port_places p ≡ Some port) }
+        ensures found { IfOk result (λ p. slot (places variant.Port self.now) p ≡ Some port) }
         ensures empty { IfOk result (λ p. IsTrue (not (has_messages p self.now.ports))) }
         ensures private { IfOk result (λ p. IsTrue (not (is_public p self.now.ports))) }
     {
@@ -57,7 +58,7 @@ impl<S: ListSpace> Objects<S> {
     /// The port that begins at an address, which is not public and is to be so with that priority.
     pub fn private_port_at(&self, port: u32, pri: i8) -> Result<PortId, Refusal>
         ensures alert { alert_of result ≡ add_port_alert port pri (shown_memory self.now) }
-        ensures found { IfOk result (λ p. slot self.now.port_places p ≡ Some port) }
+        ensures found { IfOk result (λ p. slot (places variant.Port self.now) p ≡ Some port) }
         ensures live { IfOk result (λ p. IsTrue (is_port p self.now.ports)) }
         ensures private { IfOk result (λ p. IsTrue (not (is_public p self.now.ports))) }
     {
@@ -74,7 +75,7 @@ impl<S: ListSpace> Objects<S> {
     /// The port that begins at an address, which is public.
     pub fn public_port_at(&self, port: u32) -> Result<PortId, Refusal>
         ensures alert { alert_of result ≡ rem_port_alert port (shown_memory self.now) }
-        ensures found { IfOk result (λ p. slot self.now.port_places p ≡ Some port) }
+        ensures found { IfOk result (λ p. slot (places variant.Port self.now) p ≡ Some port) }
         ensures live { IfOk result (λ p. IsTrue (is_port p self.now.ports)) }
         ensures public { IfOk result (λ p. IsTrue (is_public p self.now.ports)) }
     {
@@ -91,7 +92,7 @@ impl<S: ListSpace> Objects<S> {
     /// The port that begins at an address and signals a task, and the number of its signal.
     pub fn port_to_wait_at(&self, task: TaskId, port: u32) -> Result<(PortId, u32), Refusal>
         ensures alert { alert_of result ≡ wait_alert task port (shown_heap self.now) }
-        ensures found { IfOk result (λ pair. slot self.now.port_places pair.0 ≡ Some port) }
+        ensures found { IfOk result (λ pair. slot (places variant.Port self.now) pair.0 ≡ Some port) }
         ensures live { IfOk result (λ pair. IsTrue (is_port pair.0 self.now.ports)) }
         ensures bit { IfOk result (λ pair. pair.1 ≡ (port_at pair.0 self.now.ports).bit) }
         ensures signal { IfOk result (λ pair. pair.1 < 32) }
@@ -111,7 +112,7 @@ impl<S: ListSpace> Objects<S> {
         ensures alert { alert_of result ≡ reply_port_alert reply (shown_heap self.now) }
         ensures none { IfOk result (λ p. p ≡ None → reply ≡ 0) }
         ensures some { IfOk result (λ p. ForSome p (λ q. reply ≢ 0)) }
-        ensures found { IfOk result (λ p. ForSome p (λ q. slot self.now.port_places q ≡ Some reply)) }
+        ensures found { IfOk result (λ p. ForSome p (λ q. slot (places variant.Port self.now) q ≡ Some reply)) }
         ensures live { IfOk result (λ p. ForSome p (λ q. IsTrue (is_port q self.now.ports))) }
     {
         if reply == 0 {
@@ -126,7 +127,7 @@ impl<S: ListSpace> Objects<S> {
     /// The message that begins at an address.
     pub fn message_at(&self, message: u32) -> Result<MsgId, Refusal>
         ensures alert { alert_of result ≡ message_alert message (shown_heap self.now) }
-        ensures found { IfOk result (λ m. slot self.now.message_places m ≡ Some message) }
+        ensures found { IfOk result (λ m. slot (places variant.Message self.now) m ≡ Some message) }
         ensures live { IfOk result (λ m. IsTrue (is_message m self.now.ports)) }
     {
         self.facts();
@@ -139,7 +140,7 @@ impl<S: ListSpace> Objects<S> {
     /// The message that begins at an address, which is in no port.
     pub fn loose_message_at(&self, message: u32) -> Result<MsgId, Refusal>
         ensures alert { alert_of result ≡ loose_alert message (shown_heap self.now) }
-        ensures found { IfOk result (λ m. slot self.now.message_places m ≡ Some message) }
+        ensures found { IfOk result (λ m. slot (places variant.Message self.now) m ≡ Some message) }
         ensures live { IfOk result (λ m. IsTrue (is_message m self.now.ports)) }
         ensures loose { IfOk result (λ m. home self.now.ports.places m ≡ None) }
     {
@@ -156,9 +157,9 @@ impl<S: ListSpace> Objects<S> {
     /// The port that begins at an address, and the message that begins at another and is in no port.
     pub fn to_put(&self, port: u32, message: u32) -> Result<(PortId, MsgId), Refusal>
         ensures alert { alert_of result ≡ put_alert port message (shown_heap self.now) }
-        ensures port { IfOk result (λ pair. slot self.now.port_places pair.0 ≡ Some port) }
+        ensures port { IfOk result (λ pair. slot (places variant.Port self.now) pair.0 ≡ Some port) }
         ensures live_port { IfOk result (λ pair. IsTrue (is_port pair.0 self.now.ports)) }
-        ensures message { IfOk result (λ pair. slot self.now.message_places pair.1 ≡ Some message) }
+        ensures message { IfOk result (λ pair. slot (places variant.Message self.now) pair.1 ≡ Some message) }
         ensures live_message { IfOk result (λ pair. IsTrue (is_message pair.1 self.now.ports)) }
         ensures loose { IfOk result (λ pair. home self.now.ports.places pair.1 ≡ None) }
     {
@@ -174,12 +175,12 @@ impl<S: ListSpace> Objects<S> {
     /// The message that begins at an address and is in no port, and its reply port, or none.
     pub fn to_reply(&self, message: u32) -> Result<(MsgId, Option<PortId>), Refusal>
         ensures alert { alert_of result ≡ reply_alert message (shown_heap self.now) }
-        ensures message { IfOk result (λ pair. slot self.now.message_places pair.0 ≡ Some message) }
+        ensures message { IfOk result (λ pair. slot (places variant.Message self.now) pair.0 ≡ Some message) }
         ensures live_message { IfOk result (λ pair. IsTrue (is_message pair.0 self.now.ports)) }
         ensures loose { IfOk result (λ pair. home self.now.ports.places pair.0 ≡ None) }
         ensures none { IfOk result (λ pair. pair.1 ≡ None → (content_of message (shown_heap self.now)).reply ≡ 0) }
         ensures some { IfOk result (λ pair. ForSome pair.1 (λ p. (content_of message (shown_heap self.now)).reply ≢ 0)) }
-        ensures reply { IfOk result (λ pair. ForSome pair.1 (λ p. slot self.now.port_places p ≡ Some (content_of message (shown_heap self.now)).reply)) }
+        ensures reply { IfOk result (λ pair. ForSome pair.1 (λ p. slot (places variant.Port self.now) p ≡ Some (content_of message (shown_heap self.now)).reply)) }
         ensures live_port { IfOk result (λ pair. ForSome pair.1 (λ p. IsTrue (is_port p self.now.ports))) }
     {
         self.facts();
@@ -195,7 +196,7 @@ impl<S: ListSpace> Objects<S> {
     /// The address of a live message, or 0 for none.
     pub fn message_or_0(&self, m: Option<MsgId>) -> u32
         requires { IfSome m (λ n. IsTrue (is_message n self.now.ports)) }
-        ensures { result ≡ or_none (option_map (address_in self.now.message_places) m) }
+        ensures { result ≡ or_none (option_map (address_in (places variant.Message self.now)) m) }
     {
         match m {
             Some(m) => self.address_of_message(m),
@@ -206,7 +207,7 @@ impl<S: ListSpace> Objects<S> {
     /// The address of a live port, or 0 for none.
     pub fn port_or_0(&self, p: Option<PortId>) -> u32
         requires { IfSome p (λ q. IsTrue (is_port q self.now.ports)) }
-        ensures { result ≡ or_none (option_map (address_in self.now.port_places) p) }
+        ensures { result ≡ or_none (option_map (address_in (places variant.Port self.now)) p) }
     {
         match p {
             Some(p) => self.address_of_port(p),

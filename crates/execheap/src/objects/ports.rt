@@ -1,27 +1,25 @@
 //! Ports and messages by number, and the blocks in which they live.
-ghost use Rattle.std.specs.Prelude.{◌≡◌, ◌<◌, ◌≤◌, not, None, Some, IfSome, IsSome, IsTrue};
+ghost use Rattle.std.specs.Prelude.{◌≡◌, ◌<◌, ◌≤◌, not, [], None, Some, IfSome, IsTrue};
 ghost use Rattle.execlist.specs.Order.{first};
 ghost use Rattle.execlist.specs.Lists.{home};
-ghost use Rattle.execlist.specs.Pool.{next_number, slot};
-ghost use Rattle.memlist.specs.Fit.{fit};
-ghost use Rattle.msgport.specs.Port.{acting};
-ghost use Rattle.msgport.specs.Ports.{has_messages, is_message, is_port, is_public, message_at, messages_of, port_at};
+ghost use Rattle.execlist.specs.Pool.{slot};
+ghost use Rattle.msgport.specs.Port.{acting, new_port};
+ghost use Rattle.msgport.specs.Ports.{has_messages, is_message, is_port, is_public, message_at, messages_of, new_message, port_at};
 ghost use Rattle.msgport.specs.Ports.{made_private, made_public, nt_freemsg, nt_message, nt_replymsg, posted, taken_off, typed, with_message, with_port};
-ghost use Rattle.execheap.specs.Changes.{made_at, on_ports};
-ghost use Rattle.execheap.specs.Changes.{message_freed_at, message_made_at, message_numbered, port_freed_at, port_made_at, port_numbered};
+ghost use Rattle.execmodel.specs.State.{Message, MsgPort};
+ghost use Rattle.execmodel.specs.Memory.{freed, placed};
+ghost use Rattle.execmodel.specs.Objects.{place_for_object};
+ghost use Rattle.execmodel.specs.Ports as model;
+ghost use Rattle.execheap.specs.declared.kind.Kind.TheVariants as variant;
+ghost use Rattle.execheap.specs.Numbered.{places, shown_memory};
+ghost use Rattle.execheap.specs.Changes.{on_ports};
 
-use crate::kind::{Kind, tag_of};
-use crate::objects::{MEMF_PUBLIC, Objects};
+use crate::kind::Kind;
+use crate::objects::Objects;
 use execlist::key::Name;
 use execlist::space::ListSpace;
 use msgport::action::{Action, PortAction, TaskId};
 use msgport::ports::{MsgId, PortId, Ports};
-
-/// The bytes of a port, by exec/ports.h.
-const PORT_SIZE: u32 = 34;
-
-/// The bytes of a message, by exec/ports.h, and of its word (own choice).
-const MESSAGE_SIZE: u32 = 24;
 
 impl<S: ListSpace> Objects<S> {
     /// The ports and the messages.
@@ -36,17 +34,19 @@ impl<S: ListSpace> Objects<S> {
     /// The address of a live message.
     pub fn address_of_message(&self, m: MsgId) -> u32
         requires { IsTrue (is_message m self.now.ports) }
-        ensures { slot self.now.message_places m ≡ Some result }
+        ensures { slot (places variant.Message self.now) m ≡ Some result }
     {
-        self.message_places[m].unwrap()
+        self.facts();
+        self.address_of(Kind::Message, m)
     }
 
     /// The address of a live port.
     pub fn address_of_port(&self, p: PortId) -> u32
         requires { IsTrue (is_port p self.now.ports) }
-        ensures { slot self.now.port_places p ≡ Some result }
+        ensures { slot (places variant.Port self.now) p ≡ Some result }
     {
-        self.port_places[p].unwrap()
+        self.facts();
+        self.address_of(Kind::Port, p)
     }
 
     // ---- made and freed
@@ -55,91 +55,49 @@ impl<S: ListSpace> Objects<S> {
     pub fn make_port(&mut self, task: TaskId, bit: u32) -> Option<u32>
         requires own { 16 ≤ bit }
         requires signal { bit < 32 }
-        ensures answer { result ≡ made_at 34 (next_number self.old.ports.ports) self.old }
-        ensures next { self.new ≡ port_made_at 34 task bit result self.old }
+        ensures address { result ≡ place_for_object model.is_port 34 (shown_memory self.old) }
+        ensures next { shown_memory self.new ≡ placed 34 (MsgPort (new_port task bit) []) result (shown_memory self.old) }
     {
-        match self.ports.next_port() {
-            Some(number) => self.place_port(number, task, bit),
-            None => None,
-        }
-    }
-
-    /// The block of the port that is next, if one fits.
-    fn place_port(&mut self, number: PortId, task: TaskId, bit: u32) -> Option<u32>
-        requires next { next_number self.old.ports.ports ≡ Some number }
-        requires own { 16 ≤ bit }
-        requires signal { bit < 32 }
-        ensures answer { result ≡ fit self.old.memory.regions self.old.memory.blocks 34 1 }
-        ensures next { self.new ≡ port_numbered 34 task bit (Some number) result self.old }
-    {
-        self.memory.is_well_formed();
         self.ports.facts();
-        let tag = tag_of(Kind::Port, number);
-        match self.memory.alloc_mem(PORT_SIZE, MEMF_PUBLIC, tag) {
-            Some(address) => {
-                self.ports.create_port(task, bit).unwrap();
-                self.port_places[number] = Some(address);
-                Some(address)
-            }
-            None => None,
-        }
+        let (_, port) = self.table.make(Kind::Port)?;
+        self.ports.create_port(task, bit).unwrap();
+        Some(port)
     }
 
     /// A new message with a reply port, or 0, and a word, if the pool has one left and its block fits: its address.
     pub fn make_message(&mut self, reply: u32, word: u32) -> Option<u32>
-        ensures answer { result ≡ made_at 24 (next_number self.old.ports.messages) self.old }
-        ensures next { self.new ≡ message_made_at 24 reply word result self.old }
+        ensures address { result ≡ place_for_object model.is_message 24 (shown_memory self.old) }
+        ensures next { shown_memory self.new ≡ placed 24 (Message (new_message reply word)) result (shown_memory self.old) }
     {
-        match self.ports.next_message() {
-            Some(number) => self.place_message(number, reply, word),
-            None => None,
-        }
-    }
-
-    /// The block of the message that is next, if one fits.
-    fn place_message(&mut self, number: MsgId, reply: u32, word: u32) -> Option<u32>
-        requires { next_number self.old.ports.messages ≡ Some number }
-        ensures answer { result ≡ fit self.old.memory.regions self.old.memory.blocks 24 1 }
-        ensures next { self.new ≡ message_numbered 24 reply word (Some number) result self.old }
-    {
-        self.memory.is_well_formed();
         self.ports.facts();
-        let tag = tag_of(Kind::Message, number);
-        match self.memory.alloc_mem(MESSAGE_SIZE, MEMF_PUBLIC, tag) {
-            Some(address) => {
-                self.ports.make_msg(reply, word).unwrap();
-                self.message_places[number] = Some(address);
-                Some(address)
-            }
-            None => None,
-        }
+        let (_, message) = self.table.make(Kind::Message)?;
+        self.ports.make_msg(reply, word).unwrap();
+        Some(message)
     }
 
     /// Frees a port that has no message and is not public, and answers its task and the number of its signal.
     pub fn free_port(&mut self, p: PortId, address: u32) -> (TaskId, u32)
-        requires live { slot self.old.port_places p ≡ Some address }
+        requires live { slot (places variant.Port self.old) p ≡ Some address }
         requires empty { IsTrue (not (has_messages p self.old.ports)) }
         requires private { IsTrue (not (is_public p self.old.ports)) }
         ensures owner { result ≡ ((port_at p self.old.ports).task, (port_at p self.old.ports).bit) }
         ensures own { 16 ≤ result.1 }
         ensures signal { result.1 < 32 }
-        ensures next { self.new ≡ port_freed_at p address self.old }
+        ensures next { shown_memory self.new ≡ freed address (shown_memory self.old) }
     {
-        self.memory.is_well_formed();
-        self.memory.free_block(address);
-        self.port_places[p] = None;
+        self.ports.facts();
+        self.table.free(Kind::Port, p, address);
         self.ports.delete_port(p).unwrap()
     }
 
     /// Frees a message that is in no port.
     pub fn free_message(&mut self, m: MsgId, address: u32)
-        requires live { slot self.old.message_places m ≡ Some address }
+        requires live { slot (places variant.Message self.old) m ≡ Some address }
         requires loose { home self.old.ports.places m ≡ None }
-        ensures { self.new ≡ message_freed_at m address self.old }
+        ensures { shown_memory self.new ≡ freed address (shown_memory self.old) }
     {
-        self.memory.is_well_formed();
-        self.memory.free_block(address);
-        self.message_places[m] = None;
+        self.ports.facts();
+        self.table.free(Kind::Message, m, address);
         self.ports.free_msg(m).unwrap();
     }
 

@@ -1,20 +1,22 @@
 //! Semaphores by number, and the blocks in which they live.
-ghost use Rattle.std.specs.Prelude.{◌≡◌, ◌<◌, not, None, Some, IfOk, IfSome, IsTrue};
-ghost use Rattle.execlist.specs.Pool.{next_number, slot};
-ghost use Rattle.memlist.specs.Fit.{fit};
+ghost use Rattle.std.specs.Prelude.{◌≡◌, ◌<◌, not, [], Some, IsTrue};
+ghost use Rattle.execlist.specs.Pool.{slot};
 ghost use Rattle.sigsem.specs.Faults.{fault_or, kept_or};
-ghost use Rattle.sigsem.specs.Semaphores.{attempted, deep_fault, dropped, heir, is_open, is_owned, is_sem, let_go, outcome, release_fault};
-ghost use Rattle.execheap.specs.Changes.{made_at, on_semaphores, semaphore_freed_at, semaphore_made_at, semaphore_numbered, semaphore_obtained};
+ghost use Rattle.sigsem.specs.Semaphores.{attempted, deep_fault, dropped, free_sem, heir, is_open, is_owned, is_sem, let_go, outcome, release_fault};
+ghost use Rattle.execmodel.specs.State.{Semaphore};
+ghost use Rattle.execmodel.specs.Memory.{freed, placed};
+ghost use Rattle.execmodel.specs.Objects.{place_for_object};
+ghost use Rattle.execmodel.specs.Semaphores.{is_semaphore};
+ghost use Rattle.execheap.specs.declared.kind.Kind.TheVariants as variant;
+ghost use Rattle.execheap.specs.Numbered.{places, shown_memory};
+ghost use Rattle.execheap.specs.Changes.{on_semaphores, semaphore_obtained};
 
-use crate::kind::{Kind, tag_of};
-use crate::objects::{MEMF_PUBLIC, Objects};
+use crate::kind::Kind;
+use crate::objects::Objects;
 use execlist::space::ListSpace;
 use sigsem::fault::SemFault;
 use sigsem::semaphore::{Obtained, TaskId};
 use sigsem::sems::{SemId, Sems};
-
-/// The bytes of a semaphore, by exec/semaphores.h.
-const SEMAPHORE_SIZE: u32 = 46;
 
 impl<S: ListSpace> Objects<S> {
     /// The semaphores.
@@ -28,43 +30,22 @@ impl<S: ListSpace> Objects<S> {
 
     /// A new semaphore, which no task owns, if the pool has one left and its block fits: its address.
     pub fn make_semaphore(&mut self) -> Option<u32>
-        ensures answer { result ≡ made_at 46 (next_number self.old.sems.sems) self.old }
-        ensures next { self.new ≡ semaphore_made_at 46 result self.old }
+        ensures address { result ≡ place_for_object is_semaphore 46 (shown_memory self.old) }
+        ensures next { shown_memory self.new ≡ placed 46 (Semaphore free_sem []) result (shown_memory self.old) }
     {
-        match self.sems.next_sem() {
-            Some(number) => self.place_semaphore(number),
-            None => None,
-        }
-    }
-
-    /// The block of the semaphore that is next, if one fits.
-    fn place_semaphore(&mut self, number: SemId) -> Option<u32>
-        requires { next_number self.old.sems.sems ≡ Some number }
-        ensures answer { result ≡ fit self.old.memory.regions self.old.memory.blocks 46 1 }
-        ensures next { self.new ≡ semaphore_numbered 46 (Some number) result self.old }
-    {
-        self.memory.is_well_formed();
         self.sems.facts();
-        let tag = tag_of(Kind::Semaphore, number);
-        match self.memory.alloc_mem(SEMAPHORE_SIZE, MEMF_PUBLIC, tag) {
-            Some(address) => {
-                self.sems.make().unwrap();
-                self.semaphore_places[number] = Some(address);
-                Some(address)
-            }
-            None => None,
-        }
+        let (_, semaphore) = self.table.make(Kind::Semaphore)?;
+        self.sems.make().unwrap();
+        Some(semaphore)
     }
 
     /// Frees a semaphore that no task owns.
     pub fn free_semaphore(&mut self, n: SemId, address: u32)
-        requires live { slot self.old.semaphore_places n ≡ Some address }
+        requires live { slot (places variant.Semaphore self.old) n ≡ Some address }
         requires unowned { IsTrue (not (is_owned n self.old.sems)) }
-        ensures { self.new ≡ semaphore_freed_at n address self.old }
+        ensures { shown_memory self.new ≡ freed address (shown_memory self.old) }
     {
-        self.memory.is_well_formed();
-        self.memory.free_block(address);
-        self.semaphore_places[n] = None;
+        self.table.free(Kind::Semaphore, n, address);
         self.sems.free(n).unwrap();
     }
 

@@ -1,8 +1,9 @@
-//! A list space in vectors: known sequences, and mixed calls of which each is compared with plain vectors.
+//! A list space in vectors and one of linked cells: known sequences, and mixed calls of which each is compared with plain vectors.
 //! `Driver` tests at run time what a call of the space asks, so that any call may be tried.
 ghost use Rattle.std.specs.Prelude.{◌≡◌, ◌≤◌, length};
 
 use execlist::key::Name;
+use execlist::link::LinkSpace;
 use execlist::plain::PlainSpace;
 use execlist::space::{HeaderId, ListSpace, NodeId};
 use std::alloc::{AllocError, Global};
@@ -430,7 +431,8 @@ fn run_mixed_calls<S: ListSpace>(rt: &impl Abort, alloc: Global) -> Result<(), F
 
 #[test]
 fn mixed_calls_agree_with_vectors(rt: HostRuntime) -> Result<(), Fail> {
-    run_mixed_calls::<PlainSpace>(&rt, rt.alloc())
+    run_mixed_calls::<PlainSpace>(&rt, rt.alloc())?;
+    run_mixed_calls::<LinkSpace>(&rt, rt.alloc())
 }
 
 /// Makes nodes 0 to 5 in header 0, enqueued in that order, and then the calls.
@@ -470,7 +472,8 @@ fn enqueue_goes_behind_its_equals(rt: HostRuntime) -> Result<(), Fail> {
         (Succ(2), Node(Some(3))),
         (Succ(3), Node(None)),
     ];
-    look_at_six::<PlainSpace>(&rt, rt.alloc(), &LOOKS)
+    look_at_six::<PlainSpace>(&rt, rt.alloc(), &LOOKS)?;
+    look_at_six::<LinkSpace>(&rt, rt.alloc(), &LOOKS)
 }
 
 #[test]
@@ -482,5 +485,6 @@ fn find_name_goes_on_after_a_node(rt: HostRuntime) -> Result<(), Fail> {
         (FindName(0, "X"), Node(None)),
         (FindName(1, "x"), Node(None)),
     ];
-    look_at_six::<PlainSpace>(&rt, rt.alloc(), &LOOKS)
+    look_at_six::<PlainSpace>(&rt, rt.alloc(), &LOOKS)?;
+    look_at_six::<LinkSpace>(&rt, rt.alloc(), &LOOKS)
 }

@@ -251,6 +251,15 @@ fn each_line_has_its_text(rt: HostRuntime) {
 }
 
 #[test]
+fn each_line_is_handed_over_at_once(rt: HostRuntime) {
+    for (number, (parts, _)) in TEXTS.iter().enumerate() {
+        let takes_all = Fickle::new(rt.alloc(), Habit::FailsAt(1000));
+        let emitted = emitted(&rt, &line(*parts), takes_all);
+        same(&rt, "calls", number, emitted.2.calls, 1);
+    }
+}
+
+#[test]
 fn a_slow_writer_gets_the_whole_line(rt: HostRuntime) {
     let length = OPENING_TEXT.len();
     for (habit, calls) in [

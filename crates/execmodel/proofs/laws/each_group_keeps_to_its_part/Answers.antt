@@ -1,14 +1,14 @@
-use Rattle.execmodel.proofs.Keeping.{plain_words_change_scripts, signal_words_change_the_schedule, nesting_words_change_the_schedule, task_words_change_states_priorities_and_objects, list_words_change_the_memory, memory_words_change_the_memory, port_words_change_ports_and_schedule, semaphore_words_change_states_and_objects}
+use Rattle.execmodel.proofs.Keeping.{plain_words_change_scripts, signal_words_change_signals_and_states, nesting_words_change_nestings, task_words_change_states_priorities_and_objects, list_words_change_the_memory, memory_words_change_the_memory, port_words_change_ports_signals_and_states, semaphore_words_change_states_and_objects}
 use Rattle.execmodel.proofs.laws.each_group_keeps_to_its_part.Goals as goal
 
 pub returns-clause-plain : goal.returns-clause-plain
 returns-clause-plain c = plain_words_change_scripts
 
 pub returns-clause-signals : goal.returns-clause-signals
-returns-clause-signals c = signal_words_change_the_schedule
+returns-clause-signals c = signal_words_change_signals_and_states
 
 pub returns-clause-nesting : goal.returns-clause-nesting
-returns-clause-nesting c = nesting_words_change_the_schedule
+returns-clause-nesting c = nesting_words_change_nestings
 
 pub returns-clause-tasks : goal.returns-clause-tasks
 returns-clause-tasks c = task_words_change_states_priorities_and_objects
@@ -20,7 +20,7 @@ pub returns-clause-memory : goal.returns-clause-memory
 returns-clause-memory c = memory_words_change_the_memory
 
 pub returns-clause-ports : goal.returns-clause-ports
-returns-clause-ports c = port_words_change_ports_and_schedule
+returns-clause-ports c = port_words_change_ports_signals_and_states
 
 pub returns-clause-semaphores : goal.returns-clause-semaphores
 returns-clause-semaphores c = semaphore_words_change_states_and_objects

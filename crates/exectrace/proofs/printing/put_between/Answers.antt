@@ -1,6 +1,8 @@
-use Rattle.exectrace.proofs.Pieces.{Puts-trans}
-use Rattle.std.proofs.Common.{rules}
+use Rattle.std.proofs.Common.{refl}
+use Rattle.exectrace.proofs.Pieces.{adds_then, adds_all}
 use Rattle.exectrace.proofs.printing.put_between.Goals as goal
 
 pub returns : goal.returns
-returns g c = search (rules, Puts-trans)
+returns g c =
+    let text = adds_then _ (adds_then _ c.add.ensures c.add-2.ensures refl) c.add-3.ensures refl in
+    adds_all c.new-line.ensures text c.hand_over.ensures

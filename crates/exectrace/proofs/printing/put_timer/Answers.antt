@@ -1,6 +1,6 @@
-use Rattle.exectrace.proofs.Pieces.{puts_then}
-use Rattle.std.proofs.Common.{refl}
+use Rattle.std.proofs.Common.{ap, sym, codes, ◌++◌}
+use Rattle.exectrace.proofs.Pieces.{put_same}
 use Rattle.exectrace.proofs.printing.put_timer.Goals as goal
 
 pub returns : goal.returns
-returns g c = puts_then _ (puts_then _ c.put.ensures c.put_value.ensures refl) c.put-2.ensures refl
+returns g c = put_same _ c.put_between.ensures (ap (λ text. codes "timer " ++ text ++ codes "\n") (sym c.value_digits-text.ensures))

@@ -3,7 +3,8 @@ use Rattle.std.proofs.Common.{ap, sym, ◌∙◌}
 use Rattle.execmodel.specs.State.{Plain}
 use Rattle.execmodel.specs.Memory.{place_for, placed}
 use Rattle.execheap.specs.Numbered.{shown_memory}
-use Rattle.execheap.proofs.Blocks.{fit_shown, plain_placed}
+use Rattle.execheap.proofs.Blocks.{fit_shown}
+use Rattle.execheap.proofs.Plain.{plain_placed}
 use Rattle.execheap.proofs.heap.Heap.alloc_mem.Goals as goal
 
 pub returns-clause-address : goal.returns-clause-address

@@ -4,8 +4,6 @@ use Rattle.execmodel.specs.State.{Memory}
 use Rattle.execmodel.specs.Memory.{freed}
 use Rattle.execmodel.specs.Ports.{port_of}
 use Rattle.msgport.specs.Port.{Port}
-use Rattle.execheap.specs.Numbered.{shown_memory}
-use Rattle.execheap.proofs.MakingPorts.{port_freed_shown}
 use Rattle.execheap.proofs.Posted.{port_of_shown}
 use Rattle.execheap.proofs.heap.Heap.delete_port.Goals as goal
 
@@ -22,8 +20,4 @@ returns-in-Ok-clause-bit g c =
     ∙ ap (λ (m : Memory). (port_of c.args.port m.heap).bit) c.self.view_is
 
 pub returns-in-Ok-clause-next : goal.returns-in-Ok-clause-next
-returns-in-Ok-clause-next g c =
-    let f = c.facts.ensures in
-    let e = c.in-Ok.ensures in
-    ap shown_memory c.free_port.ensures.next ∙ port_freed_shown f.sound f.ports f.memory c.in-Ok.p c.args.port e.found e.private
-    ∙ ap (freed c.args.port) c.self.view_is
+returns-in-Ok-clause-next g c = c.free_port.ensures.next ∙ ap (freed c.args.port) c.self.view_is

@@ -6,13 +6,14 @@ use Rattle.msgport.specs.Ports.{MessagePorts}
 use Rattle.execmodel.specs.State.{Memory}
 use Rattle.execmodel.specs.Lists.{or_none}
 use Rattle.execmodel.specs.Ports.{is_called, port_or_none}
-use Rattle.execheap.specs.Numbered.{address_in}
+use Rattle.execheap.specs.declared.kind.Kind.TheVariants as variant
+use Rattle.execheap.specs.Numbered.{address_in, places}
 use Rattle.execheap.proofs.Public.{found_public}
 use Rattle.execheap.proofs.heap.Heap.find_port.Goals as goal
 
 pub returns : goal.returns
 returns g c =
     let s = c.self.inside.objects in
-    c.port_or_0.ensures ∙ ap (λ p. or_none (option_map (address_in s.port_places) p)) (c.find_port.ensures.value ∙ ap (λ (q : MessagePorts). find (is_named q.keys c.args.name.now) q.public) c.ports.ensures)
+    c.port_or_0.ensures ∙ ap (λ p. or_none (option_map (address_in (places variant.Port s)) p)) (c.find_port.ensures.value ∙ ap (λ (q : MessagePorts). find (is_named q.keys c.args.name.now) q.public) c.ports.ensures)
     ∙ sym (found_public s c.args.name.now)
     ∙ ap (λ (m : Memory). port_or_none (find (is_called c.args.name.now) m.public)) c.self.view_is

@@ -1,11 +1,7 @@
--- The node is freed where it is shown.
+-- The object is freed where it is shown.
 use Rattle.std.proofs.Common.{ap, ◌∙◌}
 use Rattle.execmodel.specs.Memory.{freed}
-use Rattle.execheap.specs.Numbered.{shown_memory}
-use Rattle.execheap.proofs.Making.{node_freed_shown}
 use Rattle.execheap.proofs.heap.Heap.free_node.Goals as goal
 
 pub returns-in-Ok-clause-next : goal.returns-in-Ok-clause-next
-returns-in-Ok-clause-next g c =
-    let f = c.facts.ensures in
-    ap shown_memory c.free_node.ensures ∙ node_freed_shown f.sound f.space c.in-Ok.n c.args.node c.in-Ok.ensures.unlinked ∙ ap (freed c.args.node) c.self.view_is
+returns-in-Ok-clause-next g c = c.free_node.ensures ∙ ap (freed c.args.node) c.self.view_is

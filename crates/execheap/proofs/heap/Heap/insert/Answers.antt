@@ -13,5 +13,5 @@ returns-in-Ok-clause-next g c =
     let e = c.in-Ok.ensures in
     ap shown_memory c.insert.ensures
     ∙ put_shown f.sound f.space f.memory c.in-Ok.h c.in-Ok.n c.args.list c.args.node c.args.pred c.in-Ok.p e.list e.node e.pred
-    (λ m is. f.sound.live_nodes m (ap is_some (e.pred_in m is)))
+    (λ m is. f.sound.kept.live_nodes m (ap is_some (e.pred_in m is)))
     ∙ ap (on_heap (inserted c.args.list c.args.node c.args.pred)) c.self.view_is

@@ -6,7 +6,8 @@ use Rattle.execmodel.specs.State.{Memory}
 use Rattle.execmodel.specs.Ports.{messages_of, port_of}
 use Rattle.msgport.specs.Port.{Port}
 use Rattle.msgport.specs.Ports as ports
-use Rattle.execheap.specs.Numbered.{address_in}
+use Rattle.execheap.specs.declared.kind.Kind.TheVariants as variant
+use Rattle.execheap.specs.Numbered.{address_in, places}
 use Rattle.execheap.proofs.Posted.{first_message_shown, port_of_shown}
 use Rattle.execheap.proofs.heap.Heap.message_to_wait_for.Goals as goal
 
@@ -14,7 +15,7 @@ pub returns-in-Some-clause-message : goal.returns-in-Some-clause-message
 returns-in-Some-clause-message g c =
     let s = c.self.inside.objects in
     ap (λ o. Some (unwrap_or o 0)) (sym c.address_of_message.ensures)
-    ∙ ap (option_map (address_in s.message_places)) (c.in-Some.ensures.value ∙ ap (λ (q : ports.MessagePorts). first (ports.messages_of c.in-Ok.p q)) c.ports.ensures)
+    ∙ ap (option_map (address_in (places variant.Message s))) (c.in-Some.ensures.value ∙ ap (λ (q : ports.MessagePorts). first (ports.messages_of c.in-Ok.p q)) c.ports.ensures)
     ∙ sym (first_message_shown c.facts.ensures.sound c.in-Ok.p c.args.port c.in-Ok.ensures.found)
     ∙ ap (λ (m : Memory). first (messages_of c.args.port m.heap)) c.self.view_is
 
@@ -26,7 +27,7 @@ returns-in-Some-clause-bit g c =
 pub returns-in-None-clause-message : goal.returns-in-None-clause-message
 returns-in-None-clause-message g c =
     let s = c.self.inside.objects in
-    ap (option_map (address_in s.message_places)) (c.in-None.ensures.value ∙ ap (λ (q : ports.MessagePorts). first (ports.messages_of c.in-Ok.p q)) c.ports.ensures)
+    ap (option_map (address_in (places variant.Message s))) (c.in-None.ensures.value ∙ ap (λ (q : ports.MessagePorts). first (ports.messages_of c.in-Ok.p q)) c.ports.ensures)
     ∙ sym (first_message_shown c.facts.ensures.sound c.in-Ok.p c.args.port c.in-Ok.ensures.found)
     ∙ ap (λ (m : Memory). first (messages_of c.args.port m.heap)) c.self.view_is
 

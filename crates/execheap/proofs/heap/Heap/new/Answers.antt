@@ -1,7 +1,7 @@
 -- No block is shown, and the pool is as large as that of its numbers.
 use Rattle.std.proofs.Common.{ap, ◌∙◌}
 use Rattle.execheap.specs.Numbered.{shown_memory}
-use Rattle.execheap.proofs.Making.{unused_shown}
+use Rattle.execheap.proofs.Empty.{unused_shown}
 use Rattle.execheap.proofs.heap.Heap.new.Goals as goal
 
 pub returns : goal.returns

@@ -1,13 +1,14 @@
 -- The first node of the list that is shown is answered, and leaves it.
-use Rattle.std.proofs.Common.{ℕ, ap, drop, sym, ◌∙◌}
+use Rattle.std.proofs.Common.{ap, drop, sym, ◌∙◌}
 use Rattle.execlist.specs.Order.{first}
 use Rattle.execlist.specs.Lists.{sequence}
 use Rattle.std.specs.Prelude.{option_map}
 use Rattle.execmodel.specs.State.{Memory, on_heap}
 use Rattle.execmodel.specs.Lists.{first_of, or_none, removed_head}
-use Rattle.execlist.specs.Pool.{Pooled}
-use Rattle.execheap.specs.Numbered.{Numbered, address_in, shown_memory}
-use Rattle.execheap.proofs.Linking.{unlinked_nodes, first_shown, head_taken_shown}
+use Rattle.execheap.specs.declared.kind.Kind.TheVariants as variant
+use Rattle.execheap.specs.Table.{Tabled, slots_of}
+use Rattle.execheap.specs.Numbered.{Numbered, address_in, shown_memory, places}
+use Rattle.execheap.proofs.Linking.{unlinked_table, first_shown, head_taken_shown}
 use Rattle.execheap.proofs.heap.Heap.rem_head.Goals as goal
 
 pub returns-in-Ok-clause-answer : goal.returns-in-Ok-clause-answer
@@ -15,9 +16,9 @@ returns-in-Ok-clause-answer g c =
     let f = c.facts.ensures in
     let s = c.self.inside.objects in
     c.address_or_0.ensures
-    ∙ ap (λ (x : Numbered). or_none (option_map (address_in x.nodes.slots) c.rem_head-n.result)) c.rem_head-n.ensures.next
-    ∙ ap (λ (r : Pooled ℕ). or_none (option_map (address_in r.slots) c.rem_head-n.result)) (unlinked_nodes c.in-Ok.h (first (sequence s.sequences c.in-Ok.h)) (drop 1 (sequence s.sequences c.in-Ok.h)) s)
-    ∙ ap (λ n. or_none (option_map (address_in s.nodes.slots) n)) c.rem_head-n.ensures.value
+    ∙ ap (λ (x : Numbered). or_none (option_map (address_in (places variant.Node x)) c.rem_head-n.result)) c.rem_head-n.ensures.next
+    ∙ ap (λ (t : Tabled). or_none (option_map (address_in (slots_of variant.Node t)) c.rem_head-n.result)) (unlinked_table c.in-Ok.h (first (sequence s.sequences c.in-Ok.h)) (drop 1 (sequence s.sequences c.in-Ok.h)) s)
+    ∙ ap (λ n. or_none (option_map (address_in (places variant.Node s)) n)) c.rem_head-n.ensures.value
     ∙ sym (first_shown f.sound f.space c.in-Ok.h c.args.list c.in-Ok.ensures.found) ∙ ap (λ (m : Memory). first_of c.args.list m.heap) c.self.view_is
 
 pub returns-in-Ok-clause-next : goal.returns-in-Ok-clause-next

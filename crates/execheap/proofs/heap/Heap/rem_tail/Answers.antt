@@ -1,12 +1,13 @@
 -- The last node of the list that is shown is answered, and leaves it.
-use Rattle.std.proofs.Common.{ℕ, ap, length, sym, take, ◌-◌, ◌∙◌}
+use Rattle.std.proofs.Common.{ap, length, sym, take, ◌-◌, ◌∙◌}
 use Rattle.execlist.specs.Lists.{last, sequence}
 use Rattle.std.specs.Prelude.{option_map}
 use Rattle.execmodel.specs.State.{Memory, on_heap}
 use Rattle.execmodel.specs.Lists.{last_of, or_none, removed_tail}
-use Rattle.execlist.specs.Pool.{Pooled}
-use Rattle.execheap.specs.Numbered.{Numbered, address_in, shown_memory}
-use Rattle.execheap.proofs.Linking.{unlinked_nodes, last_shown, tail_taken_shown}
+use Rattle.execheap.specs.declared.kind.Kind.TheVariants as variant
+use Rattle.execheap.specs.Table.{Tabled, slots_of}
+use Rattle.execheap.specs.Numbered.{Numbered, address_in, shown_memory, places}
+use Rattle.execheap.proofs.Linking.{unlinked_table, last_shown, tail_taken_shown}
 use Rattle.execheap.proofs.heap.Heap.rem_tail.Goals as goal
 
 pub returns-in-Ok-clause-answer : goal.returns-in-Ok-clause-answer
@@ -14,9 +15,9 @@ returns-in-Ok-clause-answer g c =
     let f = c.facts.ensures in
     let s = c.self.inside.objects in
     c.address_or_0.ensures
-    ∙ ap (λ (x : Numbered). or_none (option_map (address_in x.nodes.slots) c.rem_tail-n.result)) c.rem_tail-n.ensures.next
-    ∙ ap (λ (r : Pooled ℕ). or_none (option_map (address_in r.slots) c.rem_tail-n.result)) (unlinked_nodes c.in-Ok.h (last (sequence s.sequences c.in-Ok.h)) (take (length (sequence s.sequences c.in-Ok.h) - 1) (sequence s.sequences c.in-Ok.h)) s)
-    ∙ ap (λ n. or_none (option_map (address_in s.nodes.slots) n)) c.rem_tail-n.ensures.value
+    ∙ ap (λ (x : Numbered). or_none (option_map (address_in (places variant.Node x)) c.rem_tail-n.result)) c.rem_tail-n.ensures.next
+    ∙ ap (λ (t : Tabled). or_none (option_map (address_in (slots_of variant.Node t)) c.rem_tail-n.result)) (unlinked_table c.in-Ok.h (last (sequence s.sequences c.in-Ok.h)) (take (length (sequence s.sequences c.in-Ok.h) - 1) (sequence s.sequences c.in-Ok.h)) s)
+    ∙ ap (λ n. or_none (option_map (address_in (places variant.Node s)) n)) c.rem_tail-n.ensures.value
     ∙ sym (last_shown f.sound f.space c.in-Ok.h c.args.list c.in-Ok.ensures.found) ∙ ap (λ (m : Memory). last_of c.args.list m.heap) c.self.view_is
 
 pub returns-in-Ok-clause-next : goal.returns-in-Ok-clause-next

@@ -3,7 +3,8 @@ use Rattle.std.proofs.Common.{ap, sym, ◌∙◌}
 use Rattle.std.specs.Prelude.{option_map}
 use Rattle.execmodel.specs.State.{Memory}
 use Rattle.execmodel.specs.Lists.{succ_of, or_none}
-use Rattle.execheap.specs.Numbered.{address_in}
+use Rattle.execheap.specs.declared.kind.Kind.TheVariants as variant
+use Rattle.execheap.specs.Numbered.{address_in, places}
 use Rattle.execheap.proofs.Linking.{succ_shown}
 use Rattle.execheap.proofs.heap.Heap.succ.Goals as goal
 
@@ -12,5 +13,5 @@ returns-in-Ok-clause-answer g c =
     let f = c.facts.ensures in
     let e = c.in-Ok.ensures in
     let s = c.self.inside.objects in
-    c.address_or_0.ensures ∙ ap (λ n. or_none (option_map (address_in s.nodes.slots) n)) (c.succ.ensures.value _ e.linked)
+    c.address_or_0.ensures ∙ ap (λ n. or_none (option_map (address_in (places variant.Node s)) n)) (c.succ.ensures.value _ e.linked)
     ∙ sym (succ_shown f.sound f.space _ c.in-Ok.n c.args.node e.found e.linked) ∙ ap (λ (m : Memory). succ_of c.args.node m.heap) c.self.view_is

@@ -1,7 +1,8 @@
--- A node is put where its priority says: the live node has a live list.
-use Rattle.std.proofs.Common.{rules}
-use Rattle.execheap.proofs.SoundLinks.{linked_sound}
+-- A linked node and its list still live.
+use Rattle.execheap.proofs.SoundLinks.{linked_kept}
 use Rattle.execheap.proofs.objects.Objects.enqueue.Goals as goal
 
 pub invariant_of-self : goal.invariant_of-self
-invariant_of-self g c = search (rules, linked_sound)
+invariant_of-self g c =
+    let put = c.enqueue.ensures in
+    linked_kept c.self.invariant _ _ _ c.args.h c.args.n _ c.self.view_is put.placed put.homes c.requires.list c.requires.node

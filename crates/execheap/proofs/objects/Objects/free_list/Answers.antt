@@ -1,20 +1,23 @@
--- The block of a list that is empty goes, and its number is free.
-use Rattle.std.proofs.Common.{ap, ◌∙◌, arith}
+-- An empty list is freed where it is shown.
+use Rattle.std.proofs.Common.{ap, ◌∙◌}
 use Rattle.execlist.specs.Lists.{sequence}
 use Rattle.execlist.specs.Pool.{slot}
-use Rattle.execheap.specs.Numbered.{Numbered}
-use Rattle.execheap.proofs.SoundObjects.{live_block, sound_list_freed}
+use Rattle.execmodel.specs.Memory.{freed}
+use Rattle.execheap.specs.declared.kind.Kind.TheVariants as variant
+use Rattle.execheap.specs.Numbered.{Numbered, places, shown_memory}
+use Rattle.execheap.proofs.Lists.{list_freed_kept, list_freed_shown}
 use Rattle.execheap.proofs.objects.Objects.free_list.Goals as goal
-
-pub free_block-requires : goal.free_block-requires
-free_block-requires g c =
-    live_block c.self.invariant 0 c.args.h c.args.address (omega arith)
-    (ap (λ (s : Numbered). slot s.lists.slots c.args.h) c.self.view_is ∙ c.requires.live)
 
 pub invariant_of-self : goal.invariant_of-self
 invariant_of-self g c =
-    rw (c.free_block.ensures, c.release.ensures)
-    (sound_list_freed c.self.invariant c.is_well_formed.ensures c.args.h c.args.address
-    (ap (λ (s : Numbered). slot s.lists.slots c.args.h) c.self.view_is ∙ c.requires.live)
+    let free = c.free.ensures in
+    list_freed_kept c.self.invariant (g.met.S.ListSpace.stands c.self.inside.space) free.sound free.memory c.args.h c.args.address c.free.new.self
+    (ap (λ s. slot (places variant.List s) c.args.h) c.self.view_is ∙ c.requires.live) free.next
     (ap (λ (s : Numbered). sequence s.sequences c.args.h) c.self.view_is ∙ c.requires.empty)
-    (λ n. g.met.S.ListSpace.stands c.self.inside.space c.args.h n))
+
+pub returns : goal.returns
+returns g c =
+    let free = c.free.ensures in
+    list_freed_shown c.self.invariant (g.met.S.ListSpace.stands c.self.inside.space) free.sound free.memory c.args.h c.args.address c.free.new.self
+    (ap (λ s. slot (places variant.List s) c.args.h) c.self.view_is ∙ c.requires.live) free.next
+    ∙ ap (λ s. freed c.args.address (shown_memory s)) c.self.view_is

@@ -1,18 +1,36 @@
--- The block of a message goes, and its number is free.
-use Rattle.std.proofs.Common.{ap, ◌∙◌, arith}
+-- The object is freed where it is shown.
+use Rattle.std.proofs.Common.{ap, refl, ◌∙◌}
+use Rattle.execlist.specs.Lists.{home}
 use Rattle.execlist.specs.Pool.{slot}
-use Rattle.execheap.specs.Numbered.{Numbered}
-use Rattle.execheap.proofs.SoundObjects.{live_block}
-use Rattle.execheap.proofs.SoundPorts.{not_refused, sound_message_freed}
+use Rattle.execmodel.specs.Memory.{freed}
+use Rattle.execheap.specs.declared.kind.Kind.TheVariants as variant
+use Rattle.execheap.specs.Numbered.{Numbered, places, shown_memory}
+use Rattle.execheap.proofs.KeptPorts.{not_refused}
+use Rattle.execheap.proofs.Messages.{message_freed_kept, message_freed_shown, message_loose}
 use Rattle.execheap.proofs.objects.Objects.free_message.Goals as goal
-
-pub free_block-requires : goal.free_block-requires
-free_block-requires g c =
-    live_block c.self.invariant 3 c.args.m c.args.address (omega arith)
-    (ap (λ (s : Numbered). slot s.message_places c.args.m) c.self.view_is ∙ c.requires.live)
 
 pub invariant_of-self : goal.invariant_of-self
 invariant_of-self g c =
-    rw (c.free_block.ensures, not_refused _ _ _ _ _ _ _ c.free_msg.ensures.answer c.unwrap.ensures c.free_msg.ensures.next)
-    (sound_message_freed c.self.invariant c.is_well_formed.ensures c.args.m c.args.address
-    (ap (λ (s : Numbered). slot s.message_places c.args.m) c.self.view_is ∙ c.requires.live))
+    let free = c.free.ensures in
+    message_freed_kept c.self.invariant free.sound free.memory c.args.m c.args.address (ap (λ s. slot (places variant.Message s) c.args.m) c.self.view_is ∙ c.requires.live)
+    c.free.new.self c.free_msg.new.self free.next
+    (not_refused _ _ _ _ _ _ _ c.free_msg.ensures.answer c.unwrap.ensures c.free_msg.ensures.next)
+
+pub returns : goal.returns
+returns g c =
+    let free = c.free.ensures in
+    message_freed_shown c.self.invariant free.sound free.memory c.args.m c.args.address (ap (λ s. slot (places variant.Message s) c.args.m) c.self.view_is ∙ c.requires.live)
+    c.free.new.self c.free_msg.new.self free.next
+    (not_refused _ _ _ _ _ _ _ c.free_msg.ensures.answer c.unwrap.ensures c.free_msg.ensures.next) c.facts.ensures.sound
+    (ap (λ (s : Numbered). home s.ports.places c.args.m) c.self.view_is ∙ c.requires.loose)
+    ∙ ap (λ s. freed c.args.address (shown_memory s)) c.self.view_is
+
+pub unwrap-requires : goal.unwrap-requires
+unwrap-requires g c =
+    let free = c.free.ensures in
+    rw (
+      c.free_msg.ensures.answer,
+      message_loose c.self.invariant free.sound free.memory c.args.m c.args.address
+          (ap (λ s. slot (places variant.Message s) c.args.m) c.self.view_is ∙ c.requires.live)
+          (ap (λ (s : Numbered). home s.ports.places c.args.m) c.self.view_is ∙ c.requires.loose),
+    ) refl

@@ -1,19 +1,24 @@
--- The block of a node that is not linked goes, and its number is free.
-use Rattle.std.proofs.Common.{ap, ◌∙◌, arith}
+-- A node that no list has is freed where it is shown.
+use Rattle.std.proofs.Common.{ap, ◌∙◌}
 use Rattle.execlist.specs.Lists.{home}
 use Rattle.execlist.specs.Pool.{slot}
-use Rattle.execheap.specs.Numbered.{Numbered}
-use Rattle.execheap.proofs.SoundObjects.{live_block, sound_node_freed}
+use Rattle.execmodel.specs.Memory.{freed}
+use Rattle.execheap.specs.declared.kind.Kind.TheVariants as variant
+use Rattle.execheap.specs.Numbered.{Numbered, places, shown_memory}
+use Rattle.execheap.proofs.Nodes.{node_freed_kept, node_freed_shown}
 use Rattle.execheap.proofs.objects.Objects.free_node.Goals as goal
-
-pub free_block-requires : goal.free_block-requires
-free_block-requires g c =
-    live_block c.self.invariant 1 c.args.n c.args.address (omega arith)
-    (ap (λ (s : Numbered). slot s.nodes.slots c.args.n) c.self.view_is ∙ c.requires.live)
 
 pub invariant_of-self : goal.invariant_of-self
 invariant_of-self g c =
-    rw (c.free_block.ensures, c.release.ensures)
-    (sound_node_freed c.self.invariant c.is_well_formed.ensures c.args.n c.args.address
-    (ap (λ (s : Numbered). slot s.nodes.slots c.args.n) c.self.view_is ∙ c.requires.live)
-    (ap (λ (s : Numbered). home s.homes c.args.n) c.self.view_is ∙ c.requires.unlinked))
+    let free = c.free.ensures in
+    node_freed_kept c.self.invariant (g.met.S.ListSpace.stands c.self.inside.space) free.sound free.memory c.args.n c.args.address c.free.new.self
+    (ap (λ s. slot (places variant.Node s) c.args.n) c.self.view_is ∙ c.requires.live) free.next
+    (ap (λ (s : Numbered). home s.homes c.args.n) c.self.view_is ∙ c.requires.unlinked)
+
+pub returns : goal.returns
+returns g c =
+    let free = c.free.ensures in
+    node_freed_shown c.self.invariant (g.met.S.ListSpace.stands c.self.inside.space) free.sound free.memory c.args.n c.args.address c.free.new.self
+    (ap (λ s. slot (places variant.Node s) c.args.n) c.self.view_is ∙ c.requires.live) free.next
+    (ap (λ (s : Numbered). home s.homes c.args.n) c.self.view_is ∙ c.requires.unlinked)
+    ∙ ap (λ s. freed c.args.address (shown_memory s)) c.self.view_is

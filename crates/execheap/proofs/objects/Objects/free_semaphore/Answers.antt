@@ -1,19 +1,29 @@
--- The block of a semaphore goes, and its number is free.
-use Rattle.std.proofs.Common.{ap, ◌∙◌, arith}
+-- The object is freed where it is shown.
+use Rattle.std.proofs.Common.{ap, ◌∙◌}
 use Rattle.execlist.specs.Pool.{slot}
-use Rattle.execheap.specs.Numbered.{Numbered}
+use Rattle.execmodel.specs.Memory.{freed}
+use Rattle.execheap.specs.declared.kind.Kind.TheVariants as variant
+use Rattle.execheap.specs.Numbered.{places, shown_memory}
 use Rattle.execheap.proofs.KeptSemaphores.{not_refused}
-use Rattle.execheap.proofs.SoundObjects.{live_block}
-use Rattle.execheap.proofs.SoundSemaphores.{sound_sem_freed}
+use Rattle.execheap.proofs.Semaphores.{sem_freed_kept, sem_freed_shown, sem_lives}
 use Rattle.execheap.proofs.objects.Objects.free_semaphore.Goals as goal
-
-pub free_block-requires : goal.free_block-requires
-free_block-requires g c =
-    live_block c.self.invariant 4 c.args.n c.args.address (omega arith)
-    (ap (λ (s : Numbered). slot s.semaphore_places c.args.n) c.self.view_is ∙ c.requires.live)
 
 pub invariant_of-self : goal.invariant_of-self
 invariant_of-self g c =
-    rw (c.free_block.ensures, not_refused _ _ _ _ _ _ _ c.free.ensures.answer c.unwrap.ensures c.free.ensures.next)
-    (sound_sem_freed c.self.invariant c.is_well_formed.ensures c.args.n c.args.address
-    (ap (λ (s : Numbered). slot s.semaphore_places c.args.n) c.self.view_is ∙ c.requires.live))
+    let free = c.free.ensures in
+    sem_freed_kept c.self.invariant free.sound free.memory c.args.n c.args.address (ap (λ s. slot (places variant.Semaphore s) c.args.n) c.self.view_is ∙ c.requires.live)
+    c.free.new.self c.free-2.new.self free.next
+    (not_refused _ _ _ _ _ _ _ c.free-2.ensures.answer c.unwrap.ensures c.free-2.ensures.next)
+
+pub returns : goal.returns
+returns g c =
+    let free = c.free.ensures in
+    sem_freed_shown c.self.invariant free.sound free.memory c.args.n c.args.address (ap (λ s. slot (places variant.Semaphore s) c.args.n) c.self.view_is ∙ c.requires.live)
+    c.free.new.self c.free-2.new.self free.next
+    (not_refused _ _ _ _ _ _ _ c.free-2.ensures.answer c.unwrap.ensures c.free-2.ensures.next)
+    ∙ ap (λ s. freed c.args.address (shown_memory s)) c.self.view_is
+
+pub free-requires-2 : goal.free-requires-2
+free-requires-2 g c =
+    let free = c.free.ensures in
+    sem_lives c.self.invariant free.sound free.memory c.args.n c.args.address (ap (λ s. slot (places variant.Semaphore s) c.args.n) c.self.view_is ∙ c.requires.live)

@@ -1,8 +1,6 @@
--- The last node leaves the list, if it has one.
-use Rattle.std.proofs.Common.{refl}
-use Rattle.execheap.proofs.SoundLinks.{taken_sound}
+-- A node that leaves its list, if there is one, has no home.
+use Rattle.execheap.proofs.SoundLinks.{taken_kept}
 use Rattle.execheap.proofs.objects.Objects.rem_tail.Goals as goal
 
 pub invariant_of-self : goal.invariant_of-self
-invariant_of-self g c =
-    taken_sound c.self.invariant c.rem_tail.result c.args.h _ c.rem_tail.ensures.taken c.rem_tail.ensures.homes refl refl refl refl refl refl refl refl
+invariant_of-self g c = taken_kept c.self.invariant _ _ _ c.rem_tail.result c.args.h _ c.rem_tail.ensures.taken c.rem_tail.ensures.homes

@@ -2,11 +2,11 @@
 use Rattle.std.proofs.Common.{ap, refl, ◌∙◌}
 use Rattle.msgport.specs.Ports.{is_message}
 use Rattle.execheap.specs.Numbered.{Numbered}
-use Rattle.execheap.proofs.SoundPorts.{sound_message_set, sound_unless}
+use Rattle.execheap.proofs.KeptPorts.{kept_message_set, kept_unless}
 use Rattle.execheap.proofs.objects.Objects.reply_none.Goals as goal
 
 pub invariant_of-self : goal.invariant_of-self
 invariant_of-self g c =
-    sound_unless c.self.invariant _ _ _ c.reply_none.ensures.next
-    (sound_message_set c.self.invariant _ c.args.m _
+    kept_unless c.self.invariant _ _ _ c.reply_none.ensures.next
+    (kept_message_set c.self.invariant _ c.args.m _
     (ap (λ (s : Numbered). is_message c.args.m s.ports) c.self.view_is ∙ c.requires.message) refl refl)

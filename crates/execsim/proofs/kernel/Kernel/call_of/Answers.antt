@@ -8,6 +8,6 @@ use Rattle.execsim.proofs.kernel.Kernel.call_of.Goals as goal
 
 pub returns : goal.returns
 unfolding call_of
-returns g c = ap (λ arguments. record { word = c.args.command.word; target = c.args.command.target; arguments = arguments; next = c.args.next; awaited = 0 })
-    (first_shown shown_argument (evaluated c.args.t c.args.self.now.scripts) argument_view (length (kinds c.args.command.word))
-    c.evaluate_all.result c.args.command.arguments c.evaluate_all.ensures)
+returns g c = ap (λ arguments. record { word = c.args.command.now.word; target = c.args.command.now.target; arguments = arguments; next = c.args.next; awaited = 0 })
+    (first_shown shown_argument (evaluated c.args.t c.args.self.now.scripts) argument_view (length (kinds c.args.command.now.word))
+    c.evaluate_all.result c.args.command.now.arguments c.evaluate_all.ensures)

@@ -1,8 +1,8 @@
 use Rattle.std.proofs.Common.{take}
 use Rattle.execmodel.specs.Step.{events}
-use Rattle.execsim.specs.Agreement.{Follows}
+use Rattle.execsim.specs.Agreement.{FollowsWhileGood}
 use Rattle.execsim.proofs.kernel.Kernel.events.Given as goal
 
 -- the events so far were followed
 abbrev pub invariant-loop-one : goal.invariant-loop-one
-invariant-loop-one g l = Follows (events (take l.one-index l.list)) l.initial.self l.self (g.W.Sink.tape l.initial.out) (g.W.Sink.tape l.out)
+invariant-loop-one g l = FollowsWhileGood (events (take l.one-index l.list)) l.initial.self l.self (g.W.Sink.tape l.initial.out) (g.W.Sink.tape l.out)

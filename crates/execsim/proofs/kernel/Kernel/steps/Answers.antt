@@ -5,4 +5,4 @@ pub loop-done-init : goal.loop-done-init
 loop-done-init g c = no_steps _ _
 
 pub loop-done-preserved : goal.loop-done-preserved
-loop-done-preserved g c = more_steps _ c.loop-done.invariant c.step.ensures
+loop-done-preserved g c = more_steps _ c.loop-done.invariant c.step_while_good.ensures

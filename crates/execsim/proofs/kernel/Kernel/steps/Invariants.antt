@@ -1,7 +1,7 @@
 use Rattle.execmodel.specs.Step.{steps}
-use Rattle.execsim.specs.Agreement.{Follows}
+use Rattle.execsim.specs.Agreement.{FollowsWhileGood}
 use Rattle.execsim.proofs.kernel.Kernel.steps.Given as goal
 
 -- the steps so far were followed
 abbrev pub invariant-loop-done : goal.invariant-loop-done
-invariant-loop-done g l = Follows (steps l._done) l.initial.self l.self (g.W.Sink.tape l.initial.out) (g.W.Sink.tape l.out)
+invariant-loop-done g l = FollowsWhileGood (steps l._done) l.initial.self l.self (g.W.Sink.tape l.initial.out) (g.W.Sink.tape l.out)

@@ -1,7 +1,7 @@
 use Rattle.execmodel.specs.Step.{ticks}
-use Rattle.execsim.specs.Agreement.{Follows}
+use Rattle.execsim.specs.Agreement.{FollowsWhileGood}
 use Rattle.execsim.proofs.kernel.Kernel.ticks.Given as goal
 
 -- the ticks so far were followed
 abbrev pub invariant-loop-tick : goal.invariant-loop-tick
-invariant-loop-tick g l = Follows (ticks l._tick) l.initial.self l.self (g.W.Sink.tape l.initial.out) (g.W.Sink.tape l.out)
+invariant-loop-tick g l = FollowsWhileGood (ticks l._tick) l.initial.self l.self (g.W.Sink.tape l.initial.out) (g.W.Sink.tape l.out)

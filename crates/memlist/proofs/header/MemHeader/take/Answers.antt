@@ -1,86 +1,85 @@
-use Rattle.std.proofs.Common.{List, ◌≡◌, ◌≤◌, arith, refl, sym, ap, subst, ◌∙◌}
-use Rattle.std.specs.Prelude.{IsSomeAnd, IfSome, slice_get}
-use Rattle.std.proofs.lemmas.Option.{slice_get_within}
+use Rattle.std.proofs.Common.{List, ◌≡◌, ◌-◌, ◌/◌, arith, set, sym, ap, subst, ◌∙◌}
+use Rattle.std.specs.Prelude.{IfSome}
 use Rattle.memlist.specs.declared.gap.Gap.{Gap}
-use Rattle.memlist.specs.Areas.{Area}
+use Rattle.memlist.specs.declared.slot.Slot.{Slot}
+use Rattle.memlist.specs.Areas.{Area, IsHeader}
 use Rattle.memlist.specs.Blocks.{with_block}
-use Rattle.memlist.proofs.Headers.{gaps_shown, read_gap, gap_within, place_within, reach_region, keeps_taken}
+use Rattle.memlist.specs.Chain.{IsSpot, Space}
+use Rattle.memlist.specs.Fit.{lowest_gap}
+use Rattle.memlist.proofs.Headers.{gaps_shown, keeps_taken, place_within, reach_region, spot_within}
 use Rattle.memlist.proofs.header.MemHeader.take.Goals as goal
 
 pub overflow_cast-size : goal.overflow_cast-size
 overflow_cast-size c =
-    let shown = gaps_shown c.self.inside.region c.self.inside.slots.items c.self.inside.gaps.items _ _ c.self.invariant c.self.view_is in
-    let fits = subst (λ (gaps : List Gap). IsSomeAnd (slice_get gaps c.args.place) (λ gap. c.args.size ≤ gap.size)) (sym shown) c.requires.fits in
-    let read = read_gap c.self.inside.gaps.items c.args.place c.args.size c.index-gap.result.now fits c.index-gap.ensures in
-    let w = gap_within c.self.inside.region c.self.inside.slots.items c.self.inside.gaps.items _ c.self.invariant c.args.place c.index-gap.result.now read.at in
-    omega (arith, w.high, read.fits, reach_region c.self.inside.region c.self.invariant.in_reach)
+    let shown = gaps_shown c.self.inside.region c.self.inside.slots.items c.self.inside.space _ c.self.invariant c.self.view_is in
+    let spot = subst (λ (gaps : List Gap). IsSpot c.args.size gaps c.args.before) (sym shown) c.requires.fits in
+    let w = spot_within c.self.inside.region c.self.inside.slots.items c.self.inside.space c.self.invariant c.args.size c.args.before spot in
+    omega (arith, w.high, spot.fits, reach_region c.self.inside.region c.self.invariant.in_reach)
+
+pub take-address-requires-clause-spot : goal.take-address-requires-clause-spot
+take-address-requires-clause-spot c =
+    let shown = gaps_shown c.self.inside.region c.self.inside.slots.items c.self.inside.space _ c.self.invariant c.self.view_is in
+    subst (λ (gaps : List Gap). IsSpot c.args.size gaps c.args.before) (sym shown) c.requires.fits
 
 pub place_of-requires : goal.place_of-requires
 place_of-requires c =
-    let shown = gaps_shown c.self.inside.region c.self.inside.slots.items c.self.inside.gaps.items _ _ c.self.invariant c.self.view_is in
-    let fits = subst (λ (gaps : List Gap). IsSomeAnd (slice_get gaps c.args.place) (λ gap. c.args.size ≤ gap.size)) (sym shown) c.requires.fits in
-    let read = read_gap c.self.inside.gaps.items c.args.place c.args.size c.index-gap.result.now fits c.index-gap.ensures in
-    (gap_within c.self.inside.region c.self.inside.slots.items c.self.inside.gaps.items _ c.self.invariant c.args.place c.index-gap.result.now read.at).low
+    let shown = gaps_shown c.self.inside.region c.self.inside.slots.items c.self.inside.space _ c.self.invariant c.self.view_is in
+    let spot = subst (λ (gaps : List Gap). IsSpot c.args.size gaps c.args.before) (sym shown) c.requires.fits in
+    let w = spot_within c.self.inside.region c.self.inside.slots.items c.self.inside.space c.self.invariant c.args.size c.args.before spot in
+    let took = c.take-address.ensures spot in
+    let at : c.take-address.result ≡ spot.gap.address = took.0 in
+    omega (arith, at, w.low)
 
 pub index_mut-requires : goal.index_mut-requires
 index_mut-requires c =
-    let shown = gaps_shown c.self.inside.region c.self.inside.slots.items c.self.inside.gaps.items _ _ c.self.invariant c.self.view_is in
-    let fits = subst (λ (gaps : List Gap). IsSomeAnd (slice_get gaps c.args.place) (λ gap. c.args.size ≤ gap.size)) (sym shown) c.requires.fits in
-    let read = read_gap c.self.inside.gaps.items c.args.place c.args.size c.index-gap.result.now fits c.index-gap.ensures in
-    let w = gap_within c.self.inside.region c.self.inside.slots.items c.self.inside.gaps.items _ c.self.invariant c.args.place c.index-gap.result.now read.at in
-    omega (arith, place_within c.self.inside.region c.self.inside.slots.items c.index-gap.result.now.address c.self.invariant.units w.low (omega (arith, w.high, w.some)))
-
-pub shorten-requires-clause-place : goal.shorten-requires-clause-place
-shorten-requires-clause-place c =
-    let shown = gaps_shown c.self.inside.region c.self.inside.slots.items c.self.inside.gaps.items _ _ c.self.invariant c.self.view_is in
-    let fits = subst (λ (gaps : List Gap). IsSomeAnd (slice_get gaps c.args.place) (λ gap. c.args.size ≤ gap.size)) (sym shown) c.requires.fits in
-    let read = read_gap c.self.inside.gaps.items c.args.place c.args.size c.index-gap.result.now fits c.index-gap.ensures in
-    omega (arith, slice_get_within c.self.inside.gaps.items c.args.place c.index-gap.result.now read.at)
-
-pub shorten-requires-clause-fits : goal.shorten-requires-clause-fits
-shorten-requires-clause-fits c =
-    let shown = gaps_shown c.self.inside.region c.self.inside.slots.items c.self.inside.gaps.items _ _ c.self.invariant c.self.view_is in
-    let fits = subst (λ (gaps : List Gap). IsSomeAnd (slice_get gaps c.args.place) (λ gap. c.args.size ≤ gap.size)) (sym shown) c.requires.fits in
-    let read = read_gap c.self.inside.gaps.items c.args.place c.args.size c.index-gap.result.now fits c.index-gap.ensures in
-    read.fits
-
-pub shorten-requires-clause-in_reach : goal.shorten-requires-clause-in_reach
-shorten-requires-clause-in_reach c =
-    let shown = gaps_shown c.self.inside.region c.self.inside.slots.items c.self.inside.gaps.items _ _ c.self.invariant c.self.view_is in
-    let fits = subst (λ (gaps : List Gap). IsSomeAnd (slice_get gaps c.args.place) (λ gap. c.args.size ≤ gap.size)) (sym shown) c.requires.fits in
-    let read = read_gap c.self.inside.gaps.items c.args.place c.args.size c.index-gap.result.now fits c.index-gap.ensures in
-    let w = gap_within c.self.inside.region c.self.inside.slots.items c.self.inside.gaps.items _ c.self.invariant c.args.place c.index-gap.result.now read.at in
-    omega (arith, w.high, reach_region c.self.inside.region c.self.invariant.in_reach)
+    let shown = gaps_shown c.self.inside.region c.self.inside.slots.items c.self.inside.space _ c.self.invariant c.self.view_is in
+    let spot = subst (λ (gaps : List Gap). IsSpot c.args.size gaps c.args.before) (sym shown) c.requires.fits in
+    let w = spot_within c.self.inside.region c.self.inside.slots.items c.self.inside.space c.self.invariant c.args.size c.args.before spot in
+    let took = c.take-address.ensures spot in
+    let at : c.take-address.result ≡ spot.gap.address = took.0 in
+    omega (arith, at, place_within c.self.inside.region c.self.inside.slots.items spot.gap.address c.self.invariant.units w.low (omega (arith, w.high, w.some)))
 
 pub invariant_of-self : goal.invariant_of-self
 invariant_of-self c =
-    let shown = gaps_shown c.self.inside.region c.self.inside.slots.items c.self.inside.gaps.items _ _ c.self.invariant c.self.view_is in
-    let fits = subst (λ (gaps : List Gap). IsSomeAnd (slice_get gaps c.args.place) (λ gap. c.args.size ≤ gap.size)) (sym shown) c.requires.fits in
-    let read = read_gap c.self.inside.gaps.items c.args.place c.args.size c.index-gap.result.now fits c.index-gap.ensures in
-    let kept = keeps_taken c.self.inside.region c.self.inside.slots.items c.self.inside.gaps.items _ c.self.invariant c.args.place c.args.size c.args.tag c.place_of.result c.index-gap.result.now read.at c.requires.some c.requires.whole read.fits c.place_of.ensures in
-    rw (c.shorten.ensures.items, c.shorten.ensures.capacity) kept.header
+    let shown = gaps_shown c.self.inside.region c.self.inside.slots.items c.self.inside.space _ c.self.invariant c.self.view_is in
+    let spot = subst (λ (gaps : List Gap). IsSpot c.args.size gaps c.args.before) (sym shown) c.requires.fits in
+    let w = spot_within c.self.inside.region c.self.inside.slots.items c.self.inside.space c.self.invariant c.args.size c.args.before spot in
+    let took = c.take-address.ensures spot in
+    let at : c.take-address.result ≡ spot.gap.address = took.0 in
+    let unit = c.place_of.ensures ∙ ap (λ a. (a - c.self.inside.region.base) / 8) at in
+    let kept = keeps_taken c.self.inside.region c.self.inside.slots.items c.self.inside.space c.self.invariant c.args.before c.args.size c.args.tag c.place_of.result spot c.requires.some c.requires.whole unit in
+    subst (λ (s : Space). IsHeader c.self.inside.region (set c.self.inside.slots.items c.place_of.result (let slot : Slot = record { size = c.args.size; tag = c.args.tag } in slot)) s) (sym took.1) kept.header
 
 pub returns-clause-front : goal.returns-clause-front
 returns-clause-front c =
-    let shown = gaps_shown c.self.inside.region c.self.inside.slots.items c.self.inside.gaps.items _ _ c.self.invariant c.self.view_is in
-    let fits = subst (λ (gaps : List Gap). IsSomeAnd (slice_get gaps c.args.place) (λ gap. c.args.size ≤ gap.size)) (sym shown) c.requires.fits in
-    let read = read_gap c.self.inside.gaps.items c.args.place c.args.size c.index-gap.result.now fits c.index-gap.ensures in
-    subst (λ (gaps : List Gap). IfSome (slice_get gaps c.args.place) (λ gap. c.index-gap.result.now.address ≡ gap.address)) shown
-    (subst (λ o. IfSome o (λ gap. c.index-gap.result.now.address ≡ gap.address)) (sym read.at) refl)
+    let shown = gaps_shown c.self.inside.region c.self.inside.slots.items c.self.inside.space _ c.self.invariant c.self.view_is in
+    let spot = subst (λ (gaps : List Gap). IsSpot c.args.size gaps c.args.before) (sym shown) c.requires.fits in
+    let w = spot_within c.self.inside.region c.self.inside.slots.items c.self.inside.space c.self.invariant c.args.size c.args.before spot in
+    let took = c.take-address.ensures spot in
+    let at : c.take-address.result ≡ spot.gap.address = took.0 in
+    subst (λ (gaps : List Gap). IfSome (lowest_gap c.args.size gaps) (λ gap. c.take-address.result ≡ gap.address)) shown
+    (subst (λ o. IfSome o (λ gap. c.take-address.result ≡ gap.address)) (sym spot.lowest) at)
 
 pub returns-clause-taken : goal.returns-clause-taken
 returns-clause-taken c =
-    let shown = gaps_shown c.self.inside.region c.self.inside.slots.items c.self.inside.gaps.items _ _ c.self.invariant c.self.view_is in
-    let fits = subst (λ (gaps : List Gap). IsSomeAnd (slice_get gaps c.args.place) (λ gap. c.args.size ≤ gap.size)) (sym shown) c.requires.fits in
-    let read = read_gap c.self.inside.gaps.items c.args.place c.args.size c.index-gap.result.now fits c.index-gap.ensures in
-    let kept = keeps_taken c.self.inside.region c.self.inside.slots.items c.self.inside.gaps.items _ c.self.invariant c.args.place c.args.size c.args.tag c.place_of.result c.index-gap.result.now read.at c.requires.some c.requires.whole read.fits c.place_of.ensures in
+    let shown = gaps_shown c.self.inside.region c.self.inside.slots.items c.self.inside.space _ c.self.invariant c.self.view_is in
+    let spot = subst (λ (gaps : List Gap). IsSpot c.args.size gaps c.args.before) (sym shown) c.requires.fits in
+    let w = spot_within c.self.inside.region c.self.inside.slots.items c.self.inside.space c.self.invariant c.args.size c.args.before spot in
+    let took = c.take-address.ensures spot in
+    let at : c.take-address.result ≡ spot.gap.address = took.0 in
+    let unit = c.place_of.ensures ∙ ap (λ a. (a - c.self.inside.region.base) / 8) at in
+    let kept = keeps_taken c.self.inside.region c.self.inside.slots.items c.self.inside.space c.self.invariant c.args.before c.args.size c.args.tag c.place_of.result spot c.requires.some c.requires.whole unit in
     ap (λ bs. let area : Area = record { region = c.self.inside.region; blocks = bs } in area) kept.shown
-    ∙ ap (λ (a : Area). let area : Area = record { region = a.region; blocks = with_block c.index-gap.result.now.address c.args.size c.args.tag a.blocks } in area) c.self.view_is
+    ∙ ap (λ (a : Area). let area : Area = record { region = a.region; blocks = with_block spot.gap.address c.args.size c.args.tag a.blocks } in area) c.self.view_is
+    ∙ ap (λ a. let area : Area = record { region = c.args.self.now.region; blocks = with_block a c.args.size c.args.tag c.args.self.now.blocks } in area) (sym at)
 
 pub returns-clause-laid : goal.returns-clause-laid
 returns-clause-laid c =
-    let shown = gaps_shown c.self.inside.region c.self.inside.slots.items c.self.inside.gaps.items _ _ c.self.invariant c.self.view_is in
-    let fits = subst (λ (gaps : List Gap). IsSomeAnd (slice_get gaps c.args.place) (λ gap. c.args.size ≤ gap.size)) (sym shown) c.requires.fits in
-    let read = read_gap c.self.inside.gaps.items c.args.place c.args.size c.index-gap.result.now fits c.index-gap.ensures in
-    let kept = keeps_taken c.self.inside.region c.self.inside.slots.items c.self.inside.gaps.items _ c.self.invariant c.args.place c.args.size c.args.tag c.place_of.result c.index-gap.result.now read.at c.requires.some c.requires.whole read.fits c.place_of.ensures in
+    let shown = gaps_shown c.self.inside.region c.self.inside.slots.items c.self.inside.space _ c.self.invariant c.self.view_is in
+    let spot = subst (λ (gaps : List Gap). IsSpot c.args.size gaps c.args.before) (sym shown) c.requires.fits in
+    let w = spot_within c.self.inside.region c.self.inside.slots.items c.self.inside.space c.self.invariant c.args.size c.args.before spot in
+    let took = c.take-address.ensures spot in
+    let at : c.take-address.result ≡ spot.gap.address = took.0 in
+    let unit = c.place_of.ensures ∙ ap (λ a. (a - c.self.inside.region.base) / 8) at in
+    let kept = keeps_taken c.self.inside.region c.self.inside.slots.items c.self.inside.space c.self.invariant c.args.before c.args.size c.args.tag c.place_of.result spot c.requires.some c.requires.whole unit in
     kept.header.laid

@@ -5,7 +5,7 @@ use Rattle.memlist.specs.Blocks.{is_in, with_block}
 use Rattle.memlist.specs.Choice.{IsLowest, IsOffer, chosen_of}
 use Rattle.memlist.specs.Fit.{fit, lowest_gap}
 use Rattle.memlist.specs.Memory.{Memory}
-use Rattle.memlist.proofs.Memories.{fit_none, fit_nothing, fit_some, gap_inside, kept_memory, memory_put, offer_within, offered_fits, offered_gap, read_at}
+use Rattle.memlist.proofs.Memories.{fit_none, fit_nothing, fit_some, gap_inside, kept_memory, memory_put, offer_within, offered_gap, read_at}
 use Rattle.memlist.proofs.memory.MemList.alloc_mem.Goals as goal
 
 pub returns-then-size-eq0-clause-address : goal.returns-then-size-eq0-clause-address
@@ -19,23 +19,23 @@ index_mut-requires c =
 pub take-requires-clause-fits : goal.take-requires-clause-fits
 take-requires-clause-fits c =
     let offer = subst (λ (areas : List Area). IsOffer areas c.round-size.result c.args.reqs areas (Some c.in-Some.offer)) c.deref.ensures.value c.in-Some.ensures in
-    let read = read_at (λ (area : Area). (chosen_of c.round-size.result c.args.reqs c.self.inside.headers.items ≡ Some area.region) × IsLowest c.round-size.result (area_gaps area) (Some c.in-Some.offer.gap))
+    let read = read_at (λ (area : Area). (chosen_of c.round-size.result c.args.reqs c.self.inside.headers.items ≡ Some area.region) × IsLowest c.round-size.result (area_gaps area) (Some c.in-Some.offer.before))
     c.self.inside.headers.items c.in-Some.offer.header c.index_mut.result.now offer c.index_mut.ensures.value in
-    offered_fits c.round-size.result (area_gaps c.index_mut.result.now) c.in-Some.offer.gap read.1.1
+    read.1.1
 
 pub invariant_of-self : goal.invariant_of-self
 invariant_of-self c =
     let offer = subst (λ (areas : List Area). IsOffer areas c.round-size.result c.args.reqs areas (Some c.in-Some.offer)) c.deref.ensures.value c.in-Some.ensures in
-    let read = read_at (λ (area : Area). (chosen_of c.round-size.result c.args.reqs c.self.inside.headers.items ≡ Some area.region) × IsLowest c.round-size.result (area_gaps area) (Some c.in-Some.offer.gap))
+    let read = read_at (λ (area : Area). (chosen_of c.round-size.result c.args.reqs c.self.inside.headers.items ≡ Some area.region) × IsLowest c.round-size.result (area_gaps area) (Some c.in-Some.offer.before))
     c.self.inside.headers.items c.in-Some.offer.header c.index_mut.result.now offer c.index_mut.ensures.value in
     kept_memory c.self.inside.headers.items c.in-Some.offer.header c.index_mut.result.now c.take.new.self c.self.invariant read.0 (ap (λ (area : Area). area.region) c.take.ensures.taken) c.take.ensures.laid
 
 pub returns-in-Some-clause-address : goal.returns-in-Some-clause-address
 returns-in-Some-clause-address c =
     let offer = subst (λ (areas : List Area). IsOffer areas c.round-size.result c.args.reqs areas (Some c.in-Some.offer)) c.deref.ensures.value c.in-Some.ensures in
-    let read = read_at (λ (area : Area). (chosen_of c.round-size.result c.args.reqs c.self.inside.headers.items ≡ Some area.region) × IsLowest c.round-size.result (area_gaps area) (Some c.in-Some.offer.gap))
+    let read = read_at (λ (area : Area). (chosen_of c.round-size.result c.args.reqs c.self.inside.headers.items ≡ Some area.region) × IsLowest c.round-size.result (area_gaps area) (Some c.in-Some.offer.before))
     c.self.inside.headers.items c.in-Some.offer.header c.index_mut.result.now offer c.index_mut.ensures.value in
-    let found = offered_gap c.round-size.result (area_gaps c.index_mut.result.now) c.in-Some.offer.gap c.take.result read.1.1 c.take.ensures.front in
+    let found = offered_gap c.round-size.result (area_gaps c.index_mut.result.now) c.in-Some.offer.before c.take.result read.1.1 c.take.ensures.front in
     let choice = ap (λ n. chosen_of n c.args.reqs c.self.inside.headers.items) (sym c.round-size.ensures) ∙ read.1.0 in
     let lowest = ap (λ n. lowest_gap n (area_gaps c.index_mut.result.now)) (sym c.round-size.ensures) ∙ found.lowest in
     ap (λ n. Some n) found.address
@@ -45,10 +45,10 @@ returns-in-Some-clause-address c =
 pub returns-in-Some-clause-allocated : goal.returns-in-Some-clause-allocated
 returns-in-Some-clause-allocated c =
     let offer = subst (λ (areas : List Area). IsOffer areas c.round-size.result c.args.reqs areas (Some c.in-Some.offer)) c.deref.ensures.value c.in-Some.ensures in
-    let read = read_at (λ (area : Area). (chosen_of c.round-size.result c.args.reqs c.self.inside.headers.items ≡ Some area.region) × IsLowest c.round-size.result (area_gaps area) (Some c.in-Some.offer.gap))
+    let read = read_at (λ (area : Area). (chosen_of c.round-size.result c.args.reqs c.self.inside.headers.items ≡ Some area.region) × IsLowest c.round-size.result (area_gaps area) (Some c.in-Some.offer.before))
     c.self.inside.headers.items c.in-Some.offer.header c.index_mut.result.now offer c.index_mut.ensures.value in
-    let found = offered_gap c.round-size.result (area_gaps c.index_mut.result.now) c.in-Some.offer.gap c.take.result read.1.1 c.take.ensures.front in
-    let inside = gap_inside c.self.inside.headers.items c.in-Some.offer.header c.index_mut.result.now c.in-Some.offer.gap found.gap c.self.invariant read.0 found.at in
+    let found = offered_gap c.round-size.result (area_gaps c.index_mut.result.now) c.in-Some.offer.before c.take.result read.1.1 c.take.ensures.front in
+    let inside = gap_inside c.self.inside.headers.items c.in-Some.offer.header c.index_mut.result.now found.below found.gap found.above c.self.invariant read.0 found.is in
     memory_put c.self.inside.headers.items c.in-Some.offer.header c.index_mut.result.now c.take.new.self c.take.result (c.round-size.result, c.args.tag) c.self.invariant read.0
     (ap (is_in c.index_mut.result.now.region) found.address ∙ inside) c.take.ensures.taken
     ∙ ap (λ (m : Memory). let n : Memory = record { regions = m.regions; blocks = with_block c.take.result c.round-size.result c.args.tag m.blocks } in n) c.self.view_is

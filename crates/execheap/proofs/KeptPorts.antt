@@ -1,0 +1,82 @@
+-- What calls on ports and messages leave alone.
+use Rattle.std.proofs.Common.{◌≡◌, ℕ, ◌<◌, ◌≤◌, List, true, false, length, refl, ap, sym, ◌∙◌, subst}
+use Rattle.std.specs.Prelude.{Some, None, Option, Ok, Result, is_ok, is_some, slice_set, unwrap_or, IsTrue}
+use Rattle.memlist.proofs.Answered.{cases_eq}
+use Rattle.execlist.specs.Pool.{Pooled, slot, written}
+use Rattle.execlist.proofs.Pools.{item_of, slot_known, slot_other, slot_same}
+use Rattle.msgport.specs.declared.fault.PortFault.{PortFault}
+use Rattle.msgport.specs.declared.message.Message.{Message}
+use Rattle.msgport.specs.Faults.{fault_or, kept_or}
+use Rattle.msgport.specs.Port.{Port, new_port}
+use Rattle.msgport.specs.Ports.{MessagePorts, is_message, is_port, taken_off, with_port}
+use Rattle.execheap.specs.declared.kind.Kind.{Kind}
+use Rattle.execheap.specs.declared.kind.Kind.TheVariants as variant
+use Rattle.execheap.specs.Table.{pool_of}
+use Rattle.execheap.specs.Numbered.{Numbered, Fits, IsKept, own_shape, shape}
+use Rattle.execheap.proofs.Stepping.{shape_written}
+
+-- a port, if there is one, has a signal of its task's own
+abbrev pub IsOwn : Option Port → Type 0
+IsOwn o = IsTrue (is_some o) → 16 ≤ (unwrap_or o (new_port 0 0)).bit
+
+pub own_set : (ports : List (Option Port)) (n : ℕ) (o : Option Port) → n < length ports → IsOwn o → ((p : ℕ) → IsOwn (slot ports p))
+    → (p : ℕ) → IsOwn (slot (slice_set ports n o) p)
+own_set ports n o known here all p = cases_eq p n
+    (λ e. subst (λ k. IsOwn (slot (slice_set ports n o) k)) (sym e) (subst IsOwn (sym (slot_same ports n o known)) here))
+    (λ e. subst IsOwn (sym (slot_other ports n p o e)) (all p))
+
+-- a call that was not refused
+pub not_refused : {A : Type 0} (fault : Option PortFault) (value answer : A) (result : Result A PortFault) (old new q : MessagePorts)
+    → result ≡ fault_or fault value → result ≡ Ok answer → q ≡ kept_or fault old new → q ≡ new
+not_refused None value answer result old new q is ok next = next
+not_refused (Some fault) value answer result old new q is ok next = let bad : false ≡ true = ap is_ok (sym is ∙ ok) in cc
+
+module _ {s : Numbered} (kept : IsKept s) where
+  -- the same ports and messages live and are free, and each port has a signal of its task's own
+  kept_ports : (q : MessagePorts) → shape q.ports ≡ shape s.ports.ports → shape q.messages ≡ shape s.ports.messages
+      → ((p : ℕ) → IsOwn (slot q.ports.slots p)) → IsKept (record s { ports = q })
+  kept_ports q ports messages own = record {
+    live_nodes = kept.live_nodes;
+    live_lists = kept.live_lists;
+    each_list = kept.each_list;
+    each_node = kept.each_node;
+    in_step = in_step;
+    apt = record { own_signals = own; each_task = kept.apt.each_task };
+  } where
+    in_step : (k : Kind) → Fits (own_shape k (record s { ports = q })) (pool_of k s.table)
+    in_step variant.Port = ports ∙ kept.in_step variant.Port
+    in_step variant.Message = messages ∙ kept.in_step variant.Message
+    in_step variant.Semaphore = kept.in_step variant.Semaphore
+    in_step _ = tt
+
+  -- all ports and messages are as they were
+  pub kept_linked : (q : MessagePorts) → q.ports ≡ s.ports.ports → q.messages ≡ s.ports.messages → IsKept (record s { ports = q })
+  kept_linked q ports messages = kept_ports q (ap shape ports) (ap shape messages)
+      (λ p. subst (λ (r : Pooled Port). IsOwn (slot r.slots p)) (sym ports) (kept.apt.own_signals p))
+
+  -- a message is another one
+  pub kept_message_set : (q : MessagePorts) (m : ℕ) (message : Message) → IsTrue (is_message m s.ports) → q.ports ≡ s.ports.ports
+      → q.messages ≡ written m message s.ports.messages → IsKept (record s { ports = q })
+  kept_message_set q m message lives ports set = kept_ports q (ap shape ports) (ap shape set ∙ shape_written s.ports.messages m message lives)
+      (λ p. subst (λ (r : Pooled Port). IsOwn (slot r.slots p)) (sym ports) (kept.apt.own_signals p))
+
+  -- a port is another one, with a signal of its task's own
+  pub kept_port_set : (q : MessagePorts) (p : ℕ) (port : Port) → IsTrue (is_port p s.ports) → 16 ≤ port.bit
+      → q ≡ with_port p port s.ports → IsKept (record s { ports = q })
+  kept_port_set q p port lives own is =
+      let item = item_of (slot s.ports.ports.slots p) lives in
+      subst (λ r. IsKept (record s { ports = r })) (sym is)
+      (kept_ports (with_port p port s.ports) (shape_written s.ports.ports p port lives) refl
+      (own_set s.ports.ports.slots p (Some port) (slot_known s.ports.ports.slots p item.0 item.1) (λ some. own) kept.apt.own_signals))
+
+  -- a call that may be refused
+  pub kept_unless : (fault : Option PortFault) (q r : MessagePorts) → q ≡ kept_or fault s.ports r → IsKept (record s { ports = r })
+      → IsKept (record s { ports = q })
+  kept_unless None q r is next = subst (λ x. IsKept (record s { ports = x })) (sym is) next
+  kept_unless (Some fault) q r is next = subst (λ x. IsKept (record s { ports = x })) (sym is) kept
+
+  -- the first message of a port, or none, is taken off
+  pub kept_taken : (p : ℕ) (o : Option ℕ) (q : MessagePorts) → q ≡ taken_off p o s.ports → IsKept (record s { ports = q })
+  kept_taken p None q is = subst (λ x. IsKept (record s { ports = x })) (sym is) kept
+  kept_taken p (Some m) q is = subst (λ x. IsKept (record s { ports = x })) (sym is)
+      (kept_linked (taken_off p (Some m) s.ports) refl refl)

@@ -1,0 +1,36 @@
+-- A list is made where it is shown to fit, and is shown where it is made.
+use Rattle.std.proofs.Common.{None, Some, [], ap, ◌∙◌}
+use Rattle.execmodel.specs.State.{ListHead}
+use Rattle.execmodel.specs.Memory.{placed}
+use Rattle.execmodel.specs.Objects.{place_for_object}
+use Rattle.execmodel.specs.Lists.{is_list}
+use Rattle.execheap.specs.declared.kind.Kind.TheVariants as variant
+use Rattle.execheap.specs.Numbered.{shown_memory}
+use Rattle.execheap.proofs.Lists.{list_made_kept, list_made_shown}
+use Rattle.execheap.proofs.Made.{place_made}
+use Rattle.execheap.proofs.objects.Objects.make_list.Goals as goal
+
+pub returns-in_err-list-clause-address : goal.returns-in_err-list-clause-address
+returns-in_err-list-clause-address g c =
+    let make = c.in_err-list.ensures in
+    c.from_residual.ensures ∙ place_made c.self.invariant make.sound variant.List make.stocked None make.answer
+    ∙ ap (λ s. place_for_object is_list 14 (shown_memory s)) c.self.view_is
+
+pub invariant_of-self-2 : goal.invariant_of-self-2
+invariant_of-self-2 g c =
+    let make = c.in_ok-list.ensures in
+    list_made_kept c.self.invariant (g.met.S.ListSpace.stands c.self.inside.space) make.sound make.memory c.in_ok-list.field-0-0 c.in_ok-list.list
+    c.make.new.self make.stocked make.answer make.next
+
+pub returns-clause-address : goal.returns-clause-address
+returns-clause-address g c =
+    let make = c.in_ok-list.ensures in
+    place_made c.self.invariant make.sound variant.List make.stocked (Some (c.in_ok-list.field-0-0, c.in_ok-list.list)) make.answer
+    ∙ ap (λ s. place_for_object is_list 14 (shown_memory s)) c.self.view_is
+
+pub returns-clause-next : goal.returns-clause-next
+returns-clause-next g c =
+    let make = c.in_ok-list.ensures in
+    list_made_shown c.self.invariant (g.met.S.ListSpace.stands c.self.inside.space) make.sound make.memory c.in_ok-list.field-0-0 c.in_ok-list.list
+    c.make.new.self make.stocked make.answer make.next
+    ∙ ap (λ s. placed 14 (ListHead []) (Some c.in_ok-list.list) (shown_memory s)) c.self.view_is

@@ -1,0 +1,102 @@
+-- Which blocks are objects: for each kind the addresses of its objects by number, beside the blocks with their tags.
+use Rattle.std.specs.Prelude.{◌≡◌, ℕ, ◌≤◌, nat_eq, List, [], ◌∷◌, filter, length, slice_index_or, slice_set, Option, None, Some}
+use Rattle.std.specs.Option.{option_map, option_and_then}
+use Rattle.std.specs.List.{AllByRecursion}
+use Rattle.memlist.specs.Memory as memlist
+use Rattle.memlist.specs.declared.region.Region.{Region}
+use Rattle.memlist.specs.Blocks.{Blocks, block_at}
+use Rattle.memlist.specs.Fit.{fit}
+use Rattle.memlist.specs.Memory.{allocated, untouched, without_block}
+use Rattle.execlist.specs.Pool.{Pooled, all_free, given, next_number, released, slot, taken}
+use Rattle.execheap.specs.declared.kind.Kind.{Kind}
+use Rattle.execheap.specs.declared.tag.Tagged.{Tagged}
+use Rattle.execheap.specs.declared.tag.Tagged.TheVariants.{Plain, Object, Library}
+use Rattle.execheap.specs.Tags.{is_of, is_plain, kind_code, kinds, number_in, size_of, tag_of, tagged}
+
+-- the blocks with their tags, and by kind the addresses of its objects by number; of each kind so many may live
+pub record Tabled : Type 0 where
+  pub memory : memlist.Memory
+  pub pools : List (Pooled ℕ)
+  pub pool : ℕ
+
+-- the addresses of the objects of a kind, by number
+abbrev pub pool_of : Kind → Tabled → Pooled ℕ
+pool_of kind t = slice_index_or t.pools (kind_code kind) (all_free 0)
+
+abbrev pub slots_of : Kind → Tabled → List (Option ℕ)
+slots_of kind t = (pool_of kind t).slots
+
+-- the number of the object of a kind that begins at an address
+abbrev pub number_at : Kind → ℕ → Tabled → Option ℕ
+number_at kind address t = option_and_then (λ (block : ℕ × ℕ). number_in kind (tagged block.1)) (block_at address t.memory.blocks)
+
+-- ---- made and freed
+
+-- nothing is allocated, and of each kind so many objects may live
+abbrev pub unused : List Region → ℕ → Tabled
+unused regions pool = record {
+  memory = untouched regions;
+  pools = all_free pool ∷ all_free pool ∷ all_free pool ∷ all_free pool ∷ all_free pool ∷ [];
+  pool = pool;
+}
+
+-- the number and the address of a new object of a kind, if there is a number left and its block fits
+abbrev pub object_at_next : Kind → Option ℕ → Tabled → Option (ℕ × ℕ)
+object_at_next kind None t = None
+object_at_next kind (Some number) t =
+    option_map (λ (address : ℕ). (number, address)) (fit t.memory.regions t.memory.blocks (size_of kind) 1)
+
+-- the number and the address that a new object of a kind would have
+abbrev pub next_object : Kind → Tabled → Option (ℕ × ℕ)
+next_object kind t = object_at_next kind (next_number (pool_of kind t)) t
+
+-- an object of a kind, if there is one, has that number and address
+abbrev pub with_object : Kind → Option (ℕ × ℕ) → Tabled → Tabled
+with_object kind None t = t
+with_object kind (Some made) t = record t {
+  memory = allocated (size_of kind) (tag_of kind made.0) (Some made.1) t.memory;
+  pools = slice_set t.pools (kind_code kind) (given made.1 (pool_of kind t));
+}
+
+-- the object of a kind and a number, which is at an address, is no more
+abbrev pub without_object : Kind → ℕ → ℕ → Tabled → Tabled
+without_object kind number address t = record t {
+  memory = without_block address t.memory;
+  pools = slice_set t.pools (kind_code kind) (released number (pool_of kind t));
+}
+
+-- ---- what always holds
+
+-- the address of what begins at an address
+abbrev pub place_of : Tagged → ℕ → Tabled → Option ℕ
+place_of Plain address t = Some address
+place_of (Object kind number) address t = slot (slots_of kind t) number
+place_of (Library i) address t = None
+
+-- the tag of a block is 0 where it is plain, and else names the object of that address
+abbrev pub IsTagged : Tabled → ℕ × (ℕ × ℕ) → Type 0
+IsTagged t entry =
+    (place_of (tagged entry.1.1) entry.0 t ≡ Some entry.0) × (is_plain (tagged entry.1.1) ≡ nat_eq entry.1.1 0)
+
+-- the tag of the block that begins at an address
+abbrev pub tag_at : ℕ → Blocks → Option ℕ
+tag_at address blocks = option_map (λ (block : ℕ × ℕ). block.1) (block_at address blocks)
+
+-- how many blocks are objects of a kind
+abbrev pub counted : Kind → Blocks → ℕ
+counted kind blocks = length (filter (λ (entry : ℕ × (ℕ × ℕ)). is_of kind (tagged entry.1.1)) blocks)
+
+-- Blocks and numbers tell each other: a tag names the object of its block's address, an object that has an address begins at a block with
+-- its tag, and of each kind as many blocks are tagged as numbers are given.
+pub record IsMatched (t : Tabled) : Type 0 where
+  pub tagged : AllByRecursion (IsTagged t) t.memory.blocks
+  pub complete : (kind : Kind) → (number address : ℕ) → slot (slots_of kind t) number ≡ Some address
+      → tag_at address t.memory.blocks ≡ Some (tag_of kind number)
+  pub count : (kind : Kind) → counted kind t.memory.blocks ≡ taken (slots_of kind t)
+
+-- and there is one pool for each kind, all of one length
+pub record IsSound (t : Tabled) : Type 0 where
+  pub matched : IsMatched t
+  pub each : (kind : Kind) → length (slots_of kind t) ≡ t.pool
+  pub kinds : length t.pools ≡ length kinds
+  pub small : t.pool ≤ 1024

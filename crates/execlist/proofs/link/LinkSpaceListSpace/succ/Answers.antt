@@ -1,0 +1,27 @@
+-- What follows a node is the next cell's.
+use Rattle.std.proofs.Common.{ap, sym, ◌∙◌, arith}
+use Rattle.execlist.specs.Lists.{sequence, home, part_after}
+use Rattle.execlist.specs.Chains.{lists_of, homes_of, node_at}
+use Rattle.execlist.proofs.PlainLemmas.{if_some_from}
+use Rattle.execlist.proofs.Walks.{times_after}
+use Rattle.execlist.proofs.LinkLemmas.{node-in, node-next-in, succ-read, member-home, is-some, first-times}
+use Rattle.execlist.proofs.link.LinkSpaceListSpace.succ.Goals as goal
+
+pub next_id-requires : goal.next_id-requires
+next_id-requires c =
+    let s = c.args.self.now in let ls = s.block.links in
+    let at = is-some (home (homes_of ls s.nodes) c.args.n) c.requires in
+    (node-in s.nodes s.headers ls s.linked c.args.n at.0 at.1, node-next-in s.nodes s.headers ls s.linked c.args.n at.0 at.1)
+
+pub returns-clause-value : goal.returns-clause-value
+returns-clause-value c = λ h own.
+    let s = c.args.self.now in let ls = s.block.links in
+    c.node_at.ensures ∙ ap (node_at s.nodes) c.next_id.ensures ∙ succ-read s.nodes s.headers ls s.linked c.args.n h own
+
+pub returns-clause-home : goal.returns-clause-home
+returns-clause-home c =
+    let s = c.args.self.now in let ls = s.block.links in let seqs = lists_of ls s.nodes s.headers in
+    let at = is-some (home (homes_of ls s.nodes) c.args.n) c.requires in
+    if_some_from c.node_at.result (λ x e.
+    let here = first-times x (part_after c.args.n (sequence seqs at.0)) (sym (returns-clause-value c at.0 at.1) ∙ e) in
+    member-home s.nodes s.headers ls s.linked at.0 x (omega (arith, here, times_after x c.args.n (sequence seqs at.0))) ∙ sym at.1)

@@ -1,0 +1,160 @@
+//! One raw block of cells, linked by pointers: the only part of the crate that touches a pointer. Its
+//! clauses speak of the cells by their numbers, from 0. No pointer is made from a number or becomes one.
+ghost use Rattle.std.specs.Prelude.{◌≡◌, ℕ, ◌*◌, ◌^◌, ◌<◌, ◌≤◌, List, [], ◌∷◌, ◌++◌, ◌+◌, length, IfSome};
+ghost use denote.RawPtr.{Ptr};
+ghost use Rattle.execlist.specs.Links.{Link, link_at, link, linked, unlinked};
+ghost use Rattle.execlist.specs.Ownership.{block_own, block_lent, block_type};
+
+use std::alloc::Allocator;
+use std::marker::{Model, PhantomData};
+
+/// A cell of 24 bytes: the pointers to the next cell and to the one before, its own number, and its header.
+/// A cell that is in no list may point anywhere in the block.
+///
+/// RKM Libraries, Exec Lists and Queues: `ln_Succ` and `ln_Pred` of a node, `lh_Head` and `lh_TailPred` of a header.
+pub struct Cell {
+    next: *mut Cell,
+    prev: *mut Cell,
+    number: u32,
+    /// 0 for none, and one more than the header's number else.
+    home: u32,
+}
+
+/// A block with room for `capacity` cells, of which the first `length links` are there.
+pub struct Block {
+    base: *mut Cell,
+    ghost capacity: { ℕ },
+    ghost links: { List Link },
+    ghost within: { length links ≤ capacity },
+}
+
+impl Model for Block {
+    ghost also_owns = { λ s. block_own s.base s.capacity s.links };
+
+    ghost also_shares = { λ s _ κ. block_lent s.base s.capacity s.links κ };
+}
+
+/// The right to give the block back to `alloc`. It takes no space.
+pub struct Deed<A: Allocator> {
+    marker: PhantomData<A>,
+    ghost alloc: { A },
+    ghost base: { Ptr },
+    ghost capacity: { ℕ },
+}
+
+impl<A: Allocator> Model for Deed<A> {
+    ghost also_owns = { λ d. A.dealloc_token d.alloc (block_type d.capacity) d.base };
+}
+
+/// Takes a block with room for `capacity` cells, none of which is there yet, and the deed to give it back,
+/// or answers none where memory is lacking.
+pub fn reserve<A: Allocator>(alloc: &A, capacity: usize) -> Option<(Block, Deed<A>)>
+    requires { capacity < 2 ^ 32 }
+    ensures { IfSome result (λ r. (r.0.capacity ≡ capacity) × (r.0.links ≡ []) × (r.1.alloc ≡ alloc.now)
+        × (r.1.base ≡ r.0.base) × (r.1.capacity ≡ capacity)) }
+{
+    match alloc.allocate(capacity * 24, 8) {
+        Ok(ptr) => {
+            let base = ptr as *mut Cell;
+            let marker = PhantomData;
+            Some((Block { base }, Deed { marker }))
+        }
+        Err(_) => None,
+    }
+}
+
+impl Block {
+    /// Gives the block back to the allocator that it was taken from. Both the block and its deed are used up.
+    pub fn free<A: Allocator>(self, deed: Deed<A>, alloc: &A, capacity: usize)
+        requires { (deed.alloc ≡ alloc.now) × (deed.base ≡ self.base) × (deed.capacity ≡ self.capacity)
+            × (capacity ≡ self.capacity) }
+    {
+        let Block { base } = self;
+        let Deed { marker: _ } = deed;
+        unsafe { alloc.deallocate(base as *mut u8, capacity * 24, 8) }
+    }
+
+    /// Writes the next cell, of number `cell`, with the cells `next` and `prev` on its sides. `home` is 0 for
+    /// none, and one more than the header's number else; `number` is `cell` in the cell's own width.
+    pub fn push(&mut self, cell: usize, number: u32, next: usize, prev: usize, home: u32)
+        requires { (cell ≡ length self.old.links) × (number ≡ length self.old.links)
+            × (cell < self.old.capacity) × (next < self.old.capacity) × (prev < self.old.capacity) }
+        ensures links { self.new.links ≡ self.old.links ++ link next prev home ∷ [] }
+        ensures block { (self.new.base ≡ self.old.base) × (self.new.capacity ≡ self.old.capacity) }
+    {
+        unsafe {
+            self.base.add(cell).write(Cell {
+                next: self.base.add(next),
+                prev: self.base.add(prev),
+                number,
+                home,
+            });
+        }
+    }
+
+    /// Answers 0 for a cell that has no header, and one more than the header's number else.
+    pub fn home_id(&self, i: usize) -> u32
+        requires { i < length self.now.links }
+        ensures { result ≡ (link_at self.now.links i).home }
+    {
+        unsafe { (*self.base.add(i)).home }
+    }
+
+    /// Answers the number of the next cell.
+    pub fn next_id(&self, i: usize) -> u32
+        requires { (i < length self.now.links) × ((link_at self.now.links i).next < length self.now.links) }
+        ensures { result ≡ (link_at self.now.links i).next }
+    {
+        unsafe {
+            let next = (*self.base.add(i)).next;
+            (*next).number
+        }
+    }
+
+    /// Answers the number of the cell before.
+    pub fn prev_id(&self, i: usize) -> u32
+        requires { (i < length self.now.links) × ((link_at self.now.links i).prev < length self.now.links) }
+        ensures { result ≡ (link_at self.now.links i).prev }
+    {
+        unsafe {
+            let prev = (*self.base.add(i)).prev;
+            (*prev).number
+        }
+    }
+
+    /// Joins the neighbours of a cell, which has no header from then on. Autodoc exec.library/Remove.
+    pub fn unlink(&mut self, c: usize)
+        requires { (c < length self.old.links) × ((link_at self.old.links c).next < length self.old.links)
+            × ((link_at self.old.links c).prev < length self.old.links) }
+        ensures links { self.new.links ≡ unlinked c self.old.links }
+        ensures block { (self.new.base ≡ self.old.base) × (self.new.capacity ≡ self.old.capacity) }
+    {
+        unsafe {
+            let cell = self.base.add(c);
+            let next = (*cell).next;
+            let prev = (*cell).prev;
+            (*prev).next = next;
+            (*next).prev = prev;
+            (*cell).home = 0;
+        }
+    }
+
+    /// Puts the cell `c` between `a` and `b`, with the header of which `h` is one more than the number.
+    /// Autodoc exec.library/Insert.
+    pub fn link_between(&mut self, a: usize, c: usize, b: usize, h: u32)
+        requires { (a < length self.old.links) × (c < length self.old.links) × (b < length self.old.links) }
+        ensures links { self.new.links ≡ linked a c b h self.old.links }
+        ensures block { (self.new.base ≡ self.old.base) × (self.new.capacity ≡ self.old.capacity) }
+    {
+        unsafe {
+            let first = self.base.add(a);
+            let cell = self.base.add(c);
+            let last = self.base.add(b);
+            (*cell).next = last;
+            (*cell).prev = first;
+            (*cell).home = h;
+            (*first).next = cell;
+            (*last).prev = cell;
+        }
+    }
+}

@@ -1,0 +1,287 @@
+//! A list space linked by raw pointers: each header is the two cells at the ends of its list, and each node
+//! a cell. All of it is safe code over the block of cells. No call but a search walks along a list.
+ghost use Rattle.std.specs.Prelude.{find, IfSome, ◌≡◌, ℕ, ◌<◌, ◌≤◌, ◌+◌, ◌*◌, List, Option, Some, None, length, vec_len, if◌then◌else◌};
+ghost use Rattle.execlist.specs.Lists.{sequence, home, is_at, key_at, times, ahead};
+ghost use Rattle.execlist.specs.Chains.{IsLinked, IsLinked-prop, lists_of, homes_of, node_at, cell_before};
+
+use crate::block::{Block, Deed, reserve};
+use crate::digest::DigestKey;
+use crate::key::Name;
+use crate::search::{LowerThan, Named, Sought};
+use crate::space::{HeaderId, ListSpace, NodeId};
+use std::alloc::{AllocError, Global};
+
+/// A place in a list: the head of a header, before its first node; a node; or the tail, after its last node.
+/// RKM Libraries, Exec Lists and Queues: the list header.
+#[derive(Clone, Copy, PartialEq, Eq, Debug)]
+pub enum Place {
+    Head(HeaderId),
+    Node(NodeId),
+    Tail(HeaderId),
+}
+
+/// A list space in one block of cells, with the nodes' keys beside it. Of `nodes` nodes and `headers` headers,
+/// node `n` is cell `n`, and header `h` has the cells `nodes + 2 h` (head) and `nodes + 2 h + 1` (tail).
+/// The block is given back where the space is dropped.
+pub struct LinkSpace {
+    block: Block,
+    deed: Deed<Global>,
+    alloc: Global,
+    headers: usize,
+    nodes: usize,
+    keys: Vec<DigestKey>,
+    ghost keyed: { vec_len keys ≡ length (homes_of block.links nodes) },
+    ghost few: { nodes + headers * 2 ≤ 12288 },
+    ghost deed_alloc: { deed.alloc ≡ alloc },
+    ghost deed_base: { deed.base ≡ block.base },
+    ghost deed_cap: { deed.capacity ≡ block.capacity },
+    ghost whole: { block.capacity ≡ nodes + headers * 2 },
+    ghost linked: { IsLinked nodes headers block.links (lists_of block.links nodes headers) } by { IsLinked-prop nodes headers block.links (lists_of block.links nodes headers) },
+    ghost stands: { (h n : ℕ) → times n (sequence (lists_of block.links nodes headers) h)
+        ≡ (if is_at (home (homes_of block.links nodes) n) h then 1 else 0) },
+}
+
+impl Drop for LinkSpace {
+    fn drop(self) {
+        let LinkSpace {
+            block,
+            deed,
+            alloc,
+            headers,
+            nodes,
+            keys: _,
+        } = self;
+        block.free(deed, &alloc, nodes + headers * 2);
+    }
+}
+
+impl LinkSpace {
+    ghost use Rattle.execlist.specs.DigestKeys.{digest_keys_of};
+
+    /// The cell of the header's head.
+    fn head(&self, h: HeaderId) -> usize
+        requires { h < self.now.headers }
+        ensures { result ≡ self.now.nodes + h * 2 }
+    {
+        self.nodes + h * 2
+    }
+
+    /// The cell after which a node goes: that of a node, or the head of the header for none.
+    fn cell_before(&self, h: HeaderId, pred: Option<NodeId>) -> usize
+        requires { h < self.now.headers }
+        ensures { result ≡ cell_before self.now.nodes h pred }
+    {
+        match pred {
+            None => self.head(h),
+            Some(p) => p,
+        }
+    }
+
+    /// Answers whether the node is sought.
+    #[inline]
+    fn is_sought<W: Sought>(&self, n: NodeId, wanted: &W) -> bool
+        requires { n < length (homes_of self.now.block.links self.now.nodes) }
+        ensures { result ≡ W.wanted wanted.now (key_at (digest_keys_of self.now.keys.items) n) }
+    {
+        wanted.is_met(&self.keys[n])
+    }
+
+    /// Answers the first node that is sought, of `from` and of those after it in its list, or none. Goes from
+    /// `from` on and from the list's last node back, in turn, until the two meet: neither way waits for the other.
+    fn first_sought<W: Sought>(&self, h: HeaderId, from: NodeId, wanted: &W) -> Option<NodeId>
+        requires header { h < length (lists_of self.now.block.links self.now.nodes self.now.headers) }
+        requires home { home (homes_of self.now.block.links self.now.nodes) from ≡ Some h }
+        ensures value { result ≡ find (λ m. W.wanted wanted.now (key_at (digest_keys_of self.now.keys.items) m))
+            (ahead (Some from) (sequence (lists_of self.now.block.links self.now.nodes self.now.headers) h)) }
+        ensures home { IfSome result (λ m. home (homes_of self.now.block.links self.now.nodes) m ≡ Some h) }
+    {
+        let mut next = from;
+        let mut back = self.last(h)?;
+        let mut found = None;
+        loop {
+            if self.is_sought(next, wanted) {
+                return Some(next);
+            }
+            if next == back {
+                return found;
+            }
+            if self.is_sought(back, wanted) {
+                found = Some(back);
+            }
+            next = self.succ(next)?;
+            if next == back {
+                return found;
+            }
+            back = self.pred(back)?;
+        }
+    }
+
+    /// The node that the cell is, or none where it is a header's.
+    fn node_at(&self, cell: u32) -> Option<NodeId>
+        ensures { result ≡ node_at self.now.nodes cell }
+    {
+        let cell = cell as usize;
+        if cell < self.nodes { Some(cell) } else { None }
+    }
+}
+
+impl ListSpace for LinkSpace {
+    ghost use Rattle.execlist.specs.DigestKeys.{digest_key_of, digest_keys_of};
+    ghost use Rattle.std.proofs.Common.{arith};
+    ghost use Rattle.std.proofs.lemmas.List.{length-map};
+
+    ghost sequences = { λ s. lists_of s.block.links s.nodes s.headers };
+
+    ghost homes = { λ s. homes_of s.block.links s.nodes };
+
+    ghost keys = { λ s. digest_keys_of s.keys.items };
+
+    fn new(alloc: Global, headers: usize, nodes: usize) -> Result<Self, AllocError> {
+        let keys = Vec::from_elem(alloc, DigestKey::new(0, None), nodes)?;
+        match reserve(&alloc, nodes + headers * 2) {
+            None => Err(AllocError),
+            Some((mut block, deed)) => {
+                for i in 0..nodes {
+                    block.push(i, i as u32, i, i, 0);
+                }
+                for h in 0..headers {
+                    let head = nodes + h * 2;
+                    block.push(head, head as u32, head + 1, head, (h + 1) as u32);
+                    block.push(head + 1, (head + 1) as u32, head + 1, head, (h + 1) as u32);
+                }
+                Ok(LinkSpace {
+                    block,
+                    deed,
+                    alloc,
+                    headers,
+                    nodes,
+                    keys,
+                })
+            }
+        }
+    }
+
+    fn insert(&mut self, h: HeaderId, n: NodeId, pred: Option<NodeId>) {
+        let before = self.cell_before(h, pred);
+        let after = self.block.next_id(before) as usize;
+        self.block.link_between(before, n, after, (h + 1) as u32);
+    }
+
+    fn remove(&mut self, n: NodeId) {
+        self.block.unlink(n);
+    }
+
+    fn first(&self, h: HeaderId) -> Option<NodeId> {
+        self.node_at(self.block.next_id(self.head(h)))
+    }
+
+    fn last(&self, h: HeaderId) -> Option<NodeId> {
+        self.node_at(self.block.prev_id(self.head(h) + 1))
+    }
+
+    fn succ(&self, n: NodeId) -> Option<NodeId> {
+        self.node_at(self.block.next_id(n))
+    }
+
+    fn pred(&self, n: NodeId) -> Option<NodeId> {
+        self.node_at(self.block.prev_id(n))
+    }
+
+    fn home(&self, n: NodeId) -> Option<HeaderId> {
+        let home = self.block.home_id(n);
+        if home == 0 {
+            None
+        } else {
+            Some(home as usize - 1)
+        }
+    }
+
+    fn set_key(&mut self, n: NodeId, pri: i8, name: Option<Name>) {
+        self.keys[n] = DigestKey::new(pri, name);
+    }
+
+    fn pri(&self, n: NodeId) -> i8 {
+        self.keys[n].pri()
+    }
+
+    fn has_name(&self, n: NodeId, name: &str) -> bool {
+        self.keys[n].is_named(name)
+    }
+
+    // The two searches below have bodies of their own, which go from both ends.
+    fn find_name(&self, h: HeaderId, after: Option<NodeId>, name: &str) -> Option<NodeId> {
+        let from = match after {
+            None => self.first(h),
+            Some(n) => self.succ(n),
+        };
+        self.first_sought(h, from?, &Named::new(name))
+    }
+
+    fn enqueue(&mut self, h: HeaderId, n: NodeId) {
+        let lower = match self.first(h) {
+            None => None,
+            Some(front) => self.first_sought(h, front, &LowerThan { pri: self.pri(n) }),
+        };
+        let after = match lower {
+            Some(m) => self.pred(m),
+            None => self.last(h),
+        };
+        self.insert(h, n, after);
+    }
+
+    ghost stands = { λ s. s.stands };
+
+    ghost keyed = { λ s. omega (arith, length-map s.keys.items digest_key_of, s.keys.ok.0, s.keyed) };
+}
+
+impl LinkSpace {
+    ghost use Rattle.execlist.specs.Places.{IsPlace, node_or, next_place, prev_place};
+
+    /// Answers the place after one: from the head of a header its nodes in their order, then its tail.
+    /// Answers none after a tail and after a node that stands in no list. Takes no memory.
+    /// RKM Libraries, Exec Lists and Queues: `ln_Succ`.
+    pub fn next_cell(&self, c: Place) -> Option<Place>
+        requires { IsPlace (⟦<LinkSpace as ListSpace>⟧.sequences self.now)
+            (⟦<LinkSpace as ListSpace>⟧.homes self.now) c }
+        ensures { result ≡ next_place (⟦<LinkSpace as ListSpace>⟧.sequences self.now)
+            (⟦<LinkSpace as ListSpace>⟧.homes self.now) c }
+    {
+        match c {
+            Place::Head(h) => Some(Self::place_or(self.first(h), Place::Tail(h))),
+            Place::Node(n) => {
+                let h = self.home(n)?;
+                Some(Self::place_or(self.succ(n), Place::Tail(h)))
+            }
+            Place::Tail(_) => None,
+        }
+    }
+
+    /// Answers the place before one: from the tail of a header its nodes from the last on, then its head.
+    /// Answers none before a head and before a node that stands in no list. Takes no memory.
+    /// RKM Libraries, Exec Lists and Queues: `ln_Pred`.
+    pub fn prev_cell(&self, c: Place) -> Option<Place>
+        requires { IsPlace (⟦<LinkSpace as ListSpace>⟧.sequences self.now)
+            (⟦<LinkSpace as ListSpace>⟧.homes self.now) c }
+        ensures { result ≡ prev_place (⟦<LinkSpace as ListSpace>⟧.sequences self.now)
+            (⟦<LinkSpace as ListSpace>⟧.homes self.now) c }
+    {
+        match c {
+            Place::Head(_) => None,
+            Place::Node(n) => {
+                let h = self.home(n)?;
+                Some(Self::place_or(self.pred(n), Place::Head(h)))
+            }
+            Place::Tail(h) => Some(Self::place_or(self.last(h), Place::Head(h))),
+        }
+    }
+
+    /// The place of a node, or else that end of its list.
+    fn place_or(node: Option<NodeId>, end: Place) -> Place
+        ensures { result ≡ node_or end node }
+    {
+        match node {
+            None => end,
+            Some(n) => Place::Node(n),
+        }
+    }
+}

@@ -1,0 +1,295 @@
+-- Messages leave a port in the order in which they came.
+use Rattle.std.proofs.Common.{◌≡◌, ◌≢◌, ℕ, Bool, true, false, List, [], ◌∷◌, ◌++◌, Option, None, Some, refl, sym, ap, ◌∙◌, subst}
+use Rattle.std.specs.Prelude.{cond, if◌then◌else◌, nat_eq, map, drop, ◌==◌, ◌||◌}
+use Rattle.std.specs.Option.{option_map}
+use Rattle.std.specs.List.{list_any}
+use Rattle.memlist.specs.declared.region.Region.{Region}
+use Rattle.memlist.specs.Memory.{IsWellFormed}
+use Rattle.memlist.proofs.Answered.{nat_eq-same, nat_eq-other, cases_eq}
+use Rattle.execlist.specs.Order.{first}
+use Rattle.execmodel.specs.State.{Call, Object, Plain, ListHead, Node, MsgPort, Message, Semaphore, Block, Heap, Mark}
+use Rattle.execmodel.specs.Objects.{object_at, is_kind, replaced}
+use Rattle.execmodel.specs.Memory.{extents, block_at}
+use Rattle.execmodel.specs.Lists.{is_list, is_list_at, with_nodes, unlinked, left_by}
+use Rattle.execmodel.specs.Ports.{is_port, is_message, is_port_at, is_message_at, messages_in, messages_of_object, messages_of, is_queued, has_message, with_port, with_action, appended, taken_off}
+use Rattle.execmodel.specs.Semaphores.{is_semaphore, is_semaphore_at, with_semaphore, left_by_task, entered, queued, dropped, handed_on, released_once, awaited_by}
+use Rattle.execmodel.specs.Queues.{Turn, Came, Served}
+use Rattle.execmodel.specs.Marks.{turn_at, turns_at_port}
+use Rattle.execmodel.proofs.Queues.{Turns, Follows, IsAway}
+use Rattle.execmodel.proofs.Heaps.{filled, instead, object_replaced, object_remade, object_placed_here, object_placed_there, object_rid_here, object_rid_there, true_is_not_false}
+use Rattle.execmodel.proofs.Formed.{placed_fresh}
+use Rattle.msgport.specs.Port.{Port}
+use Rattle.msgport.specs.declared.message.Message.{Message as Content}
+use Rattle.sigsem.specs.declared.semaphore.Sem.{Sem}
+use Rattle.memlist.specs.Fit.{round}
+use Rattle.std.specs.Ordering.{nat_cmp, eq_by_cmp}
+use Rattle.execmodel.proofs.Moves.{none_some, IsNew, MayGo, leaving_marks, Moves, stays, places, frees, relists, unlinks, sets, fills, puts, gets, enters, queues, hands, opens, releases, drops}
+
+pub both_false : {A : Type 0} (b c : Bool) → (b || c) ≡ false → (b ≡ false → c ≡ false → A) → A
+both_false true c e f = true_is_not_false e
+both_false false c e f = f refl e
+
+some_same : {x y : ℕ} → Some x ≡ Some y → x ≡ y
+some_same {x} {y} e = cc
+
+-- ---- what has no messages
+
+instead_none : (object : Object) (found : Option Object) → messages_in object ≡ [] → messages_of_object (instead object found) ≡ []
+instead_none object None e = refl
+instead_none object (Some other) e = e
+
+-- an object in place of one without messages, which has none either
+quietly : (test : Bool) (object : Object) (found : Option Object) → messages_in object ≡ []
+    → (test ≡ true → messages_of_object found ≡ [])
+    → messages_of_object (if test then instead object found else found) ≡ messages_of_object found
+quietly true object found e none = instead_none object found e ∙ sym (none refl)
+quietly false object found e none = refl
+
+no_port : (kind : Object → Bool) → ((object : Object) → kind object ≡ true → messages_in object ≡ []) → (found : Option Object)
+    → is_kind kind found ≡ true → messages_of_object found ≡ []
+no_port kind none None is = refl
+no_port kind none (Some object) is = none object is
+
+list_none : (object : Object) → is_list object ≡ true → messages_in object ≡ []
+list_none Plain is = refl
+list_none (ListHead nodes) is = refl
+list_none (Node key) is = refl
+list_none (MsgPort port messages) is = true_is_not_false (sym is)
+list_none (Message content) is = refl
+list_none (Semaphore sem waiters) is = refl
+
+message_none : (object : Object) → is_message object ≡ true → messages_in object ≡ []
+message_none Plain is = refl
+message_none (ListHead nodes) is = refl
+message_none (Node key) is = refl
+message_none (MsgPort port messages) is = true_is_not_false (sym is)
+message_none (Message content) is = refl
+message_none (Semaphore sem waiters) is = refl
+
+semaphore_none : (object : Object) → is_semaphore object ≡ true → messages_in object ≡ []
+semaphore_none Plain is = refl
+semaphore_none (ListHead nodes) is = refl
+semaphore_none (Node key) is = refl
+semaphore_none (MsgPort port messages) is = true_is_not_false (sym is)
+semaphore_none (Message content) is = refl
+semaphore_none (Semaphore sem waiters) is = refl
+
+new_none : (object : Object) → IsNew object → messages_in object ≡ []
+new_none Plain is = refl
+new_none (ListHead nodes) is = refl
+new_none (Node key) is = refl
+new_none (MsgPort port messages) is = is
+new_none (Message content) is = refl
+new_none (Semaphore sem waiters) is = refl
+
+pub first_none : (messages : List ℕ) → first messages ≡ None → messages ≡ []
+first_none [] e = refl
+first_none (m ∷ messages) e = none_some e
+
+gone_none : (found : Option Object) → MayGo found → messages_of_object found ≡ []
+gone_none None may = refl
+gone_none (Some Plain) may = refl
+gone_none (Some (ListHead nodes)) may = refl
+gone_none (Some (Node key)) may = refl
+gone_none (Some (MsgPort port messages)) may = first_none messages may
+gone_none (Some (Message content)) may = refl
+gone_none (Some (Semaphore sem waiters)) may = refl
+
+-- ---- what begins at an address becomes another
+
+-- at an address where something without messages begins, that becomes something without messages
+still_none : (address : ℕ) (object : Object) (kind : Object → Bool) (p : ℕ) (heap : Heap) → messages_in object ≡ []
+    → ((other : Object) → kind other ≡ true → messages_in other ≡ []) → is_kind kind (object_at address heap) ≡ true
+    → messages_of p (map (replaced address object) heap) ≡ messages_of p heap
+unfolding messages_of
+still_none address object kind p heap e none is =
+    ap (λ found. messages_of_object found) (object_replaced address object p heap)
+    ∙ cases_eq p address
+    (λ same. quietly (nat_eq p address) object (object_at p heap) e
+    (λ t. no_port kind none (object_at p heap) (subst (λ a. is_kind kind (object_at a heap) ≡ true) (sym same) is)))
+    (λ apart. ap (λ test. messages_of_object (if test then instead object (object_at p heap) else object_at p heap)) (nat_eq-other p address apart))
+
+remade_none : (f : Object → Object) → ((object : Object) → messages_in (f object) ≡ messages_in object) → (found : Option Object)
+    → messages_of_object (option_map f found) ≡ messages_of_object found
+remade_none f same None = refl
+remade_none f same (Some object) = same object
+
+all_remade : (f : Object → Object) → ((object : Object) → messages_in (f object) ≡ messages_in object) → (p : ℕ) (heap : Heap)
+    → messages_of p (map (λ (entry : ℕ × Block). (entry.0, record entry.1 { object = f entry.1.object })) heap) ≡ messages_of p heap
+unfolding messages_of
+all_remade f same p heap = ap (λ found. messages_of_object found) (object_remade f p heap) ∙ remade_none f same (object_at p heap)
+
+left_same : (node : ℕ) (object : Object) → messages_in (left_by node object) ≡ messages_in object
+left_same node Plain = refl
+left_same node (ListHead nodes) = refl
+left_same node (Node key) = refl
+left_same node (MsgPort port messages) = refl
+left_same node (Message content) = refl
+left_same node (Semaphore sem waiters) = refl
+
+task_left_same : (t : ℕ) (object : Object) → messages_in (left_by_task t object) ≡ messages_in object
+task_left_same t Plain = refl
+task_left_same t (ListHead nodes) = refl
+task_left_same t (Node key) = refl
+task_left_same t (MsgPort port messages) = refl
+task_left_same t (Message content) = refl
+task_left_same t (Semaphore sem waiters) = refl
+
+-- ---- what a port has
+
+is_there : (object : Object) (found : Option Object) → is_kind is_port found ≡ true → instead object found ≡ Some object
+is_there object None is = true_is_not_false (sym is)
+is_there object (Some other) is = refl
+
+-- the messages of a port that gets other ones, and of any other
+port_there : (port : ℕ) (act : Port) (messages : List ℕ) (heap : Heap) → is_port_at port heap ≡ true
+    → messages_of port (with_port port act messages heap) ≡ messages
+unfolding messages_of with_port is_port_at
+port_there port act messages heap is =
+    ap (λ found. messages_of_object found)
+    (object_replaced port (MsgPort act messages) port heap
+    ∙ ap (λ test. if test then instead (MsgPort act messages) (object_at port heap) else object_at port heap) (nat_eq-same port)
+    ∙ is_there (MsgPort act messages) (object_at port heap) is)
+
+port_elsewhere : (p port : ℕ) (act : Port) (messages : List ℕ) (heap : Heap) → p ≢ port
+    → messages_of p (with_port port act messages heap) ≡ messages_of p heap
+unfolding messages_of with_port
+port_elsewhere p port act messages heap apart =
+    ap (λ found. messages_of_object found)
+    (object_replaced port (MsgPort act messages) p heap
+    ∙ ap (λ test. if test then instead (MsgPort act messages) (object_at p heap) else object_at p heap) (nat_eq-other p port apart))
+
+port_and_message : (found : Option Object) → is_kind is_port found ≡ true → is_kind is_message found ≡ true → ⊥
+port_and_message None is also = true_is_not_false (sym is)
+port_and_message (Some Plain) is also = true_is_not_false (sym is)
+port_and_message (Some (ListHead nodes)) is also = true_is_not_false (sym is)
+port_and_message (Some (Node key)) is also = true_is_not_false (sym is)
+port_and_message (Some (MsgPort port messages)) is also = true_is_not_false (sym also)
+port_and_message (Some (Message content)) is also = true_is_not_false (sym is)
+port_and_message (Some (Semaphore sem waiters)) is also = true_is_not_false (sym is)
+
+-- a port stays one where a message gets another content
+pub port_stays : (port message : ℕ) (content : Content) (heap : Heap) → is_port_at port heap ≡ true → is_message_at message heap ≡ true
+    → is_port_at port (filled message content heap) ≡ true
+unfolding is_port_at is_message_at
+port_stays port message content heap is also =
+    ap (λ found. is_kind is_port found) (object_replaced message (Message content) port heap
+    ∙ ap (λ test. if test then instead (Message content) (object_at port heap) else object_at port heap)
+    (nat_eq-other port message
+    (λ same. port_and_message (object_at port heap) is (subst (λ a. is_kind is_message (object_at a heap) ≡ true) (sym same) also))))
+    ∙ is
+
+content_still : (message : ℕ) (content : Content) (p : ℕ) (heap : Heap) → is_message_at message heap ≡ true
+    → messages_of p (filled message content heap) ≡ messages_of p heap
+unfolding is_message_at
+content_still message content p heap is = still_none message (Message content) is_message p heap refl message_none is
+
+semaphore_still : (semaphore : ℕ) (sem : Sem) (waiters : List ℕ) (p : ℕ) (heap : Heap) → is_semaphore_at semaphore heap ≡ true
+    → messages_of p (with_semaphore semaphore sem waiters heap) ≡ messages_of p heap
+unfolding with_semaphore is_semaphore_at
+semaphore_still semaphore sem waiters p heap is = still_none semaphore (Semaphore sem waiters) is_semaphore p heap refl semaphore_none is
+
+-- a message that is queued nowhere stands in no port
+away_from : (message : ℕ) (messages : List ℕ) → list_any (λ other. other == message) messages ≡ false → IsAway message messages
+away_from message [] e = tt
+away_from message (other ∷ rest) e =
+    both_false (nat_eq other message) (list_any (λ x. x == message) rest) e
+    (λ here there. ((λ same. true_is_not_false (sym (ap (λ k. nat_eq k message) (sym same) ∙ nat_eq-same message) ∙ here)), away_from message rest there))
+
+entry_away : (message : ℕ) (test : Bool) (block : Block) (found : Option Block)
+    → list_any (λ other. other == message) (messages_in block.object) ≡ false
+    → IsAway message (messages_of_object (option_map (λ (b : Block). b.object) found))
+    → IsAway message (messages_of_object (option_map (λ (b : Block). b.object) (cond test (Some block) found)))
+entry_away message true block found here there = away_from message (messages_in block.object) here
+entry_away message false block found here there = there
+
+queued_nowhere : (message p : ℕ) (heap : Heap) → list_any (has_message message) heap ≡ false → IsAway message (messages_of_object (object_at p heap))
+queued_nowhere message p [] e = tt
+queued_nowhere message p (entry ∷ rest) e =
+    both_false (has_message message entry) (list_any (has_message message) rest) e
+    (λ here there. entry_away message (eq_by_cmp nat_cmp p entry.0) entry.1 (block_at p rest) here (queued_nowhere message p rest there))
+
+is_away : (message port : ℕ) (heap : Heap) → is_queued message heap ≡ false → IsAway message (messages_of port heap)
+unfolding is_queued messages_of
+is_away message port heap e = queued_nowhere message port heap e
+
+pub first_is : (message : ℕ) (messages : List ℕ) → first messages ≡ Some message → messages ≡ message ∷ drop 1 messages
+first_is message [] e = none_some (sym e)
+first_is message (m ∷ messages) e = ap (λ k. k ∷ messages) (some_same e)
+
+-- ---- each thing that a call makes of the blocks
+
+-- one turn, where it is at this address
+pub turned : (p address : ℕ) (turn : Turn) (old new : List ℕ) → (p ≡ address → Turns turn old new) → (p ≢ address → new ≡ old)
+    → Follows old (turn_at p address turn ++ []) new
+turned p address turn old new here there =
+    cases_eq p address
+    (λ same. subst (λ test. Follows old ((if test then turn ∷ [] else []) ++ []) new)
+    (sym (ap (λ k. nat_eq p k) (sym same) ∙ nat_eq-same p)) (new, here same, refl))
+    (λ apart. subst (λ test. Follows old ((if test then turn ∷ [] else []) ++ []) new) (sym (nat_eq-other p address apart)) (there apart))
+
+semaphore_kept : (t : ℕ) (found : Option Object) → is_kind is_semaphore (option_map (left_by_task t) found) ≡ is_kind is_semaphore found
+semaphore_kept t None = refl
+semaphore_kept t (Some Plain) = refl
+semaphore_kept t (Some (ListHead nodes)) = refl
+semaphore_kept t (Some (Node key)) = refl
+semaphore_kept t (Some (MsgPort port messages)) = refl
+semaphore_kept t (Some (Message content)) = refl
+semaphore_kept t (Some (Semaphore sem waiters)) = refl
+
+pub still_semaphore : (t semaphore : ℕ) (heap : Heap) → is_semaphore_at semaphore heap ≡ true → is_semaphore_at semaphore (dropped t heap) ≡ true
+unfolding is_semaphore_at dropped
+still_semaphore t semaphore heap is =
+    ap (λ found. is_kind is_semaphore found) (object_remade (left_by_task t) semaphore heap)
+    ∙ semaphore_kept t (object_at semaphore heap) ∙ is
+
+left_marks : (semaphore : Option ℕ) (t p : ℕ) → turns_at_port p (leaving_marks semaphore t) ≡ []
+left_marks None t p = refl
+left_marks (Some semaphore) t p = refl
+
+pub moves_follow : (regions : List Region) (t : ℕ) (call : Call) (old : Heap) (marks : List Mark) (new : Heap) → Moves regions t call old marks new
+    → IsWellFormed regions (extents old) → (p : ℕ) → Follows (messages_of p old) (turns_at_port p marks) (messages_of p new)
+unfolding with_nodes unlinked with_action appended taken_off entered queued dropped handed_on released_once is_list_at
+moves_follow regions t call old marks new stays formed p = refl
+moves_follow regions t call old marks new (places size reqs address object is fits) formed p =
+    unfold messages_of in cases_eq p address
+    (λ same. ap (λ found. messages_of_object found) (ap (λ a. object_at a new) same ∙ object_placed_here address (round size) object old)
+    ∙ new_none object is
+    ∙ sym (ap (λ found. messages_of_object found) (ap (λ a. object_at a old) same ∙ placed_fresh regions size reqs address old formed fits)))
+    (λ apart. ap (λ found. messages_of_object found) (object_placed_there p address _ old apart))
+moves_follow regions t call old marks new (frees address may) formed p =
+    unfold messages_of in cases_eq p address
+    (λ same. ap (λ found. messages_of_object found) (ap (λ a. object_at a new) same ∙ object_rid_here address old)
+    ∙ sym (ap (λ a. messages_of_object (object_at a old)) same ∙ gone_none (object_at address old) may))
+    (λ apart. ap (λ found. messages_of_object found) (object_rid_there p address old apart))
+moves_follow regions t call old marks new (relists list nodes is) formed p = still_none list (ListHead nodes) is_list p old refl list_none is
+moves_follow regions t call old marks new (unlinks node) formed p = all_remade (left_by node) (left_same node) p old
+moves_follow regions t call old marks new (sets act port is) formed p =
+    cases_eq p port
+    (λ same. ap (λ a. messages_of a new) same ∙ port_there port _ (messages_of port old) old is ∙ sym (ap (λ a. messages_of a old) same))
+    (λ apart. port_elsewhere p port _ (messages_of port old) old apart)
+moves_follow regions t call old marks new (fills message content is) formed p = content_still message content p old is
+moves_follow regions t call old marks new (puts port message content is also loose) formed p =
+    let mid = filled message content old in
+    turned p port (Came message) (messages_of p old) (messages_of p new)
+    (λ same. (
+      subst (λ a. IsAway message (messages_of a old)) (sym same) (is_away message port old loose),
+      ap (λ a. messages_of a new) same
+          ∙ port_there port _ (messages_of port mid ++ message ∷ []) mid (port_stays port message _ old is also)
+          ∙ ap (λ q. q ++ message ∷ []) (content_still message _ port old also ∙ sym (ap (λ a. messages_of a old) same)),
+    ))
+    (λ apart. port_elsewhere p port _ (messages_of port mid ++ message ∷ []) mid apart ∙ content_still message _ p old also)
+moves_follow regions t call old marks new (gets port message is e) formed p =
+    turned p port (Served message) (messages_of p old) (messages_of p new)
+    (λ same. ap (λ a. messages_of a old) same ∙ first_is message (messages_of port old) e
+    ∙ ap (λ q. message ∷ q) (sym (ap (λ a. messages_of a new) same ∙ port_there port _ (drop 1 (messages_of port old)) old is)))
+    (λ apart. port_elsewhere p port _ (drop 1 (messages_of port old)) old apart)
+moves_follow regions t call old marks new (enters semaphore is e) formed p = semaphore_still semaphore _ _ p old is
+moves_follow regions t call old marks new (queues semaphore is e) formed p =
+    semaphore_still semaphore _ _ p (dropped t old) (still_semaphore t semaphore old is) ∙ all_remade (left_by_task t) (task_left_same t) p old
+moves_follow regions t call old marks new (hands semaphore owner release is last e) formed p = semaphore_still semaphore _ _ p old is
+moves_follow regions t call old marks new (opens semaphore release is last e) formed p = semaphore_still semaphore _ _ p old is
+moves_follow regions t call old marks new (releases semaphore is last) formed p = semaphore_still semaphore _ _ p old is
+moves_follow regions t call old marks new (drops other apart) formed p =
+    subst (λ turns. Follows (messages_of p old) turns (messages_of p new)) (sym (left_marks (awaited_by other old) other p))
+    (all_remade (left_by_task other) (task_left_same other) p old)

@@ -1,0 +1,123 @@
+-- Blocks lie in the regions and do not meet, whatever a call does.
+use Rattle.std.proofs.Common.{◌≡◌, ℕ, Bool, true, false, List, [], ◌∷◌, Option, None, Some, refl, sym, ap, ◌∙◌, subst}
+use Rattle.std.specs.Prelude.{not, cond, if◌then◌else◌, nat_eq, map}
+use Rattle.std.specs.Option.{option_map}
+use Rattle.std.specs.Ordering.{nat_cmp, eq_by_cmp}
+use Rattle.std.specs.declared.cmp.Ordering.{Ordering}
+use Rattle.std.specs.declared.cmp.Ordering.TheVariants.{Less, Equal, Greater}
+use Rattle.std.specs.FinMap.{find, put}
+use Rattle.std.specs.FinMap.Entries.{by_order}
+use Rattle.memlist.specs.declared.region.Region.{Region}
+use Rattle.memlist.specs.Blocks.{Blocks, freed}
+use Rattle.memlist.specs.Fit.{fit, round}
+use Rattle.memlist.specs.Memory.{IsWellFormed}
+use Rattle.memlist.proofs.Fitting.{fitted_well_formed}
+use Rattle.memlist.proofs.Keeping.{freed_well_formed}
+use Rattle.memlist.proofs.Addresses.{fitted_fresh}
+use Rattle.execmodel.specs.State.{Call, Object, Block, Heap, Mark}
+use Rattle.execmodel.specs.Objects.{object_at, replaced}
+use Rattle.execmodel.specs.Memory.{extents, block_at}
+use Rattle.execmodel.specs.Lists.{with_nodes, unlinked, left_by}
+use Rattle.execmodel.specs.Ports.{with_action, with_port, appended, taken_off}
+use Rattle.execmodel.specs.Semaphores.{with_semaphore, left_by_task, entered, queued, dropped, handed_on, released_once}
+use Rattle.execmodel.proofs.Heaps.{rid}
+use Rattle.execmodel.proofs.Moves.{none_some, Moves, stays, places, frees, relists, unlinks, sets, fills, puts, gets, enters, queues, hands, opens, releases, drops}
+
+-- where a block lies, and how long it is
+abbrev extent : ℕ × Block → ℕ × (ℕ × ℕ)
+extent entry = (entry.0, (entry.1.size, 0))
+
+ordered : (order : Ordering) (a size : ℕ) (object : Object) (entry : ℕ × Block) (rest more : Heap) (others : Blocks)
+    → extents more ≡ others
+    → extents (by_order order ((a, record { size = size; object = object }) ∷ entry ∷ rest) ((entry.0, record { size = size; object = object }) ∷ rest) (entry ∷ more))
+    ≡ by_order order ((a, (size, 0)) ∷ extent entry ∷ extents rest) ((entry.0, (size, 0)) ∷ extents rest) (extent entry ∷ others)
+ordered Less a size object entry rest more others e = refl
+ordered Equal a size object entry rest more others e = refl
+ordered Greater a size object entry rest more others e = ap (λ bs. extent entry ∷ bs) e
+
+extents_put : (a size : ℕ) (object : Object) (heap : Heap)
+    → extents (put nat_cmp a (record { size = size; object = object }) heap) ≡ put nat_cmp a (size, 0) (extents heap)
+extents_put a size object [] = refl
+extents_put a size object (entry ∷ rest) =
+    ordered (nat_cmp a entry.0) a size object entry rest (put nat_cmp a (record { size = size; object = object }) rest) _ (extents_put a size object rest)
+
+filtered_extent : (test : Bool) (entry : ℕ × Block) (rest : Heap) (others : Blocks) → extents rest ≡ others
+    → extents (cond test (entry ∷ rest) rest) ≡ cond test (extent entry ∷ others) others
+filtered_extent true entry rest others e = ap (λ bs. extent entry ∷ bs) e
+filtered_extent false entry rest others e = e
+
+extents_rid : (a : ℕ) (heap : Heap) → extents (rid a heap) ≡ freed a (extents heap)
+extents_rid a [] = refl
+extents_rid a (entry ∷ rest) = filtered_extent (not (nat_eq entry.0 a)) entry (rid a rest) _ (extents_rid a rest)
+
+replaced_extent : (test : Bool) (k : ℕ) (object : Object) (block : Block)
+    → extent (k, if test then record block { object = object } else block) ≡ extent (k, block)
+replaced_extent true k object block = refl
+replaced_extent false k object block = refl
+
+extents_replaced : (address : ℕ) (object : Object) (heap : Heap) → extents (map (replaced address object) heap) ≡ extents heap
+extents_replaced address object [] = refl
+extents_replaced address object (entry ∷ rest) =
+    ap (λ b. b ∷ extents (map (replaced address object) rest)) (replaced_extent (nat_eq entry.0 address) entry.0 object entry.1)
+    ∙ ap (λ bs. extent entry ∷ bs) (extents_replaced address object rest)
+
+extents_remade : (f : Object → Object) (heap : Heap)
+    → extents (map (λ (entry : ℕ × Block). (entry.0, record entry.1 { object = f entry.1.object })) heap) ≡ extents heap
+extents_remade f [] = refl
+extents_remade f (entry ∷ rest) = ap (λ bs. extent entry ∷ bs) (extents_remade f rest)
+
+same_extents : (regions : List Region) (old new : Heap) → extents new ≡ extents old → IsWellFormed regions (extents old)
+    → IsWellFormed regions (extents new)
+same_extents regions old new e formed = subst (λ bs. IsWellFormed regions bs) (sym e) formed
+
+-- whatever a call does
+pub moves_formed : (regions : List Region) (t : ℕ) (call : Call) (old : Heap) (marks : List Mark) (new : Heap) → Moves regions t call old marks new
+    → IsWellFormed regions (extents old) → IsWellFormed regions (extents new)
+unfolding with_nodes unlinked with_action with_port appended taken_off with_semaphore entered queued dropped handed_on released_once
+moves_formed regions t call old marks new stays formed = formed
+moves_formed regions t call old marks new (places size reqs address object is fits) formed =
+    subst (λ bs. IsWellFormed regions bs) (sym (extents_put address (round size) object old))
+    (fitted_well_formed regions (extents old) size reqs 0 address formed fits)
+moves_formed regions t call old marks new (frees address may) formed =
+    subst (λ bs. IsWellFormed regions bs) (sym (extents_rid address old)) (freed_well_formed regions (extents old) address formed)
+moves_formed regions t call old marks new (relists list nodes is) formed =
+    same_extents regions old new (extents_replaced list _ old) formed
+moves_formed regions t call old marks new (unlinks node) formed = same_extents regions old new (extents_remade (left_by node) old) formed
+moves_formed regions t call old marks new (sets act port is) formed = same_extents regions old new (extents_replaced port _ old) formed
+moves_formed regions t call old marks new (fills message content is) formed = same_extents regions old new (extents_replaced message _ old) formed
+moves_formed regions t call old marks new (puts port message content is is_message loose) formed =
+    same_extents regions old new (extents_replaced port _ _ ∙ extents_replaced message _ old) formed
+moves_formed regions t call old marks new (gets port message is e) formed = same_extents regions old new (extents_replaced port _ old) formed
+moves_formed regions t call old marks new (enters semaphore is e) formed = same_extents regions old new (extents_replaced semaphore _ old) formed
+moves_formed regions t call old marks new (queues semaphore is e) formed =
+    same_extents regions old new (extents_replaced semaphore _ _ ∙ extents_remade (left_by_task t) old) formed
+moves_formed regions t call old marks new (hands semaphore owner release is last e) formed =
+    same_extents regions old new (extents_replaced semaphore _ old) formed
+moves_formed regions t call old marks new (opens semaphore release is last e) formed =
+    same_extents regions old new (extents_replaced semaphore _ old) formed
+moves_formed regions t call old marks new (releases semaphore is last) formed =
+    same_extents regions old new (extents_replaced semaphore _ old) formed
+moves_formed regions t call old marks new (drops other apart) formed =
+    same_extents regions old new (extents_remade (left_by_task other) old) formed
+
+-- ---- an object is placed where none begins
+
+extent_found : (test : Bool) (block : Block) (old : Option Block) (new : Option (ℕ × ℕ))
+    → new ≡ option_map (λ (b : Block). (b.size, 0)) old
+    → cond test (Some (block.size, 0)) new ≡ option_map (λ (b : Block). (b.size, 0)) (cond test (Some block) old)
+extent_found true block old new e = refl
+extent_found false block old new e = e
+
+found_extent : (a : ℕ) (heap : Heap) → find nat_cmp a (extents heap) ≡ option_map (λ (b : Block). (b.size, 0)) (block_at a heap)
+found_extent a [] = refl
+found_extent a (entry ∷ rest) = extent_found (eq_by_cmp nat_cmp a entry.0) entry.1 (block_at a rest) _ (found_extent a rest)
+
+nothing_found : (found : Option Block) → option_map {U = ℕ × ℕ} (λ (b : Block). (b.size, 0)) found ≡ None → option_map (λ (b : Block). b.object) found ≡ None
+nothing_found None e = refl
+nothing_found (Some block) e = none_some e
+
+pub placed_fresh : (regions : List Region) (size reqs address : ℕ) (heap : Heap) → IsWellFormed regions (extents heap)
+    → fit regions (extents heap) size reqs ≡ Some address → object_at address heap ≡ None
+placed_fresh regions size reqs address heap formed fits =
+    nothing_found (block_at address heap)
+    (sym (found_extent address heap) ∙ fitted_fresh regions (extents heap) size reqs address formed fits)

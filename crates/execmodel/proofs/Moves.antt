@@ -1,0 +1,603 @@
+-- What a call makes of the blocks of memory and of what begins there: one of a few things, whatever the word. The laws of ports, of
+-- semaphores and of memory go by these.
+use Rattle.std.proofs.Common.{◌≡◌, ◌≢◌, ℕ, Bool, true, false, List, [], ◌∷◌, Option, None, Some, refl, sym, ap, ◌∙◌, subst}
+use Rattle.std.specs.Prelude.{◌-◌, negsuc, not, if◌then◌else◌, nat_eq, nat_lt, is_some, codes, ◌&&◌, ◌||◌}
+use Rattle.std.specs.Ordering.{nat_cmp}
+use Rattle.std.specs.FinMap.{put as put_entry}
+use Rattle.std.specs.Int.{cast_signed, w32}
+use Rattle.std.specs.Option.{option_map}
+use Rattle.memlist.proofs.Answered.{nat_eq-same}
+use Rattle.memlist.specs.declared.region.Region.{Region}
+use Rattle.memlist.specs.Fit.{fit, round}
+use Rattle.execlist.specs.Order.{first}
+use Rattle.signals.specs.Signals.{grant}
+use Rattle.forbid.specs.Nesting.{Nesting, after_forbid, after_permit, after_disable, after_enable}
+use Rattle.scheduler.specs.Schedule.{Schedule, signals_of, nesting_of, come_for, after_wait, leaves}
+use Rattle.msgport.specs.Port.{acting, new_port}
+use Rattle.msgport.specs.Ports.{nt_message, nt_replymsg}
+use Rattle.msgport.specs.declared.action.PortAction.{PortAction}
+use Rattle.msgport.specs.declared.action.Action.{Action}
+use Rattle.msgport.specs.declared.action.Action.TheVariants as action
+use Rattle.msgport.specs.declared.message.Message.{Message as Content}
+use Rattle.sigsem.specs.declared.semaphore.Obtained.TheVariants.{Owner, Waits}
+use Rattle.sigsem.specs.Semaphores.{free_sem}
+use Rattle.taskscript.specs.declared.word.Word.{Word}
+use Rattle.taskscript.specs.declared.word.Word.TheVariants as group
+use Rattle.taskscript.specs.declared.word.plain.PlainWord.{PlainWord}
+use Rattle.taskscript.specs.declared.word.plain.PlainWord.TheVariants as plain
+use Rattle.taskscript.specs.declared.word.task_signals.SignalWord.{SignalWord}
+use Rattle.taskscript.specs.declared.word.task_signals.SignalWord.TheVariants as signals
+use Rattle.taskscript.specs.declared.word.nesting.NestingWord.{NestingWord}
+use Rattle.taskscript.specs.declared.word.nesting.NestingWord.TheVariants as nesting
+use Rattle.taskscript.specs.declared.word.tasks.TaskWord.{TaskWord}
+use Rattle.taskscript.specs.declared.word.tasks.TaskWord.TheVariants as tasks
+use Rattle.taskscript.specs.declared.word.lists.ListWord.{ListWord}
+use Rattle.taskscript.specs.declared.word.lists.ListWord.TheVariants as lists
+use Rattle.taskscript.specs.declared.word.memory.MemoryWord.{MemoryWord}
+use Rattle.taskscript.specs.declared.word.memory.MemoryWord.TheVariants as memory
+use Rattle.taskscript.specs.declared.word.ports.PortWord.{PortWord}
+use Rattle.taskscript.specs.declared.word.ports.PortWord.TheVariants as ports
+use Rattle.taskscript.specs.declared.word.semaphores.SemaphoreWord.{SemaphoreWord}
+use Rattle.taskscript.specs.declared.word.semaphores.SemaphoreWord.TheVariants as semaphores
+use Rattle.execmodel.specs.State.{Call, Object, Plain, ListHead, Node, MsgPort, Message, Semaphore, Block, Heap, Memory, Mark, put, got, asked, passed, left, State, Outcome, leaving, on_schedule, on_memory, on_heap}
+use Rattle.execmodel.specs.Calls.{argument, name_argument, done, answered, waiting, silent, alerted, unless}
+use Rattle.execmodel.specs.Plain.{does_plain, does_set, does_add, does_sub, does_and, does_or, jumps, does_jump, does_jump_zero, does_jump_not_zero, does_print}
+use Rattle.execmodel.specs.Signals.{mask_alert, free_signal_alert, signal_alert, waited, does_signals, does_alloc_signal, does_free_signal, does_set_signal, does_signal, does_wait}
+use Rattle.execmodel.specs.Nesting.{counted, does_nesting, does_forbid, does_permit, does_disable, does_enable}
+use Rattle.execmodel.specs.Tasks.{live_task_alert, set_task_pri_alert, add_task_alert, is_caller, ends_other, does_tasks, does_set_task_pri, does_add_task, does_rem_task, does_find_task}
+use Rattle.execmodel.specs.Objects.{object_at, is_kind, place_for_object, live}
+use Rattle.execmodel.specs.Memory.{extents, allocates, place_for, block_at, is_named, is_plain, alloc_alert, free_alert, avail_alert, does_memory, does_alloc_mem, does_free_mem, does_avail_mem}
+use Rattle.execmodel.specs.Lists.{is_list, list_size, is_node, node_size, is_list_at, is_node_at, with_nodes, unlinked, free_list_alert, new_node_alert, free_node_alert, link_alert, insert_alert, linked_alert, list_alert, find_alert, added_head, added_tail, enqueued, inserted, removed_head, removed_tail, does_lists, does_new_list, does_free_list, does_new_node, does_free_node, does_add_head, does_add_tail, does_enqueue, does_insert, does_remove, does_rem_head, does_rem_tail, does_first, does_last, does_succ, does_pred, does_find_name}
+use Rattle.execmodel.specs.Ports.{is_port, is_message, is_port_at, is_message_at, is_queued, port_size, message_size, port_created, port_alert, message_alert, messages_of, messages_of_object, content_of, port_of, loses, with_action, appended, with_content, with_word, typed, posted, taken_off, delete_alert, add_port_alert, rem_port_alert, reply_port_alert, loose_alert, put_alert, reply_alert, wait_alert, made_public, made_private, replied, delivered, performed, taken, looked, does_ports, does_create_msg_port, does_delete_msg_port, does_add_port, does_rem_port, does_find_port, does_port_signal, does_port_ignore, does_new_msg, does_free_msg, does_msg_word, does_set_msg_word, does_msg_type, does_put_msg, does_get_msg, does_wait_port, does_reply_msg}
+use Rattle.execmodel.specs.Semaphores.{awaited_by, dropped, entered, queued, handed_on, released_once, obtained, attempted, released, is_open, is_last, is_owned, is_owner, is_semaphore_at, waiters_of, free_sem_alert, heir, is_semaphore, is_tried_again, leaving_queue, obtain_alert, obtains, passes, release_alert, sem_of, sem_of_object, semaphore_size, does_semaphores, does_new_sem, does_free_sem, does_obtain_semaphore, does_attempt_semaphore, does_release_semaphore}
+use Rattle.execmodel.specs.Step.{does, does_word}
+use Rattle.execmodel.proofs.Heaps.{content_is, filled, rid, true_is_not_false}
+
+-- a new object: an empty list or port, a semaphore that no task owns and none waits for, or what has no queue
+abbrev pub IsNew : Object → Type 0
+IsNew Plain = Unit {0}
+IsNew (ListHead nodes) = nodes ≡ []
+IsNew (Node key) = Unit {0}
+IsNew (MsgPort port messages) = messages ≡ []
+IsNew (Message content) = Unit {0}
+IsNew (Semaphore sem waiters) = (sem ≡ free_sem) × (waiters ≡ [])
+
+-- an object that may be freed: a port has to be empty, and a semaphore free
+abbrev pub MayGo : Option Object → Type 0
+MayGo None = Unit {0}
+MayGo (Some Plain) = Unit {0}
+MayGo (Some (ListHead nodes)) = Unit {0}
+MayGo (Some (Node key)) = Unit {0}
+MayGo (Some (MsgPort port messages)) = first messages ≡ None
+MayGo (Some (Message content)) = Unit {0}
+MayGo (Some (Semaphore sem waiters)) = is_owned sem ≡ false
+
+-- the marks of a task that is removed
+abbrev pub leaving_marks : Option ℕ → ℕ → List Mark
+leaving_marks None t = []
+leaving_marks (Some semaphore) t = left semaphore t ∷ []
+
+-- a call of task t releases a semaphore, which the task owns
+pub record IsRelease (t : ℕ) (call : Call) (semaphore : ℕ) (heap : Heap) : Type 0 where
+  pub word : call.word ≡ group.Semaphores semaphores.ReleaseSemaphore
+  pub names : argument 0 call ≡ semaphore
+  pub owns : is_owner t (sem_of semaphore heap) ≡ true
+
+-- what a call of task t may make of the blocks, and the marks that it leaves
+pub data Moves (regions : List Region) (t : ℕ) (call : Call) : Heap → List Mark → Heap → Type 0 where
+  stays : {heap : Heap} → Moves regions t call heap [] heap
+  places : {heap : Heap} (size reqs address : ℕ) (object : Object) → IsNew object → fit regions (extents heap) size reqs ≡ Some address
+      → Moves regions t call heap [] (put_entry nat_cmp address (record { size = round size; object = object }) heap)
+  frees : {heap : Heap} (address : ℕ) → MayGo (object_at address heap) → Moves regions t call heap [] (rid address heap)
+  relists : {heap : Heap} (list : ℕ) (nodes : List ℕ) → is_list_at list heap ≡ true → Moves regions t call heap [] (with_nodes list nodes heap)
+  unlinks : {heap : Heap} (node : ℕ) → Moves regions t call heap [] (unlinked node heap)
+  sets : {heap : Heap} (act : PortAction) (port : ℕ) → is_port_at port heap ≡ true → Moves regions t call heap [] (with_action act port heap)
+  fills : {heap : Heap} (message : ℕ) (content : Content) → is_message_at message heap ≡ true
+      → Moves regions t call heap [] (filled message content heap)
+  puts : {heap : Heap} (port message : ℕ) (content : Content) → is_port_at port heap ≡ true → is_message_at message heap ≡ true
+      → is_queued message heap ≡ false → Moves regions t call heap (put port message ∷ []) (appended port message (filled message content heap))
+  gets : {heap : Heap} (port message : ℕ) → is_port_at port heap ≡ true → first (messages_of port heap) ≡ Some message
+      → Moves regions t call heap (got port message ∷ []) (taken_off port heap)
+  enters : {heap : Heap} (semaphore : ℕ) → is_semaphore_at semaphore heap ≡ true → is_open t (sem_of semaphore heap) ≡ true
+      → Moves regions t call heap [] (entered t semaphore heap)
+  queues : {heap : Heap} (semaphore : ℕ) → is_semaphore_at semaphore heap ≡ true → is_open t (sem_of semaphore heap) ≡ false
+      → Moves regions t call heap (asked semaphore t ∷ []) (queued t semaphore heap)
+  hands : {heap : Heap} (semaphore owner : ℕ) → IsRelease t call semaphore heap → is_semaphore_at semaphore heap ≡ true → is_last (sem_of semaphore heap) ≡ true
+      → first (waiters_of semaphore heap) ≡ Some owner → Moves regions t call heap (passed semaphore owner ∷ []) (handed_on semaphore heap)
+  opens : {heap : Heap} (semaphore : ℕ) → IsRelease t call semaphore heap → is_semaphore_at semaphore heap ≡ true → is_last (sem_of semaphore heap) ≡ true
+      → first (waiters_of semaphore heap) ≡ None → Moves regions t call heap [] (handed_on semaphore heap)
+  releases : {heap : Heap} (semaphore : ℕ) → is_semaphore_at semaphore heap ≡ true → is_last (sem_of semaphore heap) ≡ false
+      → Moves regions t call heap [] (released_once semaphore heap)
+  drops : {heap : Heap} (other : ℕ) → other ≢ t → Moves regions t call heap (leaving_marks (awaited_by other heap) other) (dropped other heap)
+
+-- an outcome makes such a thing of the blocks, and leaves the regions as they are
+abbrev pub Makes : ℕ → Call → State → Outcome → Type 0
+Makes t call s o = (o.state.memory.regions ≡ s.memory.regions) × Moves s.memory.regions t call s.memory.heap o.marks o.state.memory.heap
+
+-- ---- tests that alerts rest on
+
+pub none_some : {A : Type 0} {x : A} {B : Type 0} → Some x ≡ None → B
+none_some e = let bad : true ≡ false = ap is_some e in true_is_not_false bad
+
+-- an alert that does not come: its test is passed, and what follows does not come either
+passed_first : {A : Type 0} (test : Bool) (code : A) (rest : Option A) → (if not test then Some code else rest) ≡ None
+    → (test ≡ true) × (rest ≡ None)
+passed_first true code rest e = (refl, e)
+passed_first false code rest e = none_some e
+
+passed_other : {A : Type 0} (test : Bool) (code : A) (rest : Option A) → (if test then Some code else rest) ≡ None
+    → (test ≡ false) × (rest ≡ None)
+passed_other true code rest e = none_some e
+passed_other false code rest e = (refl, e)
+
+cases_bool : {A : Type 0} (b c : Bool) → (b || c) ≡ false → c ≡ true → A
+cases_bool true c e f = true_is_not_false e
+cases_bool false c e f = true_is_not_false (sym f ∙ e)
+
+plain_object : (object : Object) (b c : Bool) → (is_plain object && b && c) ≡ true → MayGo (Some object)
+plain_object Plain b c e = tt
+plain_object (ListHead nodes) b c e = tt
+plain_object (Node key) b c e = tt
+plain_object (MsgPort port messages) b c e = true_is_not_false (sym e)
+plain_object (Message content) b c e = tt
+plain_object (Semaphore sem waiters) b c e = true_is_not_false (sym e)
+
+-- ---- calls that may be refused
+
+either_makes : (t : ℕ) (call : Call) (s : State) (test : Bool) (o p : Outcome) → (test ≡ true → Makes t call s o) → (test ≡ false → Makes t call s p)
+    → Makes t call s (if test then o else p)
+either_makes t call s true o p one other = one refl
+either_makes t call s false o p one other = other refl
+
+unless_makes : (t : ℕ) (call : Call) (s : State) (alert : Option (List ℕ)) (effect : State → Outcome)
+    → (alert ≡ None → Makes t call s (effect s)) → Makes t call s (unless alert t call effect s)
+unfolding alerted
+unless_makes t call s None effect makes = makes refl
+unless_makes t call s (Some code) effect makes = (refl, stays)
+
+allocates_makes : (t : ℕ) (call : Call) (s : State) (size reqs : ℕ) (object : Object) (place : Option ℕ) → IsNew object
+    → ((address : ℕ) → place ≡ Some address → fit s.memory.regions (extents s.memory.heap) size reqs ≡ Some address)
+    → Makes t call s (allocates t call size object place s)
+unfolding answered
+allocates_makes t call s size reqs object None new fits = (refl, stays)
+allocates_makes t call s size reqs object (Some address) new fits = (refl, places size reqs address object new (fits address refl))
+
+-- a place for an object is one where it fits
+fits_there : (test : Bool) (place : Option ℕ) (address : ℕ) → (if test then place else None) ≡ Some address → place ≡ Some address
+fits_there true place address e = e
+fits_there false place address e = none_some (sym e)
+
+object_makes : (t : ℕ) (call : Call) (s : State) (kind : Object → Bool) (size : ℕ) (object : Object) → IsNew object
+    → Makes t call s (allocates t call size object (place_for_object kind size s.memory) s)
+unfolding place_for_object
+object_makes t call s kind size object new =
+    allocates_makes t call s size 1 object (if nat_lt (live kind s.memory.heap) s.memory.pool then place_for size 1 s.memory else None) new
+    (fits_there (nat_lt (live kind s.memory.heap) s.memory.pool) (place_for size 1 s.memory))
+
+-- ---- plain words, signals, nesting
+
+plain_makes : (word : PlainWord) (t : ℕ) (call : Call) (s : State) → Makes t call s (does_plain word t call s)
+unfolding does_set does_add does_sub does_and does_or jumps does_jump does_jump_zero does_jump_not_zero does_print done silent
+plain_makes plain.Set t call s = (refl, stays)
+plain_makes plain.Add t call s = (refl, stays)
+plain_makes plain.Sub t call s = (refl, stays)
+plain_makes plain.And t call s = (refl, stays)
+plain_makes plain.Or t call s = (refl, stays)
+plain_makes plain.Jump t call s = (refl, stays)
+plain_makes plain.JumpZ t call s = (refl, stays)
+plain_makes plain.JumpNZ t call s = (refl, stays)
+plain_makes plain.Print t call s = (refl, stays)
+
+waited_makes : (t : ℕ) (call : Call) (come : Option ℕ) (f : Schedule → Schedule) (s : State) → Makes t call s (waited t call come (on_schedule f s))
+unfolding waiting answered
+waited_makes t call None f s = (refl, stays)
+waited_makes t call (Some bits) f s = (refl, stays)
+
+signals_make : (word : SignalWord) (t : ℕ) (call : Call) (s : State) → Makes t call s (does_signals word t call s)
+unfolding does_alloc_signal does_free_signal does_set_signal does_signal does_wait done answered
+signals_make signals.AllocSignal t call s = (refl, stays)
+signals_make signals.FreeSignal t call s =
+    either_makes t call s (nat_eq (argument 0 call) 0xffffffff) _ _ (λ is. (refl, stays))
+    (λ is. unless_makes t call s (free_signal_alert (argument 0 call)) _ (λ none. (refl, stays)))
+signals_make signals.SetSignal t call s = unless_makes t call s (mask_alert (argument 1 call)) _ (λ none. (refl, stays))
+signals_make signals.Signal t call s =
+    unless_makes t call s (signal_alert (argument 0 call) (argument 1 call) s.scripts) _ (λ none. (refl, stays))
+signals_make signals.Wait t call s =
+    unless_makes t call s (mask_alert (argument 0 call)) _
+    (λ none. waited_makes t call (come_for (argument 0 call) (signals_of s.schedule t)) (after_wait t (argument 0 call)) s)
+
+counted_makes : (t : ℕ) (call : Call) (nesting : Option Nesting) (s : State) → Makes t call s (counted t call nesting s)
+unfolding done alerted
+counted_makes t call None s = (refl, stays)
+counted_makes t call (Some nesting) s = (refl, stays)
+
+nesting_makes : (word : NestingWord) (t : ℕ) (call : Call) (s : State) → Makes t call s (does_nesting word t call s)
+unfolding does_forbid does_permit does_disable does_enable
+nesting_makes nesting.Forbid t call s = counted_makes t call (after_forbid (nesting_of s.schedule t)) s
+nesting_makes nesting.Permit t call s = counted_makes t call (after_permit (nesting_of s.schedule t)) s
+nesting_makes nesting.Disable t call s = counted_makes t call (after_disable (nesting_of s.schedule t)) s
+nesting_makes nesting.Enable t call s = counted_makes t call (after_enable (nesting_of s.schedule t)) s
+
+-- ---- tasks
+
+leaves_queue : (t other : ℕ) (call : Call) (s : State) (semaphore : Option ℕ) (o : Outcome) → o.state.memory.regions ≡ s.memory.regions → o.marks ≡ []
+    → Moves s.memory.regions t call s.memory.heap (leaving_marks semaphore other) o.state.memory.heap
+    → Makes t call s (leaving_queue semaphore other o)
+leaves_queue t other call s None o regions none moves =
+    (regions, subst (λ ms. Moves s.memory.regions t call s.memory.heap ms o.state.memory.heap) (sym none) moves)
+leaves_queue t other call s (Some semaphore) o regions none moves =
+    (regions, subst (λ ms. Moves s.memory.regions t call s.memory.heap (left semaphore other ∷ ms) o.state.memory.heap) (sym none) moves)
+
+no_caller : (t number : ℕ) → is_caller t number ≡ false → number - 1 ≢ t
+no_caller t number is same = cases_bool (nat_eq number 0) (nat_eq (number - 1) t) is (ap (λ k. nat_eq k t) same ∙ nat_eq-same t)
+
+ended_makes : (t other : ℕ) (call : Call) (s : State) → other ≢ t → Makes t call s (ends_other other t call s)
+unfolding done
+ended_makes t other call s apart = leaves_queue t other call s (awaited_by other s.memory.heap) _ refl refl (drops other apart)
+
+tasks_make : (word : TaskWord) (t : ℕ) (call : Call) (s : State) → Makes t call s (does_tasks word t call s)
+unfolding does_set_task_pri does_add_task does_rem_task does_find_task done answered leaves
+tasks_make tasks.SetTaskPri t call s =
+    unless_makes t call s (set_task_pri_alert (argument 0 call) (cast_signed w32 (argument 1 call)) s.scripts s.schedule) _ (λ none. (refl, stays))
+tasks_make tasks.AddTask t call s = unless_makes t call s (add_task_alert (argument 0 call) s.scripts) _ (λ none. (refl, stays))
+tasks_make tasks.RemTask t call s =
+    either_makes t call s (is_caller t (argument 0 call)) _ _ (λ is. (refl, stays))
+    (λ is. unless_makes t call s (live_task_alert (argument 0 call) s.scripts s.schedule) _
+    (λ none. ended_makes t (argument 0 call - 1) call s (no_caller t (argument 0 call) is)))
+tasks_make tasks.FindTask t call s = (refl, stays)
+
+-- ---- lists
+
+list_goes : (found : Option Object) → is_kind is_list found ≡ true → MayGo found
+list_goes None is = tt
+list_goes (Some Plain) is = tt
+list_goes (Some (ListHead nodes)) is = tt
+list_goes (Some (Node key)) is = tt
+list_goes (Some (MsgPort port messages)) is = true_is_not_false (sym is)
+list_goes (Some (Message content)) is = tt
+list_goes (Some (Semaphore sem waiters)) is = true_is_not_false (sym is)
+
+node_goes : (found : Option Object) → is_kind is_node found ≡ true → MayGo found
+node_goes None is = tt
+node_goes (Some Plain) is = tt
+node_goes (Some (ListHead nodes)) is = tt
+node_goes (Some (Node key)) is = tt
+node_goes (Some (MsgPort port messages)) is = true_is_not_false (sym is)
+node_goes (Some (Message content)) is = tt
+node_goes (Some (Semaphore sem waiters)) is = true_is_not_false (sym is)
+
+lists_make : (word : ListWord) (t : ℕ) (call : Call) (s : State) → Makes t call s (does_lists word t call s)
+unfolding does_new_list does_free_list does_new_node does_free_node does_add_head does_add_tail does_enqueue does_insert does_remove does_rem_head does_rem_tail does_first does_last does_succ does_pred does_find_name done answered is_list_at is_node_at free_list_alert free_node_alert link_alert insert_alert list_alert added_head added_tail enqueued inserted removed_head removed_tail
+lists_make lists.NewList t call s = object_makes t call s is_list list_size (ListHead []) refl
+lists_make lists.FreeList t call s =
+    unless_makes t call s (free_list_alert (argument 0 call) s.memory.heap) _
+    (λ none. (
+      refl,
+      frees (argument 0 call) (list_goes (object_at (argument 0 call) s.memory.heap)
+          (passed_first (is_list_at (argument 0 call) s.memory.heap) _ _ none).0),
+    ))
+lists_make lists.NewNode t call s =
+    unless_makes t call s (new_node_alert (cast_signed w32 (argument 0 call))) _
+    (λ none. object_makes t call s is_node node_size (Node (record { pri = cast_signed w32 (argument 0 call); name = name_argument 1 call })) tt)
+lists_make lists.FreeNode t call s =
+    unless_makes t call s (free_node_alert (argument 0 call) s.memory.heap) _
+    (λ none. (
+      refl,
+      frees (argument 0 call) (node_goes (object_at (argument 0 call) s.memory.heap)
+          (passed_first (is_node_at (argument 0 call) s.memory.heap) _ _ none).0),
+    ))
+lists_make lists.AddHead t call s =
+    unless_makes t call s (link_alert (argument 0 call) (argument 1 call) s.memory.heap) _
+    (λ none. (refl, relists (argument 0 call) _ (passed_first (is_list_at (argument 0 call) s.memory.heap) _ _ none).0))
+lists_make lists.AddTail t call s =
+    unless_makes t call s (link_alert (argument 0 call) (argument 1 call) s.memory.heap) _
+    (λ none. (refl, relists (argument 0 call) _ (passed_first (is_list_at (argument 0 call) s.memory.heap) _ _ none).0))
+lists_make lists.Enqueue t call s =
+    unless_makes t call s (link_alert (argument 0 call) (argument 1 call) s.memory.heap) _
+    (λ none. (refl, relists (argument 0 call) _ (passed_first (is_list_at (argument 0 call) s.memory.heap) _ _ none).0))
+lists_make lists.Insert t call s =
+    unless_makes t call s (insert_alert (argument 0 call) (argument 1 call) (argument 2 call) s.memory.heap) _
+    (λ none. (refl, relists (argument 0 call) _ (passed_first (is_list_at (argument 0 call) s.memory.heap) _ _ none).0))
+lists_make lists.Remove t call s =
+    unless_makes t call s (linked_alert (argument 0 call) s.memory.heap) _ (λ none. (refl, unlinks (argument 0 call)))
+lists_make lists.RemHead t call s =
+    unless_makes t call s (list_alert (argument 0 call) s.memory.heap) _
+    (λ none. (refl, relists (argument 0 call) _ (passed_first (is_list_at (argument 0 call) s.memory.heap) _ _ none).0))
+lists_make lists.RemTail t call s =
+    unless_makes t call s (list_alert (argument 0 call) s.memory.heap) _
+    (λ none. (refl, relists (argument 0 call) _ (passed_first (is_list_at (argument 0 call) s.memory.heap) _ _ none).0))
+lists_make lists.First t call s = unless_makes t call s (list_alert (argument 0 call) s.memory.heap) _ (λ none. (refl, stays))
+lists_make lists.Last t call s = unless_makes t call s (list_alert (argument 0 call) s.memory.heap) _ (λ none. (refl, stays))
+lists_make lists.Succ t call s = unless_makes t call s (linked_alert (argument 0 call) s.memory.heap) _ (λ none. (refl, stays))
+lists_make lists.Pred t call s = unless_makes t call s (linked_alert (argument 0 call) s.memory.heap) _ (λ none. (refl, stays))
+lists_make lists.FindName t call s = unless_makes t call s (find_alert (argument 0 call) s.memory.heap) _ (λ none. (refl, stays))
+
+-- ---- memory
+
+plain_goes : (size : ℕ) (found : Option Block) → is_named size found ≡ true → MayGo (option_map (λ (block : Block). block.object) found)
+plain_goes size None is = tt
+plain_goes size (Some block) is = plain_object block.object _ _ is
+
+memory_makes : (word : MemoryWord) (t : ℕ) (call : Call) (s : State) → Makes t call s (does_memory word t call s)
+unfolding does_alloc_mem does_free_mem does_avail_mem done answered
+memory_makes memory.AllocMem t call s =
+    unless_makes t call s (alloc_alert (argument 1 call)) _
+    (λ none. allocates_makes t call s (argument 0 call) (argument 1 call) Plain (place_for (argument 0 call) (argument 1 call) s.memory) tt
+    (λ address e. e))
+memory_makes memory.FreeMem t call s =
+    unless_makes t call s (free_alert (argument 0 call) (argument 1 call) s.memory.heap) _
+    (λ none. (
+      refl,
+      frees (argument 0 call)
+          (plain_goes (argument 1 call) (block_at (argument 0 call) s.memory.heap) (passed_first _ _ _ none).0),
+    ))
+memory_makes memory.AvailMem t call s = unless_makes t call s (avail_alert (argument 0 call)) _ (λ none. (refl, stays))
+
+-- ---- ports
+
+created_makes : (t : ℕ) (call : Call) (bit : ℕ) (s : State) (place : Option ℕ)
+    → ((address : ℕ) → place ≡ Some address → fit s.memory.regions (extents s.memory.heap) port_size 1 ≡ Some address)
+    → Makes t call s (port_created t call (Some bit) place s)
+unfolding answered
+created_makes t call bit s None fits = (refl, stays)
+created_makes t call bit s (Some address) fits = (refl, places port_size 1 address (MsgPort (new_port t bit) []) refl (fits address refl))
+
+port_created_makes : (t : ℕ) (call : Call) (bit : Option ℕ) (s : State)
+    → Makes t call s (port_created t call bit (place_for_object is_port port_size s.memory) s)
+unfolding answered place_for_object
+port_created_makes t call None s = (refl, stays)
+port_created_makes t call (Some bit) s =
+    created_makes t call bit s (if nat_lt (live is_port s.memory.heap) s.memory.pool then place_for port_size 1 s.memory else None)
+    (fits_there (nat_lt (live is_port s.memory.heap) s.memory.pool) (place_for port_size 1 s.memory))
+
+port_goes : (found : Option Object) (rest : Option (List ℕ)) → is_kind is_port found ≡ true
+    → (if is_some (first (messages_of_object found)) then Some (codes "PORT") else rest) ≡ None → MayGo found
+port_goes None rest is e = tt
+port_goes (Some Plain) rest is e = tt
+port_goes (Some (ListHead nodes)) rest is e = tt
+port_goes (Some (Node key)) rest is e = tt
+port_goes (Some (MsgPort port [])) rest is e = refl
+port_goes (Some (MsgPort port (message ∷ messages))) rest is e = none_some e
+port_goes (Some (Message content)) rest is e = tt
+port_goes (Some (Semaphore sem waiters)) rest is e = true_is_not_false (sym is)
+
+deletes : (port : ℕ) (memory : Memory) → delete_alert port memory ≡ None → MayGo (object_at port memory.heap)
+unfolding delete_alert is_port_at messages_of
+deletes port memory none =
+    let first = passed_first (is_kind is_port (object_at port memory.heap)) _ _ none in
+    port_goes (object_at port memory.heap) _ first.0 first.1
+
+message_goes : (found : Option Object) → is_kind is_message found ≡ true → MayGo found
+message_goes None is = tt
+message_goes (Some Plain) is = tt
+message_goes (Some (ListHead nodes)) is = tt
+message_goes (Some (Node key)) is = tt
+message_goes (Some (MsgPort port messages)) is = true_is_not_false (sym is)
+message_goes (Some (Message content)) is = tt
+message_goes (Some (Semaphore sem waiters)) is = true_is_not_false (sym is)
+
+-- what a port or a message is, where no alert comes
+is_port_there : (port : ℕ) (heap : Heap) → port_alert port heap ≡ None → is_port_at port heap ≡ true
+unfolding port_alert
+is_port_there port heap none = (passed_first (is_port_at port heap) _ _ none).0
+
+is_message_there : (message : ℕ) (heap : Heap) → message_alert message heap ≡ None → is_message_at message heap ≡ true
+unfolding message_alert
+is_message_there message heap none = (passed_first (is_message_at message heap) _ _ none).0
+
+is_loose_there : (message : ℕ) (heap : Heap) → loose_alert message heap ≡ None → (is_message_at message heap ≡ true) × (is_queued message heap ≡ false)
+unfolding loose_alert
+is_loose_there message heap none =
+    let first = passed_first (is_message_at message heap) _ _ none in (first.0, (passed_other (is_queued message heap) _ _ first.1).0)
+
+frees_message : (message : ℕ) (heap : Heap) → loose_alert message heap ≡ None → MayGo (object_at message heap)
+unfolding is_message_at
+frees_message message heap none = message_goes (object_at message heap) (is_loose_there message heap none).0
+
+can_put : (port message : ℕ) (heap : Heap) → put_alert port message heap ≡ None
+    → (is_port_at port heap ≡ true) × ((is_message_at message heap ≡ true) × (is_queued message heap ≡ false))
+unfolding put_alert
+can_put port message heap none =
+    let first = passed_first (is_port_at port heap) _ _ none in (first.0, is_loose_there message heap first.1)
+
+reply_port_there : (test : Bool) (port : ℕ) (heap : Heap) → test ≡ false → (if test then None else port_alert port heap) ≡ None → is_port_at port heap ≡ true
+reply_port_there true port heap is none = true_is_not_false is
+reply_port_there false port heap is none = is_port_there port heap none
+
+can_reply : (message : ℕ) (heap : Heap) → reply_alert message heap ≡ None
+    → (is_message_at message heap ≡ true) × ((is_queued message heap ≡ false)
+    × (nat_eq (content_of message heap).reply 0 ≡ false → is_port_at (content_of message heap).reply heap ≡ true))
+unfolding reply_alert reply_port_alert
+can_reply message heap none =
+    let first = passed_first (is_message_at message heap) _ _ none in
+    let second = passed_other (is_queued message heap) _ _ first.1 in
+    (first.0, (second.0, λ is. reply_port_there (nat_eq (content_of message heap).reply 0) (content_of message heap).reply heap is second.1))
+
+-- a message gets another content, or is put with one
+gives : (t : ℕ) (call : Call) (regions : List Region) (message : ℕ) (content : Content) (heap : Heap) → is_message_at message heap ≡ true
+    → Moves regions t call heap [] (with_content message content heap)
+gives t call regions message content heap is =
+    subst (λ new. Moves regions t call heap [] new) (sym (content_is message content heap is)) (fills message content is)
+
+posts : (t : ℕ) (call : Call) (regions : List Region) (port message : ℕ) (content : Content) (heap : Heap) → is_port_at port heap ≡ true
+    → is_message_at message heap ≡ true → is_queued message heap ≡ false
+    → Moves regions t call heap (put port message ∷ []) (appended port message (with_content message content heap))
+posts t call regions port message content heap is also loose =
+    subst (λ new. Moves regions t call heap (put port message ∷ []) (appended port message new)) (sym (content_is message content heap also))
+    (puts port message content is also loose)
+
+-- what is done for a message that has arrived changes no block
+delivers : (act : Action) (t : ℕ) (call : Call) (mark : Mark) (s r : State) → r.memory.regions ≡ s.memory.regions
+    → Moves s.memory.regions t call s.memory.heap (mark ∷ []) r.memory.heap → Makes t call s (leaving mark (done t call (performed act r)))
+unfolding done
+delivers (action.Signal task mask) t call mark s r same moves = (same, moves)
+delivers action.Nothing t call mark s r same moves = (same, moves)
+
+replied_makes : (reply t : ℕ) (call : Call) (message : ℕ) (s : State) → is_message_at message s.memory.heap ≡ true
+    → is_queued message s.memory.heap ≡ false → (nat_eq reply 0 ≡ false → is_port_at reply s.memory.heap ≡ true)
+    → Makes t call s (replied reply t call message s)
+unfolding done delivered typed posted
+replied_makes reply t call message s is loose there =
+    either_makes t call s (nat_eq reply 0) _ _ (λ none. (refl, gives t call s.memory.regions message _ s.memory.heap is))
+    (λ some. delivers (acting (port_of reply s.memory.heap)) t call (put reply message) s
+    (on_memory (on_heap (posted nt_replymsg reply message)) s) refl
+    (posts t call s.memory.regions reply message _ s.memory.heap (there some) is loose))
+
+taken_makes : (port : ℕ) (message : Option ℕ) (t : ℕ) (call : Call) (s : State) → is_port_at port s.memory.heap ≡ true
+    → first (messages_of port s.memory.heap) ≡ message → Makes t call s (taken port message t call s)
+unfolding answered
+taken_makes port None t call s is e = (refl, stays)
+taken_makes port (Some message) t call s is e = (refl, gets port message is e)
+
+looked_makes : (message : Option ℕ) (mask t : ℕ) (call : Call) (f : Schedule → Schedule) (s : State)
+    → Makes t call s (looked message mask t call (on_schedule f s))
+unfolding waiting answered
+looked_makes None mask t call f s = (refl, stays)
+looked_makes (Some message) mask t call f s = (refl, stays)
+
+ports_make : (word : PortWord) (t : ℕ) (call : Call) (s : State) → Makes t call s (does_ports word t call s)
+unfolding does_create_msg_port does_delete_msg_port does_add_port does_rem_port does_find_port does_port_signal does_port_ignore does_new_msg does_free_msg does_msg_word does_set_msg_word does_msg_type does_put_msg does_get_msg does_wait_port does_reply_msg made_public made_private delivered typed posted with_word done answered
+ports_make ports.CreateMsgPort t call s = port_created_makes t call (grant (negsuc 0) (signals_of s.schedule t)) s
+ports_make ports.DeleteMsgPort t call s =
+    either_makes t call s (nat_eq (argument 0 call) 0) _ _ (λ is. (refl, stays))
+    (λ is. unless_makes t call s (delete_alert (argument 0 call) s.memory) _
+    (λ none. (refl, frees (argument 0 call) (deletes (argument 0 call) s.memory none))))
+ports_make ports.AddPort t call s =
+    unless_makes t call s (add_port_alert (argument 0 call) (cast_signed w32 (argument 2 call)) s.memory) _ (λ none. (refl, stays))
+ports_make ports.RemPort t call s = unless_makes t call s (rem_port_alert (argument 0 call) s.memory) _ (λ none. (refl, stays))
+ports_make ports.FindPort t call s = (refl, stays)
+ports_make ports.PortSignal t call s =
+    unless_makes t call s (port_alert (argument 0 call) s.memory.heap) _
+    (λ none. (refl, sets _ (argument 0 call) (is_port_there (argument 0 call) s.memory.heap none)))
+ports_make ports.PortIgnore t call s =
+    unless_makes t call s (port_alert (argument 0 call) s.memory.heap) _
+    (λ none. (refl, sets _ (argument 0 call) (is_port_there (argument 0 call) s.memory.heap none)))
+ports_make ports.NewMsg t call s =
+    unless_makes t call s (reply_port_alert (argument 0 call) s.memory.heap) _
+    (λ none. object_makes t call s is_message message_size _ tt)
+ports_make ports.FreeMsg t call s =
+    unless_makes t call s (loose_alert (argument 0 call) s.memory.heap) _
+    (λ none. (refl, frees (argument 0 call) (frees_message (argument 0 call) s.memory.heap none)))
+ports_make ports.MsgWord t call s = unless_makes t call s (message_alert (argument 0 call) s.memory.heap) _ (λ none. (refl, stays))
+ports_make ports.SetMsgWord t call s =
+    unless_makes t call s (message_alert (argument 0 call) s.memory.heap) _
+    (λ none. (refl, gives t call s.memory.regions (argument 0 call) _ s.memory.heap (is_message_there (argument 0 call) s.memory.heap none)))
+ports_make ports.MsgType t call s = unless_makes t call s (message_alert (argument 0 call) s.memory.heap) _ (λ none. (refl, stays))
+ports_make ports.PutMsg t call s =
+    unless_makes t call s (put_alert (argument 0 call) (argument 1 call) s.memory.heap) _
+    (λ none. let can = can_put (argument 0 call) (argument 1 call) s.memory.heap none in
+    delivers (acting (port_of (argument 0 call) s.memory.heap)) t call (put (argument 0 call) (argument 1 call)) s
+    (on_memory (on_heap (posted nt_message (argument 0 call) (argument 1 call))) s) refl
+    (posts t call s.memory.regions (argument 0 call) (argument 1 call) _ s.memory.heap can.0 can.1.0 can.1.1))
+ports_make ports.GetMsg t call s =
+    unless_makes t call s (port_alert (argument 0 call) s.memory.heap) _
+    (λ none. taken_makes (argument 0 call) (first (messages_of (argument 0 call) s.memory.heap)) t call s
+    (is_port_there (argument 0 call) s.memory.heap none) refl)
+ports_make ports.WaitPort t call s =
+    unless_makes t call s (wait_alert t (argument 0 call) s.memory.heap) _
+    (λ none. looked_makes (first (messages_of (argument 0 call) s.memory.heap)) _ t call (loses t call.awaited) s)
+ports_make ports.ReplyMsg t call s =
+    unless_makes t call s (reply_alert (argument 0 call) s.memory.heap) _
+    (λ none. let can = can_reply (argument 0 call) s.memory.heap none in
+    replied_makes (content_of (argument 0 call) s.memory.heap).reply t call (argument 0 call) s can.0 can.1.0 can.1.1)
+
+-- ---- semaphores
+
+semaphore_goes : (found : Option Object) → is_kind is_semaphore found ≡ true → is_owned (sem_of_object found) ≡ false → MayGo found
+semaphore_goes None is free = tt
+semaphore_goes (Some Plain) is free = tt
+semaphore_goes (Some (ListHead nodes)) is free = tt
+semaphore_goes (Some (Node key)) is free = tt
+semaphore_goes (Some (MsgPort port messages)) is free = true_is_not_false (sym is)
+semaphore_goes (Some (Message content)) is free = tt
+semaphore_goes (Some (Semaphore sem waiters)) is free = free
+
+frees_semaphore : (semaphore : ℕ) (heap : Heap) → free_sem_alert semaphore heap ≡ None → MayGo (object_at semaphore heap)
+unfolding free_sem_alert is_semaphore_at sem_of
+frees_semaphore semaphore heap none =
+    let first = passed_first (is_kind is_semaphore (object_at semaphore heap)) _ _ none in
+    semaphore_goes (object_at semaphore heap) first.0 (passed_other (is_owned (sem_of_object (object_at semaphore heap))) _ _ first.1).0
+
+is_semaphore_there : (t semaphore : ℕ) (heap : Heap) → obtain_alert t semaphore heap ≡ None → is_semaphore_at semaphore heap ≡ true
+unfolding obtain_alert
+is_semaphore_there t semaphore heap none = (passed_first (is_semaphore_at semaphore heap) _ _ none).0
+
+owns_there : (test : Bool) (code : List ℕ) → (if test then None else Some code) ≡ None → test ≡ true
+owns_there true code e = refl
+owns_there false code e = none_some e
+
+is_owned_there : (t semaphore : ℕ) (heap : Heap) → release_alert t semaphore heap ≡ None → is_owner t (sem_of semaphore heap) ≡ true
+unfolding release_alert
+is_owned_there t semaphore heap none =
+    owns_there (is_owner t (sem_of semaphore heap)) _ (passed_first (is_semaphore_at semaphore heap) _ _ none).1
+
+is_released_there : (t semaphore : ℕ) (heap : Heap) → release_alert t semaphore heap ≡ None → is_semaphore_at semaphore heap ≡ true
+unfolding release_alert
+is_released_there t semaphore heap none = (passed_first (is_semaphore_at semaphore heap) _ _ none).0
+
+obtaining : (test : Bool) (semaphore t : ℕ) (call : Call) (s : State) → is_semaphore_at semaphore s.memory.heap ≡ true
+    → is_open t (sem_of semaphore s.memory.heap) ≡ test
+    → Makes t call s (obtains (if test then Owner else Waits) semaphore t call
+    (on_memory (on_heap (λ heap. if test then entered t semaphore heap else queued t semaphore heap)) s))
+unfolding done waiting
+obtaining true semaphore t call s is e = (refl, enters semaphore is e)
+obtaining false semaphore t call s is e = (refl, queues semaphore is e)
+
+attempting : (test : Bool) (semaphore t : ℕ) (call : Call) (value : ℕ) (s : State) → is_semaphore_at semaphore s.memory.heap ≡ true
+    → is_open t (sem_of semaphore s.memory.heap) ≡ test
+    → Makes t call s (answered t call value (on_memory (on_heap (λ heap. if test then entered t semaphore heap else heap)) s))
+unfolding answered
+attempting true semaphore t call value s is e = (refl, enters semaphore is e)
+attempting false semaphore t call value s is e = (refl, stays)
+
+handing : (owner : Option ℕ) (semaphore t : ℕ) (call : Call) (s : State) → IsRelease t call semaphore s.memory.heap → is_semaphore_at semaphore s.memory.heap ≡ true
+    → is_last (sem_of semaphore s.memory.heap) ≡ true → first (waiters_of semaphore s.memory.heap) ≡ owner
+    → Makes t call s (passes owner semaphore t call (on_memory (on_heap (handed_on semaphore)) s))
+unfolding done
+handing None semaphore t call s release is last e = (refl, opens semaphore release is last e)
+handing (Some owner) semaphore t call s release is last e = (refl, hands semaphore owner release is last e)
+
+releasing : (test : Bool) (semaphore t : ℕ) (call : Call) (s : State) → IsRelease t call semaphore s.memory.heap → is_semaphore_at semaphore s.memory.heap ≡ true
+    → is_last (sem_of semaphore s.memory.heap) ≡ test
+    → Makes t call s (passes (if test then first (waiters_of semaphore s.memory.heap) else None) semaphore t call
+    (on_memory (on_heap (λ heap. if test then handed_on semaphore heap else released_once semaphore heap)) s))
+unfolding done
+releasing true semaphore t call s release is e = handing (first (waiters_of semaphore s.memory.heap)) semaphore t call s release is e refl
+releasing false semaphore t call s release is e = (refl, releases semaphore is e)
+
+semaphores_make : (word : SemaphoreWord) (t : ℕ) (call : Call) (s : State) → call.word ≡ group.Semaphores word → Makes t call s (does_semaphores word t call s)
+unfolding does_new_sem does_free_sem does_obtain_semaphore does_attempt_semaphore does_release_semaphore obtained attempted released heir done
+semaphores_make semaphores.NewSem t call s word = object_makes t call s is_semaphore semaphore_size (Semaphore free_sem []) (refl, refl)
+semaphores_make semaphores.FreeSem t call s word =
+    unless_makes t call s (free_sem_alert (argument 0 call) s.memory.heap) _
+    (λ none. (refl, frees (argument 0 call) (frees_semaphore (argument 0 call) s.memory.heap none)))
+semaphores_make semaphores.ObtainSemaphore t call s word =
+    either_makes t call s (is_tried_again t s.scripts) _ _ (λ is. (refl, stays))
+    (λ is. unless_makes t call s (obtain_alert t (argument 0 call) s.memory.heap) _
+    (λ none. obtaining (is_open t (sem_of (argument 0 call) s.memory.heap)) (argument 0 call) t call s
+    (is_semaphore_there t (argument 0 call) s.memory.heap none) refl))
+semaphores_make semaphores.AttemptSemaphore t call s word =
+    unless_makes t call s (obtain_alert t (argument 0 call) s.memory.heap) _
+    (λ none. attempting (is_open t (sem_of (argument 0 call) s.memory.heap)) (argument 0 call) t call _ s
+    (is_semaphore_there t (argument 0 call) s.memory.heap none) refl)
+semaphores_make semaphores.ReleaseSemaphore t call s word =
+    unless_makes t call s (release_alert t (argument 0 call) s.memory.heap) _
+    (λ none. releasing (is_last (sem_of (argument 0 call) s.memory.heap)) (argument 0 call) t call s
+    (record { word = word; names = refl; owns = is_owned_there t (argument 0 call) s.memory.heap none })
+    (is_released_there t (argument 0 call) s.memory.heap none) refl)
+
+-- ---- any word
+
+word_makes : (word : Word) (t : ℕ) (call : Call) (s : State) → call.word ≡ word → Makes t call s (does_word word t call s)
+word_makes (group.Plain word) t call s is = plain_makes word t call s
+word_makes (group.Signals word) t call s is = signals_make word t call s
+word_makes (group.Nesting word) t call s is = nesting_makes word t call s
+word_makes (group.Tasks word) t call s is = tasks_make word t call s
+word_makes (group.Lists word) t call s is = lists_make word t call s
+word_makes (group.Memory word) t call s is = memory_makes word t call s
+word_makes (group.Ports word) t call s is = ports_make word t call s
+word_makes (group.Semaphores word) t call s is = semaphores_make word t call s is
+
+pub call_makes : (t : ℕ) (call : Call) (s : State) → Makes t call s (does t call s)
+unfolding does
+call_makes t call s = word_makes call.word t call s refl

@@ -1,0 +1,83 @@
+-- Each byte has one owner.
+use Rattle.std.proofs.Common.{◌≡◌, ℕ, Bool, true, false, List, Option, None, Some, refl, sym, ◌∙◌, subst}
+use Rattle.std.specs.Prelude.{not, if◌then◌else◌, codes}
+use Rattle.std.specs.Option.{option_map}
+use Rattle.memlist.specs.Memory.{IsWellFormed}
+use Rattle.memlist.proofs.Tiling.{tiled}
+use Rattle.memlist.proofs.Fitting.{disjoint}
+use Rattle.taskscript.specs.File.{MachineData}
+use Rattle.taskscript.specs.declared.event.Event.{Event}
+use Rattle.execmodel.specs.State.{Call, Object, Block, State, Outcome, booted, andthen, on_schedule}
+use Rattle.execmodel.specs.Calls.{argument, alerted, unless}
+use Rattle.execmodel.specs.Scheduling.{rescheduled}
+use Rattle.execmodel.specs.Interrupts.{serves}
+use Rattle.execmodel.specs.Memory.{extents, block_at, is_plain, is_named, does_free_mem}
+use Rattle.execmodel.specs.Step.{switches, ends, does, starts, run}
+use Rattle.execmodel.specs.Laws.{EachByteHasOneOwner, FreeMemRefusesObjects}
+use Rattle.execmodel.proofs.Heaps.{true_is_not_false}
+use Rattle.execmodel.proofs.Stretches.{Relation, HoldsOfEach, of_starts, of_events}
+use Rattle.execmodel.proofs.Moves.{none_some, Makes, call_makes}
+use Rattle.execmodel.proofs.Formed.{moves_formed}
+use Rattle.execmodel.proofs.FifoLaw.{FormedState, booted_formed, quietly, switches_quiet}
+
+-- the regions stay, and the blocks stay well formed
+abbrev Memories : Relation
+Memories old marks new = FormedState old → FormedState new × (new.memory.regions ≡ old.memory.regions)
+
+memories : HoldsOfEach Memories
+unfolding ends serves
+memories = record {
+  nothing = λ s formed. (formed, refl);
+  joined = λ s some r more q first next formed. let mid = first formed in let end = next mid.0 in (end.0, end.1 ∙ mid.1);
+  adding = λ t s formed. (formed, refl);
+  calling = λ t call s runs is formed. calling t call s (does t call s) (call_makes t call s) formed;
+  ending = λ t s runs formed. (formed, refl);
+  requesting = λ s formed. (formed, refl);
+  serving = λ s due formed. (formed, refl);
+  switching = λ s. quietly Memories s (switches s) (on_schedule rescheduled s) (switches_quiet s) (λ formed. (formed, refl));
+}
+  where
+    calling : (t : ℕ) (call : Call) (s : State) (o : Outcome) → Makes t call s o → Memories s o.marks o.state
+    calling t call s o makes formed = (
+      subst (λ regions. IsWellFormed regions (extents o.state.memory.heap)) (sym makes.0)
+          (moves_formed s.memory.regions t call s.memory.heap o.marks o.state.memory.heap makes.1 formed),
+      makes.0,
+    )
+
+run_memories : (machine : MachineData) (list : List Event) → Memories (booted machine) (run machine list).marks (run machine list).state
+unfolding run andthen
+run_memories machine list formed =
+    let mid = of_starts Memories memories (booted machine) formed in
+    let end = of_events Memories memories list (starts (booted machine)).state mid.0 in
+    (end.0, end.1 ∙ mid.1)
+
+booted_regions : (machine : MachineData) → (booted machine).memory.regions ≡ machine.regions
+unfolding booted
+booted_regions machine = refl
+
+pub each_byte_has_one_owner : EachByteHasOneOwner
+each_byte_has_one_owner machine list is =
+    let held = run_memories machine list (booted_formed machine is) in
+    let same = held.1 ∙ booted_regions machine in
+    let formed = subst (λ regions. IsWellFormed regions (extents (run machine list).state.memory.heap)) same held.0 in
+    record {
+      installed = same;
+      tiled = λ place region there. tiled machine.regions (extents (run machine list).state.memory.heap) place region formed there;
+      disjoint = disjoint machine.regions (extents (run machine list).state.memory.heap) formed;
+    }
+
+refused : (size : ℕ) (found : Option Block) (object : Object) → option_map (λ (block : Block). block.object) found ≡ Some object
+    → is_plain object ≡ false → is_named size found ≡ false
+refused size None object e is = none_some (sym e)
+refused size (Some block) object e is = let same : block.object ≡ object = cc in rw (same, is) refl
+
+stops : (test : Bool) (t : ℕ) (call : Call) (effect : State → Outcome) (s : State) → test ≡ false
+    → unless (if not test then Some (codes "MEM") else None) t call effect s ≡ alerted (codes "MEM") t call s
+stops true t call effect s e = true_is_not_false e
+stops false t call effect s e = refl
+
+pub free_mem_refuses_objects : FreeMemRefusesObjects
+unfolding does_free_mem
+free_mem_refuses_objects t call s object there is =
+    stops (is_named (argument 1 call) (block_at (argument 0 call) s.memory.heap)) t call _ s
+    (refused (argument 1 call) (block_at (argument 0 call) s.memory.heap) object there is)

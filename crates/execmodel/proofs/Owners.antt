@@ -1,0 +1,287 @@
+-- The owner of a semaphore changes from none or at the last release, and nobody waits for one that no task owns.
+use Rattle.std.proofs.Common.{◌⊎◌, inl, inr, ◌≡◌, ◌≢◌, ℕ, Bool, true, false, List, [], ◌∷◌, Option, None, Some, refl, sym, ap, ◌∙◌, subst}
+use Rattle.std.specs.Prelude.{not, if◌then◌else◌, nat_eq, map, drop, is_some, ◌==◌, ◌||◌}
+use Rattle.std.specs.Option.{option_map}
+use Rattle.memlist.specs.declared.region.Region.{Region}
+use Rattle.memlist.specs.Memory.{IsWellFormed}
+use Rattle.memlist.specs.Fit.{round}
+use Rattle.memlist.proofs.Answered.{nat_eq-same, nat_eq-other, cases_eq}
+use Rattle.execlist.specs.Order.{first, without}
+use Rattle.execlist.specs.Lists.{is_at}
+use Rattle.sigsem.specs.declared.semaphore.Sem.{Sem}
+use Rattle.execmodel.specs.State.{Call, Object, Plain, ListHead, Node, MsgPort, Message, Semaphore, Block, Heap, Mark}
+use Rattle.execmodel.specs.Objects.{object_at, is_kind, replaced}
+use Rattle.execmodel.specs.Memory.{extents}
+use Rattle.execmodel.specs.Lists.{is_list, is_list_at, with_nodes, unlinked, left_by}
+use Rattle.execmodel.specs.Ports.{is_port, is_message, is_port_at, is_message_at, with_port, with_action, appended, taken_off}
+use Rattle.execmodel.specs.Semaphores.{is_open, is_owned, sem_in, sem_of, sem_of_object, waiters_of, waiters_of_object, owned_next, with_semaphore, left_by_task, entered, queued, dropped, handed_on, released_once}
+use Rattle.execmodel.proofs.Heaps.{filled, instead, object_replaced, object_remade, object_placed_here, object_placed_there, object_rid_here, object_rid_there, true_is_not_false}
+use Rattle.execmodel.proofs.Formed.{placed_fresh}
+use Rattle.execmodel.proofs.Moves.{none_some, IsRelease, IsNew, MayGo, Moves, stays, places, frees, relists, unlinks, sets, fills, puts, gets, enters, queues, hands, opens, releases, drops}
+
+-- nobody waits for what begins at an address, unless a task owns it
+abbrev pub Idle : Option Object → Type 0
+Idle found = (sem_of_object found).owner ≡ None → waiters_of_object found ≡ []
+
+-- each semaphore is so
+abbrev pub AllIdle : Heap → Type 0
+AllIdle heap = (a : ℕ) → Idle (object_at a heap)
+
+idle_instead : (test : Bool) (object : Object) (found : Option Object) → Idle (Some object) → Idle found
+    → Idle (if test then instead object found else found)
+idle_instead true object None e idle = idle
+idle_instead true object (Some other) e idle = e
+idle_instead false object found e idle = idle
+
+idle_replaced : (address : ℕ) (object : Object) (heap : Heap) → Idle (Some object) → AllIdle heap → AllIdle (map (replaced address object) heap)
+idle_replaced address object heap e idle a =
+    subst (λ found. Idle found) (sym (object_replaced address object a heap)) (idle_instead (nat_eq a address) object (object_at a heap) e (idle a))
+
+idle_mapped : (f : Object → Object) → ((object : Object) → Idle (Some object) → Idle (Some (f object))) → (found : Option Object) → Idle found
+    → Idle (option_map f found)
+idle_mapped f keeps None idle = idle
+idle_mapped f keeps (Some object) idle = keeps object idle
+
+idle_remade : (f : Object → Object) → ((object : Object) → Idle (Some object) → Idle (Some (f object))) → (heap : Heap) → AllIdle heap
+    → AllIdle (map (λ (entry : ℕ × Block). (entry.0, record entry.1 { object = f entry.1.object })) heap)
+idle_remade f keeps heap idle a =
+    subst (λ found. Idle found) (sym (object_remade f a heap)) (idle_mapped f keeps (object_at a heap) (idle a))
+
+left_idle : (node : ℕ) (object : Object) → Idle (Some object) → Idle (Some (left_by node object))
+left_idle node Plain idle = idle
+left_idle node (ListHead nodes) idle = λ e. refl
+left_idle node (Node key) idle = idle
+left_idle node (MsgPort port messages) idle = idle
+left_idle node (Message content) idle = idle
+left_idle node (Semaphore sem waiters) idle = idle
+
+task_left_idle : (t : ℕ) (object : Object) → Idle (Some object) → Idle (Some (left_by_task t object))
+task_left_idle t Plain idle = idle
+task_left_idle t (ListHead nodes) idle = idle
+task_left_idle t (Node key) idle = idle
+task_left_idle t (MsgPort port messages) idle = idle
+task_left_idle t (Message content) idle = idle
+task_left_idle t (Semaphore sem waiters) idle = λ e. ap (λ q. without t q) (idle e)
+
+new_idle : (object : Object) → IsNew object → Idle (Some object)
+new_idle Plain is = λ e. refl
+new_idle (ListHead nodes) is = λ e. refl
+new_idle (Node key) is = λ e. refl
+new_idle (MsgPort port messages) is = λ e. refl
+new_idle (Message content) is = λ e. refl
+new_idle (Semaphore sem waiters) is = λ e. is.1
+
+-- a semaphore that a task does not get at once has an owner
+closed_owned : (t : ℕ) (sem : Sem) → is_open t sem ≡ false → sem.owner ≡ None → ⊥
+closed_owned t sem closed none =
+    true_is_not_false (sym (ap (λ owner. not (is_some owner) || is_at owner t) none) ∙ closed)
+
+next_idle : (waiters : List ℕ) → Idle (Some (Semaphore (owned_next (first waiters)) (drop 1 waiters)))
+next_idle [] = λ e. refl
+next_idle (t ∷ waiters) = λ e. none_some e
+
+pub moves_idle : (regions : List Region) (t : ℕ) (call : Call) (old : Heap) (marks : List Mark) (new : Heap) → Moves regions t call old marks new
+    → AllIdle old → AllIdle new
+unfolding with_nodes unlinked with_action with_port appended taken_off with_semaphore entered queued dropped handed_on released_once sem_of waiters_of
+moves_idle regions t call old marks new stays idle = idle
+moves_idle regions t call old marks new (places size reqs address object is fits) idle = λ a.
+    cases_eq a address
+    (λ same. subst (λ found. Idle found) (sym (ap (λ k. object_at k new) same ∙ object_placed_here address (round size) object old)) (new_idle object is))
+    (λ apart. subst (λ found. Idle found) (sym (object_placed_there a address _ old apart)) (idle a))
+moves_idle regions t call old marks new (frees address may) idle = λ a.
+    cases_eq a address
+    (λ same. subst (λ found. Idle found) (sym (ap (λ k. object_at k new) same ∙ object_rid_here address old)) (λ e. refl))
+    (λ apart. subst (λ found. Idle found) (sym (object_rid_there a address old apart)) (idle a))
+moves_idle regions t call old marks new (relists list nodes is) idle = idle_replaced list (ListHead nodes) old (λ e. refl) idle
+moves_idle regions t call old marks new (unlinks node) idle = idle_remade (left_by node) (left_idle node) old idle
+moves_idle regions t call old marks new (sets act port is) idle = idle_replaced port _ old (λ e. refl) idle
+moves_idle regions t call old marks new (fills message content is) idle = idle_replaced message _ old (λ e. refl) idle
+moves_idle regions t call old marks new (puts port message content is also loose) idle =
+    idle_replaced port _ (filled message content old) (λ e. refl) (idle_replaced message _ old (λ e. refl) idle)
+moves_idle regions t call old marks new (gets port message is e) idle = idle_replaced port _ old (λ e. refl) idle
+moves_idle regions t call old marks new (enters semaphore is e) idle = idle_replaced semaphore _ old (λ none. none_some none) idle
+moves_idle regions t call old marks new (queues semaphore is e) idle =
+    idle_replaced semaphore _ (dropped t old) (λ none. absurd (closed_owned t (sem_of semaphore old) e none))
+    (idle_remade (left_by_task t) (task_left_idle t) old idle)
+moves_idle regions t call old marks new (hands semaphore owner release is last e) idle =
+    idle_replaced semaphore _ old (next_idle (waiters_of semaphore old)) idle
+moves_idle regions t call old marks new (opens semaphore release is last e) idle =
+    idle_replaced semaphore _ old (next_idle (waiters_of semaphore old)) idle
+moves_idle regions t call old marks new (releases semaphore is last) idle = idle_replaced semaphore _ old (idle semaphore) idle
+moves_idle regions t call old marks new (drops other apart) idle = idle_remade (left_by_task other) (task_left_idle other) old idle
+
+-- ---- owners
+
+-- the owner of what begins at an address, if it is a semaphore with one
+abbrev pub owner_in : Option Object → Option ℕ
+owner_in found = (sem_of_object found).owner
+
+-- at an address the owner stays, or there was none, or the call is the last release
+abbrev pub Owns : ℕ → Call → ℕ → Heap → Heap → Type 0
+Owns t call a old new =
+    (owner_in (object_at a new) ≡ owner_in (object_at a old))
+    ⊎ (owner_in (object_at a old) ≡ None)
+    ⊎ (IsRelease t call a old × ((sem_of a old).count ≡ 1))
+
+no_owner : (kind : Object → Bool) → ((object : Object) → kind object ≡ true → (sem_in object).owner ≡ None) → (found : Option Object)
+    → is_kind kind found ≡ true → owner_in found ≡ None
+no_owner kind none None is = refl
+no_owner kind none (Some object) is = none object is
+
+list_free : (object : Object) → is_list object ≡ true → (sem_in object).owner ≡ None
+list_free Plain is = refl
+list_free (ListHead nodes) is = refl
+list_free (Node key) is = refl
+list_free (MsgPort port messages) is = refl
+list_free (Message content) is = refl
+list_free (Semaphore sem waiters) is = true_is_not_false (sym is)
+
+port_free : (object : Object) → is_port object ≡ true → (sem_in object).owner ≡ None
+port_free Plain is = refl
+port_free (ListHead nodes) is = refl
+port_free (Node key) is = refl
+port_free (MsgPort port messages) is = refl
+port_free (Message content) is = refl
+port_free (Semaphore sem waiters) is = true_is_not_false (sym is)
+
+message_free : (object : Object) → is_message object ≡ true → (sem_in object).owner ≡ None
+message_free Plain is = refl
+message_free (ListHead nodes) is = refl
+message_free (Node key) is = refl
+message_free (MsgPort port messages) is = refl
+message_free (Message content) is = refl
+message_free (Semaphore sem waiters) is = true_is_not_false (sym is)
+
+pub free_owner : (sem : Sem) → is_owned sem ≡ false → sem.owner ≡ None
+free_owner sem e = none_owner sem.owner e
+  where
+    none_owner : (owner : Option ℕ) → is_some owner ≡ false → owner ≡ None
+    none_owner None e = refl
+    none_owner (Some t) e = true_is_not_false e
+
+gone_free : (found : Option Object) → MayGo found → owner_in found ≡ None
+gone_free None may = refl
+gone_free (Some Plain) may = refl
+gone_free (Some (ListHead nodes)) may = refl
+gone_free (Some (Node key)) may = refl
+gone_free (Some (MsgPort port messages)) may = refl
+gone_free (Some (Message content)) may = refl
+gone_free (Some (Semaphore sem waiters)) may = free_owner sem may
+
+new_free : (object : Object) → IsNew object → (sem_in object).owner ≡ None
+new_free Plain is = refl
+new_free (ListHead nodes) is = refl
+new_free (Node key) is = refl
+new_free (MsgPort port messages) is = refl
+new_free (Message content) is = refl
+new_free (Semaphore sem waiters) is = ap (λ (s : Sem). s.owner) is.0
+
+elsewhere : (a address : ℕ) (object : Object) (heap : Heap) → a ≢ address
+    → object_at a (map (replaced address object) heap) ≡ object_at a heap
+elsewhere a address object heap apart =
+    object_replaced address object a heap
+    ∙ ap (λ test. if test then instead object (object_at a heap) else object_at a heap) (nat_eq-other a address apart)
+
+-- where another object begins at one address, the owner stays at any other
+by_address : (t : ℕ) (call : Call) (a address : ℕ) (object : Object) (heap : Heap) → (a ≡ address → Owns t call a heap (map (replaced address object) heap))
+    → Owns t call a heap (map (replaced address object) heap)
+by_address t call a address object heap here =
+    cases_eq a address here (λ apart. inl (ap (λ found. owner_in found) (elsewhere a address object heap apart)))
+
+-- an object in place of one of a kind that has no owner
+unowned : (t : ℕ) (call : Call) (kind : Object → Bool) → ((object : Object) → kind object ≡ true → (sem_in object).owner ≡ None) → (a address : ℕ)
+    (object : Object) (heap : Heap) → is_kind kind (object_at address heap) ≡ true → Owns t call a heap (map (replaced address object) heap)
+unowned t call kind none a address object heap is =
+    by_address t call a address object heap
+    (λ same. inr (inl (no_owner kind none (object_at a heap) (subst (λ k. is_kind kind (object_at k heap) ≡ true) (sym same) is))))
+
+mapped_owner : (f : Object → Object) → ((object : Object) → (sem_in (f object)).owner ≡ (sem_in object).owner) → (found : Option Object)
+    → owner_in (option_map f found) ≡ owner_in found
+mapped_owner f same None = refl
+mapped_owner f same (Some object) = same object
+
+left_owner : (node : ℕ) (object : Object) → (sem_in (left_by node object)).owner ≡ (sem_in object).owner
+left_owner node Plain = refl
+left_owner node (ListHead nodes) = refl
+left_owner node (Node key) = refl
+left_owner node (MsgPort port messages) = refl
+left_owner node (Message content) = refl
+left_owner node (Semaphore sem waiters) = refl
+
+task_left_owner : (t : ℕ) (object : Object) → (sem_in (left_by_task t object)).owner ≡ (sem_in object).owner
+task_left_owner t Plain = refl
+task_left_owner t (ListHead nodes) = refl
+task_left_owner t (Node key) = refl
+task_left_owner t (MsgPort port messages) = refl
+task_left_owner t (Message content) = refl
+task_left_owner t (Semaphore sem waiters) = refl
+
+remade_owner : (f : Object → Object) → ((object : Object) → (sem_in (f object)).owner ≡ (sem_in object).owner) → (a : ℕ) (heap : Heap)
+    → owner_in (object_at a (map (λ (entry : ℕ × Block). (entry.0, record entry.1 { object = f entry.1.object })) heap)) ≡ owner_in (object_at a heap)
+remade_owner f same a heap = ap (λ found. owner_in found) (object_remade f a heap) ∙ mapped_owner f same (object_at a heap)
+
+-- the owner of a semaphore in whose place another of that owner begins
+kept_owner : (object : Object) (found : Option Object) → (sem_in object).owner ≡ owner_in found → owner_in (instead object found) ≡ owner_in found
+kept_owner object None e = refl
+kept_owner object (Some other) e = e
+
+same_owner : (a : ℕ) (object : Object) (heap : Heap) → (sem_in object).owner ≡ owner_in (object_at a heap)
+    → owner_in (object_at a (map (replaced a object) heap)) ≡ owner_in (object_at a heap)
+same_owner a object heap e =
+    ap (λ found. owner_in found)
+    (object_replaced a object a heap ∙ ap (λ test. if test then instead object (object_at a heap) else object_at a heap) (nat_eq-same a))
+    ∙ kept_owner object (object_at a heap) e
+
+-- who may have a semaphore at once owns it, or it is free
+open_owner : (t : ℕ) (owner : Option ℕ) → (not (is_some owner) || is_at owner t) ≡ true → (Some t ≡ owner) ⊎ (owner ≡ None)
+open_owner t None e = inr refl
+open_owner t (Some o) e = cases_eq o t (λ same. inl (ap (λ k. Some k) (sym same))) (λ apart. true_is_not_false (sym e ∙ nat_eq-other o t apart))
+
+once_count : (count : ℕ) → (count == 1) ≡ true → count ≡ 1
+once_count count e = cases_eq count 1 (λ same. same) (λ apart. true_is_not_false (sym e ∙ nat_eq-other count 1 apart))
+
+pub moves_own : (regions : List Region) (t : ℕ) (call : Call) (old : Heap) (marks : List Mark) (new : Heap) → Moves regions t call old marks new
+    → IsWellFormed regions (extents old) → (a : ℕ) → Owns t call a old new
+unfolding with_nodes unlinked with_action with_port appended taken_off with_semaphore entered queued dropped handed_on released_once sem_of is_list_at is_port_at is_message_at
+moves_own regions t call old marks new stays formed a = inl refl
+moves_own regions t call old marks new (places size reqs address object is fits) formed a =
+    cases_eq a address
+    (λ same. inr (inl (ap (λ found. owner_in found) (ap (λ k. object_at k old) same ∙ placed_fresh regions size reqs address old formed fits))))
+    (λ apart. inl (ap (λ found. owner_in found) (object_placed_there a address _ old apart)))
+moves_own regions t call old marks new (frees address may) formed a =
+    cases_eq a address
+    (λ same. inr (inl (ap (λ k. owner_in (object_at k old)) same ∙ gone_free (object_at address old) may)))
+    (λ apart. inl (ap (λ found. owner_in found) (object_rid_there a address old apart)))
+moves_own regions t call old marks new (relists list nodes is) formed a = unowned t call is_list list_free a list _ old is
+moves_own regions t call old marks new (unlinks node) formed a = inl (remade_owner (left_by node) (left_owner node) a old)
+moves_own regions t call old marks new (sets act port is) formed a = unowned t call is_port port_free a port _ old is
+moves_own regions t call old marks new (fills message content is) formed a = unowned t call is_message message_free a message _ old is
+moves_own regions t call old marks new (puts port message content is also loose) formed a =
+    cases_eq a port
+    (λ same. inr (inl (no_owner is_port port_free (object_at a old) (subst (λ k. is_kind is_port (object_at k old) ≡ true) (sym same) is))))
+    (λ apart. cases_eq a message
+    (λ same. inr (inl (no_owner is_message message_free (object_at a old) (subst (λ k. is_kind is_message (object_at k old) ≡ true) (sym same) also))))
+    (λ other. inl (ap (λ found. owner_in found) (elsewhere a port _ (filled message content old) apart ∙ elsewhere a message _ old other))))
+moves_own regions t call old marks new (gets port message is e) formed a = unowned t call is_port port_free a port _ old is
+moves_own regions t call old marks new (enters semaphore is e) formed a =
+    by_address t call a semaphore _ old
+    (λ same. elim (open_owner t (sem_of semaphore old).owner e) [
+      | inl h ↦ inl (subst (λ k. owner_in (object_at k new) ≡ owner_in (object_at k old)) (sym same) (same_owner semaphore _ old h))
+      | inr h ↦ inr (inl (ap (λ k. owner_in (object_at k old)) same ∙ h))
+    ])
+moves_own regions t call old marks new (queues semaphore is e) formed a =
+    let left = remade_owner (left_by_task t) (task_left_owner t) in
+    cases_eq a semaphore
+    (λ same. inl (subst (λ k. owner_in (object_at k new) ≡ owner_in (object_at k old)) (sym same)
+    (same_owner semaphore _ (dropped t old) (sym (left semaphore old)) ∙ left semaphore old)))
+    (λ apart. inl (ap (λ found. owner_in found) (elsewhere a semaphore _ (dropped t old) apart) ∙ left a old))
+moves_own regions t call old marks new (hands semaphore owner release is last e) formed a =
+    by_address t call a semaphore _ old
+    (λ same. inr (inr (subst (λ k. IsRelease t call k old × ((sem_of k old).count ≡ 1)) (sym same) (release, once_count (sem_of semaphore old).count last))))
+moves_own regions t call old marks new (opens semaphore release is last e) formed a =
+    by_address t call a semaphore _ old
+    (λ same. inr (inr (subst (λ k. IsRelease t call k old × ((sem_of k old).count ≡ 1)) (sym same) (release, once_count (sem_of semaphore old).count last))))
+moves_own regions t call old marks new (releases semaphore is last) formed a =
+    by_address t call a semaphore _ old
+    (λ same. inl (subst (λ k. owner_in (object_at k new) ≡ owner_in (object_at k old)) (sym same) (same_owner semaphore _ old refl)))
+moves_own regions t call old marks new (drops other apart) formed a = inl (remade_owner (left_by_task other) (task_left_owner other) a old)

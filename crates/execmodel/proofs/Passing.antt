@@ -1,0 +1,244 @@
+-- Tasks get a semaphore in the order in which they asked, from states where each task waits at one place at most and the running one at
+-- none.
+use Rattle.std.proofs.Common.{◌≡◌, ◌≢◌, ℕ, Bool, true, false, List, [], ◌∷◌, ◌++◌, Option, None, Some, refl, sym, ap, ◌∙◌, subst}
+use Rattle.std.specs.Prelude.{not, cond, if◌then◌else◌, nat_eq, map, drop}
+use Rattle.std.specs.Option.{option_map}
+use Rattle.memlist.specs.declared.region.Region.{Region}
+use Rattle.memlist.specs.Memory.{IsWellFormed}
+use Rattle.memlist.proofs.Answered.{nat_eq-same, nat_eq-other, cases_eq}
+use Rattle.execlist.specs.Order.{without}
+use Rattle.execmodel.specs.State.{Call, Object, Plain, ListHead, Node, MsgPort, Message, Semaphore, Block, Heap, Mark}
+use Rattle.execmodel.specs.Objects.{object_at, is_kind, replaced}
+use Rattle.execmodel.specs.Memory.{extents}
+use Rattle.execmodel.specs.Lists.{is_list, is_list_at, with_nodes, unlinked, left_by}
+use Rattle.execmodel.specs.Ports.{is_port, is_message, is_port_at, is_message_at, with_port, with_action, appended, taken_off}
+use Rattle.execmodel.specs.Semaphores.{is_semaphore, is_semaphore_at, waiters_in, waiters_of, waiters_of_object, awaited_by, with_semaphore, left_by_task, entered, queued, dropped, handed_on, released_once}
+use Rattle.execmodel.specs.Queues.{Came, Served, Left}
+use Rattle.execmodel.specs.Marks.{turns_at_semaphore}
+use Rattle.execmodel.proofs.Queues.{Follows, IsAway}
+use Rattle.execmodel.proofs.Heaps.{filled, instead, object_replaced, object_remade, object_placed_here, object_placed_there, object_rid_here, object_rid_there, true_is_not_false}
+use Rattle.execmodel.proofs.Formed.{placed_fresh}
+use Rattle.execmodel.proofs.Owners.{Idle, AllIdle, free_owner}
+use Rattle.execmodel.proofs.Fifo.{turned, first_is, still_semaphore, first_none, port_stays}
+use Rattle.msgport.specs.Port.{Port}
+use Rattle.msgport.specs.declared.message.Message.{Message as Content}
+use Rattle.sigsem.specs.declared.semaphore.Sem.{Sem}
+use Rattle.memlist.specs.Fit.{round}
+use Rattle.execmodel.proofs.Moves.{IsNew, MayGo, leaving_marks, Moves, stays, places, frees, relists, unlinks, sets, fills, puts, gets, enters, queues, hands, opens, releases, drops}
+
+-- ---- what has no messages
+
+instead_none : (object : Object) (found : Option Object) → waiters_in object ≡ [] → waiters_of_object (instead object found) ≡ []
+instead_none object None e = refl
+instead_none object (Some other) e = e
+
+-- an object in place of one without messages, which has none either
+quietly : (test : Bool) (object : Object) (found : Option Object) → waiters_in object ≡ []
+    → (test ≡ true → waiters_of_object found ≡ [])
+    → waiters_of_object (if test then instead object found else found) ≡ waiters_of_object found
+quietly true object found e none = instead_none object found e ∙ sym (none refl)
+quietly false object found e none = refl
+
+no_port : (kind : Object → Bool) → ((object : Object) → kind object ≡ true → waiters_in object ≡ []) → (found : Option Object)
+    → is_kind kind found ≡ true → waiters_of_object found ≡ []
+no_port kind none None is = refl
+no_port kind none (Some object) is = none object is
+
+list_none : (object : Object) → is_list object ≡ true → waiters_in object ≡ []
+list_none Plain is = refl
+list_none (ListHead nodes) is = refl
+list_none (Node key) is = refl
+list_none (MsgPort port messages) is = refl
+list_none (Message content) is = refl
+list_none (Semaphore sem waiters) is = true_is_not_false (sym is)
+
+message_none : (object : Object) → is_message object ≡ true → waiters_in object ≡ []
+message_none Plain is = refl
+message_none (ListHead nodes) is = refl
+message_none (Node key) is = refl
+message_none (MsgPort port messages) is = refl
+message_none (Message content) is = refl
+message_none (Semaphore sem waiters) is = true_is_not_false (sym is)
+
+port_none : (object : Object) → is_port object ≡ true → waiters_in object ≡ []
+port_none Plain is = refl
+port_none (ListHead nodes) is = refl
+port_none (Node key) is = refl
+port_none (MsgPort port messages) is = refl
+port_none (Message content) is = refl
+port_none (Semaphore sem waiters) is = true_is_not_false (sym is)
+
+new_none : (object : Object) → IsNew object → waiters_in object ≡ []
+new_none Plain is = refl
+new_none (ListHead nodes) is = refl
+new_none (Node key) is = refl
+new_none (MsgPort port messages) is = refl
+new_none (Message content) is = refl
+new_none (Semaphore sem waiters) is = is.1
+
+gone_none : (found : Option Object) → MayGo found → Idle found → waiters_of_object found ≡ []
+gone_none None may idle = refl
+gone_none (Some Plain) may idle = refl
+gone_none (Some (ListHead nodes)) may idle = refl
+gone_none (Some (Node key)) may idle = refl
+gone_none (Some (MsgPort port messages)) may idle = refl
+gone_none (Some (Message content)) may idle = refl
+gone_none (Some (Semaphore sem waiters)) may idle = idle (free_owner sem may)
+
+-- ---- what begins at an address becomes another
+
+-- at an address where something without messages begins, that becomes something without messages
+still_none : (address : ℕ) (object : Object) (kind : Object → Bool) (p : ℕ) (heap : Heap) → waiters_in object ≡ []
+    → ((other : Object) → kind other ≡ true → waiters_in other ≡ []) → is_kind kind (object_at address heap) ≡ true
+    → waiters_of p (map (replaced address object) heap) ≡ waiters_of p heap
+unfolding waiters_of
+still_none address object kind p heap e none is =
+    ap (λ found. waiters_of_object found) (object_replaced address object p heap)
+    ∙ cases_eq p address
+    (λ same. quietly (nat_eq p address) object (object_at p heap) e
+    (λ t. no_port kind none (object_at p heap) (subst (λ a. is_kind kind (object_at a heap) ≡ true) (sym same) is)))
+    (λ apart. ap (λ test. waiters_of_object (if test then instead object (object_at p heap) else object_at p heap)) (nat_eq-other p address apart))
+
+remade_none : (f : Object → Object) → ((object : Object) → waiters_in (f object) ≡ waiters_in object) → (found : Option Object)
+    → waiters_of_object (option_map f found) ≡ waiters_of_object found
+remade_none f same None = refl
+remade_none f same (Some object) = same object
+
+all_remade : (f : Object → Object) → ((object : Object) → waiters_in (f object) ≡ waiters_in object) → (p : ℕ) (heap : Heap)
+    → waiters_of p (map (λ (entry : ℕ × Block). (entry.0, record entry.1 { object = f entry.1.object })) heap) ≡ waiters_of p heap
+unfolding waiters_of
+all_remade f same p heap = ap (λ found. waiters_of_object found) (object_remade f p heap) ∙ remade_none f same (object_at p heap)
+
+left_same : (node : ℕ) (object : Object) → waiters_in (left_by node object) ≡ waiters_in object
+left_same node Plain = refl
+left_same node (ListHead nodes) = refl
+left_same node (Node key) = refl
+left_same node (MsgPort port messages) = refl
+left_same node (Message content) = refl
+left_same node (Semaphore sem waiters) = refl
+
+-- ---- tasks that leave
+
+without_away : (t : ℕ) (q : List ℕ) → IsAway t q → without t q ≡ q
+without_away t [] away = refl
+without_away t (x ∷ q) away =
+    ap (λ test. cond (not test) (x ∷ without t q) (without t q)) (nat_eq-other x t (λ e. away.0 (sym e))) ∙ ap (λ r. x ∷ r) (without_away t q away.1)
+
+task_left : (t : ℕ) (found : Option Object) → waiters_of_object (option_map (left_by_task t) found) ≡ without t (waiters_of_object found)
+task_left t None = refl
+task_left t (Some Plain) = refl
+task_left t (Some (ListHead nodes)) = refl
+task_left t (Some (Node key)) = refl
+task_left t (Some (MsgPort port messages)) = refl
+task_left t (Some (Message content)) = refl
+task_left t (Some (Semaphore sem waiters)) = refl
+
+dropped_left : (t p : ℕ) (heap : Heap) → waiters_of p (dropped t heap) ≡ without t (waiters_of p heap)
+unfolding waiters_of dropped
+dropped_left t p heap = ap (λ found. waiters_of_object found) (object_remade (left_by_task t) p heap) ∙ task_left t (object_at p heap)
+
+-- ---- what a semaphore has
+
+is_there : (object : Object) (found : Option Object) → is_kind is_semaphore found ≡ true → instead object found ≡ Some object
+is_there object None is = true_is_not_false (sym is)
+is_there object (Some other) is = refl
+
+semaphore_there : (semaphore : ℕ) (sem : Sem) (waiters : List ℕ) (heap : Heap) → is_semaphore_at semaphore heap ≡ true
+    → waiters_of semaphore (with_semaphore semaphore sem waiters heap) ≡ waiters
+unfolding waiters_of with_semaphore is_semaphore_at
+semaphore_there semaphore sem waiters heap is =
+    ap (λ found. waiters_of_object found)
+    (object_replaced semaphore (Semaphore sem waiters) semaphore heap
+    ∙ ap (λ test. if test then instead (Semaphore sem waiters) (object_at semaphore heap) else object_at semaphore heap) (nat_eq-same semaphore)
+    ∙ is_there (Semaphore sem waiters) (object_at semaphore heap) is)
+
+semaphore_elsewhere : (p semaphore : ℕ) (sem : Sem) (waiters : List ℕ) (heap : Heap) → p ≢ semaphore
+    → waiters_of p (with_semaphore semaphore sem waiters heap) ≡ waiters_of p heap
+unfolding waiters_of with_semaphore
+semaphore_elsewhere p semaphore sem waiters heap apart =
+    ap (λ found. waiters_of_object found)
+    (object_replaced semaphore (Semaphore sem waiters) p heap
+    ∙ ap (λ test. if test then instead (Semaphore sem waiters) (object_at p heap) else object_at p heap) (nat_eq-other p semaphore apart))
+
+port_still : (port : ℕ) (act : Port) (messages : List ℕ) (p : ℕ) (heap : Heap) → is_port_at port heap ≡ true
+    → waiters_of p (with_port port act messages heap) ≡ waiters_of p heap
+unfolding with_port is_port_at
+port_still port act messages p heap is = still_none port (MsgPort act messages) is_port p heap refl port_none is
+
+content_still : (message : ℕ) (content : Content) (p : ℕ) (heap : Heap) → is_message_at message heap ≡ true
+    → waiters_of p (filled message content heap) ≡ waiters_of p heap
+unfolding is_message_at
+content_still message content p heap is = still_none message (Message content) is_message p heap refl message_none is
+
+-- ---- where tasks wait
+
+-- a task waits nowhere
+abbrev pub IsNowhere : ℕ → Heap → Type 0
+IsNowhere t heap = (p : ℕ) → IsAway t (waiters_of p heap)
+
+-- a task waits at no other address than the one that is found, and nowhere where none is found
+abbrev pub WaitsAtOne : ℕ → Heap → Option ℕ → Type 0
+WaitsAtOne t heap None = IsNowhere t heap
+WaitsAtOne t heap (Some semaphore) = (p : ℕ) → p ≢ semaphore → IsAway t (waiters_of p heap)
+
+removed_pass : (found : Option ℕ) (t p : ℕ) (heap : Heap) → WaitsAtOne t heap found
+    → Follows (waiters_of p heap) (turns_at_semaphore p (leaving_marks found t)) (waiters_of p (dropped t heap))
+removed_pass None t p heap one = dropped_left t p heap ∙ without_away t (waiters_of p heap) (one p)
+removed_pass (Some semaphore) t p heap one =
+    turned p semaphore (Left t) (waiters_of p heap) (waiters_of p (dropped t heap))
+    (λ same. dropped_left t p heap)
+    (λ apart. dropped_left t p heap ∙ without_away t (waiters_of p heap) (one p apart))
+
+pub moves_pass : (regions : List Region) (t : ℕ) (call : Call) (old : Heap) (marks : List Mark) (new : Heap) → Moves regions t call old marks new
+    → IsWellFormed regions (extents old) → AllIdle old → IsNowhere t old → ((other : ℕ) → WaitsAtOne other old (awaited_by other old))
+    → (p : ℕ) → Follows (waiters_of p old) (turns_at_semaphore p marks) (waiters_of p new)
+unfolding with_nodes unlinked with_action appended taken_off entered queued handed_on released_once is_list_at
+moves_pass regions t call old marks new stays formed idle nowhere one p = refl
+moves_pass regions t call old marks new (places size reqs address object is fits) formed idle nowhere one p =
+    unfold waiters_of in cases_eq p address
+    (λ same. ap (λ found. waiters_of_object found) (ap (λ a. object_at a new) same ∙ object_placed_here address (round size) object old)
+    ∙ new_none object is
+    ∙ sym (ap (λ found. waiters_of_object found) (ap (λ a. object_at a old) same ∙ placed_fresh regions size reqs address old formed fits)))
+    (λ apart. ap (λ found. waiters_of_object found) (object_placed_there p address _ old apart))
+moves_pass regions t call old marks new (frees address may) formed idle nowhere one p =
+    unfold waiters_of in cases_eq p address
+    (λ same. ap (λ found. waiters_of_object found) (ap (λ a. object_at a new) same ∙ object_rid_here address old)
+    ∙ sym (ap (λ a. waiters_of_object (object_at a old)) same ∙ gone_none (object_at address old) may (idle address)))
+    (λ apart. ap (λ found. waiters_of_object found) (object_rid_there p address old apart))
+moves_pass regions t call old marks new (relists list nodes is) formed idle nowhere one p = still_none list (ListHead nodes) is_list p old refl list_none is
+moves_pass regions t call old marks new (unlinks node) formed idle nowhere one p = all_remade (left_by node) (left_same node) p old
+moves_pass regions t call old marks new (sets act port is) formed idle nowhere one p = port_still port _ _ p old is
+moves_pass regions t call old marks new (fills message content is) formed idle nowhere one p = content_still message content p old is
+moves_pass regions t call old marks new (puts port message content is also loose) formed idle nowhere one p =
+    port_still port _ _ p (filled message content old) (port_stays port message _ old is also) ∙ content_still message _ p old also
+moves_pass regions t call old marks new (gets port message is e) formed idle nowhere one p = port_still port _ _ p old is
+moves_pass regions t call old marks new (enters semaphore is e) formed idle nowhere one p =
+    cases_eq p semaphore
+    (λ same. ap (λ a. waiters_of a new) same ∙ semaphore_there semaphore _ (waiters_of semaphore old) old is ∙ sym (ap (λ a. waiters_of a old) same))
+    (λ apart. semaphore_elsewhere p semaphore _ (waiters_of semaphore old) old apart)
+moves_pass regions t call old marks new (queues semaphore is e) formed idle nowhere one p =
+    turned p semaphore (Came t) (waiters_of p old) (waiters_of p new)
+    (λ same. (
+      nowhere p,
+      ap (λ a. waiters_of a new) same
+          ∙ semaphore_there semaphore _ (without t (waiters_of semaphore old) ++ t ∷ []) (dropped t old) (still_semaphore t semaphore old is)
+          ∙ ap (λ q. q ++ t ∷ []) (without_away t (waiters_of semaphore old) (nowhere semaphore) ∙ sym (ap (λ a. waiters_of a old) same)),
+    ))
+    (λ apart. semaphore_elsewhere p semaphore _ (without t (waiters_of semaphore old) ++ t ∷ []) (dropped t old) apart
+    ∙ dropped_left t p old ∙ without_away t (waiters_of p old) (nowhere p))
+moves_pass regions t call old marks new (hands semaphore owner release is last e) formed idle nowhere one p =
+    turned p semaphore (Served owner) (waiters_of p old) (waiters_of p new)
+    (λ same. ap (λ a. waiters_of a old) same ∙ first_is owner (waiters_of semaphore old) e
+    ∙ ap (λ q. owner ∷ q) (sym (ap (λ a. waiters_of a new) same ∙ semaphore_there semaphore _ (drop 1 (waiters_of semaphore old)) old is)))
+    (λ apart. semaphore_elsewhere p semaphore _ (drop 1 (waiters_of semaphore old)) old apart)
+moves_pass regions t call old marks new (opens semaphore release is last e) formed idle nowhere one p =
+    cases_eq p semaphore
+    (λ same. ap (λ a. waiters_of a new) same ∙ semaphore_there semaphore _ (drop 1 (waiters_of semaphore old)) old is
+    ∙ ap (λ q. drop 1 q) (first_none (waiters_of semaphore old) e)
+    ∙ sym (ap (λ a. waiters_of a old) same ∙ first_none (waiters_of semaphore old) e))
+    (λ apart. semaphore_elsewhere p semaphore _ (drop 1 (waiters_of semaphore old)) old apart)
+moves_pass regions t call old marks new (releases semaphore is last) formed idle nowhere one p =
+    cases_eq p semaphore
+    (λ same. ap (λ a. waiters_of a new) same ∙ semaphore_there semaphore _ (waiters_of semaphore old) old is ∙ sym (ap (λ a. waiters_of a old) same))
+    (λ apart. semaphore_elsewhere p semaphore _ (waiters_of semaphore old) old apart)
+moves_pass regions t call old marks new (drops other apart) formed idle nowhere one p = removed_pass (awaited_by other old) other p old (one other)

@@ -1,0 +1,8 @@
+use Rattle.execmodel.proofs.OwnersLaw.{owners_change_at_the_last_release, free_semaphores_have_no_waiters}
+use Rattle.execmodel.proofs.laws.exclusion.Goals as goal
+
+pub returns-clause-owners : goal.returns-clause-owners
+returns-clause-owners c = owners_change_at_the_last_release
+
+pub returns-clause-idle : goal.returns-clause-idle
+returns-clause-idle c = free_semaphores_have_no_waiters

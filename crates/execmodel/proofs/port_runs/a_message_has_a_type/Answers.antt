@@ -1,5 +1,0 @@
-use Rattle.execmodel.proofs.PortTraces.{a_message_has_a_type-computed}
-use Rattle.execmodel.proofs.port_runs.a_message_has_a_type.Goals as goal
-
-pub returns : goal.returns
-returns c = a_message_has_a_type-computed

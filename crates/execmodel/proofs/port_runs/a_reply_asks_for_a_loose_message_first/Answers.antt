@@ -1,5 +1,0 @@
-use Rattle.execmodel.proofs.PortTraces.{a_reply_asks_for_a_loose_message_first-computed}
-use Rattle.execmodel.proofs.port_runs.a_reply_asks_for_a_loose_message_first.Goals as goal
-
-pub returns : goal.returns
-returns c = a_reply_asks_for_a_loose_message_first-computed

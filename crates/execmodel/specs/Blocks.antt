@@ -1,0 +1,50 @@
+-- Memory and what lies in it: blocks, each with the object that begins there. Nothing in it is linked and nothing is sorted: each queue
+-- is a sequence in order of arrival.
+use Rattle.std.specs.Prelude.{ℕ, List}
+use Rattle.memlist.specs.declared.region.Region.{Region}
+use Rattle.execlist.specs.Lists.{Key}
+use Rattle.msgport.specs.Port.{Port}
+use Rattle.msgport.specs.declared.message.Message.{Message as Content}
+use Rattle.sigsem.specs.declared.semaphore.Sem.{Sem}
+
+-- what a block of memory holds
+pub data Object : Type 0 where
+  -- nothing that Exec knows of: AllocMem gave the block
+  Plain : Object
+  -- the header of a list, with the addresses of its nodes from the first to the last (RKM Libraries, Exec Lists and Queues)
+  ListHead : (nodes : List ℕ) → Object
+  -- a node, with its priority and its name or none
+  Node : (key : Key) → Object
+  -- a message port, with the addresses of its messages in order of arrival (RKM Libraries, Exec Messages and Ports)
+  MsgPort : (port : Port) (messages : List ℕ) → Object
+  -- a message, with its type, its word, and the address of its reply port or 0
+  Message : (content : Content) → Object
+  -- a semaphore, with its owner or none, how often the owner has to release it, and the tasks that wait for it in order of request
+  -- (RKM Libraries, Exec Semaphores)
+  Semaphore : (sem : Sem) (waiters : List ℕ) → Object
+
+-- a block of memory, and what begins there
+pub record Block : Type 0 where
+  pub size : ℕ
+  pub object : Object
+
+-- the blocks by address, in order of address
+abbrev pub Heap : Type 0
+Heap = List (ℕ × Block)
+
+-- a public port: its address, and its priority and its name
+pub record PublicPort : Type 0 where
+  pub port : ℕ
+  pub key : Key
+
+-- the regions of memory in the order of the file, how many objects of each kind may live, the blocks that are allocated, and the public
+-- ports in order of arrival
+pub record Memory : Type 0 where
+  pub regions : List Region
+  pub pool : ℕ
+  pub heap : Heap
+  pub public : List PublicPort
+
+-- an action on the blocks and what begins there
+abbrev pub on_heap : (Heap → Heap) → Memory → Memory
+on_heap f memory = record memory { heap = f memory.heap }

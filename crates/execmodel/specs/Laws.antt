@@ -1,0 +1,189 @@
+-- Laws of every run: of each machine that a file may state, and each list of events.
+use Rattle.std.specs.Prelude.{◌≡◌, ◌⊎◌, ℕ, ◌≤ℤ◌, ◌^◌, Bool, true, false, not, nat_eq, bit_and, All, List, [], ◌∷◌, ◌++◌, None, Some, slice_get, codes}
+use Rattle.exectrace.specs.Trace.{Switch, TraceLine}
+use Rattle.memlist.specs.declared.region.Region.{Region}
+use Rattle.memlist.specs.Pieces.{AreDisjoint, IsTiled}
+use Rattle.execlist.specs.Order.{chosen}
+use Rattle.taskq.specs.Tasks.{pri_at, is_live}
+use Rattle.taskq.specs.declared.TaskState.TheVariants.{Waiting}
+use Rattle.taskq.specs.declared.Why.TheVariants.{Signals}
+use Rattle.scheduler.specs.Schedule.{Schedule, name_of, priority_of, status_of, signals_of, is_switching_allowed, is_interrupting_allowed}
+use Rattle.taskscript.specs.File.{MachineData}
+use Rattle.taskscript.specs.Machines.{IsMachine}
+use Rattle.taskscript.specs.declared.event.Event.{Event}
+use Rattle.taskscript.specs.declared.word.Word.{Word}
+use Rattle.taskscript.specs.declared.word.Word.TheVariants as group
+use Rattle.taskscript.specs.declared.word.task_signals.SignalWord.TheVariants as signals
+use Rattle.taskscript.specs.declared.word.ports.PortWord.TheVariants as ports
+use Rattle.taskscript.specs.declared.word.semaphores.SemaphoreWord.TheVariants.{ReleaseSemaphore}
+use Rattle.execmodel.specs.State.{Call, Object, Mark, State, Outcome}
+use Rattle.execmodel.specs.Calls.{argument, alerted, next_call}
+use Rattle.execmodel.specs.Memory.{extents, is_plain, does_free_mem}
+use Rattle.execmodel.specs.Objects.{object_at}
+use Rattle.execmodel.specs.Ports.{messages_of}
+use Rattle.execmodel.specs.Semaphores.{sem_of, waiters_of}
+use Rattle.execmodel.specs.Interrupts.{interrupts}
+use Rattle.execmodel.specs.Step.{does, ends, step, tick, switches, events, run}
+use Rattle.execmodel.specs.Queues.{IsInOrder}
+use Rattle.execmodel.specs.Marks.{turns_at_port, turns_at_semaphore}
+
+-- Something holds in every state that a run comes to. A state in the midst of an event is the last one of the run of other events: of those
+-- before, and of that one cut short.
+abbrev pub InEveryState : (State → Type 0) → Type 0
+InEveryState Holds = (machine : MachineData) (list : List Event) → IsMachine machine → Holds (run machine list).state
+
+-- Something holds over every stretch of a run: of the state before some events, the marks that these leave, and the state after them.
+abbrev pub OverEveryStretch : (State → List Mark → State → Type 0) → Type 0
+OverEveryStretch Relates =
+    (machine : MachineData) (before during : List Event) → IsMachine machine
+    → Relates (run machine before).state (events during (run machine before).state).marks (events during (run machine before).state).state
+
+-- Messages leave a port in the order in which they came: over every stretch of a run, the messages that the port had at first and those
+-- that were put there, less each that was then taken out, are those that GetMsg answered, in order, followed by those that the port has
+-- at last. An address where no port lives has no messages: so the life of a port is a stretch that begins with none.
+abbrev pub FirstInFirstOut : Type 0
+FirstInFirstOut =
+    (port : ℕ) → OverEveryStretch (λ old marks new.
+    IsInOrder (messages_of port old.memory.heap) (turns_at_port port marks) (messages_of port new.memory.heap))
+
+-- Each byte has one owner. The regions stay those of the file; blocks and gaps tile each of them: each unit of 8 bytes lies in exactly
+-- one, and their sizes add up to the region's. Each block lies in a region, and no two meet.
+pub record HasOneOwner (regions : List Region) (s : State) : Type 0 where
+  pub installed : s.memory.regions ≡ regions
+  pub tiled : (place : ℕ) (region : Region) → slice_get regions place ≡ Some region → IsTiled region (extents s.memory.heap)
+  pub disjoint : AreDisjoint regions (extents s.memory.heap)
+
+-- In every state each byte has one owner.
+abbrev pub EachByteHasOneOwner : Type 0
+EachByteHasOneOwner =
+    (machine : MachineData) (list : List Event) → IsMachine machine → HasOneOwner machine.regions (run machine list).state
+
+-- An object begins at a block of its own: at one address at most one block begins, and FreeMem refuses it where it holds an object.
+abbrev pub FreeMemRefusesObjects : Type 0
+FreeMemRefusesObjects =
+    (t : ℕ) (call : Call) (s : State) (object : Object) → object_at (argument 0 call) s.memory.heap ≡ Some object → is_plain object ≡ false
+    → does_free_mem t call s ≡ alerted (codes "MEM") t call s
+
+-- ---- actions
+
+-- what an event is so many of
+pub data Action : Type 0 where
+  OneStep : Action
+  OneTick : Action
+
+abbrev pub performed : Action → State → Outcome
+performed OneStep s = step s
+performed OneTick s = tick s
+
+-- Something holds of every action of a run: of the state before a step or a tick, and of what that does.
+abbrev pub OfEveryAction : (Action → State → Outcome → Type 0) → Type 0
+OfEveryAction Holds =
+    (machine : MachineData) (list : List Event) (action : Action) → IsMachine machine
+    → Holds action (run machine list).state (performed action (run machine list).state)
+
+-- the running task is to make that call
+pub record IsToCall (t : ℕ) (call : Call) (s : State) : Type 0 where
+  pub runs : s.schedule.running ≡ Some t
+  pub calls : next_call t s.scripts ≡ Some call
+
+-- ---- semaphores
+
+-- the running task is to release a semaphore which it owns, and has to release once
+pub record IsLastRelease (semaphore : ℕ) (s : State) : Type 0 where
+  pub t : ℕ
+  pub call : Call
+  pub calls : IsToCall t call s
+  pub word : call.word ≡ group.Semaphores ReleaseSemaphore
+  pub names : argument 0 call ≡ semaphore
+  pub owned : (sem_of semaphore s.memory.heap).owner ≡ Some t
+  pub once : (sem_of semaphore s.memory.heap).count ≡ 1
+
+-- The owner of a semaphore changes only from none, or at the release that brings its count to zero. (An address where no semaphore lives
+-- has no owner.)
+abbrev pub OwnersChangeAtTheLastRelease : Type 0
+OwnersChangeAtTheLastRelease =
+    (semaphore : ℕ) → OfEveryAction (λ action s o.
+    ((sem_of semaphore o.state.memory.heap).owner ≡ (sem_of semaphore s.memory.heap).owner)
+    ⊎ ((sem_of semaphore s.memory.heap).owner ≡ None)
+    ⊎ ((action ≡ OneStep) × IsLastRelease semaphore s))
+
+-- Nobody waits for a semaphore that no task owns.
+abbrev pub FreeSemaphoresHaveNoWaiters : Type 0
+FreeSemaphoresHaveNoWaiters =
+    (semaphore : ℕ) → InEveryState (λ s. (sem_of semaphore s.memory.heap).owner ≡ None → waiters_of semaphore s.memory.heap ≡ [])
+
+-- ---- priority
+
+-- Where no task runs none is ready; where switching is allowed no ready task has a higher priority than the running one; and a request is
+-- left only where interrupts are not allowed.
+pub record IsSettled (s : State) : Type 0 where
+  pub none_left : s.schedule.running ≡ None → s.schedule.queue.ready ≡ []
+  pub none_higher : (r : ℕ) → s.schedule.running ≡ Some r → is_switching_allowed (Some r) s.schedule ≡ true
+      → All (λ t. priority_of s.schedule t ≤ℤ priority_of s.schedule r) s.schedule.queue.ready
+  pub none_latched : s.latched ≡ true → is_interrupting_allowed s.schedule.running s.schedule ≡ false
+
+-- After the start and after each step and tick the machine is settled, unless an alert has stopped it.
+abbrev pub EachStateIsSettled : Type 0
+EachStateIsSettled = InEveryState (λ s. s.stopped ≡ false → IsSettled s)
+
+-- the ready tasks in order of arrival, where the running one arrives anew
+abbrev pub candidates : Schedule → List ℕ
+candidates s = s.queue.ready ++ (elim s.running as (λ x. List ℕ) [ None ↦ [] | Some r ↦ r ∷ [] ])
+
+-- A switch to a task is to the earliest among those of greatest priority, of the ready tasks and the one that ran until then, which comes
+-- last; and a task that runs leaves for one of its own priority only where its quantum has ended.
+abbrev pub SwitchesGoToTheChosen : Type 0
+SwitchesGoToTheChosen =
+    (s : State) (name : List ℕ) → (switches s).lines ≡ Switch name ∷ []
+    → (t : ℕ) × (name ≡ name_of s.schedule t) × (chosen (pri_at s.schedule.queue.pris) (candidates s.schedule) ≡ Some t)
+    × ((switches s).state.schedule.running ≡ Some t)
+    × ((r : ℕ) → s.schedule.running ≡ Some r → priority_of s.schedule t ≡ priority_of s.schedule r → s.schedule.left ≡ 0)
+
+-- the line of a switch is among these
+abbrev pub says_switch : List TraceLine → Bool
+says_switch [] = false
+says_switch (Switch name ∷ lines) = true
+says_switch (_ ∷ lines) = says_switch lines
+
+-- Nothing else says that a switch is made: no call, no task that ends, no interrupt.
+pub record OnlySwitchesSaySo : Type 0 where
+  pub of_calls : (t : ℕ) (call : Call) (s : State) → says_switch (does t call s).lines ≡ false
+  pub of_ends : (t : ℕ) (s : State) → says_switch (ends t s).lines ≡ false
+  pub of_interrupts : (s : State) → says_switch (interrupts s).lines ≡ false
+
+-- ---- stated, and not proved yet
+
+-- Tasks get a semaphore in the order in which they asked: over every stretch of a run, the tasks that waited for it at first and those that
+-- began to wait, less each that was then removed, are those that a release made the owner, in order, followed by those that wait at last.
+abbrev pub SemaphoresPassInOrder : Type 0
+SemaphoresPassInOrder =
+    (semaphore : ℕ) → OverEveryStretch (λ old marks new.
+    IsInOrder (waiters_of semaphore old.memory.heap) (turns_at_semaphore semaphore marks) (waiters_of semaphore new.memory.heap))
+
+-- A task that waits for signals has received none of them.
+abbrev pub WaitersHaveReceivedNone : Type 0
+WaitersHaveReceivedNone =
+    (t mask : ℕ) → InEveryState (λ s.
+    status_of s.schedule t ≡ Waiting (Signals mask) → bit_and (signals_of s.schedule t).received mask ≡ 0)
+
+-- signal n is among those of a word
+abbrev pub has_signal : ℕ → ℕ → Bool
+has_signal n bits = not (nat_eq (bit_and bits (2 ^ n)) 0)
+
+-- the words by which a task takes, sets or clears signals of its own
+abbrev pub is_own_taking : Word → Bool
+is_own_taking (group.Signals signals.Wait) = true
+is_own_taking (group.Signals signals.SetSignal) = true
+is_own_taking (group.Signals signals.AllocSignal) = true
+is_own_taking (group.Ports ports.CreateMsgPort) = true
+is_own_taking (group.Ports ports.WaitPort) = true
+is_own_taking _ = false
+
+-- A signal that a task has received stays received while the task lives, unless the task itself takes, sets or clears signals in this step.
+abbrev pub ReceivedSignalsStay : Type 0
+ReceivedSignalsStay =
+    (t n : ℕ) → OfEveryAction (λ action s o.
+    has_signal n (signals_of s.schedule t).received ≡ true
+    → is_live (status_of o.state.schedule t) ≡ true
+    → (has_signal n (signals_of o.state.schedule t).received ≡ true)
+    ⊎ ((action ≡ OneStep) × ((call : Call) × IsToCall t call s × (is_own_taking call.word ≡ true))))

@@ -1,0 +1,120 @@
+//! Whole traces of small machines, and the marks that they leave, as the definitions compute them.
+
+ghost use Rattle.execmodel.specs.Runs.{PrintsOnce, NothingFollowsAnAlert, SignalWakesAHigherTask, EqualPriorityDoesNotPreempt, APreemptedTaskArrivesAnew, AWaitKeepsItsMask, CalculatesAndJumps, ForbidKeepsOthersOff, AnEndedQuantumLetsAnEqualRun, TicksUnderDisableAreServedOnce, ALiveTaskIsFoundByItsName, SizesRoundUp, SuitableRegionsAreTriedByPriority, EqualsStandInOrderOfArrival, AListInUseIsNotFreed, EachKindHasItsPool, MessagesAreTakenInOrderOfArrival, MarksTellWhatCameAndWhatWasTaken, ThePublicPortOfGreatestPriorityIsFound, AReplyGoesToTheReplyPort, ASemaphoreIsHandedToTheFirstThatAsked, MarksTellWhoAskedAndWhoGotIt, ARemovedTaskLeavesTheQueue, MarksTellWhoAskedAndWhoLeft, WhereNoTaskWaitsThereIsNoMark};
+
+/// A task that prints once ends at its next step, and the machine is idle.
+pub fn a_task_prints_once_and_ends()
+    ensures { PrintsOnce }
+{}
+
+/// An alert stops the machine for good.
+pub fn nothing_follows_an_alert()
+    ensures { NothingFollowsAnAlert }
+{}
+
+/// A task that waits is made ready by its signal, and runs at once where its priority is higher.
+pub fn a_signal_wakes_a_higher_task()
+    ensures { SignalWakesAHigherTask }
+{}
+
+/// A task that becomes ready does not take over from a running one of its own priority.
+pub fn equal_priority_does_not_preempt()
+    ensures { EqualPriorityDoesNotPreempt }
+{}
+
+/// A pre-empted task stands behind the ready ones of its priority.
+pub fn a_preempted_task_arrives_anew()
+    ensures { APreemptedTaskArrivesAnew }
+{}
+
+/// A call that waits keeps the values that its arguments had.
+pub fn a_wait_keeps_its_mask()
+    ensures { AWaitKeepsItsMask }
+{}
+
+/// Arithmetic wraps, and a jump goes on at the command of its label.
+pub fn arithmetic_wraps_and_a_jump_goes_on_at_its_label()
+    ensures { CalculatesAndJumps }
+{}
+
+/// A task that is signalled under Forbid runs once that is taken back.
+pub fn forbid_keeps_others_off()
+    ensures { ForbidKeepsOthersOff }
+{}
+
+/// A task whose quantum has ended lets a ready one of its priority run, and stands behind it.
+pub fn an_ended_quantum_lets_an_equal_run()
+    ensures { AnEndedQuantumLetsAnEqualRun }
+{}
+
+/// What is requested under Disable is served once, when interrupts are allowed again.
+pub fn ticks_under_disable_are_served_once()
+    ensures { TicksUnderDisableAreServedOnce }
+{}
+
+/// A task is found by its name while it is live.
+pub fn a_live_task_is_found_by_its_name()
+    ensures { ALiveTaskIsFoundByItsName }
+{}
+
+/// Sizes round up to a multiple of 8, and AllocMem answers 0 for size 0 and where nothing fits.
+pub fn sizes_round_up()
+    ensures { SizesRoundUp }
+{}
+
+/// Of the regions with the attributes asked for, the one of greatest priority gives the memory.
+pub fn suitable_regions_are_tried_by_priority()
+    ensures { SuitableRegionsAreTriedByPriority }
+{}
+
+/// A node is enqueued before those of lower priority, and behind its equals.
+pub fn equals_stand_in_order_of_arrival()
+    ensures { EqualsStandInOrderOfArrival }
+{}
+
+/// Freeing a list that holds a node is the alert LINK.
+pub fn a_list_in_use_is_not_freed()
+    ensures { AListInUseIsNotFreed }
+{}
+
+/// So many objects of each kind may live at once; a priority past its range is the alert VALUE.
+pub fn each_kind_has_its_pool()
+    ensures { EachKindHasItsPool }
+{}
+
+/// Messages are taken in order of arrival; a signal that came for no message only makes the task of a port look again.
+/// The marks tell what came and what was taken.
+pub fn messages_are_taken_in_order_of_arrival()
+    ensures trace { MessagesAreTakenInOrderOfArrival }
+    ensures marks { MarksTellWhatCameAndWhatWasTaken }
+{}
+
+/// Of the public ports of a name that of greatest priority is found; taking out one that is not public is the alert LINK.
+pub fn the_public_port_of_greatest_priority_is_found()
+    ensures { ThePublicPortOfGreatestPriorityIsFound }
+{}
+
+/// A reply has the type NT_REPLYMSG and goes to the reply port; a port that holds a message is not deleted.
+pub fn a_reply_goes_to_the_reply_port()
+    ensures { AReplyGoesToTheReplyPort }
+{}
+
+/// The last release hands a semaphore to the first task that asked for it, whose call is tried again and prints its plain line; a release
+/// by a task that does not own it is the alert SEM. The marks tell who asked for it and who was made its owner; a call that waits for
+/// nothing leaves none, nor does a release that is not the last.
+pub fn a_semaphore_is_handed_to_the_first_that_asked()
+    ensures trace { ASemaphoreIsHandedToTheFirstThatAsked }
+    ensures marks { MarksTellWhoAskedAndWhoGotIt }
+{}
+
+/// A removed task leaves the queue of a semaphore, and the next one gets it. AttemptSemaphore answers 1 where it got it and 0 where
+/// it did not, and a semaphore that is owned is not freed. The marks tell who asked for it, who left and who was made its owner.
+pub fn a_removed_task_leaves_the_queue()
+    ensures trace { ARemovedTaskLeavesTheQueue }
+    ensures marks { MarksTellWhoAskedAndWhoLeft }
+{}
+
+/// A semaphore that is obtained and released where no task waits leaves no mark.
+pub fn where_no_task_waits_there_is_no_mark()
+    ensures { WhereNoTaskWaitsThereIsNoMark }
+{}

@@ -1,0 +1,92 @@
+-- What the program does with two paths: the files that it reads, the trace that it writes, and the end that comes of it.
+use Rattle.std.specs.Borrow.{Bor}
+use Rattle.std.specs.Prelude.{◌≡◌, ◌≤◌, ◌⊎◌, ℕ, Bool, true, false, List, length, codes, Option, Some, Result, Ok, Err}
+use Rattle.std.specs.Io.KnownBytes.{Appends, Keeps}
+use Rattle.clap.specs.Words.{Text, first_of, matches_of}
+use Rattle.exectrace.specs.Sink.{Tape}
+use Rattle.exectrace.specs.declared.sinks.SinkState.TheVariants.{Good}
+use Rattle.taskscript.specs.File.{file_of}
+use Rattle.taskscript.specs.Events.{script_of}
+use Rattle.execsim.specs.Headline.{RunsWhole, Simulates}
+use Rattle.execsim.specs.declared.simulation.End.{End}
+use Rattle.execsim.specs.declared.simulation.SimFault.{SimFault}
+use Rattle.execrun.specs.CommandLine.{two_paths}
+use Rattle.execrun.specs.Ending.{code_of, ending_after, status_of}
+use Rattle.execrun.specs.Fault.{fault_of}
+use Rattle.execrun.specs.declared.command_line.Paths.{Paths}
+use Rattle.execrun.specs.declared.ending.Ending.{Ending}
+use Rattle.execrun.specs.declared.fault.Fault.{Fault}
+use Rattle.execrun.specs.declared.fault.Fault.TheVariants.{NoMemory, CannotRead, WriteFailed}
+
+-- the bytes that a writer holds, where it tells them
+abbrev pub Held : Type 0
+Held = Option (List ℕ)
+
+-- a good sink over a writer that holds these bytes
+abbrev pub good_sink : Held → Tape
+good_sink held = record { taken = held; state = Good }
+
+-- the program's answer to that of the simulator, and to whether all could be flushed after it
+abbrev pub answer_of : Result End SimFault → Bool → Result End Fault
+answer_of (Ok how) true = Ok how
+answer_of (Ok how) false = Err WriteFailed
+answer_of (Err why) flushed = Err (fault_of why)
+
+-- The writer took what the headline says of the run of these two texts, by a good sink over what it held before, and it still holds
+-- this after the flush. The answer is the simulator's, but for a trace that could not be flushed, which is a failed write.
+pub record WritesTrace (machine events : List ℕ) (before after : Held) (result : Result End Fault) : Type 0 where
+  pub ended : Result End SimFault
+  pub sink : Tape
+  pub simulates : Simulates (file_of machine) (script_of events) (good_sink before) sink ended
+  pub keeps : Keeps sink.taken after
+  pub flushed : Bool
+  pub answers : result ≡ answer_of ended flushed
+
+-- Both files were read, and the trace of their run was written: there are bytes of two files, within the limit, whose trace it is.
+pub record RunsFiles (before after : Held) (result : Result End Fault) : Type 0 where
+  pub machine : List ℕ
+  pub events : List ℕ
+  pub machine_within : length machine ≤ 4194304
+  pub events_within : length events ≤ 4194304
+  pub writes : WritesTrace machine events before after result
+
+-- Memory was refused, or one of these paths could not be read, and nothing was written.
+pub record ReadsNothing (IsPath : Bor (List ℕ) → Type 0) (before after : Held) (result : Result End Fault) : Type 0 where
+  pub fault : Fault
+  pub fails : result ≡ Err fault
+  pub reason : (fault ≡ NoMemory) ⊎ ((path : Bor (List ℕ)) × IsPath path × (fault ≡ CannotRead path))
+  pub untouched : Keeps before after
+
+-- one of the two paths
+abbrev pub IsOneOf : Paths → Bor (List ℕ) → Type 0
+IsOneOf paths path = (path ≡ paths.machine) ⊎ (path ≡ paths.events)
+
+-- one of the two paths that the words give
+abbrev pub IsGivenIn : List Text → Bor (List ℕ) → Type 0
+IsGivenIn words path =
+    (first_of (codes "MACHINE") (matches_of two_paths words) ≡ Some path.now)
+    ⊎ (first_of (codes "EVENTS") (matches_of two_paths words) ≡ Some path.now)
+
+-- The end is that of a run of the two files that the words give, or of files that could not be had.
+pub record RunsWords (words : List Text) (before after : Held) (ending : Ending) : Type 0 where
+  pub result : Result End Fault
+  pub ends : ending ≡ ending_after result
+  pub runs : RunsFiles before after result ⊎ ReadsNothing (IsGivenIn words) before after result
+
+-- The same where the end is told by the number of its status.
+pub record EndsRun (words : List Text) (before after : Held) (code : ℕ) : Type 0 where
+  pub ending : Ending
+  pub status : code ≡ code_of (status_of ending)
+  pub runs : RunsWords words before after ending
+
+-- The writer took the whole trace of the run of two texts, as the headline says of a run that ends so, and holds it after the flush.
+pub record WritesWhole (before after : Held) (how : End) : Type 0 where
+  pub machine : List ℕ
+  pub events : List ℕ
+  pub sink : Tape
+  pub runs : RunsWhole (file_of machine) (script_of events) (good_sink before) sink how
+  pub keeps : Keeps sink.taken after
+
+-- a writer took some bytes more
+abbrev pub Grows : Held → Held → Type 0
+Grows before after = (bytes : List ℕ) × Appends before after bytes

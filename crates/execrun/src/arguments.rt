@@ -1,0 +1,73 @@
+//! The program on the arguments of its process.
+ghost use Rattle.std.specs.Prelude.{◌≡◌, ◌≢◌, ◌≤◌, ◌⊎◌, IfOk};
+ghost use Rattle.std.specs.IoError.{error_kind};
+ghost use Rattle.execrun.specs.Ending.{status_of};
+
+use crate::command_line::not_text_error;
+use crate::ending::{Ending, Status, report};
+use crate::fault::Fault;
+use crate::running::run;
+use std::alloc::Global;
+use std::env::Env;
+use std::io::{BufWriter, ErrorKind, Write};
+use std::rt::Files;
+use std::{env, io};
+
+/// How many bytes are kept before they are handed to standard output.
+const OUTPUT_BUFFER: usize = 65_536;
+
+/// Runs the program on the process's arguments, with a buffer before `out`.
+///
+/// # Errors
+///
+/// An error of the kind `OutOfMemory` where memory is refused, and another where the arguments are no text.
+fn run_buffered<R: Env + Files + AllocGlobal, W: Write + Drop, E: Write>(
+    rt: &R,
+    out: W,
+    err: &mut E,
+) -> io::Result<u8>
+    ensures status { IfOk result (λ status. status ≤ 4) }
+    ensures silent { IfOk result (λ status. (status ≡ 0) ⊎ (status ≡ 3) → err.new ≡ err.old) }
+{
+    let alloc = rt.alloc();
+    let arguments: Vec<String> = env::args(rt)?.skip(1).collect(alloc)?;
+    let words: Vec<&str> = arguments.iter().map(|word| word.as_str()).collect(alloc)?;
+    let mut out = BufWriter::with_capacity(alloc, OUTPUT_BUFFER, out)?;
+    let status = run(rt, alloc, &words, &mut out, err);
+    // All was flushed by now, or a write failed: what is left then is not handed over once more.
+    let _unwritten = out.into_parts();
+    Ok(status)
+}
+
+/// How the program ends where its arguments could not be had.
+fn ending_without_words<'a>(alloc: Global, error: &io::Error) -> Ending<'a>
+    ensures memory { error_kind error.now ≡ ErrorKind.OutOfMemory → result ≡ Ending.Failed Fault.NoMemory }
+    ensures not_text { error_kind error.now ≢ ErrorKind.OutOfMemory
+        → (status_of result ≡ Status.CommandLineRefused) ⊎ (result ≡ Ending.Failed Fault.NoMemory) }
+    ensures status { (status_of result ≡ Status.CommandLineRefused) ⊎ (status_of result ≡ Status.Failed) }
+{
+    if error.kind() == ErrorKind::OutOfMemory {
+        return Ending::Failed(Fault::NoMemory);
+    }
+    match not_text_error(alloc) {
+        Ok(error) => Ending::Refused(error),
+        Err(_) => Ending::Failed(Fault::NoMemory),
+    }
+}
+
+/// Runs the program on the process's arguments, and answers the status with which it ends.
+///
+/// Arguments that are no text are refused as a command line is.
+pub fn run_on_arguments<R: Env + Files + AllocGlobal, W: Write + Drop, E: Write>(
+    rt: &R,
+    out: W,
+    err: &mut E,
+) -> u8
+    ensures status { result ≤ 4 }
+    ensures silent { (result ≡ 0) ⊎ (result ≡ 3) → err.new ≡ err.old }
+{
+    match run_buffered(rt, out, err) {
+        Ok(status) => status,
+        Err(error) => report(&ending_without_words(rt.alloc(), &error), err).code(),
+    }
+}

@@ -1,0 +1,17 @@
+//! The program `execsim` whole, over any files, any words and any two writers: command line, files, statuses and messages.
+#![tactic(auto)]
+
+mod arguments;
+mod command_line;
+mod ending;
+mod fault;
+mod files;
+mod lent;
+mod running;
+
+pub use arguments::run_on_arguments;
+pub use command_line::Paths;
+pub use ending::{Ending, Status, report};
+pub use fault::Fault;
+pub use files::FILE_LIMIT;
+pub use running::run;

@@ -1,0 +1,144 @@
+//! The program over any files, any words and any two writers.
+ghost use Rattle.std.specs.Prelude.{◌≡◌, ◌≢◌, ◌≤◌, ◌⊎◌};
+ghost use Rattle.std.specs.Io.KnownBytes.{Keeps};
+ghost use Rattle.clap.specs.Walk.{texts};
+ghost use Rattle.clap.specs.Words.{kind_of};
+ghost use Rattle.execrun.specs.CommandLine.{AreRefused, AreRight, AskForHelp};
+ghost use Rattle.execrun.specs.Ending.{status_of};
+ghost use Rattle.execrun.specs.Running.{EndsRun, Grows, IsOneOf, ReadsNothing, RunsFiles, RunsWords, WritesTrace, WritesWhole, answer_of};
+
+use crate::command_line::{Paths, paths_given, write_answer};
+use crate::ending::{Ending, Status, report};
+use crate::fault::Fault;
+use crate::files::read_file;
+use crate::lent::Lent;
+use clap::error::ErrorKind;
+use execsim::{End, SimFault, simulate};
+use exectrace::WriteSink;
+use std::alloc::Global;
+use std::io::Write;
+use std::rt::Files;
+
+/// The program's answer, by that of the simulator, and by whether all could be flushed after it.
+fn answer<'a>(ended: Result<End, SimFault>, flushed: bool) -> Result<End, Fault<'a>>
+    ensures { result ≡ answer_of ended flushed }
+{
+    match ended {
+        Err(fault) => Err(Fault::from(fault)),
+        Ok(end) => {
+            if flushed {
+                Ok(end)
+            } else {
+                Err(Fault::WriteFailed)
+            }
+        }
+    }
+}
+
+/// Simulates the machine of one text under the events of another, and writes the trace to its last byte.
+///
+/// # Errors
+///
+/// The simulator's fault, and otherwise `WriteFailed` where what was written cannot be flushed. What was written before a fault
+/// is flushed too.
+fn write_trace<'a, W: Write>(
+    alloc: Global,
+    machine: &[u8],
+    events: &[u8],
+    out: &mut W,
+) -> Result<End, Fault<'a>>
+    ensures { WritesTrace machine.now events.now (W.contents out.old) (W.contents out.new) result }
+{
+    let mut sink = WriteSink::new(Lent { out: &mut *out });
+    let ended = simulate(alloc, machine, events, &mut sink);
+    let Lent { out: lent } = sink.into_inner();
+    let flushed = lent.flush().is_ok();
+    // No effect at run time. The proof reads what `out` holds from this use of `lent`.
+    let _ = &*lent;
+    answer(ended, flushed)
+}
+
+/// Reads the machine file, and then the event text, and writes the trace of their run. Nothing is judged before both are read.
+fn simulate_files<'a, R: Files, W: Write>(
+    rt: &R,
+    alloc: Global,
+    paths: Paths<'a>,
+    out: &mut W,
+) -> Result<End, Fault<'a>>
+    ensures { RunsFiles (W.contents out.old) (W.contents out.new) result
+        ⊎ ReadsNothing (IsOneOf paths.entry) (W.contents out.old) (W.contents out.new) result }
+{
+    let machine = read_file(rt, alloc, paths.machine)?;
+    let events = read_file(rt, alloc, paths.events)?;
+    write_trace(alloc, &machine, &events, out)
+}
+
+/// The end of a run whose command line gave no paths.
+///
+/// Help that was asked for is written to `out`; a refused command line leaves `out` as it was.
+fn ending_without_paths<'a, W: Write>(alloc: Global, error: clap::Error, out: &mut W) -> Ending<'a>
+    ensures memory { kind_of error ≡ ErrorKind.OutOfMemory → result ≡ Ending.Failed Fault.NoMemory }
+    ensures refused { kind_of error ≢ ErrorKind.OutOfMemory → kind_of error ≢ ErrorKind.DisplayHelp
+        → kind_of error ≢ ErrorKind.DisplayVersion → result ≡ Ending.Refused error }
+    ensures help { kind_of error ≡ ErrorKind.DisplayHelp
+        → ((result ≡ Ending.Done) × Grows (W.contents out.old) (W.contents out.new)) ⊎ (status_of result ≡ Status.Failed) }
+    ensures untouched { status_of result ≡ Status.CommandLineRefused → out.new ≡ out.old }
+    ensures unwritten { kind_of error ≡ ErrorKind.OutOfMemory → out.new ≡ out.old }
+{
+    if error.kind() == ErrorKind::OutOfMemory {
+        return Ending::Failed(Fault::NoMemory);
+    }
+    if error.use_stderr() {
+        return Ending::Refused(error);
+    }
+    match write_answer(alloc, &error, out) {
+        Ok(()) => Ending::Done,
+        Err(fault) => Ending::Failed(fault),
+    }
+}
+
+/// Does what the words ask for, and says how the program ends.
+fn ending_of<'a, R: Files, W: Write>(
+    rt: &R,
+    alloc: Global,
+    words: &'a [&'a str],
+    out: &mut W,
+) -> Ending<'a>
+    ensures right { AreRight (texts words.now) → status_of result ≢ Status.CommandLineRefused }
+    ensures refused { AreRefused (texts words.now)
+        → (status_of result ≡ Status.CommandLineRefused) ⊎ (result ≡ Ending.Failed Fault.NoMemory) }
+    ensures runs { AreRight (texts words.now) → RunsWords (texts words.now) (W.contents out.old) (W.contents out.new) result }
+    ensures help { AskForHelp (texts words.now)
+        → ((result ≡ Ending.Done) × Grows (W.contents out.old) (W.contents out.new)) ⊎ (status_of result ≡ Status.Failed) }
+    ensures untouched { status_of result ≡ Status.CommandLineRefused → out.new ≡ out.old }
+{
+    match paths_given(alloc, words) {
+        Ok(paths) => Ending::from(simulate_files(rt, alloc, paths, out)),
+        Err(error) => ending_without_paths(alloc, error, out),
+    }
+}
+
+/// Runs the program on the words of its command line, without its own name, and answers the status with which it ends.
+///
+/// The trace, or the help, goes to `out`, and is flushed. What went wrong goes to `err`, where a write that fails changes nothing.
+pub fn run<R: Files, W: Write, E: Write>(
+    rt: &R,
+    alloc: Global,
+    words: &[&str],
+    out: &mut W,
+    err: &mut E,
+) -> u8
+    ensures status { result ≤ 4 }
+    ensures right { AreRight (texts words.now) → result ≢ 2 }
+    // A command line is also refused for want of memory, with 4.
+    ensures refused { AreRefused (texts words.now) → (result ≡ 2) ⊎ (result ≡ 4) }
+    ensures runs { AreRight (texts words.now) → EndsRun (texts words.now) (W.contents out.old) (W.contents out.new) result }
+    ensures ran { AreRight (texts words.now) → result ≡ 0 → WritesWhole (W.contents out.old) (W.contents out.new) End.Ran }
+    ensures alerted { AreRight (texts words.now) → result ≡ 3 → WritesWhole (W.contents out.old) (W.contents out.new) End.Alerted }
+    ensures refused_text { AreRight (texts words.now) → result ≡ 1 → Keeps (W.contents out.old) (W.contents out.new) }
+    ensures help { AskForHelp (texts words.now) → ((result ≡ 0) × Grows (W.contents out.old) (W.contents out.new)) ⊎ (result ≡ 4) }
+    ensures silent { (result ≡ 0) ⊎ (result ≡ 3) → err.new ≡ err.old }
+    ensures untouched { result ≡ 2 → out.new ≡ out.old }
+{
+    report(&ending_of(rt, alloc, words, out), err).code()
+}

@@ -1,0 +1,9 @@
+use Rattle.std.proofs.Common.{◌-◌, ◌<◌}
+use Rattle.memlist.proofs.Walking.{IsPassed}
+use Rattle.memlist.proofs.space.FreeSpace.lowest_gap.Given as goal
+
+abbrev pub invariant-loop-gap : goal.invariant-loop-gap
+invariant-loop-gap l = IsPassed (λ gap. gap.size < l.size) l.self.gaps l.before
+
+abbrev pub decreases-loop-gap : goal.decreases-loop-gap
+decreases-loop-gap l = 2147483648 - l.before

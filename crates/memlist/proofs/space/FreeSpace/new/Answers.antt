@@ -1,0 +1,19 @@
+use Rattle.std.proofs.Common.{◌/◌, arith, ap, length, ◌∙◌}
+use Rattle.std.proofs.lemmas.List.{length-replicate}
+use Rattle.memlist.proofs.Writing.{new_space}
+use Rattle.memlist.proofs.space.FreeSpace.new.Goals as goal
+
+pub write-requires : goal.write-requires
+write-requires c =
+    let len = ap length (c.in_ok-words.ensures.items_if_clones_equal (λ y h. h)) ∙ length-replicate (c.args.size / 4) 0 in
+    omega (arith, len, c.requires.some, c.requires.whole)
+
+pub invariant_of-result : goal.invariant_of-result
+invariant_of-result c =
+    let len = ap length (c.in_ok-words.ensures.items_if_clones_equal (λ y h. h)) ∙ length-replicate (c.args.size / 4) 0 in
+    (new_space c.args.base c.args.size c.in_ok-words.words.items c.write.new.words.items c.requires.place c.requires.low c.requires.some c.requires.whole c.requires.reach len c.write.ensures).kept
+
+pub returns : goal.returns
+returns c =
+    let len = ap length (c.in_ok-words.ensures.items_if_clones_equal (λ y h. h)) ∙ length-replicate (c.args.size / 4) 0 in
+    (new_space c.args.base c.args.size c.in_ok-words.words.items c.write.new.words.items c.requires.place c.requires.low c.requires.some c.requires.whole c.requires.reach len c.write.ensures).is

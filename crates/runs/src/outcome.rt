@@ -1,0 +1,42 @@
+//! What the program comes to over two texts.
+ghost use Rattle.std.specs.Prelude.{◌≡◌, IfOk};
+ghost use Rattle.taskscript.specs.File.{file_of};
+ghost use Rattle.taskscript.specs.Events.{script_of};
+ghost use Rattle.runs.specs.Outcomes.{IsOutcome};
+
+use crate::run::run_of;
+use execrun::{Ending, Fault};
+use std::alloc::{AllocError, Global};
+
+/// The program's status, and what it writes: the trace, or the line of a fault.
+#[derive(Drop)]
+pub struct Outcome {
+    pub status: u8,
+    pub written: Vec<u8>,
+}
+
+/// What the program comes to over a machine file and an event text.
+///
+/// # Errors
+///
+/// Where memory is lacking for the line of a fault.
+///
+/// Source: own choice.
+pub fn outcome_of(alloc: Global, machine: &[u8], events: &[u8]) -> Result<Outcome, AllocError>
+    ensures { IfOk result (λ outcome. IsOutcome (file_of machine.now) (script_of events.now) outcome.status outcome.written.items) }
+{
+    match run_of(alloc, machine, events) {
+        Ok(run) => Ok(Outcome {
+            status: Ending::from(Ok(run.end)).status().code(),
+            written: run.trace,
+        }),
+        Err(fault) => {
+            let fault = Fault::from(fault);
+            let line = format!(in alloc; "{fault}\n")?;
+            Ok(Outcome {
+                status: Ending::Failed(fault).status().code(),
+                written: line.into_bytes(),
+            })
+        }
+    }
+}
