@@ -6,6 +6,7 @@ mod event_texts;
 mod heap_lists;
 mod heap_ports;
 mod heap_semaphores;
+mod interrupts;
 mod link_lists;
 mod lists;
 mod machine_files;

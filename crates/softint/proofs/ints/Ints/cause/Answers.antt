@@ -1,0 +1,25 @@
+-- What is caused goes behind those of its priority, which stand in one header; what is caused already stays.
+use Rattle.std.proofs.Common.{rules, ◌≡◌, false, None, sym, ◌∙◌, ap}
+use Rattle.std.specs.Prelude.{is_none}
+use Rattle.execlist.specs.Lists.{home}
+use Rattle.softint.specs.Interrupts.{Interrupts, pri_at, joined}
+use Rattle.softint.proofs.Headers.{loose, present, arrival, caused_more, caused_still}
+use Rattle.softint.proofs.ints.Ints.cause.Goals as goal
+
+pub returns-then-is_none : goal.returns-then-is_none
+returns-then-is_none g c =
+    let caused = c.self.inside.caused in
+    let softs = c.self.inside.softs.items in
+    let all = g.S.ListSpace.sequences caused in
+    let homes = g.S.ListSpace.homes caused in
+    let none : home homes c.args.i ≡ None = search rules in
+    let same = ap (λ (m : Interrupts). pri_at m.priorities c.args.i) c.self.view_is ∙ sym c.header-h.ensures.same in
+    caused_more c.self.view_is c.args.i _ (loose all homes c.args.i (g.met.S.ListSpace.stands caused) none)
+    (ap joined c.add_tail.ensures.placed ∙ arrival all homes softs c.args.i c.header-h.result c.self.invariant.0 (g.met.S.ListSpace.stands caused) c.header-h.ensures.within same)
+
+pub returns-else-is_none : goal.returns-else-is_none
+returns-else-is_none g c =
+    let caused = c.self.inside.caused in
+    let some : is_none (home (g.S.ListSpace.homes caused) c.args.i) ≡ false = search rules in
+    caused_still c.self.view_is c.args.i
+    (present (g.S.ListSpace.sequences caused) (g.S.ListSpace.homes caused) c.args.i (λ k t. g.met.S.ListSpace.stands caused k t) some)

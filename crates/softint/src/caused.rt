@@ -1,0 +1,43 @@
+//! The caused software interrupts: a header for each priority, the highest first.
+ghost use Rattle.std.specs.Prelude.{◌≡◌, ◌<◌, length, IfSome, IsSome};
+ghost use Rattle.execlist.specs.Order.{first};
+ghost use Rattle.execlist.specs.Lists.{home};
+ghost use Rattle.softint.specs.Interrupts.{IsPriority, header_pri, joined};
+
+use execlist::space::{HeaderId, ListSpace};
+
+/// The number of a software interrupt, from 0, in the order of the list that `Ints::new` is given.
+pub type IntId = usize;
+
+/// How many priorities a software interrupt may have.
+pub const PRIORITIES: usize = 5;
+
+/// The header of the software interrupts of a priority.
+pub fn header_of(pri: i8) -> HeaderId
+    requires { IsPriority pri }
+    ensures within { result < 5 }
+    ensures same { header_pri result ≡ pri }
+{
+    match pri {
+        32 => 0,
+        16 => 1,
+        0 => 2,
+        -16 => 3,
+        _ => 4,
+    }
+}
+
+/// The first software interrupt of the first header that has one, or none.
+pub fn first_caused<S: ListSpace>(caused: &S) -> Option<IntId>
+    requires { length (S.sequences caused.now) ≡ 5 }
+    ensures value { result ≡ first (joined (S.sequences caused.now)) }
+    ensures home { IfSome result (λ i. IsSome (home (S.homes caused.now) i)) }
+{
+    for h in 0..PRIORITIES {
+        let i = caused.first(h);
+        if i.is_some() {
+            return i;
+        }
+    }
+    None
+}

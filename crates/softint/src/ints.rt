@@ -1,0 +1,155 @@
+//! The interrupts of a machine.
+ghost use Rattle.std.specs.Prelude.{◌≡◌, ◌<◌, ◌≤◌, length, slice_get, All, Some, IfOk, IfSome};
+ghost use Rattle.execlist.specs.Order.{first};
+ghost use Rattle.softint.specs.Sources.{highest};
+ghost use Rattle.softint.specs.Interrupts.{IsPriority, quiet, causes, taken_off, raised, served, chain, header_pri, pri_at};
+
+use crate::caused::{IntId, PRIORITIES, first_caused, header_of};
+use crate::chain::{ServerId, chain_of, server_at};
+use crate::interrupt::{Server, Soft};
+use crate::latches::Latches;
+use crate::source::Source;
+use execlist::space::{HeaderId, ListSpace};
+use std::alloc::{AllocError, Global};
+use std::marker::Model;
+
+/// Which software interrupts are caused, which sources ask to be served, and which servers each source has.
+///
+/// All room is made by `new`; no other call takes memory, and none looks at all software interrupts or all servers.
+/// RKM Libraries, Exec Interrupts.
+#[derive(Drop)]
+pub struct Ints<S: ListSpace> {
+    softs: Vec<Soft>,
+    caused: S,
+    latches: Latches,
+    servers: Vec<Server>,
+    ports: Vec<ServerId>,
+    vertb: Vec<ServerId>,
+    exter: Vec<ServerId>,
+}
+
+impl<S: ListSpace> Model for Ints<S> {
+    ghost use Rattle.std.specs.Prelude.{length, map};
+    ghost use Rattle.softint.specs.Interrupts.{Interrupts, IsHeld, IsChained, joined};
+
+    ghost Value = { Interrupts };
+
+    ghost view = { λ q. record {
+      priorities = map (λ s. s.pri) q.softs.items;
+      caused = joined (S.sequences q.caused);
+      latches = q.latches;
+      servers = q.servers.items;
+    } };
+
+    ghost invariant = { λ q. IsHeld (length (S.sequences q.caused)) (S.homes q.caused) q.softs.items
+        × IsChained q.ports.items q.vertb.items q.exter.items q.servers.items };
+}
+
+impl<S: ListSpace> Ints<S> {
+    /// Software interrupts of these priorities and these servers, at most 32 of each, numbered in the order given. No software interrupt
+    /// is caused and no source asks to be served.
+    ///
+    /// The priority of a software interrupt is -32, -16, 0, 16 or 32. An error means that memory is lacking.
+    pub fn new(alloc: Global, softs: &[Soft], servers: &[Server]) -> Result<Self, AllocError>
+        requires few_softs { length softs.now ≤ 32 }
+        requires few_servers { length servers.now ≤ 32 }
+        requires priorities { All (λ s. IsPriority s.pri) softs.now }
+        ensures { IfOk result (λ q. q ≡ quiet softs.now servers.now) }
+    {
+        let caused = S::new(alloc, PRIORITIES, softs.len())?;
+        let ports = chain_of(alloc, servers, Source::Ports)?;
+        let vertb = chain_of(alloc, servers, Source::Vertb)?;
+        let exter = chain_of(alloc, servers, Source::Exter)?;
+        let own_softs = Vec::from_slice(alloc, softs)?;
+        let own_servers = Vec::from_slice(alloc, servers)?;
+        Ok(Ints {
+            softs: own_softs,
+            caused,
+            latches: Latches::new(),
+            servers: own_servers,
+            ports,
+            vertb,
+            exter,
+        })
+    }
+
+    // ---- software interrupts
+
+    /// Causes a software interrupt: it is to run behind the caused ones of its priority. One that is caused already stays where it is.
+    /// Autodoc exec.library/Cause.
+    pub fn cause(&mut self, i: IntId)
+        requires { i < length self.old.priorities }
+        ensures { self.new ≡ causes i self.old }
+    {
+        if self.caused.home(i).is_none() {
+            let h = self.header(i);
+            self.caused.add_tail(h, i);
+        }
+    }
+
+    /// Takes off the caused software interrupt that is to run next and answers it, or answers none where none is caused: the one that
+    /// was caused first among those of greatest priority. RKM Libraries, Exec Interrupts: software interrupts.
+    pub fn next(&mut self) -> Option<IntId>
+        ensures value { result ≡ first self.old.caused }
+        ensures next { self.new ≡ taken_off (first self.old.caused) self.old }
+        ensures known { IfSome result (λ i. i < length self.new.priorities) }
+    {
+        let i = first_caused(&self.caused)?;
+        self.caused.remove(i);
+        Some(i)
+    }
+
+    // ---- sources
+
+    /// Sets the latch of a source: it asks to be served. Where it does so already, nothing changes.
+    /// RKM Libraries, Exec Interrupts: interrupt requests.
+    pub fn raise(&mut self, source: Source)
+        ensures { self.new ≡ raised source self.old }
+    {
+        self.latches = self.latches.with(source, true);
+    }
+
+    /// Clears the latch of the source of highest level among those that ask to be served and answers the source, or answers none.
+    /// RKM Libraries, Exec Interrupts: the order of their priorities.
+    pub fn serve(&mut self) -> Option<Source>
+        ensures value { result ≡ highest self.old.latches }
+        ensures next { self.new ≡ served (highest self.old.latches) self.old }
+    {
+        let source = self.latches.highest()?;
+        self.latches = self.latches.with(source, false);
+        Some(source)
+    }
+
+    /// Answers the server that runs at place `k`, from 0, when a source is served, or none where the source has no more servers.
+    ///
+    /// The servers of a source run by priority, and those of one priority in the order of their numbers.
+    /// Autodoc exec.library/AddIntServer.
+    pub fn server(&self, source: Source, k: usize) -> Option<ServerId>
+        ensures value { result ≡ slice_get (chain source self.now.servers) k }
+        ensures known { IfSome result (λ s. s < length self.now.servers) }
+    {
+        server_at(self.chain(source), k)
+    }
+
+    // ---- parts
+
+    // The header of a software interrupt.
+    fn header(&self, i: IntId) -> HeaderId
+        requires { i < length self.now.priorities }
+        ensures within { result < 5 }
+        ensures same { header_pri result ≡ pri_at self.now.priorities i }
+    {
+        header_of(self.softs[i].pri)
+    }
+
+    // The servers of a source as they are to run.
+    fn chain(&self, source: Source) -> &[ServerId]
+        ensures { result.now ≡ chain source self.now.servers }
+    {
+        match source {
+            Source::Ports => &self.ports,
+            Source::Vertb => &self.vertb,
+            Source::Exter => &self.exter,
+        }
+    }
+}

@@ -1,0 +1,10 @@
+//! Software interrupts, and the latches and the server chains of the interrupt sources.
+//! What is to run next stands in the answers: nothing here runs a body, and interrupts and servers are known by number alone.
+#![tactic(auto)]
+
+pub mod caused;
+pub mod chain;
+pub mod interrupt;
+pub mod ints;
+pub mod latches;
+pub mod source;
