@@ -20,5 +20,6 @@ mod scripts;
 mod semaphores;
 mod task_queue;
 mod task_signals;
+mod timers;
 mod traces;
 mod writers;

@@ -1,0 +1,174 @@
+-- A walk along the requests that wait, from the last of them to the first.
+use Rattle.std.proofs.Common.{◌≡◌, ℕ, suc, ◌+◌, ◌<◌, ◌≤◌, Bool, true, false, cond, eqb, List, [], ◌∷◌, ◌++◌, length, refl, sym, ap, ◌∙◌, subst, arith, inl, inr, Option, Some, None}
+use Rattle.std.specs.Prelude.{◌⊎◌}
+use Rattle.std.proofs.lemmas.Bool.{cond-true, cond-false, eq-eqb, ne_eqb, cases_eq}
+use Rattle.execlist.specs.Order.{enqueue}
+use Rattle.execlist.specs.Lists.{part_from, part_before, part_after, put_after, times, last, is_at}
+use Rattle.timerdev.specs.Timing.{Rises, due_at, sooner}
+use Rattle.timerdev.proofs.Queue.{stands_here, stands_later, is_later, is_not_later}
+
+-- no request stands twice
+abbrev pub Once : List ℕ → Type 0
+Once seq = (n : ℕ) → times n seq ≤ 1
+
+pub once_from : (seq : List ℕ) (homes : ℕ → Option ℕ) (h : ℕ) → ((n : ℕ) → times n seq ≡ cond (is_at (homes n) h) 1 0) → Once seq
+once_from seq homes h law = λ n. by_case (is_at (homes n) h) (law n) where
+  by_case : {t : ℕ} (b : Bool) → t ≡ cond b 1 0 → t ≤ 1
+  by_case true e = omega (arith, e)
+  by_case false e = omega (arith, e)
+
+times-joins : (t : ℕ) (xs ys : List ℕ) → times t (xs ++ ys) ≡ times t xs + times t ys
+times-joins t [] ys = omega arith
+times-joins t (x ∷ xs) ys = by_case (eqb x t) (times-joins t xs ys) where
+  by_case : (b : Bool) → times t (xs ++ ys) ≡ times t xs + times t ys
+      → cond b (suc (times t (xs ++ ys))) (times t (xs ++ ys)) ≡ cond b (suc (times t xs)) (times t xs) + times t ys
+  by_case true ih = omega (arith, ih)
+  by_case false ih = ih
+
+less_once : (x : ℕ) (xs : List ℕ) → Once (x ∷ xs) → Once xs
+less_once x xs once = λ n. omega (arith, once n, stands_later n x xs)
+
+-- a request that stands in the rest is not the one in front
+apart : (x y : ℕ) (xs : List ℕ) → Once (x ∷ xs) → 1 ≤ times y xs → eqb x y ≡ false
+apart x y xs once here = by_case (eqb x y) (once y) where
+  by_case : (b : Bool) → cond b (suc (times y xs)) (times y xs) ≤ 1 → b ≡ false
+  by_case true k = absurd (omega (arith, k, here))
+  by_case false k = refl
+
+last_stands : (m : ℕ) (xs : List ℕ) → last xs ≡ Some m → 1 ≤ times m xs
+last_stands m [] e = cc
+last_stands m (x ∷ []) e = let same : x ≡ m = cc in omega (arith, stands_here x [], ap (λ k. times k (x ∷ [])) same)
+last_stands m (x ∷ y ∷ xs) e = omega (arith, last_stands m (y ∷ xs) e, stands_later m x (y ∷ xs))
+
+last_some : (x : ℕ) (xs : List ℕ) → last (x ∷ xs) ≡ None → ⊥
+last_some x [] e = cc
+last_some x (y ∷ xs) e = last_some y xs e
+
+-- the requests up to one, that one included
+abbrev pub upto : Option ℕ → List ℕ → List ℕ
+upto None seq = []
+upto (Some n) seq = part_before n seq ++ n ∷ []
+
+-- ---- two parts
+
+-- where the first part ends, the second begins
+after_last : (front back : List ℕ) (o : Option ℕ) → Once (front ++ back) → last front ≡ o → part_from o (front ++ back) ≡ back
+after_last [] back None once e = refl
+after_last [] back (Some m) once e = cc
+after_last (x ∷ front) back None once e = absurd (last_some x front e)
+after_last (x ∷ []) back (Some m) once e =
+    let same : x ≡ m = cc in
+    cond-true _ _ _ (eq-eqb x m same)
+after_last (x ∷ y ∷ front) back (Some m) once e =
+    let here : 1 ≤ times m (y ∷ front ++ back) = omega (arith, times-joins m (y ∷ front) back, last_stands m (y ∷ front) e) in
+    cond-false _ _ _ (apart x m (y ∷ front ++ back) once here)
+    ∙ after_last (y ∷ front) back (Some m) (less_once x (y ∷ front ++ back) once) e
+
+upto_last : (front back : List ℕ) (o : Option ℕ) → Once (front ++ back) → last front ≡ o → upto o (front ++ back) ≡ front
+upto_last [] back None once e = refl
+upto_last [] back (Some m) once e = cc
+upto_last (x ∷ front) back None once e = absurd (last_some x front e)
+upto_last (x ∷ []) back (Some m) once e =
+    let same : x ≡ m = cc in
+    ap (λ l. l ++ m ∷ []) (cond-true _ _ _ (eq-eqb x m same)) ∙ ap (λ k. k ∷ []) (sym same)
+upto_last (x ∷ y ∷ front) back (Some m) once e =
+    let here : 1 ≤ times m (y ∷ front ++ back) = omega (arith, times-joins m (y ∷ front) back, last_stands m (y ∷ front) e) in
+    ap (λ l. l ++ m ∷ []) (cond-false _ _ _ (apart x m (y ∷ front ++ back) once here))
+    ∙ ap (λ l. x ∷ l) (upto_last (y ∷ front) back (Some m) (less_once x (y ∷ front ++ back) once) e)
+
+-- a list falls into the parts round an item
+parts : (m : ℕ) (seq : List ℕ) → 1 ≤ times m seq → part_before m seq ++ m ∷ part_after m seq ≡ seq
+parts m [] here = absurd (omega (arith, here))
+parts m (x ∷ xs) here = by_case (cases_eq x m) (parts m xs) where
+  by_case : (x ≡ m) ⊎ (x ≡ m → ⊥) → (1 ≤ times m xs → part_before m xs ++ m ∷ part_after m xs ≡ xs) → part_before m (x ∷ xs) ++ m ∷ part_after m (x ∷ xs) ≡ x ∷ xs
+  by_case (inl same) ih =
+      let e = eq-eqb x m same in
+      ap (λ l. l ++ m ∷ part_after m (x ∷ xs)) (cond-true _ _ _ e) ∙ ap (λ l. m ∷ l) (cond-true _ _ _ e) ∙ ap (λ k. k ∷ xs) (sym same)
+  by_case (inr other) ih =
+      let e = ne_eqb x m other in
+      let rest : 1 ≤ times m xs = omega (arith, here, cond-false (eqb x m) (suc (times m xs)) (times m xs) e) in
+      ap (λ l. l ++ m ∷ part_after m (x ∷ xs)) (cond-false _ _ _ e) ∙ ap (λ l. x ∷ (part_before m xs ++ m ∷ l)) (cond-false _ _ _ e) ∙ ap (λ l. x ∷ l) (ih rest)
+
+-- ---- the walk
+
+-- what stands behind the place of the walk is due later
+abbrev pub Passed : List ℕ → ℕ → Option ℕ → List ℕ → Type 0
+Passed dues due after seq = (t : ℕ) → 1 ≤ times t (part_from after seq) → due < due_at dues t
+
+pub walk_begins : (dues : List ℕ) (due : ℕ) (seq : List ℕ) → Once seq → Passed dues due (last seq) seq
+walk_begins dues due seq once t here =
+    absurd (omega (arith, here, ap (times t) (behind_last seq once))) where
+      nothing_more : (xs : List ℕ) → xs ++ [] ≡ xs
+      nothing_more [] = refl
+      nothing_more (x ∷ xs) = ap (λ l. x ∷ l) (nothing_more xs)
+
+      behind_last : (seq : List ℕ) → Once seq → part_from (last seq) seq ≡ []
+      behind_last seq once =
+          ap (part_from (last seq)) (sym (nothing_more seq))
+          ∙ after_last seq [] (last seq) (subst Once (sym (nothing_more seq)) once) refl
+
+module _ (seq : List ℕ) (m : ℕ) (once : Once seq) (here : 1 ≤ times m seq) where
+  whole : part_before m seq ++ m ∷ part_after m seq ≡ seq
+  whole = parts m seq here
+
+  whole_once : Once (part_before m seq ++ m ∷ part_after m seq)
+  whole_once = subst Once (sym whole) once
+
+  from_next : part_from (last (part_before m seq)) seq ≡ m ∷ part_after m seq
+  from_next =
+      ap (part_from (last (part_before m seq))) (sym whole)
+      ∙ after_last (part_before m seq) (m ∷ part_after m seq) (last (part_before m seq)) whole_once refl
+
+  pub walk_steps : (dues : List ℕ) (due : ℕ) → due < due_at dues m → Passed dues due (Some m) seq → Passed dues due (last (part_before m seq)) seq
+  walk_steps dues due late passed t there = by_case (cases_eq m t) where
+    by_case : (m ≡ t) ⊎ (m ≡ t → ⊥) → due < due_at dues t
+    by_case (inl same) = omega (arith, late, ap (due_at dues) same)
+    by_case (inr other) =
+        passed t (omega (arith, there, ap (times t) from_next, cond-false (eqb m t) (suc (times t (part_after m seq))) (times t (part_after m seq)) (ne_eqb m t other)))
+
+  pub walk_shorter : length (upto (last (part_before m seq)) seq) < length (upto (Some m) seq)
+  walk_shorter =
+      omega (arith, longer (part_before m seq), ap length (ap (upto (last (part_before m seq))) (sym whole) ∙ upto_last (part_before m seq) (m ∷ part_after m seq) (last (part_before m seq)) whole_once refl)) where
+        longer : (xs : List ℕ) → length (xs ++ m ∷ []) ≡ length xs + 1
+        longer [] = refl
+        longer (x ∷ xs) = omega (arith, longer xs)
+
+-- ---- the place
+
+module _ (dues : List ℕ) (r : ℕ) where
+  passes : (xs ys : List ℕ) → ((t : ℕ) → 1 ≤ times t xs → due_at dues t ≤ due_at dues r) → enqueue (sooner dues) (xs ++ ys) r ≡ xs ++ enqueue (sooner dues) ys r
+  passes [] ys early = refl
+  passes (x ∷ xs) ys early =
+      cond-false _ _ _ (is_not_later (due_at dues r) (due_at dues x) (early x (stands_here x xs)))
+      ∙ ap (λ l. x ∷ l) (passes xs ys (λ t here. early t (omega (arith, here, stands_later t x xs))))
+
+  goes_first : (xs : List ℕ) → ((t : ℕ) → 1 ≤ times t xs → due_at dues r < due_at dues t) → enqueue (sooner dues) xs r ≡ r ∷ xs
+  goes_first [] late = refl
+  goes_first (x ∷ xs) late = cond-true _ _ _ (is_later (due_at dues r) (due_at dues x) (late x (stands_here x xs)))
+
+  -- where the due times rise, none before an item is due after it
+  rises_to : (front : List ℕ) (m : ℕ) (back : List ℕ) → Rises (due_at dues) (front ++ m ∷ back) → (t : ℕ) → 1 ≤ times t front → due_at dues t ≤ due_at dues m
+  rises_to [] m back rises t here = absurd (omega (arith, here))
+  rises_to (x ∷ front) m back rises t here = by_case (cases_eq x t) (rises_to front m back rises.1 t) where
+    m_later : 1 ≤ times m (front ++ m ∷ back)
+    m_later = omega (arith, times-joins m front (m ∷ back), stands_here m back)
+
+    by_case : (x ≡ t) ⊎ (x ≡ t → ⊥) → (1 ≤ times t front → due_at dues t ≤ due_at dues m) → due_at dues t ≤ due_at dues m
+    by_case (inl same) ih = omega (arith, rises.0 m m_later, ap (due_at dues) same)
+    by_case (inr other) ih =
+        ih (omega (arith, here, cond-false (eqb x t) (suc (times t front)) (times t front) (ne_eqb x t other)))
+
+  -- before all that are due later
+  pub place_first : (due : ℕ) (seq : List ℕ) → due_at dues r ≡ due → Passed dues due None seq → put_after None r seq ≡ enqueue (sooner dues) seq r
+  place_first due seq e passed = sym (goes_first seq (λ t here. omega (arith, e, passed t here)))
+
+  -- behind one that is due by then, and before all that are due later
+  pub place_behind : (due : ℕ) (seq : List ℕ) (m : ℕ) → 1 ≤ times m seq → Rises (due_at dues) seq → due_at dues r ≡ due → due_at dues m ≤ due → Passed dues due (Some m) seq
+      → put_after (Some m) r seq ≡ enqueue (sooner dues) seq r
+  place_behind due seq m here rises e early passed =
+      let whole = parts m seq here in
+      let risen = subst (Rises (due_at dues)) (sym whole) rises in
+      sym (ap (λ l. enqueue (sooner dues) l r) (sym whole)
+      ∙ passes (part_before m seq) (m ∷ part_after m seq) (λ t before. omega (arith, rises_to (part_before m seq) m (part_after m seq) risen t before, early, e))
+      ∙ ap (λ l. part_before m seq ++ l) (cond-false _ _ _ (is_not_later (due_at dues r) (due_at dues m) (omega (arith, early, e)))
+      ∙ ap (λ l. m ∷ l) (goes_first (part_after m seq) (λ t there. omega (arith, e, passed t there)))))
