@@ -7,6 +7,7 @@ mod heap_lists;
 mod heap_ports;
 mod heap_semaphores;
 mod interrupts;
+mod libraries;
 mod link_lists;
 mod lists;
 mod machine_files;

@@ -1,0 +1,61 @@
+-- A name is found among the nodes of all libraries just where the first library of that name stands; and how these nodes are made.
+use Rattle.std.proofs.Common.{◌≡◌, ℕ, zero, suc, ◌+◌, ◌<◌, ◌≤◌, Bool, cond, List, [], ◌∷◌, ◌++◌, length, map, replicate, slice_index_or, slice_set, take, refl, sym, ap, ◌∙◌, arith, Option, Some, None}
+use Rattle.std.specs.Prelude.{bytes_eq, find}
+use Rattle.std.specs.List.{position_from, range_with_len}
+use Rattle.std.proofs.lemmas.List.{get_or-map, get_or-set_other, take_more, take_more_set}
+use Rattle.execlist.specs.Lists.{Key, blank, home, is_named, name_is}
+use Rattle.execlib.specs.Libraries.{Description, no_library, key_of, numbers}
+
+-- ---- finding
+
+-- what passes first among the numbers from a on, where a number passes just as the library that many places on
+found_from : (p : ℕ → Bool) (test : Description → Bool) (libraries : List Description) (a : ℕ)
+    → ((k : ℕ) → k < length libraries → p (a + k) ≡ test (slice_index_or libraries k no_library))
+    → find p (range_with_len a (length libraries)) ≡ position_from test a libraries
+found_from p test [] a same = refl
+found_from p test (library ∷ rest) a same =
+    let here : p a ≡ test library = ap p (omega arith) ∙ same 0 (omega arith) in
+    let later = found_from p test rest (a + 1) (λ k small. ap p (omega arith) ∙ same (suc k) (omega (arith, small))) in
+    rw here (ap (λ o. cond (test library) (Some a) o) later)
+
+pub found : (name : List ℕ) (libraries : List Description)
+    → find (is_named (map key_of libraries) name) (numbers (length libraries))
+    ≡ position_from (λ (library : Description). bytes_eq library.name name) 0 libraries
+found name libraries =
+    found_from (is_named (map key_of libraries) name) (λ library. bytes_eq library.name name) libraries 0
+    (λ k small.
+    let place : 0 + k ≡ k = omega arith in
+    ap (is_named (map key_of libraries) name) place
+    ∙ ap (λ (key : Key). name_is key.name name) (get_or-map key_of libraries k no_library blank small))
+
+-- ---- making
+
+one_more_from : (a n : ℕ) → range_with_len a (suc n) ≡ range_with_len a n ++ (a + n) ∷ []
+one_more_from a zero = ap (λ k. k ∷ []) (omega arith)
+one_more_from a (suc n) =
+    let same : a + 1 + n ≡ a + suc n = omega arith in
+    ap (λ l. a ∷ l) (one_more_from (a + 1) n ∙ ap (λ k. range_with_len (a + 1) n ++ k ∷ []) same)
+
+-- one more number
+pub one_more : (n : ℕ) → numbers (n + 1) ≡ numbers n ++ n ∷ []
+one_more n =
+    let more : n + 1 ≡ suc n = omega arith in
+    let place : 0 + n ≡ n = omega arith in
+    ap (range_with_len 0) more ∙ one_more_from 0 n ∙ ap (λ k. range_with_len 0 n ++ k ∷ []) place
+
+-- a node of no list stands in none
+pub stands_nowhere : (n t : ℕ) → home (replicate n None) t ≡ None
+stands_nowhere zero t = refl
+stands_nowhere (suc n) zero = refl
+stands_nowhere (suc n) (suc t) = stands_nowhere n t
+
+-- the nodes behind the one that is linked stand where they stood
+pub still_nowhere : (homes : List (Option ℕ)) (i : ℕ) → ((t : ℕ) → i ≤ t → home homes t ≡ None)
+    → (t : ℕ) → i + 1 ≤ t → home (slice_set homes i (Some 0)) t ≡ None
+still_nowhere homes i before t later = get_or-set_other homes i t (Some 0) None (omega (arith, later)) ∙ before t (omega (arith, later))
+
+-- one more node has its key
+pub one_more_key : (keys wanted : List Key) (i : ℕ) (key : Key) → i < length keys → i < length wanted
+    → take i keys ≡ take i wanted → key ≡ slice_index_or wanted i blank → take (i + 1) (slice_set keys i key) ≡ take (i + 1) wanted
+one_more_key keys wanted i key small known before right =
+    take_more_set keys i key small ∙ ap (λ l. l ++ key ∷ []) before ∙ ap (λ x. take i wanted ++ x ∷ []) right ∙ sym (take_more wanted i blank known)

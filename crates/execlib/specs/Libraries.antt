@@ -1,0 +1,187 @@
+-- What calls on libraries see: which libraries there are, and of each that is loaded where it lies, how often it is open, and whether it
+-- is to be expunged when it is closed for the last time (RKM Libraries, Exec Libraries).
+use Rattle.std.specs.Prelude.{◌≡◌, ℕ, ◌+◌, ◌-◌, ◌≤◌, pos, nat_le, nat_eq, bytes_eq, Bool, true, false, not, ◌&&◌, is_some, if◌then◌else◌, List, [], ◌∷◌, length, map, replicate, slice_set, slice_index_or, Option, Some, None}
+use Rattle.std.specs.List.{position_from, range_with_len}
+use Rattle.std.specs.Option.{option_and_then, option_map_or}
+use Rattle.execlist.specs.Lists.{Key}
+use Rattle.memlist.specs.Fit.{fit}
+use Rattle.memlist.specs.Memory.{Memory, allocated, without_block}
+use Rattle.execlib.specs.declared.fault.LibFault.{LibFault}
+use Rattle.execlib.specs.declared.fault.LibFault.TheVariants.{NotOpen}
+use Rattle.execlib.specs.declared.library.LibInit.{LibInit}
+use Rattle.execlib.specs.declared.library.Loaded.{Loaded}
+
+-- a library that may be opened: its name, its version, and the bytes of memory that it takes while it is loaded
+pub record Description : Type 0 where
+  pub name : List ℕ
+  pub version : ℕ
+  pub size : ℕ
+
+pub record Libraries : Type 0 where
+  -- the libraries in the order of the file
+  pub known : List Description
+  -- where each is loaded, how often it is open and whether it is to be expunged; none for one that is absent
+  pub loaded : List (Option Loaded)
+
+-- ---- parts
+
+abbrev pub no_library : Description
+no_library = record { name = []; version = 0; size = 0 }
+
+-- library i
+abbrev pub library_at : ℕ → Libraries → Description
+library_at i m = slice_index_or m.known i no_library
+
+-- what is kept of library i, if it is loaded
+abbrev pub loaded_at : ℕ → Libraries → Option Loaded
+loaded_at i m = slice_index_or m.loaded i None
+
+-- library i is loaded
+abbrev pub is_loaded : ℕ → Libraries → Bool
+is_loaded i m = is_some (loaded_at i m)
+
+-- the address of a loaded library's block
+abbrev pub base_of : ℕ → Libraries → ℕ
+base_of i m = option_map_or (λ (l : Loaded). l.base) (loaded_at i m) 0
+
+-- how often library i is open
+abbrev pub count_of : ℕ → Libraries → ℕ
+count_of i m = option_map_or (λ (l : Loaded). l.count) (loaded_at i m) 0
+
+-- library i is to be expunged when it is closed for the last time (LIBF_DELEXP)
+abbrev pub is_delayed : ℕ → Libraries → Bool
+is_delayed i m = option_map_or (λ (l : Loaded). l.delayed_expunge) (loaded_at i m) false
+
+-- the first library of a name
+abbrev pub number_of : List ℕ → Libraries → Option ℕ
+number_of name m = position_from (λ (library : Description). bytes_eq library.name name) 0 m.known
+
+-- the tag of the block of library i (own choice)
+abbrev pub library_tag : ℕ → ℕ
+library_tag i = 0x80000000 + i
+
+-- MEMF_PUBLIC: libraries lie in memory of that attribute (own choice)
+abbrev pub public_memory : ℕ
+public_memory = 1
+
+-- ---- opening
+
+-- a library may be open so many times (own choice: lib_OpenCnt is a word of 16 bits)
+abbrev pub most_openings : ℕ
+most_openings = 65535
+
+-- library i has at least that version, and may be opened once more
+abbrev pub can_open : (version i : ℕ) → Libraries → Bool
+can_open version i m = nat_le version (library_at i m).version && not (nat_eq (count_of i m) most_openings)
+
+abbrev pub only_if : (ℕ → Bool) → ℕ → Option ℕ
+only_if test i = if test i then Some i else None
+
+-- the library that an opening is of, if there is one of the name and it can be opened
+abbrev pub library_to_open : List ℕ → ℕ → Libraries → Option ℕ
+library_to_open name version m = option_and_then (only_if (λ i. can_open version i m)) (number_of name m)
+
+-- where a library lies, or where it is going to be loaded, if a gap is large enough
+abbrev pub base_or_fit : Option Loaded → ℕ → Memory → Option ℕ
+base_or_fit None size memory = fit memory.regions memory.blocks size public_memory
+base_or_fit (Some l) size memory = Some l.base
+
+abbrev pub base_for : ℕ → Libraries → Memory → Option ℕ
+base_for i m memory = base_or_fit (loaded_at i m) (library_at i m).size memory
+
+-- the answer of an opening of that library
+abbrev pub opened_base : Option ℕ → Libraries → Memory → Option ℕ
+opened_base library m memory = option_and_then (λ i. base_for i m memory) library
+
+abbrev pub with_loaded : ℕ → Option Loaded → Libraries → Libraries
+with_loaded i loaded m = record m { loaded = slice_set m.loaded i loaded }
+
+-- a library at that address is open once more, and is not to be expunged any more
+abbrev pub entered : ℕ → Option Loaded → Loaded
+entered base before =
+    record { base = base; count = option_map_or (λ (l : Loaded). l.count) before 0 + 1; delayed_expunge = false }
+
+-- the libraries after an opening of one that gave a base, or gave none
+abbrev pub opened : (library base : Option ℕ) → Libraries → Libraries
+opened (Some i) (Some base) m = with_loaded i (Some (entered base (loaded_at i m))) m
+opened _ _ m = m
+
+-- the memory in which library i was loaded at a base, if it was not loaded before
+abbrev pub loads : ℕ → Option ℕ → Libraries → Memory → Memory
+loads i base m memory = if is_loaded i m then memory else allocated (library_at i m).size (library_tag i) base memory
+
+-- the memory after an opening of a library that gave a base, or gave none
+abbrev pub memory_for : (library base : Option ℕ) → Libraries → Memory → Memory
+memory_for None base m memory = memory
+memory_for (Some i) base m memory = loads i base m memory
+
+-- ---- expunging
+
+-- library i is absent
+abbrev pub expunged : ℕ → Libraries → Libraries
+expunged i m = with_loaded i None m
+
+-- the memory without the block of library i
+abbrev pub memory_without : ℕ → Libraries → Memory → Memory
+memory_without i m memory = without_block (base_of i m) memory
+
+-- ---- closing
+
+-- a library is to be open to be closed (own choice)
+abbrev pub close_fault : ℕ → Libraries → Option LibFault
+close_fault i m = if nat_eq (count_of i m) 0 then Some NotOpen else None
+
+-- library i is open once, and is to be expunged when it is closed
+abbrev pub leaves_by_close : ℕ → Libraries → Bool
+leaves_by_close i m = nat_eq (count_of i m) 1 && is_delayed i m
+
+-- library i is open once less
+abbrev pub once_less : ℕ → Libraries → Libraries
+once_less i m =
+    with_loaded i (Some (record { base = base_of i m; count = count_of i m - 1; delayed_expunge = is_delayed i m })) m
+
+abbrev pub closed : ℕ → Libraries → Libraries
+closed i m = if leaves_by_close i m then expunged i m else once_less i m
+
+abbrev pub memory_after_close : ℕ → Libraries → Memory → Memory
+memory_after_close i m memory = if leaves_by_close i m then memory_without i m memory else memory
+
+-- ---- removing
+
+-- library i is not open
+abbrev pub leaves_by_removal : ℕ → Libraries → Bool
+leaves_by_removal i m = nat_eq (count_of i m) 0
+
+-- library i is to be expunged when it is closed for the last time
+abbrev pub marked : ℕ → Libraries → Libraries
+marked i m = with_loaded i (Some (record { base = base_of i m; count = count_of i m; delayed_expunge = true })) m
+
+abbrev pub removed : ℕ → Libraries → Libraries
+removed i m = if leaves_by_removal i m then expunged i m else marked i m
+
+abbrev pub memory_after_removal : ℕ → Libraries → Memory → Memory
+memory_after_removal i m memory = if leaves_by_removal i m then memory_without i m memory else memory
+
+-- ---- what the code keeps
+
+abbrev pub description_of : LibInit → Description
+description_of library = record { name = library.name.bytes; version = library.version; size = library.size }
+
+-- all libraries, none of which is loaded
+abbrev pub no_library_loaded : List Description → Libraries
+no_library_loaded known = record { known = known; loaded = replicate (length known) None }
+
+-- the numbers from 0 up to n
+abbrev pub numbers : ℕ → List ℕ
+numbers n = range_with_len 0 n
+
+-- the key of the node that has a library's name
+abbrev pub key_of : Description → Key
+key_of library = record { pri = pos 0; name = Some library.name }
+
+-- the nodes of all libraries stand in one header, in the order of the libraries and with their names
+pub record IsKept (sequences : List (List ℕ)) (keys : List Key) (m : Libraries) : Type 0 where
+  pub listed : sequences ≡ numbers (length m.known) ∷ []
+  pub named : keys ≡ map key_of m.known
+  pub few : length m.known ≤ 32
+  pub each : length m.loaded ≡ length m.known
