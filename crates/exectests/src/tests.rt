@@ -16,6 +16,7 @@ mod nesting;
 mod no_commands;
 mod pools;
 mod ports;
+mod requests;
 mod scheduling;
 mod scripts;
 mod semaphores;

@@ -1,0 +1,3 @@
+pub mod Faults
+pub mod Request
+pub mod Requests

@@ -1,0 +1,81 @@
+-- One timer request: how it begins and how it is finished (RKM Devices, Timer Device).
+use Rattle.std.specs.Prelude.{ℕ, ◌+◌, ◌*◌, ◌%◌, ◌/◌, ◌^◌, ℤ, pos, negsuc, nat_eq, Bool, true, false, not, ◌&&◌, is_some, if◌then◌else◌, Option, Some, None}
+use Rattle.iorequest.specs.declared.request.Request.{Request}
+use Rattle.iorequest.specs.declared.request.ReqState.{ReqState}
+use Rattle.iorequest.specs.declared.request.ReqState.TheVariants.{Idle, UnderWay, Quick, Replied}
+use Rattle.iorequest.specs.declared.request.Begun.{Begun}
+use Rattle.iorequest.specs.declared.request.Begun.TheVariants.{Finish, Queue}
+
+-- a request with that reply port that never was begun, is not open, and whose other fields are 0
+abbrev pub idle_request : ℕ → Request
+idle_request port =
+    record { port = port; state = Idle; unit = None; command = 0; secs = 0; micros = 0; error = pos 0; quick = false }
+
+abbrev pub is_way : ReqState → Bool
+is_way UnderWay = true
+is_way _ = false
+
+-- the request was begun, and is not finished
+abbrev pub is_under_way : Request → Bool
+is_under_way q = is_way q.state
+
+abbrev pub is_open : Request → Bool
+is_open q = is_some q.unit
+
+-- ---- time
+
+-- the microseconds of a second
+abbrev pub second : ℕ
+second = 1000000
+
+-- the time field in microseconds
+abbrev pub time_of : Request → ℕ
+time_of q = q.secs * second + q.micros
+
+-- ---- the commands of the timer
+
+-- TR_ADDREQUEST
+abbrev pub adds : Request → Bool
+adds q = nat_eq q.command 9
+
+-- TR_GETSYSTIME
+abbrev pub asks_time : Request → Bool
+asks_time q = nat_eq q.command 10
+
+-- a request that is to be replied once a positive time is over
+abbrev pub is_to_wait : Request → Bool
+is_to_wait q = adds q && not (nat_eq (time_of q) 0)
+
+-- the time when such a request is due that begins when the clock tells `now`
+abbrev pub due_of : ℕ → Request → ℕ
+due_of now q = now + time_of q
+
+-- IOERR_NOCMD for a command that the timer does not know, and else 0
+abbrev pub error_of : Request → ℤ
+error_of q = if adds q then pos 0 else (if asks_time q then pos 0 else negsuc 2)
+
+-- how a request goes on that begins when the clock tells `now`: it is due at a time, or is finished at once
+abbrev pub outcome : ℕ → Request → Begun
+outcome now q = if is_to_wait q then Queue (due_of now q) else Finish (error_of q)
+
+-- the clock in the time field, the seconds modulo 2 to the power 32 (own choice), where the request asks for it
+abbrev pub told : ℕ → Request → Request
+told now q = if asks_time q then record q { secs = now / second % 2 ^ 32; micros = now % second } else q
+
+-- the request under way: its error is 0, and IOF_QUICK is as it was said, but cleared where it is to wait
+abbrev pub begun : Bool → ℕ → Request → Request
+begun quick now q = record (told now q) { state = UnderWay; error = pos 0; quick = quick && not (is_to_wait q) }
+
+-- ---- finishing
+
+abbrev pub done_state : Bool → ReqState
+done_state true = Quick
+done_state false = Replied
+
+-- the request done, with that error
+abbrev pub finished : ℤ → Request → Request
+finished error q = record q { state = done_state q.quick; error = error }
+
+-- the port to which the finished request is replied, none where it is done quick
+abbrev pub reply_port : Request → Option ℕ
+reply_port q = if q.quick then None else Some q.port

@@ -1,0 +1,28 @@
+//! Why a call on requests is refused.
+ghost use Rattle.std.specs.Prelude.{◌≡◌};
+ghost use Rattle.iorequest.specs.Faults.{fault_number};
+
+use thiserror::Error;
+
+/// Why a call on requests is refused. The call then has changed nothing.
+#[derive(Clone, Copy, Debug, PartialEq, Eq, Error)]
+pub enum ReqFault {
+    /// The request is under way.
+    #[error("the request is under way")]
+    InUse = 1,
+    /// The request that is to begin is not open.
+    #[error("the request is not open")]
+    NotOpen = 2,
+    /// Every request is in use.
+    #[error("the pool is used up")]
+    PoolFull = 3,
+}
+
+impl ReqFault {
+    /// The number of the fault, 1 to 3 (own choice).
+    pub fn number(self) -> u8
+        ensures { result ≡ fault_number self }
+    {
+        self as u8
+    }
+}

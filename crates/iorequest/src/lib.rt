@@ -1,0 +1,7 @@
+//! Timer requests: which are idle, under way or done, and what each asks of the device and was answered.
+//! Who gets the reply, and when a queued request is due, stands in the answers: requests put no message and keep no time themselves.
+#![tactic(auto)]
+
+pub mod fault;
+pub mod request;
+pub mod requests;
