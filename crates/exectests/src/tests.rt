@@ -3,9 +3,6 @@
 mod chunks;
 mod comparing;
 mod event_texts;
-mod heap_lists;
-mod heap_ports;
-mod heap_semaphores;
 mod interrupts;
 mod libraries;
 mod link_lists;
@@ -24,4 +21,3 @@ mod task_queue;
 mod task_signals;
 mod timers;
 mod traces;
-mod writers;

@@ -1,0 +1,3 @@
+//! What no word of a task comes to in the machine's memory, and the writers to which a run is simulated.
+mod heap;
+mod writers;
