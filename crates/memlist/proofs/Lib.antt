@@ -6,6 +6,7 @@ pub mod Chains
 pub mod Writing
 pub mod Walking
 pub mod Headers
+pub mod Descending
 pub mod Choices
 pub mod Merged
 pub mod Together

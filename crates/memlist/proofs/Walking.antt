@@ -5,20 +5,12 @@ use Rattle.std.specs.List.{AllByRecursion, sum_by}
 use Rattle.std.proofs.lemmas.List.Sums.{sum_by-append}
 use Rattle.memlist.specs.declared.gap.Gap.{Gap}
 use Rattle.memlist.specs.Fit.{greatest, lowest_gap}
-use Rattle.memlist.specs.Chain.{IsSpot, IsWalked, first_or, last_or, upper_next, upper_size}
+use Rattle.memlist.specs.Chain.{IsPassed, IsSpot, IsWalked, first_or, last_or, upper_next, upper_size}
 use Rattle.memlist.specs.Joins.{Around}
 use Rattle.memlist.proofs.Answered.{nat_eq-same, nat_eq-other}
 use Rattle.memlist.proofs.Edits.{back, front, front_back}
 use Rattle.memlist.proofs.Choices.{lowest_after, lowest_nowhere}
 use Rattle.memlist.proofs.Writing.{last_append}
-
--- the gaps up to an address are looked at, and a fact holds of each
-pub record IsPassed (P : Gap → Type 0) (gaps : List Gap) (before : ℕ) : Type 0 where
-  pub below : List Gap
-  pub above : List Gap
-  pub is : gaps ≡ below ++ above
-  pub last : before ≡ last_or 0 below
-  pub passed : AllByRecursion P below
 
 abbrev pub passed_walk : {P : Gap → Type 0} {gaps : List Gap} {before : ℕ} → IsPassed P gaps before → IsWalked gaps before
 passed_walk p = record { below = p.below; above = p.above; is = p.is; last = p.last }
@@ -87,7 +79,7 @@ found_nothing size gaps before p at =
 -- The chunk below an address
 
 -- two ways to part gaps at an address are one
-same_part : (address : ℕ) (xs ys us vs : List Gap) → xs ++ ys ≡ us ++ vs → AllByRecursion (λ (gap : Gap). gap.address < address) xs → AllByRecursion (λ (gap : Gap). address ≤ gap.address) ys
+pub same_part : (address : ℕ) (xs ys us vs : List Gap) → xs ++ ys ≡ us ++ vs → AllByRecursion (λ (gap : Gap). gap.address < address) xs → AllByRecursion (λ (gap : Gap). address ≤ gap.address) ys
     → AllByRecursion (λ (gap : Gap). gap.address < address) us → AllByRecursion (λ (gap : Gap). address ≤ gap.address) vs → xs ≡ us
 same_part address [] ys [] vs is a b c d = refl
 same_part address [] [] (u ∷ us) vs is a b c d = cc

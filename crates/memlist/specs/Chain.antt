@@ -1,6 +1,7 @@
 -- Free memory as a chain of chunks inside its own words: the first two words of a chunk are the address of the next chunk,
 -- or 0 at the end, and its size in bytes.
-use Rattle.std.specs.Prelude.{◌≡◌, ℕ, zero, suc, ◌+◌, ◌-◌, ◌*◌, ◌/◌, ◌%◌, ◌<◌, ◌≤◌, Bool, false, nat_eq, if◌then◌else◌, List, [], ◌∷◌, ◌++◌, length, get_or, set, Some}
+use Rattle.std.specs.Prelude.{◌≡◌, ℕ, zero, suc, ◌+◌, ◌-◌, ◌*◌, ◌/◌, ◌%◌, ◌<◌, ◌≤◌, Bool, false, nat_eq, if◌then◌else◌, List, [], ◌∷◌, ◌++◌, length, get_or, set, Option, None, Some}
+use Rattle.std.specs.List.{AllByRecursion}
 use Rattle.memlist.specs.declared.gap.Gap.{Gap}
 use Rattle.memlist.specs.Fit.{lowest_gap}
 
@@ -93,6 +94,29 @@ pub record IsWalked (gaps : List Gap) (before : ℕ) : Type 0 where
   pub above : List Gap
   pub is : gaps ≡ below ++ above
   pub last : before ≡ last_or 0 below
+
+-- the gaps up to an address are looked at, and a fact holds of each
+pub record IsPassed (P : Gap → Type 0) (gaps : List Gap) (before : ℕ) : Type 0 where
+  pub below : List Gap
+  pub above : List Gap
+  pub is : gaps ≡ below ++ above
+  pub last : before ≡ last_or 0 below
+  pub passed : AllByRecursion P below
+
+-- where the last gap below an address begins, or 0 where there is none
+abbrev pub IsLastBelow : ℕ → List Gap → ℕ → Type 0
+IsLastBelow address gaps before =
+    (below above : List Gap) → gaps ≡ below ++ above → AllByRecursion (λ (gap : Gap). gap.address < address) below → AllByRecursion (λ (gap : Gap). address ≤ gap.address) above
+    → before ≡ last_or 0 below
+
+-- gaps below an address are looked at, up to another
+abbrev pub IsClimbed : ℕ → List Gap → ℕ → Type 0
+IsClimbed address gaps before = IsPassed (λ (gap : Gap). gap.address < address) gaps before
+
+-- one more gap below an address is looked at, or there is no other
+abbrev pub IsNextBelow : ℕ → List Gap → ℕ → Option ℕ → Type 0
+IsNextBelow address gaps before None = IsLastBelow address gaps before
+IsNextBelow address gaps before (Some next) = IsClimbed address gaps next
 
 -- the lowest gap of at least a size is the one after the gap at an address, or the first where that is 0
 pub record IsSpot (size : ℕ) (gaps : List Gap) (before : ℕ) : Type 0 where

@@ -7,3 +7,4 @@ pub mod Areas
 pub mod Joins
 pub mod Choice
 pub mod Chain
+pub mod Descent

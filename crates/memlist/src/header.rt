@@ -12,6 +12,7 @@ ghost use Rattle.memlist.specs.Areas.{Area, IsLaidArea, area_gaps};
 ghost use Rattle.memlist.specs.Choice.{IsLowest};
 ghost use Rattle.memlist.specs.declared.gap.Gap.{Gap};
 
+use crate::descent::chunk_below;
 use crate::region::{Region, UNIT};
 use crate::slot::Slot;
 use crate::space::FreeSpace;
@@ -141,8 +142,9 @@ impl MemHeader {
     {
         let place = place_of(self.region, address);
         let size = self.slots[place].size;
+        let before = chunk_below(self.region.base, &self.slots, &self.space, place, address);
         self.slots[place] = Slot::EMPTY;
-        self.space.join(address, size);
+        self.space.join(before, address, size);
     }
 
     /// The bytes that are free.

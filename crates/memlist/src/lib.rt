@@ -8,6 +8,7 @@ pub use memory::{MemList, NotABlock};
 pub use region::{MemFault, Region, TOTAL_LIMIT, check_regions};
 
 mod chunk;
+mod descent;
 mod gap;
 mod header;
 pub mod laws;

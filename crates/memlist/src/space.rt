@@ -1,8 +1,8 @@
 //! The free memory of one region: a chain of chunks, each inside the memory that it describes.
 ghost use Rattle.std.specs.Prelude.{◌≡◌, ◌+◌, ◌-◌, ◌*◌, ◌%◌, ◌<◌, ◌≤◌, List, ◌∷◌, ◌++◌, IfOk, IfSome, None, map, length, slice_get};
-ghost use Rattle.std.specs.List.{AllByRecursion, sum_by};
+ghost use Rattle.std.specs.List.{sum_by};
 ghost use Rattle.memlist.specs.Blocks.{stretch};
-ghost use Rattle.memlist.specs.Chain.{IsLinked, IsSpot, IsWalked, ends_at, first_or, last_or, upper_next, upper_size};
+ghost use Rattle.memlist.specs.Chain.{IsClimbed, IsLastBelow, IsLinked, IsNextBelow, IsSpot, IsWalked, ends_at, first_or, last_or, upper_next, upper_size};
 ghost use Rattle.memlist.specs.Choice.{IsLowest};
 ghost use Rattle.memlist.specs.Fit.{greatest};
 ghost use Rattle.memlist.specs.Joins.{Around};
@@ -116,18 +116,21 @@ impl FreeSpace {
         None
     }
 
-    /// The chunk before an address, or 0 where there is none.
-    pub fn last_below(&self, address: u32) -> u32
-        ensures { (below above : List Gap) → self.now.gaps ≡ below ++ above → AllByRecursion (λ gap. gap.address < address) below → AllByRecursion (λ gap. address ≤ gap.address) above → result ≡ last_or 0 below }
+    /// The chunk after the one at an address, or the first where that is 0, if it begins below another address.
+    pub fn next_below(&self, before: u32, address: u32) -> Option<u32>
+        requires { IsClimbed address self.now.gaps before }
+        ensures { IsNextBelow address self.now.gaps before result }
     {
-        let mut before = 0;
-        while let Some(gap) = self.after(before) {
-            if address <= gap.address {
-                return before;
+        match self.after(before) {
+            Some(gap) => {
+                if gap.address < address {
+                    Some(gap.address)
+                } else {
+                    None
+                }
             }
-            before = gap.address;
+            None => None,
         }
-        before
     }
 
     /// Takes so many bytes off the front of the lowest gap that has them, which is the one after the chunk at an address, and
@@ -185,8 +188,9 @@ impl FreeSpace {
         }
     }
 
-    /// Frees a block, which joins the gaps that touch it.
-    pub fn join(&mut self, address: u32, size: u32)
+    /// Frees a block, which joins the gaps that touch it. The chunk before it begins at `before`, which is 0 where there is none.
+    pub fn join(&mut self, before: u32, address: u32, size: u32)
+        requires before { IsLastBelow address self.old.gaps before }
         requires around { Around self.old.gaps address size }
         requires low { self.old.base ≤ address }
         requires high { address + size ≤ self.old.end }
@@ -195,7 +199,6 @@ impl FreeSpace {
         requires whole { size % 8 ≡ 0 }
         ensures { (around : Around self.old.gaps address size) → self.new ≡ record self.old { gaps = around.below ++ (record { address = around.start; size = around.end - around.start } ∷ around.above) } }
     {
-        let before = self.last_below(address);
         let upper = self.upper(before, address + size, size);
         if self.ends_at(before, address) {
             let chunk = Chunk {

@@ -1,6 +1,10 @@
-use Rattle.std.proofs.Common.{arith, ap, ◌∙◌}
+use Rattle.std.proofs.Common.{List, arith, ap, subst, sym, take, ◌∙◌}
+use Rattle.memlist.specs.declared.slot.Slot.{Slot}
 use Rattle.memlist.specs.Areas.{Area}
 use Rattle.memlist.specs.Blocks.{freed}
+use Rattle.memlist.specs.Chain.{IsLastBelow}
+use Rattle.memlist.specs.Descent.{last_left}
+use Rattle.memlist.proofs.Descending.{live-left, unit_of}
 use Rattle.memlist.proofs.Headers.{live_shown, live_inside, live_within, lives, place_within, round_freed, keeps_freed}
 use Rattle.memlist.proofs.header.MemHeader.free.Goals as goal
 
@@ -20,6 +24,25 @@ index_mut-requires c =
     let live = live_shown c.self.inside.region c.self.inside.slots.items _ c.args.address c.self.view_is c.requires in
     let inside = live_inside c.self.inside.region c.self.inside.slots.items c.self.inside.space c.self.invariant c.args.address live in
     omega (arith, place_within c.self.inside.region c.self.inside.slots.items c.args.address c.self.invariant.units inside.low inside.high)
+
+pub chunk_below-before-requires-clause-units : goal.chunk_below-before-requires-clause-units
+chunk_below-before-requires-clause-units c =
+    let live = live_shown c.self.inside.region c.self.inside.slots.items _ c.args.address c.self.view_is c.requires in
+    let inside = live_inside c.self.inside.region c.self.inside.slots.items c.self.inside.space c.self.invariant c.args.address live in
+    omega (arith, place_within c.self.inside.region c.self.inside.slots.items c.args.address c.self.invariant.units inside.low inside.high)
+
+pub chunk_below-before-requires-clause-address : goal.chunk_below-before-requires-clause-address
+chunk_below-before-requires-clause-address c =
+    let live = live_shown c.self.inside.region c.self.inside.slots.items _ c.args.address c.self.view_is c.requires in
+    let found = lives c.self.inside.region c.self.inside.slots.items c.self.inside.space c.self.invariant c.args.address c.place_of-place.result live c.place_of-place.ensures c.index.result.now c.index.ensures in
+    unit_of c.self.inside.region c.self.inside.slots.items c.self.inside.space c.self.invariant c.args.address c.place_of-place.result _ _ found c.place_of-place.ensures
+
+pub chunk_below-before-requires-clause-left : goal.chunk_below-before-requires-clause-left
+chunk_below-before-requires-clause-left c =
+    let live = live_shown c.self.inside.region c.self.inside.slots.items _ c.args.address c.self.view_is c.requires in
+    let found = lives c.self.inside.region c.self.inside.slots.items c.self.inside.space c.self.invariant c.args.address c.place_of-place.result live c.place_of-place.ensures c.index.result.now c.index.ensures in
+    subst (λ (slots : List Slot). IsLastBelow c.args.address c.self.inside.space.gaps (last_left c.self.inside.region.base (take c.place_of-place.result slots) c.args.address)) (sym c.deref.ensures.value)
+    (live-left c.self.inside.region c.self.inside.slots.items c.self.inside.space c.self.invariant c.args.address c.place_of-place.result c.index.result.now found c.index.ensures c.place_of-place.ensures)
 
 pub join-requires-clause-around : goal.join-requires-clause-around
 join-requires-clause-around c =

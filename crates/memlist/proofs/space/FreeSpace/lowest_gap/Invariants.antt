@@ -1,5 +1,5 @@
 use Rattle.std.proofs.Common.{◌-◌, ◌<◌}
-use Rattle.memlist.proofs.Walking.{IsPassed}
+use Rattle.memlist.specs.Chain.{IsPassed}
 use Rattle.memlist.proofs.space.FreeSpace.lowest_gap.Given as goal
 
 abbrev pub invariant-loop-gap : goal.invariant-loop-gap
