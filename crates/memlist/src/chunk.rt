@@ -3,6 +3,7 @@ ghost use Rattle.std.specs.Prelude.{◌≡◌, ◌+◌, ◌<◌, ◌≤◌, get_
 ghost use Rattle.memlist.specs.Chain.{cut_rest, cut_words, linked_head, linked_words, word_place, written};
 
 use crate::gap::Gap;
+use crate::region::REACH;
 
 /// What a chunk says of itself: the address of the next chunk, or 0 at the end, and its size in bytes.
 #[derive(Clone, Copy, Debug)]
@@ -12,7 +13,7 @@ pub struct Chunk {
 }
 
 /// The size of a word in bytes.
-const WORD: u32 = 4;
+pub const WORD: u32 = 4;
 
 /// The place of the word that stands for an address.
 pub fn word_place(base: u32, address: u32) -> usize
@@ -48,7 +49,7 @@ pub fn write(words: &mut Vec<u32>, place: usize, chunk: Chunk)
 pub fn cut(words: &mut Vec<u32>, base: u32, gap: Gap, size: u32, next: u32) -> u32
     requires low { base ≤ gap.address }
     requires fits { size ≤ gap.size }
-    requires reach { gap.address + gap.size ≤ 2147483648 }
+    requires reach { gap.address + gap.size ≤ REACH }
     requires room { size < gap.size → word_place base (gap.address + size) + 1 < length words.old.items }
     ensures rest { result ≡ cut_rest gap size next }
     ensures words { words.new.items ≡ cut_words base words.old.items gap size next }

@@ -5,7 +5,7 @@ ghost use Rattle.memlist.specs.declared.slot.Slot.{Slot};
 ghost use Rattle.memlist.specs.Chain.{IsLastBelow};
 ghost use Rattle.memlist.specs.Descent.{IsLook, last_left};
 
-use crate::region::UNIT;
+use crate::region::MEM_BLOCKSIZE;
 use crate::slot::Slot;
 use crate::space::FreeSpace;
 
@@ -21,7 +21,7 @@ pub enum Look {
 /// Looks at a unit for the last chunk below `top`, where no block begins between the two.
 fn look_at(slot: Slot, unit: u32, top: u32) -> Look
     requires { unit ≤ top }
-    ensures { (base : ℕ) (slots : List Slot) → unit ≡ base + 8 * length slots → IsLook base slots slot top result }
+    ensures { (base : ℕ) (slots : List Slot) → unit ≡ base + MEM_BLOCKSIZE * length slots → IsLook base slots slot top result }
 {
     if slot.size == 0 {
         Look::Below(top)
@@ -36,25 +36,21 @@ fn look_at(slot: Slot, unit: u32, top: u32) -> Look
 fn at_base(base: u32, top: u32) -> u32
     ensures { result ≡ last_left base [] top }
 {
-    if base < top {
-        base
-    } else {
-        0
-    }
+    if base < top { base } else { 0 }
 }
 
 /// The chunk before a block, below which there are so many units, or 0 where there is none. The chain is walked up from its first chunk and the units down from the
 /// block, in turn: whichever comes to an end first says where it is.
 pub fn chunk_below(base: u32, slots: &[Slot], space: &FreeSpace, units: usize, address: u32) -> u32
     requires units { units ≤ length slots.now }
-    requires address { address ≡ base + 8 * units }
+    requires address { address ≡ base + MEM_BLOCKSIZE * units }
     requires left { IsLastBelow address space.now.gaps (last_left base (take units slots.now) address) }
     ensures { IsLastBelow address space.now.gaps result }
 {
     let mut before = 0;
     let mut top = address;
     for place in (0..units).rev() {
-        match look_at(slots[place], base + place as u32 * UNIT, top) {
+        match look_at(slots[place], base + place as u32 * MEM_BLOCKSIZE, top) {
             Look::Chunk(chunk) => return chunk,
             Look::Below(lower) => top = lower,
         }

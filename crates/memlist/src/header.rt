@@ -12,8 +12,9 @@ ghost use Rattle.memlist.specs.Areas.{Area, IsLaidArea, area_gaps};
 ghost use Rattle.memlist.specs.Choice.{IsLowest};
 ghost use Rattle.memlist.specs.declared.gap.Gap.{Gap};
 
+use crate::chunk::WORD;
 use crate::descent::chunk_below;
-use crate::region::{Region, UNIT};
+use crate::region::{MEM_BLOCKSIZE, Region};
 use crate::slot::Slot;
 use crate::space::FreeSpace;
 use std::alloc::{AllocError, Global};
@@ -45,7 +46,7 @@ impl MemHeader {
         ensures value { IfOk result (λ header. header ≡ record { region = region; blocks = [] }) }
         ensures laid { IfOk result IsLaidArea }
     {
-        let units = (region.size / UNIT) as usize;
+        let units = (region.size / MEM_BLOCKSIZE) as usize;
         let slots = vec![in alloc; Slot::EMPTY; units]?;
         let space = FreeSpace::new(alloc, region.base, region.size)?;
         Ok(MemHeader {
@@ -77,7 +78,7 @@ impl MemHeader {
 
     /// The words of the region.
     pub fn words(&self) -> &[u32]
-        ensures len { 4 * length result.now ≡ self.now.region.size }
+        ensures len { WORD * length result.now ≡ self.now.region.size }
         ensures linked { IsLinked self.now.region.base result.now (area_gaps self.now) 0 }
     {
         self.space.words()
@@ -103,7 +104,7 @@ impl MemHeader {
         ensures { result ≡ block_at address self.now.blocks }
     {
         let place = place_of(self.region, address);
-        if address % UNIT == 0 {
+        if address % MEM_BLOCKSIZE == 0 {
             self.slots[place].block()
         } else {
             None
@@ -121,7 +122,7 @@ impl MemHeader {
     /// first where that is 0; and answers the block's address.
     pub fn take(&mut self, before: u32, size: u64, tag: u32) -> u32
         requires some { 0 < size }
-        requires whole { size % 8 ≡ 0 }
+        requires whole { size % MEM_BLOCKSIZE ≡ 0 }
         requires fits { IsSpot size (area_gaps self.old) before }
         ensures front { IfSome (lowest_gap size (area_gaps self.old)) (λ gap. result ≡ gap.address) }
         ensures taken { self.new ≡ record self.old { blocks = with_block result size tag self.old.blocks } }
@@ -166,9 +167,9 @@ impl MemHeader {
 /// The place in a region's table of the unit at an address.
 fn place_of(region: Region, address: u32) -> usize
     requires { region.base ≤ address }
-    ensures { result ≡ (address - region.base) / 8 }
+    ensures { result ≡ (address - region.base) / MEM_BLOCKSIZE }
 {
-    ((address - region.base) / UNIT) as usize
+    ((address - region.base) / MEM_BLOCKSIZE) as usize
 }
 
 /// The bits of a requirement that name attributes of regions.

@@ -7,11 +7,13 @@ ghost use Rattle.memlist.specs.Memory.{IsWellFormed};
 ghost use Rattle.memlist.specs.Pieces.{AreDisjoint, IsEarliestGreatest, IsPlaced, IsTiled};
 ghost use Rattle.memlist.specs.declared.region.Region.{Region};
 
+use crate::region::MEM_BLOCKSIZE;
+
 /// A rounded size is the least multiple of 8 that is at least the size.
 pub fn rounds_up()
-    ensures whole { (n : ℕ) → round n % 8 ≡ 0 }
+    ensures whole { (n : ℕ) → round n % MEM_BLOCKSIZE ≡ 0 }
     ensures enough { (n : ℕ) → n ≤ round n }
-    ensures least { (n m : ℕ) → n ≤ m → m % 8 ≡ 0 → round n ≤ m }
+    ensures least { (n m : ℕ) → n ≤ m → m % MEM_BLOCKSIZE ≡ 0 → round n ≤ m }
 {}
 
 /// The region that is chosen is the earliest among those of greatest priority, and none is chosen of none alone.

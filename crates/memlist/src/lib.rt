@@ -4,8 +4,8 @@
 //! (`specs/Memory.antt`); where AllocMem takes memory is `fit` of `specs/Fit.antt`.
 #![tactic(auto)]
 
-pub use memory::{MemList, NotABlock};
-pub use region::{MemFault, Region, TOTAL_LIMIT, check_regions};
+pub use memory::{MEMB_LARGEST, MEMB_TOTAL, MemList, NotABlock};
+pub use region::{MEM_BLOCKSIZE, MemFault, Region, TOTAL_LIMIT, check_regions};
 
 mod chunk;
 mod descent;

@@ -15,11 +15,17 @@ use std::alloc::{AllocError, Global};
 use std::marker::Model;
 use thiserror::Error;
 
-/// The bit of a requirement that asks AvailMem for the greatest gap.
-const MEMF_LARGEST: u32 = 0x2_0000;
+/// The number of the bit of a requirement that asks AvailMem for the greatest gap (exec/memory.h).
+pub const MEMB_LARGEST: u32 = 17;
 
-/// The bit of a requirement that asks AvailMem for the installed size.
-const MEMF_TOTAL: u32 = 0x8_0000;
+/// That bit.
+const MEMF_LARGEST: u32 = 1 << MEMB_LARGEST;
+
+/// The number of the bit of a requirement that asks AvailMem for the installed size.
+pub const MEMB_TOTAL: u32 = 19;
+
+/// That bit.
+const MEMF_TOTAL: u32 = 1 << MEMB_TOTAL;
 
 /// The regions of a machine, the blocks that are allocated in them and the gaps that are left.
 ///
@@ -162,7 +168,7 @@ impl MemList {
     ///
     /// Source: autodoc exec.library/AvailMem.
     pub fn avail(&self, reqs: u32) -> u32
-        requires { IsTrue (not (asks 17 reqs && asks 19 reqs)) }
+        requires { IsTrue (not (asks MEMB_LARGEST reqs && asks MEMB_TOTAL reqs)) }
         ensures { result ≡ avail self.now.regions self.now.blocks reqs }
     {
         if reqs & MEMF_LARGEST != 0 {

@@ -12,13 +12,13 @@ pub const TOTAL_LIMIT: u64 = 1_048_576;
 const REGION_LIMIT: usize = 8;
 
 /// The address that no region goes past.
-const REACH: u64 = 2_147_483_648;
+pub const REACH: u64 = 2_147_483_648;
 
 /// The lowest address that a region may have.
 const LOWEST_BASE: u32 = 4096;
 
-/// The size in bytes of a unit, of which addresses and sizes are multiples.
-pub const UNIT: u32 = 8;
+/// The size in bytes of a unit of memory, of which addresses and sizes are multiples (exec/memory.h).
+pub const MEM_BLOCKSIZE: u32 = 8;
 
 /// A stretch of the machine's memory, as a MemHeader names it.
 #[derive(Clone, Copy, Debug, PartialEq, Eq)]
@@ -82,8 +82,8 @@ pub fn check_regions(regions: &[Region]) -> Result<(), MemFault>
 fn is_aligned(region: &Region) -> bool
     ensures { result ≡ is_aligned region.now }
 {
-    region.base % UNIT == 0
-        && region.size % UNIT == 0
+    region.base % MEM_BLOCKSIZE == 0
+        && region.size % MEM_BLOCKSIZE == 0
         && 0 < region.size
         && LOWEST_BASE <= region.base
 }
@@ -113,7 +113,7 @@ fn are_in_reach(regions: &[Region]) -> bool
 }
 
 fn total_size(regions: &[Region]) -> u64
-    requires { length regions.now ≤ 8 }
+    requires { length regions.now ≤ REGION_LIMIT }
     ensures { result ≡ total_size regions.now }
 {
     let mut total = 0;

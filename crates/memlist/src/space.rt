@@ -8,8 +8,9 @@ ghost use Rattle.memlist.specs.Fit.{greatest};
 ghost use Rattle.memlist.specs.Joins.{Around};
 ghost use Rattle.memlist.specs.declared.gap.Gap.{Gap};
 
-use crate::chunk::{Chunk, cut, link, read, word_place, write};
+use crate::chunk::{Chunk, WORD, cut, link, read, word_place, write};
 use crate::gap::Gap;
+use crate::region::{MEM_BLOCKSIZE, REACH};
 use std::alloc::{AllocError, Global};
 use std::marker::Model;
 
@@ -39,14 +40,14 @@ impl Model for FreeSpace {
 impl FreeSpace {
     /// So many bytes from an address on, all of them free.
     pub fn new(alloc: Global, base: u32, size: u32) -> Result<FreeSpace, AllocError>
-        requires place { base % 8 ≡ 0 }
-        requires low { 8 ≤ base }
+        requires place { base % MEM_BLOCKSIZE ≡ 0 }
+        requires low { MEM_BLOCKSIZE ≤ base }
         requires some { 0 < size }
-        requires whole { size % 8 ≡ 0 }
-        requires reach { base + size ≤ 2147483648 }
+        requires whole { size % MEM_BLOCKSIZE ≡ 0 }
+        requires reach { base + size ≤ REACH }
         ensures { IfOk result (λ space. space ≡ record { base = base; end = base + size; gaps = stretch base (base + size) }) }
     {
-        let mut words = vec![in alloc; 0; (size / 4) as usize]?;
+        let mut words = vec![in alloc; 0; (size / WORD) as usize]?;
         write(&mut words, 0, Chunk { next: 0, size });
         Ok(FreeSpace {
             base,
@@ -57,7 +58,7 @@ impl FreeSpace {
 
     /// The words, the first of which stands for the lowest address.
     pub fn words(&self) -> &[u32]
-        ensures len { self.now.base + 4 * length result.now ≡ self.now.end }
+        ensures len { self.now.base + WORD * length result.now ≡ self.now.end }
         ensures linked { IsLinked self.now.base result.now self.now.gaps 0 }
     {
         &self.words
@@ -138,7 +139,7 @@ impl FreeSpace {
     pub fn take(&mut self, before: u32, size: u32) -> u32
         requires spot { IsSpot size self.old.gaps before }
         requires some { 0 < size }
-        requires whole { size % 8 ≡ 0 }
+        requires whole { size % MEM_BLOCKSIZE ≡ 0 }
         ensures { (spot : IsSpot size self.old.gaps before) → (result ≡ spot.gap.address) × (self.new ≡ record self.old { gaps = spot.below ++ (stretch (spot.gap.address + size) (spot.gap.address + spot.gap.size) ++ spot.above) }) }
     {
         let gap = self.after(before).unwrap();
@@ -194,9 +195,9 @@ impl FreeSpace {
         requires around { Around self.old.gaps address size }
         requires low { self.old.base ≤ address }
         requires high { address + size ≤ self.old.end }
-        requires place { address % 8 ≡ 0 }
+        requires place { address % MEM_BLOCKSIZE ≡ 0 }
         requires some { 0 < size }
-        requires whole { size % 8 ≡ 0 }
+        requires whole { size % MEM_BLOCKSIZE ≡ 0 }
         ensures { (around : Around self.old.gaps address size) → self.new ≡ record self.old { gaps = around.below ++ (record { address = around.start; size = around.end - around.start } ∷ around.above) } }
     {
         let upper = self.upper(before, address + size, size);

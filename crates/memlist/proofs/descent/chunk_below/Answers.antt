@@ -22,7 +22,7 @@ loop-place-preserved c =
     let unit = unit-at c.args.base place slots some within in
     let said = c.in-Below.ensures c.args.base (take (place - 1) slots) unit in (
       λ below above is low high.
-      said.0 ∙ ap (λ xs. last_left c.args.base xs c.loop-place.top) (one-up slots place _ some within) ∙ c.loop-place.invariant.0 below above is low high,
+          said.0 ∙ ap (λ xs. last_left c.args.base xs c.loop-place.top) (one-up slots place _ some within) ∙ c.loop-place.invariant.0 below above is low high,
       c.in-Some.ensures,
       omega (arith, said.1, unit),
     )
