@@ -18,7 +18,8 @@ use Rattle.taskscript.specs.Faults.{first, check, Judges}
 use Rattle.taskscript.specs.Labels.{Mark, place_in, place_at, are_marked, jump_faults_in}
 use Rattle.taskscript.specs.Lines.{NamedVariableData, NamedArgumentData, number, variable, label, quoted, NamedCommandData, LineData, label_line, command_line}
 use Rattle.taskscript.specs.Numbering.{Names, names_after, variable_in, is_within, argument_in, command_in, variables_of, labels_of_arguments, have_room}
-use Rattle.taskscript.specs.Code.{line_in, lines_in, says, command_said, label_said, commands_of, labels_of, is_label_of, place_of, names_of, line_faults, lines_faults, jump_faults, body_faults, code_of, shared_after}
+use Rattle.taskscript.specs.Code.{line_in, lines_in, command_said, label_said, commands_of, labels_of, is_label_of, place_of, names_of, line_faults, lines_faults, jump_faults, body_faults, code_of, shared_after}
+use Rattle.taskscript.specs.Meaning.{says}
 use Rattle.taskscript.specs.Bodies.{Reading, nothing_read, reading_with, reading_after, said_faults, faults_after}
 use Rattle.taskscript.proofs.Firsts.{first_none, first_some, first_left, first_right}
 use Rattle.taskscript.proofs.FirstSight.{room_whole}

@@ -15,7 +15,8 @@ use Rattle.taskscript.specs.Commands.{VariableFits, ArgumentFits, CommandFits}
 use Rattle.taskscript.specs.Faults.{first, check}
 use Rattle.taskscript.specs.Lines.{NamedVariableData, NamedArgumentData, number, variable, label, quoted, NamedCommandData, LineData, label_line, command_line}
 use Rattle.taskscript.specs.Numbering.{seen_after, number_in, Names, names_with, names_after, variable_in, argument_in, command_in, is_within, variables_of_target, variables_of_arguments, variables_of, have_room}
-use Rattle.taskscript.specs.Code.{says, command_said, commands_of, labels_of, place_of, names_of, line_faults, lines_faults, jump_faults, body_faults, code_of, shared_after}
+use Rattle.taskscript.specs.Code.{command_said, commands_of, labels_of, place_of, names_of, line_faults, lines_faults, jump_faults, body_faults, code_of, shared_after}
+use Rattle.taskscript.specs.Meaning.{says}
 use Rattle.taskscript.proofs.BodyReading.{variables_left}
 use Rattle.taskscript.proofs.Firsts.{first_left, first_right}
 use Rattle.taskscript.proofs.FirstSight.{is_among, all_within, room_whole}

@@ -3,7 +3,8 @@ use Rattle.std.proofs.Common.{◌≡◌, ℕ, zero, suc, ◌≤◌, List, [], �
 use Rattle.std.specs.List.{position_or_len, cons_option}
 use Rattle.std.proofs.lemmas.List.{length-map}
 use Rattle.std.proofs.lemmas.List.Elements.{All-nil, All-cons}
-use Rattle.taskscript.specs.Code.{says, command_said, commands_of, is_label_of, place_of, names_of, code_of}
+use Rattle.taskscript.specs.Code.{command_said, commands_of, is_label_of, place_of, names_of, code_of}
+use Rattle.taskscript.specs.Meaning.{says}
 use Rattle.taskscript.specs.Lines.{NamedArgumentData, number, variable, label, quoted, NamedCommandData}
 use Rattle.taskscript.specs.Machines.{JumpFits, JumpsFit}
 use Rattle.taskscript.specs.Numbering.{Names, argument_in, command_in}

@@ -13,15 +13,11 @@ pub mod Jumps
 pub mod Keys
 pub mod LabelPlaces
 pub mod Machines
-pub mod Meaning
 pub mod Names
-pub mod OneCommand
-pub mod Quotes
+pub mod Readings
 pub mod Resolved
-pub mod Sound
 pub mod TaskTurns
 pub mod Turns
 pub mod Whole
 pub mod WordGroups
-pub mod WordTable
 pub mod Worked

@@ -5,10 +5,10 @@ use Rattle.arrayvec.specs.ArrayString.{ArrayString}
 use Rattle.taskscript.specs.declared.body.Body.{Body}
 use Rattle.taskscript.specs.declared.fault.FileFault.{FileFault}
 use Rattle.taskscript.specs.declared.fault.FileFault.TheVariants.{BadCommand, BadLabel, TooMany}
-use Rattle.taskscript.specs.Code.{says}
 use Rattle.taskscript.specs.Faults.{check, Judges}
 use Rattle.taskscript.specs.Labels.{Mark, place_in, marks_view}
 use Rattle.taskscript.specs.Lines.{NamedCommandData, LineData, label_line, command_line, named_command_view}
+use Rattle.taskscript.specs.Meaning.{says}
 use Rattle.taskscript.specs.Numbering.{Names, names_after, variables_of, have_room, names_view}
 
 -- the commands, the names of variables and the labels so far

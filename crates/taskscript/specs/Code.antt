@@ -7,7 +7,8 @@ use Rattle.taskscript.specs.declared.fault.FileFault.{FileFault}
 use Rattle.taskscript.specs.declared.fault.FileFault.TheVariants.{BadCommand, BadLabel, TooMany}
 use Rattle.taskscript.specs.Commands.{CommandData}
 use Rattle.taskscript.specs.Faults.{check}
-use Rattle.taskscript.specs.Lines.{fields, NamedCommandData, LineData, label_line, command_line, line_of}
+use Rattle.taskscript.specs.Lines.{NamedCommandData, LineData, label_line, command_line}
+use Rattle.taskscript.specs.Meaning.{says}
 use Rattle.taskscript.specs.Numbering.{Names, names_after, variable_in, command_in, is_within, variables_of, labels_of_arguments}
 
 -- ---- lines
@@ -28,9 +29,6 @@ command_said _ = None
 abbrev pub label_said : Option LineData → Option (List ℕ)
 label_said (Some (label_line name)) = Some name
 label_said _ = None
-
-abbrev pub says : List ℕ → Option LineData
-says line = line_of (fields line)
 
 -- ---- a body, after the shared names of the bodies before it
 

@@ -3,7 +3,8 @@
 ghost use Rattle.std.specs.Prelude.{◌≡◌, ◌<◌, ◌≤◌, ◌^◌, ◌+◌, map, length, OnOk, Some};
 ghost use Rattle.toml.specs.View.{view, items_view};
 ghost use Rattle.taskscript.specs.Bodies.{nothing_read, reading_view, reading_after, faults_after, ReadsOn};
-ghost use Rattle.taskscript.specs.Code.{line_in, lines_in, says, body_faults, code_of, shared_after};
+ghost use Rattle.taskscript.specs.Meaning.{says};
+ghost use Rattle.taskscript.specs.Code.{line_in, lines_in, body_faults, code_of, shared_after};
 ghost use Rattle.taskscript.specs.Commands.{command_view};
 ghost use Rattle.taskscript.specs.Faults.{Judges};
 ghost use Rattle.taskscript.specs.Lines.{label_line, command_line, named_command_view};

@@ -1,6 +1,6 @@
 //! Labels, which name the command after them.
 ghost use Rattle.std.specs.Prelude.{◌≡◌, option_map};
-ghost use Rattle.taskscript.specs.Lines.{label_in};
+ghost use Rattle.taskscript.specs.Parsing.{label_in};
 
 use crate::identifier::{Identifier, identifier_of};
 

@@ -1,8 +1,9 @@
-//! Laws of lines: what a line says is one thing, and it is what is read from it. The functions do
-//! nothing; their contracts are the laws.
+//! Laws of lines: what a line says is one thing, by the relation `Says`, and the machine of a file is made of just that. The functions
+//! do nothing; their contracts are the laws.
 ghost use Rattle.std.specs.Prelude.{◌≡◌, ℕ, List, Some, None};
-ghost use Rattle.taskscript.specs.Lines.{LineData, NamedCommandData, line_of};
-ghost use Rattle.taskscript.specs.Law.{IsLine, Says};
+ghost use Rattle.taskscript.specs.Lines.{LineData, NamedCommandData, fields};
+ghost use Rattle.taskscript.specs.Meaning.{says};
+ghost use Rattle.taskscript.specs.Says.{IsLine, Says, Meaning};
 
 /// A line has at most one command.
 pub fn one_command()
@@ -14,17 +15,22 @@ pub fn one_meaning()
     ensures { (fields : List (List ℕ)) (x y : LineData) → Says fields x → Says fields y → x ≡ y }
 {}
 
+/// Any two functions that the relation determines answer the same of all fields.
+pub fn one_reading()
+    ensures { (m n : Meaning) (fields : List (List ℕ)) → m.answer fields ≡ n.answer fields }
+{}
+
 /// What a line says is read from it.
 pub fn said_line_is_read()
-    ensures { (fields : List (List ℕ)) (x : LineData) → Says fields x → line_of fields ≡ Some x }
+    ensures { (line : List ℕ) (x : LineData) → Says (fields line) x → says line ≡ Some x }
 {}
 
 /// What is read from a line is what it says.
 pub fn read_line_is_said()
-    ensures { (fields : List (List ℕ)) (x : LineData) → line_of fields ≡ Some x → Says fields x }
+    ensures { (line : List ℕ) (x : LineData) → says line ≡ Some x → Says (fields line) x }
 {}
 
 /// A line that is refused says nothing.
 pub fn refused_line_says_nothing()
-    ensures { (fields : List (List ℕ)) (x : LineData) → line_of fields ≡ None → ¬ Says fields x }
+    ensures { (line : List ℕ) (x : LineData) → says line ≡ None → ¬ Says (fields line) x }
 {}

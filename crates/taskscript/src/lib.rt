@@ -33,7 +33,8 @@ pub use events::read_events;
 pub use fault::{EventFault, FileFault};
 pub use file::{MachineFile, TaskRecord};
 pub use laws::{
-    one_command, one_meaning, read_line_is_said, refused_line_says_nothing, said_line_is_read,
+    one_command, one_meaning, one_reading, read_line_is_said, refused_line_says_nothing,
+    said_line_is_read,
 };
 pub use name::Name;
 pub use reading::read_machine;

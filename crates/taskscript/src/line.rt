@@ -1,6 +1,8 @@
 //! One line of a body: from its text to a label, or to a command with names for variables and labels.
 ghost use Rattle.std.specs.Prelude.{◌≡◌, length, map, IfOk, option_map};
-ghost use Rattle.taskscript.specs.Lines.{fields, argument_of, arguments_of, with_word, command_of, label_of, quoted, quoted_in, line_of, target_of, Reads, line_view, named_argument_view, named_command_view, named_variable_view};
+ghost use Rattle.taskscript.specs.Lines.{fields, quoted, Reads, line_view, named_argument_view, named_command_view, named_variable_view};
+ghost use Rattle.taskscript.specs.Meaning.{says};
+ghost use Rattle.taskscript.specs.Parsing.{argument_of, arguments_of, with_word, command_of, label_of, quoted_in, target_of};
 
 use crate::fault::FileFault;
 use crate::identifier::identifier_of;
@@ -97,7 +99,7 @@ fn target_of(may: bool, target: Option<&str>) -> Option<Option<NamedVariable>>
 }
 
 // The command of a target, which may be absent, and of the fields from the word on.
-#[tactic(auto, unfolding(crate::specs::Lines::with_word))]
+#[tactic(auto, unfolding(crate::specs::Parsing::with_word))]
 fn with_word(
     alloc: Global,
     target: Option<&str>,
@@ -149,8 +151,9 @@ fn label_of(fields: &[&str]) -> Option<LabelName>
 /// What a line says, or BadCommand where it says nothing.
 ///
 /// `LABEL:` or `[TARGET = ]WORD{ ARGUMENT}` with single spaces (own choice).
+#[tactic(auto, using(crate::proofs::Readings::says_is_read))]
 pub fn read_line(alloc: Global, line: &str) -> Result<Line, FileFault>
-    ensures { Reads result line_view (line_of (fields line.now)) }
+    ensures { Reads result line_view (says line.now) }
 {
     let all = fields_of(alloc, line)?;
     match label_of(&all) {

@@ -1,6 +1,6 @@
 //! Names between double quotes.
 ghost use Rattle.std.specs.Prelude.{◌≡◌, option_map};
-ghost use Rattle.taskscript.specs.Lines.{quoted_in};
+ghost use Rattle.taskscript.specs.Parsing.{quoted_in};
 
 use crate::name::{Name, is_name};
 

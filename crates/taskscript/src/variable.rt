@@ -1,6 +1,7 @@
 //! Variables: by their names in a line, and by their numbers in a command.
 ghost use Rattle.std.specs.Prelude.{◌≡◌, option_map};
-ghost use Rattle.taskscript.specs.Lines.{named, named_variable_view, variable_of};
+ghost use Rattle.taskscript.specs.Lines.{named_variable_view};
+ghost use Rattle.taskscript.specs.Parsing.{named, variable_of};
 
 use crate::identifier::{Identifier, identifier_of};
 

@@ -1,4 +1,4 @@
-use Rattle.taskscript.proofs.OneCommand.{one_command}
+use Rattle.taskscript.specs.OneCommand.{one_command}
 use Rattle.taskscript.proofs.laws.one_command.Goals as goal
 
 pub returns : goal.returns

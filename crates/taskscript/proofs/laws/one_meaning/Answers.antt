@@ -1,4 +1,4 @@
-use Rattle.taskscript.proofs.Meaning.{one_meaning}
+use Rattle.taskscript.specs.Reader.{one_meaning}
 use Rattle.taskscript.proofs.laws.one_meaning.Goals as goal
 
 pub returns : goal.returns

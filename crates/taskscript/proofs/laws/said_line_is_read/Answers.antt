@@ -1,5 +1,5 @@
-use Rattle.taskscript.proofs.Meaning.{said_line_is_read}
+use Rattle.taskscript.proofs.Readings.{what_is_said}
 use Rattle.taskscript.proofs.laws.said_line_is_read.Goals as goal
 
 pub returns : goal.returns
-returns c = said_line_is_read
+returns c = what_is_said

@@ -1,21 +1,29 @@
--- What a line says, as a relation between its fields and a command.
-use Rattle.std.specs.Prelude.{◌≡◌, ℕ, Bool, true, codes, List, [], ◌∷◌, ◌++◌, Option, Some, None}
+-- What a line says, as a relation between its fields and a label or a command.
+use Rattle.std.specs.Prelude.{◌≡◌, ℕ, Bool, true, codes, List, [], ◌∷◌, ◌++◌, Option, Some, None, if◌then◌else◌}
 use Rattle.taskscript.specs.declared.word.row.Kind.{Kind}
 use Rattle.taskscript.specs.declared.word.row.Kind.TheVariants.{Value, Label, Name, NameOrNone}
 use Rattle.taskscript.specs.Identifiers.{is_identifier}
 use Rattle.taskscript.specs.Names.{is_name}
 use Rattle.taskscript.specs.Numbers.{number_of}
 use Rattle.taskscript.specs.Words.{word_text, answers, kinds}
-use Rattle.taskscript.specs.Lines.{NamedVariableData, variable_of, NamedArgumentData, variable, number, label, quoted, NamedCommandData, LineData, label_line, command_line}
+use Rattle.taskscript.specs.Lines.{NamedVariableData, NamedArgumentData, variable, number, label, quoted, NamedCommandData, LineData, label_line, command_line}
 
 -- `"`
 abbrev pub quote : List ℕ
 quote = 34 ∷ []
 
+-- a name stands for a private variable, and with `@` before it for a shared one
+abbrev pub variable_text : NamedVariableData → List ℕ
+variable_text v = if v.is_shared then 64 ∷ v.name else v.name
+
+pub record IsVariable (field : List ℕ) (v : NamedVariableData) : Type 0 where
+  pub text : field ≡ variable_text v
+  pub named : is_identifier v.name ≡ true
+
 -- a value is a variable or a number, a label stands as it is, a name between double quotes, and `0` alone may stand
 -- for no name
 abbrev pub IsArgument : Kind → List ℕ → NamedArgumentData → Type 0
-IsArgument Value field (variable v) = variable_of field ≡ Some v
+IsArgument Value field (variable v) = IsVariable field v
 IsArgument Value field (number n) = number_of field ≡ Some n
 IsArgument Label field (label n) = (field ≡ n) × (is_identifier n ≡ true)
 IsArgument Name field (quoted n) = (field ≡ quote ++ n ++ quote) × (is_name n ≡ true)
@@ -32,7 +40,7 @@ AreArguments _ _ _ = ⊥
 -- nothing, or where the word answers a variable and `=`
 abbrev pub IsTarget : Bool → List (List ℕ) → Option NamedVariableData → Type 0
 IsTarget may [] None = Unit {0}
-IsTarget true (target ∷ equals ∷ []) (Some v) = (equals ≡ codes "=") × (variable_of target ≡ Some v)
+IsTarget true (target ∷ equals ∷ []) (Some v) = (equals ≡ codes "=") × IsVariable target v
 IsTarget _ _ _ = ⊥
 
 -- the fields are a target or none, the text of the word, and its arguments
@@ -52,3 +60,15 @@ pub record IsLabel (fields : List (List ℕ)) (name : List ℕ) : Type 0 where
 abbrev pub Says : List (List ℕ) → LineData → Type 0
 Says fields (label_line name) = IsLabel fields name
 Says fields (command_line c) = IsLine fields c
+
+-- ---- the function that the relation determines
+
+-- what the fields say, or none where they say nothing
+abbrev pub IsMeaning : List (List ℕ) → Option LineData → Type 0
+IsMeaning fields (Some x) = Says fields x
+IsMeaning fields None = (x : LineData) → ¬ Says fields x
+
+-- a function that answers this for all fields; any two are the same, since fields say one thing at most
+pub record Meaning : Type 0 where
+  pub answer : List (List ℕ) → Option LineData
+  pub right : (fields : List (List ℕ)) → IsMeaning fields (answer fields)

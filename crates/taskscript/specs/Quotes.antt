@@ -8,8 +8,8 @@ use Rattle.std.proofs.lemmas.Option.{same_Some}
 use Rattle.std.proofs.Math.ListN.{drop_of_length-le}
 use Rattle.std.proofs.Math.Seq.{get_or-append_seam, take-append_seam}
 use Rattle.taskscript.specs.Names.{is_name}
-use Rattle.taskscript.specs.Lines.{inside, quoted_in}
-use Rattle.taskscript.specs.Law.{quote}
+use Rattle.taskscript.specs.Parsing.{inside, quoted_in}
+use Rattle.taskscript.specs.Says.{quote}
 
 -- a quoted field of so many bytes, by its parts
 quoted_field : (n : List ℕ) (k : ℕ) → k ≡ length n → is_name n ≡ true → let f : List ℕ = 34 ∷ (n ++ 34 ∷ []) in

@@ -1,20 +1,21 @@
 -- A line has at most one command.
-use Rattle.std.proofs.Common.{◌≡◌, ℕ, ◌≤◌, Bool, true, false, ◌&&◌, ◌||◌, cond, bytes_eq, codes, List, [], ◌∷◌, ◌++◌, Option, Some, None, refl, sym, ap, ◌∙◌, arith, inl, inr, nat_le, nat_lt, length, get_or, option_map, ◌==◌}
-use Rattle.std.specs.List.{list_all}
-use Rattle.std.proofs.lemmas.Bool.{cases_Bool, and_parts}
+use Rattle.std.proofs.Common.{◌≡◌, ℕ, ◌≤◌, Bool, true, false, ◌||◌, cond, bytes_eq, codes, List, [], ◌∷◌, ◌++◌, Option, Some, None, refl, sym, ap, ◌∙◌, arith, inl, inr, nat_lt, length, get_or, option_map, ◌==◌}
+use Rattle.std.proofs.lemmas.Bool.{cases_Bool}
 use Rattle.std.proofs.lemmas.Bool.Decides.{nat_tests}
 use Rattle.std.proofs.lemmas.Option.{same_Some}
 use Rattle.std.proofs.lemmas.Slice.Eq.{bytes_eq-Decides}
 use Rattle.taskscript.specs.declared.word.Word.{Word}
 use Rattle.taskscript.specs.declared.word.row.Kind.{Kind}
 use Rattle.taskscript.specs.declared.word.row.Kind.TheVariants.{Value, Label, Name, NameOrNone}
-use Rattle.taskscript.specs.Identifiers.{is_identifier, is_identifier_byte}
+use Rattle.taskscript.specs.Identifiers.{is_identifier}
 use Rattle.taskscript.specs.Numbers.{is_digit, decimal_of, number_of}
 use Rattle.taskscript.specs.Words.{word_text, answers, kinds}
-use Rattle.taskscript.specs.Lines.{NamedVariableData, variable_of, NamedArgumentData, variable, number, label, quoted, argument_of, arguments_of, target_of, with_word, cut_target, NamedCommandData, command_of}
-use Rattle.taskscript.proofs.Quotes.{quoted_from}
-use Rattle.taskscript.proofs.WordTable.{word_known}
-use Rattle.taskscript.specs.Law.{quote, IsArgument, AreArguments, IsTarget, IsLine}
+use Rattle.taskscript.specs.Lines.{NamedVariableData, NamedArgumentData, variable, number, label, quoted, NamedCommandData}
+use Rattle.taskscript.specs.Parsing.{variable_of, argument_of, arguments_of, target_of, with_word, cut_target, command_of}
+use Rattle.taskscript.specs.Quotes.{quoted_from}
+use Rattle.taskscript.specs.Variables.{begins_small, variable_from}
+use Rattle.taskscript.specs.WordTable.{word_known}
+use Rattle.taskscript.specs.Says.{quote, IsVariable, IsArgument, AreArguments, IsTarget, IsLine}
 
 same_bytes : (x y : List ℕ) → bytes_eq x y ≡ true → x ≡ y
 same_bytes x y h = (bytes_eq-Decides x y).0 h
@@ -25,8 +26,8 @@ no_sign n same h = let none : is_identifier (codes "=") ≡ true = ap is_identif
 no_quote : (f n : List ℕ) → f ≡ codes "=" → f ≡ quote ++ n ++ quote → ⊥
 no_quote f n sign same = let first : 61 ≡ 34 = ap (λ (g : List ℕ). get_or g 0 0) (sym sign ∙ same) in absurd (omega (arith, first))
 
-no_variable : (f : List ℕ) (v : NamedVariableData) → f ≡ codes "=" → variable_of f ≡ Some v → ⊥
-no_variable f v sign h = let none : variable_of (codes "=") ≡ Some v = ap variable_of (sym sign) ∙ h in cc
+no_variable : (f : List ℕ) (v : NamedVariableData) → f ≡ codes "=" → IsVariable f v → ⊥
+no_variable f v sign h = let none : variable_of (codes "=") ≡ Some v = ap variable_of (sym sign) ∙ variable_from f v h in cc
 
 no_value : (f : List ℕ) (n : ℕ) → f ≡ codes "=" → number_of f ≡ Some n → ⊥
 no_value f n sign h = let none : number_of (codes "=") ≡ Some n = ap number_of (sym sign) ∙ h in cc
@@ -76,10 +77,7 @@ no_number b bs h =
     rw (a, c) (no_digit b bs d)
 
 begins_above : (b : ℕ) (bs : List ℕ) → is_identifier (b ∷ bs) ≡ true → 58 ≤ b
-begins_above b bs h =
-    let front : ((nat_le 1 (length (b ∷ bs)) && nat_le (length (b ∷ bs)) 16) && (nat_le 97 b && nat_le b 122)) ≡ true = (and_parts _ (list_all is_identifier_byte (b ∷ bs)) h).0 in
-    let low : nat_le 97 b ≡ true = (and_parts (nat_le 97 b) (nat_le b 122) (and_parts (nat_le 1 (length (b ∷ bs)) && nat_le (length (b ∷ bs)) 16) (nat_le 97 b && nat_le b 122) front).1).0 in
-    grind (arith, nat_tests)
+begins_above b bs h = let low = begins_small b bs h in omega arith
 
 is_sign : (b : ℕ) → (b == 64) ≡ true → 58 ≤ b
 is_sign b h = grind (arith, nat_tests)
@@ -102,7 +100,7 @@ number_is_other b n bs h =
     ]
 
 arg_from : (k : Kind) (f : List ℕ) (a : NamedArgumentData) → IsArgument k f a → argument_of k f ≡ Some a
-arg_from Value f (variable v) h = rw h
+arg_from Value f (variable v) h = rw (variable_from f v h)
 arg_from Value [] (number n) h = absurd cc
 arg_from Value (b ∷ bs) (number n) h = rw (number_is_other b n bs h, h)
 arg_from Value f (label n) h = absurd h
@@ -144,7 +142,7 @@ from_parts : (may : Bool) (w : Word) (t : Option NamedVariableData) (found : Lis
     → command_of (before ++ word_text w ∷ after) ≡ Some (record { word = w; target = t; arguments = found })
 from_parts may w None found [] after e target args = rw (uncut (word_text w) (kinds w) after found args) (with_word_from None after (record { word = w; target = None; arguments = found }) refl args)
 from_parts true w (Some v) found (f ∷ g ∷ []) after e target args =
-    rw target.0 (with_word_from (Some f) after (record { word = w; target = Some v; arguments = found }) (rw (e, target.1)) args)
+    rw target.0 (with_word_from (Some f) after (record { word = w; target = Some v; arguments = found }) (rw (e, variable_from f v target.1)) args)
 from_parts true w (Some v) found [] after e target args = absurd target
 from_parts true w (Some v) found (f ∷ []) after e target args = absurd target
 from_parts true w (Some v) found (f ∷ g ∷ h ∷ more) after e target args = absurd target

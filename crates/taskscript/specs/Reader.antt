@@ -11,11 +11,12 @@ use Rattle.std.proofs.Math.Seq.{get_or-append_seam, take-append_seam}
 use Rattle.taskscript.specs.declared.word.Word.{Word}
 use Rattle.taskscript.specs.Identifiers.{is_identifier, identifier_in}
 use Rattle.taskscript.specs.Words.{word_text}
-use Rattle.taskscript.specs.Lines.{NamedCommandData, command_of, label_in, label_of, LineData, label_line, command_line, line_of}
-use Rattle.taskscript.specs.Law.{IsLine, IsLabel, Says}
-use Rattle.taskscript.proofs.OneCommand.{line_has_command}
-use Rattle.taskscript.proofs.Sound.{command_is_line}
-use Rattle.taskscript.proofs.WordTable.{word_is_capital}
+use Rattle.taskscript.specs.Lines.{NamedCommandData, LineData, label_line, command_line}
+use Rattle.taskscript.specs.Parsing.{command_of, label_in, label_of, line_of}
+use Rattle.taskscript.specs.Says.{IsLine, IsLabel, Says, IsMeaning, Meaning}
+use Rattle.taskscript.specs.OneCommand.{line_has_command}
+use Rattle.taskscript.specs.Sound.{command_is_line}
+use Rattle.taskscript.specs.WordTable.{word_is_capital}
 
 -- ---- labels
 
@@ -127,3 +128,25 @@ one_meaning fs x y p q = same_Some _ _ (sym (said_line_is_read fs x p) ∙ said_
 
 pub refused_line_says_nothing : (fs : List (List ℕ)) (x : LineData) → line_of fs ≡ None → ¬ Says fs x
 refused_line_says_nothing fs x none l = let some = said_line_is_read fs x l in cc
+
+-- ---- the function that the relation determines
+
+meaning_of : (fs : List (List ℕ)) (o : Option LineData) → line_of fs ≡ o → IsMeaning fs o
+meaning_of fs (Some x) is = read_line_is_said fs x is
+meaning_of fs None is = λ x. refused_line_says_nothing fs x is
+
+pub reader : Meaning
+reader = record { answer = line_of; right = λ fs. meaning_of fs (line_of fs) refl }
+
+-- what a meaning answers, by the relation alone
+said_answer : (fs : List (List ℕ)) (o : Option LineData) → IsMeaning fs o → o ≡ line_of fs
+said_answer fs (Some x) said = sym (said_line_is_read fs x said)
+said_answer fs None none = none_read fs (line_of fs) refl none
+  where
+    none_read : (gs : List (List ℕ)) (o : Option LineData) → line_of gs ≡ o → ((x : LineData) → ¬ Says gs x) → None ≡ o
+    none_read gs None is never = refl
+    none_read gs (Some x) is never = absurd (never x (read_line_is_said gs x is))
+
+-- any function that the relation determines is what the code reads
+pub answer_is_read : (m : Meaning) (fs : List (List ℕ)) → m.answer fs ≡ line_of fs
+answer_is_read m fs = said_answer fs (m.answer fs) (m.right fs)

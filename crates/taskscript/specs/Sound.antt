@@ -9,9 +9,11 @@ use Rattle.taskscript.specs.declared.word.row.Kind.TheVariants.{Value, Label, Na
 use Rattle.taskscript.specs.Identifiers.{is_identifier}
 use Rattle.taskscript.specs.Numbers.{number_of}
 use Rattle.taskscript.specs.Words.{word_text, word_of, all_words, answers, kinds}
-use Rattle.taskscript.specs.Lines.{◌>>=◌, NamedVariableData, variable_of, NamedArgumentData, variable, number, label, quoted, quoted_in, argument_of, arguments_of, target_of, with_word, NamedCommandData, command_of}
-use Rattle.taskscript.proofs.Quotes.{quoted_back}
-use Rattle.taskscript.specs.Law.{IsArgument, AreArguments, IsTarget, IsLine}
+use Rattle.taskscript.specs.Lines.{NamedVariableData, NamedArgumentData, variable, number, label, quoted, NamedCommandData}
+use Rattle.taskscript.specs.Parsing.{◌>>=◌, variable_of, quoted_in, argument_of, arguments_of, target_of, with_word, command_of}
+use Rattle.taskscript.specs.Quotes.{quoted_back}
+use Rattle.taskscript.specs.Variables.{variable_is}
+use Rattle.taskscript.specs.Says.{IsArgument, AreArguments, IsTarget, IsLine}
 
 pub bind_ok : {A B : Type 0} (o : Option A) (f : A → Option B) (y : B) → (o >>= f) ≡ Some y → (x : A) × (o ≡ Some x) × (f x ≡ Some y)
 bind_ok None f y h = absurd cc
@@ -29,7 +31,7 @@ pub word_is : (t : List ℕ) (w : Word) → word_of t ≡ Some w → t ≡ word_
 word_is t w h = sym ((bytes_eq-Decides (word_text w) t).0 (found_passes (λ v. bytes_eq (word_text v) t) all_words w h))
 
 arg_is_value : (o : Option NamedVariableData) (p : Option ℕ) (f : List ℕ) (a : NamedArgumentData) → variable_of f ≡ o → number_of f ≡ p → option_or (option_map variable o) (option_map number p) ≡ Some a → IsArgument Value f a
-arg_is_value (Some v) p f a e g h = subst (λ (x : NamedArgumentData). IsArgument Value f x) (same_Some _ _ h) e
+arg_is_value (Some v) p f a e g h = subst (λ (x : NamedArgumentData). IsArgument Value f x) (same_Some _ _ h) (variable_is f v e)
 arg_is_value None (Some n) f a e g h = subst (λ (x : NamedArgumentData). IsArgument Value f x) (same_Some _ _ h) g
 arg_is_value None None f a e g h = absurd cc
 
@@ -79,7 +81,7 @@ no_target may o h = subst (λ (x : Option NamedVariableData). IsTarget may [] x)
 
 one_target : (v : Option NamedVariableData) (t e : List ℕ) (o : Option NamedVariableData) → variable_of t ≡ v → e ≡ codes "=" → option_map Some v ≡ Some o → IsTarget true (t ∷ e ∷ []) o
 one_target None t e o is eq h = absurd cc
-one_target (Some v) t e o is eq h = subst (λ (x : Option NamedVariableData). IsTarget true (t ∷ e ∷ []) x) (same_Some _ _ h) (eq, is)
+one_target (Some v) t e o is eq h = subst (λ (x : Option NamedVariableData). IsTarget true (t ∷ e ∷ []) x) (same_Some _ _ h) (eq, variable_is t v is)
 
 target_is : (may : Bool) (t e : List ℕ) (o : Option NamedVariableData) → e ≡ codes "=" → target_of may (Some t) ≡ Some o → IsTarget may (t ∷ e ∷ []) o
 target_is false t e o eq h = absurd cc
