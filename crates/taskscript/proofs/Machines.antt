@@ -21,6 +21,7 @@ use Rattle.taskscript.specs.Tree.{required, optional, keys_are_among, integer_fa
 use Rattle.taskscript.proofs.CodeLaws.{commands_fit, length-code_of}
 use Rattle.taskscript.proofs.Firsts.{first_left, first_right}
 use Rattle.taskscript.proofs.Jumps.{jumps_fit}
+use Rattle.taskscript.proofs.OwnArguments.{commands_have}
 
 -- ---- one place
 
@@ -121,6 +122,7 @@ task_holds before shared d h k = record {
   name = is_named before d h;
   code = omega (arith, length-code_of shared (lines_of d), is_short before d h);
   commands = commands_fit shared (lines_of d) k;
+  arguments = commands_have shared (lines_of d);
   jumps = jumps_fit shared (lines_of d);
 }
 

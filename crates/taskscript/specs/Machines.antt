@@ -1,10 +1,13 @@
 -- What holds of the machine of every file that is accepted.
-use Rattle.std.specs.Prelude.{◌≡◌, ◌≢◌, ℕ, ◌≤◌, true, None, All, List, length, map}
+use Rattle.std.specs.Prelude.{◌≡◌, ◌≢◌, ℕ, ◌≤◌, true, None, All, List, [], ◌∷◌, length, map}
 use Rattle.std.specs.List.{AllPairs}
 use Rattle.memlist.specs.Regions.{regions_fault}
-use Rattle.taskscript.specs.Commands.{ArgumentData, place, CommandData, CommandFits}
+use Rattle.taskscript.specs.declared.word.row.Kind.{Kind}
+use Rattle.taskscript.specs.declared.word.row.Kind.TheVariants.{Value, Label, Name, NameOrNone}
+use Rattle.taskscript.specs.Commands.{ArgumentData, number, variable, quoted, place, CommandData, CommandFits}
 use Rattle.taskscript.specs.File.{TaskData, MachineData}
 use Rattle.taskscript.specs.Names.{is_name}
+use Rattle.taskscript.specs.Words.{kinds}
 
 -- a jump among so many commands goes to one of them, or to the end behind the last one
 abbrev pub JumpFits : ℕ → ArgumentData → Type 0
@@ -14,11 +17,32 @@ JumpFits count _ = Unit {0}
 abbrev pub JumpsFit : ℕ → CommandData → Type 0
 JumpsFit count c = All (JumpFits count) c.arguments
 
--- a task of a file: its name is a name, it has at most 1,024 commands, their variables are within the limits, and their jumps stay in it
+-- a value is a number or what a variable holds, a label is a place, a name is a name, and 0 may stand for none
+abbrev pub IsOfKind : Kind → ArgumentData → Type 0
+IsOfKind Value (number n) = Unit {0}
+IsOfKind Value (variable v) = Unit {0}
+IsOfKind Label (place k) = Unit {0}
+IsOfKind Name (quoted n) = is_name n ≡ true
+IsOfKind NameOrNone (quoted n) = is_name n ≡ true
+IsOfKind NameOrNone (number n) = n ≡ 0
+IsOfKind _ _ = ⊥
+
+abbrev pub AreOfKinds : List Kind → List ArgumentData → Type 0
+AreOfKinds [] [] = Unit {0}
+AreOfKinds (kind ∷ kinds) (a ∷ others) = IsOfKind kind a × AreOfKinds kinds others
+AreOfKinds _ _ = ⊥
+
+-- a command has the arguments of its word, one of each kind: where a word asks for a number or a name, one is there
+abbrev pub HasItsArguments : CommandData → Type 0
+HasItsArguments c = AreOfKinds (kinds c.word) c.arguments
+
+-- a task of a file: its name is a name, it has at most 1,024 commands, each has its word's arguments, their variables are within the limits,
+-- and their jumps stay in it
 pub record IsTask (task : TaskData) : Type 0 where
   pub name : is_name task.name ≡ true
   pub code : length task.code ≤ 1024
   pub commands : All CommandFits task.code
+  pub arguments : All HasItsArguments task.code
   pub jumps : All (JumpsFit (length task.code)) task.code
 
 -- the names of some tasks
