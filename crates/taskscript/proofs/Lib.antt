@@ -14,6 +14,7 @@ pub mod Keys
 pub mod LabelPlaces
 pub mod Machines
 pub mod Names
+pub mod OneName
 pub mod OwnArguments
 pub mod Readings
 pub mod Resolved

@@ -21,6 +21,7 @@ use Rattle.taskscript.specs.Tree.{required, optional, keys_are_among, integer_fa
 use Rattle.taskscript.proofs.CodeLaws.{commands_fit, length-code_of}
 use Rattle.taskscript.proofs.Firsts.{first_left, first_right}
 use Rattle.taskscript.proofs.Jumps.{jumps_fit}
+use Rattle.taskscript.proofs.OneName.{quotes_once}
 use Rattle.taskscript.proofs.OwnArguments.{commands_have}
 
 -- ---- one place
@@ -123,6 +124,7 @@ task_holds before shared d h k = record {
   code = omega (arith, length-code_of shared (lines_of d), is_short before d h);
   commands = commands_fit shared (lines_of d) k;
   arguments = commands_have shared (lines_of d);
+  names = quotes_once shared (lines_of d);
   jumps = jumps_fit shared (lines_of d);
 }
 

@@ -1,5 +1,5 @@
 -- What holds of the machine of every file that is accepted.
-use Rattle.std.specs.Prelude.{◌≡◌, ◌≢◌, ℕ, ◌≤◌, true, None, All, List, [], ◌∷◌, length, map}
+use Rattle.std.specs.Prelude.{◌≡◌, ◌≢◌, ℕ, ◌≤◌, Bool, true, false, None, All, List, [], ◌∷◌, count_by, length, map}
 use Rattle.std.specs.List.{AllPairs}
 use Rattle.memlist.specs.Regions.{regions_fault}
 use Rattle.taskscript.specs.declared.word.row.Kind.{Kind}
@@ -36,13 +36,25 @@ AreOfKinds _ _ = ⊥
 abbrev pub HasItsArguments : CommandData → Type 0
 HasItsArguments c = AreOfKinds (kinds c.word) c.arguments
 
--- a task of a file: its name is a name, it has at most 1,024 commands, each has its word's arguments, their variables are within the limits,
--- and their jumps stay in it
+-- whether an argument is a name between double quotes
+abbrev pub is_quoted : ArgumentData → Bool
+is_quoted (number n) = false
+is_quoted (variable v) = false
+is_quoted (quoted name) = true
+is_quoted (place k) = false
+
+-- at most one argument of a command is a name
+abbrev pub QuotesOnce : CommandData → Type 0
+QuotesOnce c = count_by is_quoted c.arguments ≤ 1
+
+-- a task of a file: its name is a name, it has at most 1,024 commands, each has its word's arguments, of which at most one is a name,
+-- their variables are within the limits, and their jumps stay in it
 pub record IsTask (task : TaskData) : Type 0 where
   pub name : is_name task.name ≡ true
   pub code : length task.code ≤ 1024
   pub commands : All CommandFits task.code
   pub arguments : All HasItsArguments task.code
+  pub names : All QuotesOnce task.code
   pub jumps : All (JumpsFit (length task.code)) task.code
 
 -- the names of some tasks

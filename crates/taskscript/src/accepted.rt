@@ -6,8 +6,8 @@ ghost use Rattle.taskscript.specs.Machines.{IsMachine};
 ghost use Rattle.taskscript.specs.declared.event.Event.{Event};
 
 /// The machine of an accepted file has a quantum of 1 to 255 and at most 64 tasks, whose names differ. Each has at most 1,024 commands.
-/// A command has as many arguments as its word, of the word's kinds; its variables are within the limits of 32 private ones and 64 shared
-/// ones, and each of its jumps goes to a command of its body or to the end behind the last one.
+/// A command has as many arguments as its word, of the word's kinds, and at most one of them is a name; its variables are within the limits
+/// of 32 private ones and 64 shared ones, and each of its jumps goes to a command of its body or to the end behind the last one.
 pub fn accepted_file_is_machine()
     ensures { (bytes : List ℕ) (m : MachineData) → file_of bytes ≡ Ok m → IsMachine m }
 {}
