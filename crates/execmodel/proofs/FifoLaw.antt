@@ -68,7 +68,7 @@ unfolding ends serves
 ports = record {
   nothing = λ s formed. (formed, λ port. refl);
   joined = joined;
-  adding = λ t s formed. (formed, λ port. refl);
+  adding = λ t s less formed. (formed, λ port. refl);
   calling = λ t call s runs is. calling t call s (does t call s) (call_makes t call s);
   ending = λ t s runs formed. (formed, λ port. refl);
   requesting = λ s formed. (formed, λ port. refl);

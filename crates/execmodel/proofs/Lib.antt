@@ -1,3 +1,5 @@
+pub mod Agreement
+pub mod Bits
 pub mod Keeping
 pub mod Fifo
 pub mod FifoLaw
@@ -13,6 +15,9 @@ pub mod Passing
 pub mod Queues
 pub mod Saying
 pub mod Settled
+pub mod Shifts
 pub mod Stopped
 pub mod Stretches
 pub mod Switching
+pub mod Waiting
+pub mod WaitingLaw

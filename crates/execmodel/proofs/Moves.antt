@@ -120,7 +120,7 @@ pub none_some : {A : Type 0} {x : A} {B : Type 0} → Some x ≡ None → B
 none_some e = let bad : true ≡ false = ap is_some e in true_is_not_false bad
 
 -- an alert that does not come: its test is passed, and what follows does not come either
-passed_first : {A : Type 0} (test : Bool) (code : A) (rest : Option A) → (if not test then Some code else rest) ≡ None
+pub passed_first : {A : Type 0} (test : Bool) (code : A) (rest : Option A) → (if not test then Some code else rest) ≡ None
     → (test ≡ true) × (rest ≡ None)
 passed_first true code rest e = (refl, e)
 passed_first false code rest e = none_some e
@@ -228,7 +228,7 @@ leaves_queue t other call s None o regions none moves =
 leaves_queue t other call s (Some semaphore) o regions none moves =
     (regions, subst (λ ms. Moves s.memory.regions t call s.memory.heap (left semaphore other ∷ ms) o.state.memory.heap) (sym none) moves)
 
-no_caller : (t number : ℕ) → is_caller t number ≡ false → number - 1 ≢ t
+pub no_caller : (t number : ℕ) → is_caller t number ≡ false → number - 1 ≢ t
 no_caller t number is same = cases_bool (nat_eq number 0) (nat_eq (number - 1) t) is (ap (λ k. nat_eq k t) same ∙ nat_eq-same t)
 
 ended_makes : (t other : ℕ) (call : Call) (s : State) → other ≢ t → Makes t call s (ends_other other t call s)

@@ -29,7 +29,7 @@ unfolding ends serves
 memories = record {
   nothing = λ s formed. (formed, refl);
   joined = λ s some r more q first next formed. let mid = first formed in let end = next mid.0 in (end.0, end.1 ∙ mid.1);
-  adding = λ t s formed. (formed, refl);
+  adding = λ t s less formed. (formed, refl);
   calling = λ t call s runs is formed. calling t call s (does t call s) (call_makes t call s) formed;
   ending = λ t s runs formed. (formed, refl);
   requesting = λ s formed. (formed, refl);

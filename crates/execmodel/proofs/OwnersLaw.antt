@@ -28,7 +28,7 @@ unfolding ends serves
 idle_stays = record {
   nothing = λ s idle. idle;
   joined = λ s some r more q first next idle. next (first idle);
-  adding = λ t s idle. idle;
+  adding = λ t s less idle. idle;
   calling = λ t call s runs is idle. moves_idle s.memory.regions t call s.memory.heap (does t call s).marks (does t call s).state.memory.heap (call_makes t call s).1 idle;
   ending = λ t s runs idle. idle;
   requesting = λ s idle. idle;

@@ -133,7 +133,7 @@ task_left t (Some (MsgPort port messages)) = refl
 task_left t (Some (Message content)) = refl
 task_left t (Some (Semaphore sem waiters)) = refl
 
-dropped_left : (t p : ℕ) (heap : Heap) → waiters_of p (dropped t heap) ≡ without t (waiters_of p heap)
+pub dropped_left : (t p : ℕ) (heap : Heap) → waiters_of p (dropped t heap) ≡ without t (waiters_of p heap)
 unfolding waiters_of dropped
 dropped_left t p heap = ap (λ found. waiters_of_object found) (object_remade (left_by_task t) p heap) ∙ task_left t (object_at p heap)
 

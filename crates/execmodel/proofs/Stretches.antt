@@ -1,5 +1,5 @@
 -- What holds over every stretch of every run: proved once from what holds of each thing that a machine does.
-use Rattle.std.proofs.Common.{◌≡◌, ℕ, zero, suc, Bool, true, false, List, [], ◌∷◌, ◌++◌, Option, None, Some, refl}
+use Rattle.std.proofs.Common.{◌≡◌, ℕ, zero, suc, ◌<◌, ◌≤◌, Bool, true, false, List, [], ◌∷◌, ◌++◌, Option, None, Some, refl, arith}
 use Rattle.std.specs.Prelude.{length, if◌then◌else◌}
 use Rattle.taskscript.specs.declared.event.Event.{Event}
 use Rattle.taskscript.specs.declared.event.Event.TheVariants.{Run, Tick}
@@ -22,7 +22,7 @@ HoldsOf R next = (s : State) → R s (next s).marks (next s).state
 pub record HoldsOfEach (R : Relation) : Type 0 where
   pub nothing : (s : State) → R s [] s
   pub joined : (s : State) (some : List Mark) (r : State) (more : List Mark) (q : State) → R s some r → R r more q → R s (some ++ more) q
-  pub adding : (t : ℕ) (s : State) → R s [] (on_schedule (added t) s)
+  pub adding : (t : ℕ) (s : State) → t < length s.scripts.programs → R s [] (on_schedule (added t) s)
   pub calling : (t : ℕ) (call : Call) (s : State) → s.schedule.running ≡ Some t → next_call t s.scripts ≡ Some call
       → R s (does t call s).marks (does t call s).state
   pub ending : (t : ℕ) (s : State) → s.schedule.running ≡ Some t → R s (ends t s).marks (ends t s).state
@@ -96,19 +96,19 @@ module _ (R : Relation) (each : HoldsOfEach R) where
   of_events [] s = each.nothing s
   of_events (e ∷ rest) s = both (event e) (events rest) (of_event e) (of_events rest) s
 
-  starting : (b : Bool) (t : ℕ) (s : State) → R s [] (on_schedule (λ r. if b then added t r else r) s)
-  starting true t s = each.adding t s
-  starting false t s = each.nothing s
+  starting : (b : Bool) (t : ℕ) (s : State) → t < length s.scripts.programs → R s [] (on_schedule (λ r. if b then added t r else r) s)
+  starting true t s less = each.adding t s less
+  starting false t s less = each.nothing s
 
-  of_adding : (n : ℕ) (s : State) → R s [] (on_schedule (all_added s.scripts n) s)
+  of_adding : (n : ℕ) (s : State) → n ≤ length s.scripts.programs → R s [] (on_schedule (all_added s.scripts n) s)
   unfolding all_added
-  of_adding zero s = each.nothing s
-  of_adding (suc n) s =
-      each.joined s [] (on_schedule (all_added s.scripts n) s) [] _ (of_adding n s)
-      (starting _ n (on_schedule (all_added s.scripts n) s))
+  of_adding zero s most = each.nothing s
+  of_adding (suc n) s most =
+      each.joined s [] (on_schedule (all_added s.scripts n) s) [] _ (of_adding n s (omega (arith, most)))
+      (starting _ n (on_schedule (all_added s.scripts n) s) most)
 
   pub of_starts : HoldsOf R starts
   unfolding starts
   of_starts s =
-      each.joined s [] (on_schedule (all_added s.scripts (length s.scripts.programs)) s) _ _ (of_adding (length s.scripts.programs) s)
+      each.joined s [] (on_schedule (all_added s.scripts (length s.scripts.programs)) s) _ _ (of_adding (length s.scripts.programs) s (omega arith))
       (of_settle (on_schedule (all_added s.scripts (length s.scripts.programs)) s))

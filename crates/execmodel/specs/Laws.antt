@@ -1,9 +1,10 @@
 -- Laws of every run: of each machine that a file may state, and each list of events.
-use Rattle.std.specs.Prelude.{◌≡◌, ◌⊎◌, ℕ, ◌≤ℤ◌, ◌^◌, Bool, true, false, not, nat_eq, bit_and, All, List, [], ◌∷◌, ◌++◌, None, Some, slice_get, codes}
+use Rattle.std.specs.Prelude.{◌≡◌, ◌⊎◌, ℕ, ◌≤ℤ◌, Bool, true, false, bit_and, All, List, [], ◌∷◌, ◌++◌, None, Some, slice_get, codes}
 use Rattle.exectrace.specs.Trace.{Switch, TraceLine}
 use Rattle.memlist.specs.declared.region.Region.{Region}
 use Rattle.memlist.specs.Pieces.{AreDisjoint, IsTiled}
 use Rattle.execlist.specs.Order.{chosen}
+use Rattle.signals.specs.Signals.{has_signal}
 use Rattle.taskq.specs.Tasks.{pri_at, is_live}
 use Rattle.taskq.specs.declared.TaskState.TheVariants.{Waiting}
 use Rattle.taskq.specs.declared.Why.TheVariants.{Signals}
@@ -24,6 +25,7 @@ use Rattle.execmodel.specs.Ports.{messages_of}
 use Rattle.execmodel.specs.Semaphores.{sem_of, waiters_of}
 use Rattle.execmodel.specs.Interrupts.{interrupts}
 use Rattle.execmodel.specs.Step.{does, ends, step, tick, switches, events, run}
+use Rattle.execmodel.specs.Agreement.{Agrees}
 use Rattle.execmodel.specs.Queues.{IsInOrder}
 use Rattle.execmodel.specs.Marks.{turns_at_port, turns_at_semaphore}
 
@@ -112,6 +114,19 @@ abbrev pub FreeSemaphoresHaveNoWaiters : Type 0
 FreeSemaphoresHaveNoWaiters =
     (semaphore : ℕ) → InEveryState (λ s. (sem_of semaphore s.memory.heap).owner ≡ None → waiters_of semaphore s.memory.heap ≡ [])
 
+-- Tasks get a semaphore in the order in which they asked: over every stretch of a run, the tasks that waited for it at first and those that
+-- began to wait, less each that was then removed, are those that a release made the owner, in order, followed by those that wait at last.
+abbrev pub SemaphoresPassInOrder : Type 0
+SemaphoresPassInOrder =
+    (semaphore : ℕ) → OverEveryStretch (λ old marks new.
+    IsInOrder (waiters_of semaphore old.memory.heap) (turns_at_semaphore semaphore marks) (waiters_of semaphore new.memory.heap))
+
+-- What a task's state tells agrees with where it stands: just the running task has the state Running, just the ready ones stand among the
+-- ready, each once, and just those that wait for a semaphore stand in its queue, each in one and once.
+abbrev pub QueuesAgreeWithTheSchedule : Type 0
+QueuesAgreeWithTheSchedule =
+    (t : ℕ) → InEveryState (λ s. Agrees t s.schedule (λ semaphore. waiters_of semaphore s.memory.heap))
+
 -- ---- priority
 
 -- Where no task runs none is ready; where switching is allowed no ready task has a higher priority than the running one; and a request is
@@ -153,22 +168,11 @@ pub record OnlySwitchesSaySo : Type 0 where
 
 -- ---- stated, and not proved yet
 
--- Tasks get a semaphore in the order in which they asked: over every stretch of a run, the tasks that waited for it at first and those that
--- began to wait, less each that was then removed, are those that a release made the owner, in order, followed by those that wait at last.
-abbrev pub SemaphoresPassInOrder : Type 0
-SemaphoresPassInOrder =
-    (semaphore : ℕ) → OverEveryStretch (λ old marks new.
-    IsInOrder (waiters_of semaphore old.memory.heap) (turns_at_semaphore semaphore marks) (waiters_of semaphore new.memory.heap))
-
 -- A task that waits for signals has received none of them.
 abbrev pub WaitersHaveReceivedNone : Type 0
 WaitersHaveReceivedNone =
     (t mask : ℕ) → InEveryState (λ s.
     status_of s.schedule t ≡ Waiting (Signals mask) → bit_and (signals_of s.schedule t).received mask ≡ 0)
-
--- signal n is among those of a word
-abbrev pub has_signal : ℕ → ℕ → Bool
-has_signal n bits = not (nat_eq (bit_and bits (2 ^ n)) 0)
 
 -- the words by which a task takes, sets or clears signals of its own
 abbrev pub is_own_taking : Word → Bool
@@ -183,7 +187,7 @@ is_own_taking _ = false
 abbrev pub ReceivedSignalsStay : Type 0
 ReceivedSignalsStay =
     (t n : ℕ) → OfEveryAction (λ action s o.
-    has_signal n (signals_of s.schedule t).received ≡ true
+    has_signal (signals_of s.schedule t).received n ≡ true
     → is_live (status_of o.state.schedule t) ≡ true
-    → (has_signal n (signals_of o.state.schedule t).received ≡ true)
+    → (has_signal (signals_of o.state.schedule t).received n ≡ true)
     ⊎ ((action ≡ OneStep) × ((call : Call) × IsToCall t call s × (is_own_taking call.word ≡ true))))

@@ -17,4 +17,5 @@ pub mod Keeping
 pub mod Runs
 pub mod Queues
 pub mod Marks
+pub mod Agreement
 pub mod Laws

@@ -2,7 +2,7 @@
 ghost use Rattle.std.specs.Prelude.{◌≡◌, true, List};
 ghost use Rattle.taskscript.specs.declared.event.Event.{Event};
 ghost use Rattle.execmodel.specs.Keeping.{PlainWordsChangeScripts, SignalWordsChangeSignalsAndStates, NestingWordsChangeNestings, TaskWordsChangeStatesPrioritiesAndObjects, ListWordsChangeTheMemory, MemoryWordsChangeTheMemory, PortWordsChangePortsSignalsAndStates, SemaphoreWordsChangeStatesAndObjects};
-ghost use Rattle.execmodel.specs.Laws.{FirstInFirstOut, EachByteHasOneOwner, FreeMemRefusesObjects, OwnersChangeAtTheLastRelease, FreeSemaphoresHaveNoWaiters, EachStateIsSettled, SwitchesGoToTheChosen, OnlySwitchesSaySo};
+ghost use Rattle.execmodel.specs.Laws.{FirstInFirstOut, EachByteHasOneOwner, FreeMemRefusesObjects, OwnersChangeAtTheLastRelease, FreeSemaphoresHaveNoWaiters, SemaphoresPassInOrder, QueuesAgreeWithTheSchedule, EachStateIsSettled, SwitchesGoToTheChosen, OnlySwitchesSaySo};
 ghost use Rattle.execmodel.specs.State.{State, Outcome, quiet, andthen};
 ghost use Rattle.execmodel.specs.Step.{unless_stopped, event, events};
 
@@ -54,13 +54,24 @@ pub fn one_owner()
     ensures refuses { FreeMemRefusesObjects }
 {}
 
-/// A semaphore excludes: its owner changes only from none, or at the release that brings its count to zero; and nobody waits for one that
-/// no task owns.
+/// A semaphore excludes: its owner changes only from none, or at the release that brings its count to zero; nobody waits for one that no
+/// task owns; and tasks get it in the order in which they asked: over every stretch of every run, the tasks that waited for it at first and
+/// those that began to wait, less each that was then removed, are those that a release made the owner, in order, followed by those that wait
+/// at last.
 ///
 /// Source: RKM Libraries, Exec Semaphores.
 pub fn exclusion()
     ensures owners { OwnersChangeAtTheLastRelease }
     ensures idle { FreeSemaphoresHaveNoWaiters }
+    ensures order { SemaphoresPassInOrder }
+{}
+
+/// The queues agree with the schedule: in every state of every run just the running task has the state Running, just the ready tasks stand
+/// in the ready sequence, each once, and just those that wait for a semaphore stand in the queue of one, each once and in no other.
+///
+/// Source: RKM Libraries, Exec Tasks: task states.
+pub fn agreement()
+    ensures { QueuesAgreeWithTheSchedule }
 {}
 
 /// After the start and after each step and tick of every run, unless an alert stopped the machine: where no task runs none is ready; where

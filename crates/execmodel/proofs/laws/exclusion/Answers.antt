@@ -1,4 +1,5 @@
 use Rattle.execmodel.proofs.OwnersLaw.{owners_change_at_the_last_release, free_semaphores_have_no_waiters}
+use Rattle.execmodel.proofs.WaitingLaw.{semaphores_pass_in_order}
 use Rattle.execmodel.proofs.laws.exclusion.Goals as goal
 
 pub returns-clause-owners : goal.returns-clause-owners
@@ -6,3 +7,6 @@ returns-clause-owners c = owners_change_at_the_last_release
 
 pub returns-clause-idle : goal.returns-clause-idle
 returns-clause-idle c = free_semaphores_have_no_waiters
+
+pub returns-clause-order : goal.returns-clause-order
+returns-clause-order c = semaphores_pass_in_order

@@ -1,0 +1,25 @@
+-- Signals that are taken out of a set are not in it any more, and those that join one do not drive out others.
+use Rattle.std.proofs.Common.{inl, inr, ◌≡◌, ℕ, ◌^◌, true, bit_or, ap, ◌∙◌, arith}
+use Rattle.std.specs.Prelude.{bit_and, ◌||◌}
+use Rattle.std.specs.Int.{bit_not, w32}
+use Rattle.std.proofs.lemmas.Bool.{cases_lt}
+use Rattle.std.proofs.lemmas.Nat.{and_assoc, and-not}
+use Rattle.std.specs.Int.Bits.{and_self, and_zero_l, and_zero_r}
+use Rattle.signals.specs.Signals.{has_signal, without}
+use Rattle.signals.proofs.Sets.{has_signal-or}
+
+-- a mask and what it leaves have nothing in common
+not_and : (mask : ℕ) → bit_and (bit_not w32 mask) mask ≡ 0
+not_and mask =
+    elim (cases_lt mask (2 ^ 32)) [
+      | inl fits ↦ let all = and-not 32 mask mask fits fits in let one = and_self mask in omega (arith, all, one)
+      | inr past ↦ let none : bit_not w32 mask ≡ 0 = omega (arith, past) in ap (λ n. bit_and n mask) none ∙ and_zero_l mask
+    ]
+
+pub nothing_left : (bits mask : ℕ) → bit_and (without bits mask) mask ≡ 0
+nothing_left bits mask =
+    and_assoc mask bits (bit_not w32 mask) ∙ ap (λ n. bit_and bits n) (not_and mask) ∙ and_zero_r bits
+
+-- what has a signal has it also where others join
+pub signal_joined : (bits more n : ℕ) → has_signal bits n ≡ true → has_signal (bit_or bits more) n ≡ true
+signal_joined bits more n e = has_signal-or bits more n ∙ ap (λ b. b || has_signal more n) e
