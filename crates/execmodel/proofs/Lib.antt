@@ -13,6 +13,7 @@ pub mod Moments
 pub mod Moves
 pub mod Passing
 pub mod Queues
+pub mod Received
 pub mod Saying
 pub mod Settled
 pub mod Shifts

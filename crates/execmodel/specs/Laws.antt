@@ -166,7 +166,7 @@ pub record OnlySwitchesSaySo : Type 0 where
   pub of_ends : (t : ℕ) (s : State) → says_switch (ends t s).lines ≡ false
   pub of_interrupts : (s : State) → says_switch (interrupts s).lines ≡ false
 
--- ---- stated, and not proved yet
+-- ---- signals
 
 -- A task that waits for signals has received none of them.
 abbrev pub WaitersHaveReceivedNone : Type 0

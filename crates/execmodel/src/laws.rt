@@ -2,7 +2,7 @@
 ghost use Rattle.std.specs.Prelude.{◌≡◌, true, List};
 ghost use Rattle.taskscript.specs.declared.event.Event.{Event};
 ghost use Rattle.execmodel.specs.Keeping.{PlainWordsChangeScripts, SignalWordsChangeSignalsAndStates, NestingWordsChangeNestings, TaskWordsChangeStatesPrioritiesAndObjects, ListWordsChangeTheMemory, MemoryWordsChangeTheMemory, PortWordsChangePortsSignalsAndStates, SemaphoreWordsChangeStatesAndObjects};
-ghost use Rattle.execmodel.specs.Laws.{FirstInFirstOut, EachByteHasOneOwner, FreeMemRefusesObjects, OwnersChangeAtTheLastRelease, FreeSemaphoresHaveNoWaiters, SemaphoresPassInOrder, QueuesAgreeWithTheSchedule, EachStateIsSettled, SwitchesGoToTheChosen, OnlySwitchesSaySo};
+ghost use Rattle.execmodel.specs.Laws.{FirstInFirstOut, EachByteHasOneOwner, FreeMemRefusesObjects, OwnersChangeAtTheLastRelease, FreeSemaphoresHaveNoWaiters, SemaphoresPassInOrder, QueuesAgreeWithTheSchedule, EachStateIsSettled, SwitchesGoToTheChosen, OnlySwitchesSaySo, WaitersHaveReceivedNone, ReceivedSignalsStay};
 ghost use Rattle.execmodel.specs.State.{State, Outcome, quiet, andthen};
 ghost use Rattle.execmodel.specs.Step.{unless_stopped, event, events};
 
@@ -85,4 +85,14 @@ pub fn priority()
     ensures settled { EachStateIsSettled }
     ensures switched { SwitchesGoToTheChosen }
     ensures only { OnlySwitchesSaySo }
+{}
+
+/// No signal is lost: in every state of every run a task that waits for signals has received none of them; and a signal that a task has
+/// received stays received while the task lives, unless in this step it makes a call by which a task takes, sets or clears signals of its
+/// own.
+///
+/// Source: RKM Libraries, Exec Signals.
+pub fn no_lost_signal()
+    ensures none { WaitersHaveReceivedNone }
+    ensures stay { ReceivedSignalsStay }
 {}
