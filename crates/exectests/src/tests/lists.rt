@@ -7,12 +7,11 @@ use execlist::link::LinkSpace;
 use execlist::plain::PlainSpace;
 use execlist::space::{HeaderId, ListSpace, NodeId};
 use std::alloc::{AllocError, Global};
-use std::fmt::Debug;
 use std::process::Abort;
 use std::test::Fail;
 
 /// Where a node is put: by `add_head`, `add_tail`, `insert` before all or after a node, or `enqueue`.
-#[derive(Clone, Copy, Debug)]
+#[derive(Clone, Copy)]
 enum Place {
     Head,
     Tail,
@@ -22,7 +21,7 @@ enum Place {
 }
 
 /// A call that changes a space.
-#[derive(Clone, Copy, Debug)]
+#[derive(Clone, Copy)]
 enum Change {
     SetKey(NodeId, i8, Option<&'static str>),
     Put(HeaderId, NodeId, Place),
@@ -32,7 +31,7 @@ enum Change {
 }
 
 /// A call that reads a space.
-#[derive(Clone, Copy, Debug)]
+#[derive(Clone, Copy)]
 enum Look {
     Home(NodeId),
     Pri(NodeId),
@@ -362,21 +361,27 @@ impl Vectors {
     }
 }
 
-/// The call of the step of that number, counted from 0, has the answer that is wanted.
-fn same<C: Debug + Copy>(rt: &impl Abort, number: usize, call: C, answer: Answer, wanted: Answer) {
-    assert_eq!(rt; answer, wanted, "in step {number}, {call:?}");
+/// A call after the step of that number, counted from 0, has the answer that is wanted, at a node or a header of that number.
+fn same(rt: &impl Abort, number: usize, place: usize, answer: Answer, wanted: Answer) {
+    assert_eq!(rt; answer, wanted, "in step {number}, at {place}");
 }
 
 /// Compares the whole of a space of two headers and eight nodes with the vectors, also at a header and a node that are not there.
 fn compare<S: ListSpace>(rt: &impl Abort, number: usize, d: &Driver<S>, v: &Vectors) {
     for n in 0..9 {
-        for call in [Home(n), Pri(n), Succ(n), Pred(n)] {
-            same(rt, number, call, d.look(call), v.look(call));
-        }
-        for name in ["x", "y", "z"] {
-            for call in [HasName(n, name), FindNameAfter(n, name)] {
-                same(rt, number, call, d.look(call), v.look(call));
-            }
+        for call in [
+            Home(n),
+            Pri(n),
+            Succ(n),
+            Pred(n),
+            HasName(n, "x"),
+            HasName(n, "y"),
+            HasName(n, "z"),
+            FindNameAfter(n, "x"),
+            FindNameAfter(n, "y"),
+            FindNameAfter(n, "z"),
+        ] {
+            same(rt, number, n, d.look(call), v.look(call));
         }
     }
     for h in 0..3 {
@@ -387,7 +392,7 @@ fn compare<S: ListSpace>(rt: &impl Abort, number: usize, d: &Driver<S>, v: &Vect
             FindName(h, "y"),
             FindName(h, "z"),
         ] {
-            same(rt, number, call, d.look(call), v.look(call));
+            same(rt, number, h, d.look(call), v.look(call));
         }
     }
 }
@@ -423,7 +428,7 @@ fn run_mixed_calls<S: ListSpace>(rt: &impl Abort, alloc: Global) -> Result<(), F
         let call = call_of(x / 512);
         let answer = d.change(call);
         let wanted = v.change(call)?;
-        same(rt, number, call, answer, wanted);
+        same(rt, number, 0, answer, wanted);
         compare(rt, number, &d, &v);
     }
     Ok(())
@@ -435,56 +440,48 @@ fn mixed_calls_agree_with_vectors(rt: HostRuntime) -> Result<(), Fail> {
     run_mixed_calls::<LinkSpace>(&rt, rt.alloc())
 }
 
-/// Makes nodes 0 to 5 in header 0, enqueued in that order, and then the calls.
-fn look_at_six<S: ListSpace>(
-    rt: &impl Abort,
-    alloc: Global,
-    looks: &[(Look, Answer)],
-) -> Result<(), Fail> {
+/// The nodes 0 to 5: each has a priority and a name.
+static KEYS: [(i8, Option<&str>); 6] = [
+    (0, Some("x")),
+    (5, Some("y")),
+    (0, Some("x")),
+    (-128, None),
+    (127, Some("z")),
+    (5, Some("y")),
+];
+
+/// What is seen once they were enqueued in that order: a node goes behind its equals, and a search goes on after a node.
+static LOOKS: [(Look, Answer); 12] = [
+    (Look::First(0), Node(Some(4))),
+    (Succ(4), Node(Some(1))),
+    (Succ(1), Node(Some(5))),
+    (Succ(5), Node(Some(0))),
+    (Succ(0), Node(Some(2))),
+    (Succ(2), Node(Some(3))),
+    (Succ(3), Node(None)),
+    (FindName(0, "x"), Node(Some(0))),
+    (FindNameAfter(0, "x"), Node(Some(2))),
+    (FindNameAfter(2, "x"), Node(None)),
+    (FindName(0, "X"), Node(None)),
+    (FindName(1, "x"), Node(None)),
+];
+
+/// Enqueues the nodes in header 0, and then looks.
+fn look_at_six<S: ListSpace>(rt: &impl Abort, alloc: Global) -> Result<(), Fail> {
     let mut d: Driver<S> = Driver::new(alloc, 2, 8)?;
-    static KEYS: [(i8, Option<&str>); 6] = [
-        (0, Some("x")),
-        (5, Some("y")),
-        (0, Some("x")),
-        (-128, None),
-        (127, Some("z")),
-        (5, Some("y")),
-    ];
     for (n, (pri, name)) in KEYS.iter().enumerate() {
         for call in [SetKey(n, *pri, *name), Put(0, n, ByPriority)] {
-            same(rt, n, call, d.change(call), Done);
+            same(rt, n, n, d.change(call), Done);
         }
     }
-    for (number, (call, wanted)) in looks.iter().enumerate() {
-        same(rt, number, *call, d.look(*call), *wanted);
+    for (number, (call, wanted)) in LOOKS.iter().enumerate() {
+        same(rt, number, 0, d.look(*call), *wanted);
     }
     Ok(())
 }
 
 #[test]
-fn enqueue_goes_behind_its_equals(rt: HostRuntime) -> Result<(), Fail> {
-    static LOOKS: [(Look, Answer); 7] = [
-        (Look::First(0), Node(Some(4))),
-        (Succ(4), Node(Some(1))),
-        (Succ(1), Node(Some(5))),
-        (Succ(5), Node(Some(0))),
-        (Succ(0), Node(Some(2))),
-        (Succ(2), Node(Some(3))),
-        (Succ(3), Node(None)),
-    ];
-    look_at_six::<PlainSpace>(&rt, rt.alloc(), &LOOKS)?;
-    look_at_six::<LinkSpace>(&rt, rt.alloc(), &LOOKS)
-}
-
-#[test]
-fn find_name_goes_on_after_a_node(rt: HostRuntime) -> Result<(), Fail> {
-    static LOOKS: [(Look, Answer); 5] = [
-        (FindName(0, "x"), Node(Some(0))),
-        (FindNameAfter(0, "x"), Node(Some(2))),
-        (FindNameAfter(2, "x"), Node(None)),
-        (FindName(0, "X"), Node(None)),
-        (FindName(1, "x"), Node(None)),
-    ];
-    look_at_six::<PlainSpace>(&rt, rt.alloc(), &LOOKS)?;
-    look_at_six::<LinkSpace>(&rt, rt.alloc(), &LOOKS)
+fn nodes_that_were_enqueued_stand_and_are_found_in_order(rt: HostRuntime) -> Result<(), Fail> {
+    look_at_six::<PlainSpace>(&rt, rt.alloc())?;
+    look_at_six::<LinkSpace>(&rt, rt.alloc())
 }

@@ -34,8 +34,45 @@ fn take(rt: &impl Abort, nest: &mut Nest, case: &str, number: usize, step: Step)
     }
 }
 
-/// Takes groups of steps, each as often as it says, from the nesting of a task that has called nothing.
-fn on_new(rt: &impl Abort, case: &str, groups: &[(usize, &[Step])]) {
+/// What is shown from the nesting of a task that has called nothing: groups of steps, each taken as often as it says.
+static CASES: [(&str, &[(usize, &[Step])]); 3] = [
+    (
+        "128 deep of Forbid",
+        &[
+            (128, &[Forbids(Ok(()))]),
+            (1, &[Forbids(TOO_DEEP)]),
+            (128, &[MaySwitch(false), Permits(Ok(()))]),
+            (1, &[MaySwitch(true), Permits(NOT_NESTED), MaySwitch(true)]),
+        ],
+    ),
+    (
+        "128 deep of Disable",
+        &[
+            (128, &[Disables(Ok(()))]),
+            (1, &[Disables(TOO_DEEP)]),
+            (128, &[MayInterrupt(false), Enables(Ok(()))]),
+            (
+                1,
+                &[MayInterrupt(true), Enables(NOT_NESTED), MayInterrupt(true)],
+            ),
+        ],
+    ),
+    (
+        "Forbid beside Disable",
+        &[
+            (1, &[MaySwitch(true), MayInterrupt(true)]),
+            (1, &[Forbids(Ok(()))]),
+            (1, &[MaySwitch(false), MayInterrupt(true)]),
+            (1, &[Disables(Ok(())), Permits(Ok(()))]),
+            (1, &[MaySwitch(false), MayInterrupt(false)]),
+            (1, &[Enables(Ok(()))]),
+            (1, &[MaySwitch(true), MayInterrupt(true)]),
+        ],
+    ),
+];
+
+/// Takes the groups of steps of a case.
+fn take_all(rt: &impl Abort, case: &str, groups: &[(usize, &[Step])]) {
     let mut nest = Nest::new();
     for (number, (times, steps)) in groups.iter().enumerate() {
         for _ in 0..*times {
@@ -47,40 +84,8 @@ fn on_new(rt: &impl Abort, case: &str, groups: &[(usize, &[Step])]) {
 }
 
 #[test]
-fn forbid_nests_128_deep(rt: HostRuntime) {
-    static GROUPS: [(usize, &[Step]); 4] = [
-        (128, &[Forbids(Ok(()))]),
-        (1, &[Forbids(TOO_DEEP)]),
-        (128, &[MaySwitch(false), Permits(Ok(()))]),
-        (1, &[MaySwitch(true), Permits(NOT_NESTED), MaySwitch(true)]),
-    ];
-    on_new(&rt, "128 deep of Forbid", &GROUPS);
-}
-
-#[test]
-fn disable_nests_128_deep(rt: HostRuntime) {
-    static GROUPS: [(usize, &[Step]); 4] = [
-        (128, &[Disables(Ok(()))]),
-        (1, &[Disables(TOO_DEEP)]),
-        (128, &[MayInterrupt(false), Enables(Ok(()))]),
-        (
-            1,
-            &[MayInterrupt(true), Enables(NOT_NESTED), MayInterrupt(true)],
-        ),
-    ];
-    on_new(&rt, "128 deep of Disable", &GROUPS);
-}
-
-#[test]
-fn forbid_allows_interrupts_and_disable_allows_neither(rt: HostRuntime) {
-    static GROUPS: [(usize, &[Step]); 7] = [
-        (1, &[MaySwitch(true), MayInterrupt(true)]),
-        (1, &[Forbids(Ok(()))]),
-        (1, &[MaySwitch(false), MayInterrupt(true)]),
-        (1, &[Disables(Ok(())), Permits(Ok(()))]),
-        (1, &[MaySwitch(false), MayInterrupt(false)]),
-        (1, &[Enables(Ok(()))]),
-        (1, &[MaySwitch(true), MayInterrupt(true)]),
-    ];
-    on_new(&rt, "Forbid beside Disable", &GROUPS);
+fn each_call_answers_as_its_case_says(rt: HostRuntime) {
+    for (case, groups) in &CASES {
+        take_all(&rt, case, *groups);
+    }
 }

@@ -56,33 +56,40 @@ fn take_all(pool: &mut Pool<u32>, rt: &impl Abort, case: &str, steps: &[Step]) {
     }
 }
 
-#[test]
-fn a_number_holds_its_item_until_it_is_free(rt: HostRuntime) -> Result<(), Fail> {
-    static STEPS: [Step; 9] = [
-        Gives(7, Some(1)),
-        Gives(8, Some(0)),
-        Gives(9, None),
-        Holds(1, Some(7)),
-        Releases(1, true),
-        Holds(1, None),
-        Releases(1, false),
-        Gives(9, Some(1)),
-        Holds(0, Some(8)),
-    ];
-    let mut pool = Pool::new(rt.alloc(), 2)?;
-    take_all(&mut pool, &rt, "a pool of two", &STEPS);
-    Ok(())
-}
+/// What is shown on a pool of so many numbers: a number holds its item until it is free, and setting puts another item in place.
+static CASES: [(&str, usize, &[Step]); 2] = [
+    (
+        "a pool of two",
+        2,
+        &[
+            Gives(7, Some(1)),
+            Gives(8, Some(0)),
+            Gives(9, None),
+            Holds(1, Some(7)),
+            Releases(1, true),
+            Holds(1, None),
+            Releases(1, false),
+            Gives(9, Some(1)),
+            Holds(0, Some(8)),
+        ],
+    ),
+    (
+        "a pool of one",
+        1,
+        &[
+            Gives(7, Some(0)),
+            Sets(0, 8, true),
+            Holds(0, Some(8)),
+            Holds(1, None),
+        ],
+    ),
+];
 
 #[test]
-fn set_puts_another_item_in_place(rt: HostRuntime) -> Result<(), Fail> {
-    static STEPS: [Step; 4] = [
-        Gives(7, Some(0)),
-        Sets(0, 8, true),
-        Holds(0, Some(8)),
-        Holds(1, None),
-    ];
-    let mut pool = Pool::new(rt.alloc(), 1)?;
-    take_all(&mut pool, &rt, "a pool of one", &STEPS);
+fn each_call_answers_as_its_case_says(rt: HostRuntime) -> Result<(), Fail> {
+    for (case, numbers, steps) in &CASES {
+        let mut pool = Pool::new(rt.alloc(), *numbers)?;
+        take_all(&mut pool, &rt, case, *steps);
+    }
     Ok(())
 }

@@ -559,25 +559,12 @@ static SEMAPHORES: [Case; 5] = [
     },
 ];
 
-/// Takes the steps of each case.
-fn take_all<S: ListSpace>(rt: &impl Abort, alloc: Global, cases: &[Case]) -> Result<(), Fail> {
-    for case in cases {
-        on_three::<S>(rt, alloc, case)?;
+#[test]
+fn each_call_answers_as_its_case_says(rt: HostRuntime) -> Result<(), Fail> {
+    for cases in [TURNS.as_slice(), &WAITS, &SEMAPHORES] {
+        for case in cases {
+            on_three::<PlainSpace>(&rt, rt.alloc(), case)?;
+        }
     }
     Ok(())
-}
-
-#[test]
-fn tasks_take_turns(rt: HostRuntime) -> Result<(), Fail> {
-    take_all::<PlainSpace>(&rt, rt.alloc(), &TURNS)
-}
-
-#[test]
-fn tasks_wait_and_have_signals_and_nestings_of_their_own(rt: HostRuntime) -> Result<(), Fail> {
-    take_all::<PlainSpace>(&rt, rt.alloc(), &WAITS)
-}
-
-#[test]
-fn tasks_wait_for_semaphores(rt: HostRuntime) -> Result<(), Fail> {
-    take_all::<PlainSpace>(&rt, rt.alloc(), &SEMAPHORES)
 }

@@ -155,14 +155,79 @@ fn take<S: ListSpace>(rt: &impl Abort, d: &mut Driver<S>, case: &str, number: us
     }
 }
 
-/// Takes steps on tasks a and b of priority 0 and c of priority 1, of which the first `ready` are ready.
-fn on_three<S: ListSpace>(
-    rt: &impl Abort,
-    alloc: Global,
-    case: &str,
+/// What a test shows, how many of the tasks are ready, and its steps.
+struct Case {
+    name: &'static str,
     ready: usize,
-    steps: &[Step],
-) -> Result<(), Fail> {
+    steps: &'static [Step],
+}
+
+/// What is shown on tasks a and b of priority 0 and c of priority 1, of which the first ones are ready.
+static CASES: [Case; 4] = [
+    Case {
+        name: "new tasks are absent",
+        ready: 0,
+        steps: &[
+            HasState(0, Some(TaskState::Absent)),
+            HasPri(0, Some(0)),
+            HasState(1, Some(TaskState::Absent)),
+            HasPri(1, Some(0)),
+            HasState(2, Some(TaskState::Absent)),
+            HasPri(2, Some(1)),
+            HasName(2, Some("c")),
+            Picks(None),
+            Finds("a", None),
+        ],
+    },
+    Case {
+        name: "equals run in order of arrival",
+        ready: 3,
+        steps: &[
+            RunsNext(Some(2)),
+            Blocks(2, Why::Signals(0x1000), true),
+            HasState(2, Some(TaskState::Waiting(Why::Signals(0x1000)))),
+            RunsNext(Some(0)),
+            HasState(0, Some(TaskState::Running)),
+            MakesReady(0, true),
+            RunsNext(Some(1)),
+            Blocks(1, Why::Sem, true),
+            HasState(1, Some(TaskState::Waiting(Why::Sem))),
+            MakesReady(2, true),
+            Picks(Some(2)),
+        ],
+    },
+    Case {
+        name: "a ready task of another priority arrives anew",
+        ready: 2,
+        steps: &[
+            Picks(Some(0)),
+            SetsPri(0, 0, Some(0)),
+            Picks(Some(1)),
+            SetsPri(0, 5, Some(0)),
+            Picks(Some(0)),
+            SetsPri(2, -128, Some(1)),
+            HasPri(2, Some(-128)),
+            HasState(2, Some(TaskState::Absent)),
+        ],
+    },
+    Case {
+        name: "a removed task is not found",
+        ready: 1,
+        steps: &[
+            Finds("a", Some(0)),
+            Finds("b", None),
+            Removes(0, true),
+            HasState(0, Some(TaskState::Removed)),
+            Finds("a", None),
+            Picks(None),
+            MakesReady(0, false),
+            Removes(1, false),
+        ],
+    },
+];
+
+/// Takes the steps of a case.
+fn on_three<S: ListSpace>(rt: &impl Abort, alloc: Global, case: &Case) -> Result<(), Fail> {
     let [a, b, c] = ["a", "b", "c"].map(|text| Name::from(text).unwrap_or_default());
     let tasks = [
         TaskInit { name: a, pri: 0 },
@@ -170,81 +235,19 @@ fn on_three<S: ListSpace>(
         TaskInit { name: c, pri: 1 },
     ];
     let mut d: Driver<S> = Driver::new(alloc, &tasks)?;
-    for t in 0..ready {
+    for t in 0..case.ready {
         same(rt, "made ready", t, d.make_ready(t), true);
     }
-    for (number, step) in steps.iter().enumerate() {
-        take(rt, &mut d, case, number, *step);
+    for (number, step) in case.steps.iter().enumerate() {
+        take(rt, &mut d, case.name, number, *step);
     }
     Ok(())
 }
 
 #[test]
-fn new_tasks_are_absent(rt: HostRuntime) -> Result<(), Fail> {
-    static STEPS: [Step; 9] = [
-        HasState(0, Some(TaskState::Absent)),
-        HasPri(0, Some(0)),
-        HasState(1, Some(TaskState::Absent)),
-        HasPri(1, Some(0)),
-        HasState(2, Some(TaskState::Absent)),
-        HasPri(2, Some(1)),
-        HasName(2, Some("c")),
-        Picks(None),
-        Finds("a", None),
-    ];
-    on_three::<PlainSpace>(&rt, rt.alloc(), "new tasks are absent", 0, &STEPS)
-}
-
-#[test]
-fn equals_run_in_order_of_arrival(rt: HostRuntime) -> Result<(), Fail> {
-    static STEPS: [Step; 11] = [
-        RunsNext(Some(2)),
-        Blocks(2, Why::Signals(0x1000), true),
-        HasState(2, Some(TaskState::Waiting(Why::Signals(0x1000)))),
-        RunsNext(Some(0)),
-        HasState(0, Some(TaskState::Running)),
-        MakesReady(0, true),
-        RunsNext(Some(1)),
-        Blocks(1, Why::Sem, true),
-        HasState(1, Some(TaskState::Waiting(Why::Sem))),
-        MakesReady(2, true),
-        Picks(Some(2)),
-    ];
-    on_three::<PlainSpace>(&rt, rt.alloc(), "equals run in order of arrival", 3, &STEPS)
-}
-
-#[test]
-fn a_ready_task_of_another_priority_arrives_anew(rt: HostRuntime) -> Result<(), Fail> {
-    static STEPS: [Step; 8] = [
-        Picks(Some(0)),
-        SetsPri(0, 0, Some(0)),
-        Picks(Some(1)),
-        SetsPri(0, 5, Some(0)),
-        Picks(Some(0)),
-        SetsPri(2, -128, Some(1)),
-        HasPri(2, Some(-128)),
-        HasState(2, Some(TaskState::Absent)),
-    ];
-    on_three::<PlainSpace>(
-        &rt,
-        rt.alloc(),
-        "a ready task of another priority arrives anew",
-        2,
-        &STEPS,
-    )
-}
-
-#[test]
-fn a_removed_task_is_not_found(rt: HostRuntime) -> Result<(), Fail> {
-    static STEPS: [Step; 8] = [
-        Finds("a", Some(0)),
-        Finds("b", None),
-        Removes(0, true),
-        HasState(0, Some(TaskState::Removed)),
-        Finds("a", None),
-        Picks(None),
-        MakesReady(0, false),
-        Removes(1, false),
-    ];
-    on_three::<PlainSpace>(&rt, rt.alloc(), "a removed task is not found", 1, &STEPS)
+fn each_call_answers_as_its_case_says(rt: HostRuntime) -> Result<(), Fail> {
+    for case in &CASES {
+        on_three::<PlainSpace>(&rt, rt.alloc(), case)?;
+    }
+    Ok(())
 }
