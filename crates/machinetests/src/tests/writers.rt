@@ -137,6 +137,20 @@ fn a_writer_that_takes_one_byte_a_call_gets_the_whole_trace(rt: HostRuntime) {
 }
 
 #[test]
+fn a_writer_that_takes_all_is_called_once_for_each_line(rt: HostRuntime) {
+    let calls = writes(
+        &rt,
+        rt.alloc(),
+        Habit::FailsAt(1000),
+        Ok(End::Ran),
+        SinkState::Good,
+        ROTATES_TRACE.len(),
+    );
+    // The trace has fourteen lines.
+    assert_eq!(rt; calls, 14);
+}
+
+#[test]
 fn a_writer_that_takes_nothing_is_given_up_after_sixteen_turns(rt: HostRuntime) {
     let calls = writes(
         &rt,
