@@ -11,7 +11,6 @@ mod lists;
 mod machine_files;
 mod memory;
 mod nesting;
-mod no_commands;
 mod pools;
 mod ports;
 mod requests;

@@ -1,4 +1,4 @@
-//! Machine files: what an accepted one holds, and the fault of each that is refused, with the values that the format gives.
+//! Machine files: what an accepted one holds, and the numbers of the faults. Files of text that are refused are whole runs.
 use super::comparing::same_at;
 use memlist::Region;
 use std::alloc::Global;
@@ -81,142 +81,8 @@ static NUMBERS: [(FileFault, u8); 11] = [
     (FileFault::OutOfMemory, 11),
 ];
 
-/// The files that are refused, by groups, each group with its name.
-static REFUSED: [(&str, &[(&str, FileFault)]); 4] = [
-    (
-        "keys of the file are judged before their values",
-        &[
-            ("x =", FileFault::NotToml),
-            ("speed = 1", FileFault::UnknownKey),
-            ("quantum = 0\nspeed = 1", FileFault::UnknownKey),
-            ("task = 3\nspeed = 1", FileFault::UnknownKey),
-            ("quantum = 0", FileFault::BadValue),
-            ("quantum = 256", FileFault::BadValue),
-            ("quantum = true", FileFault::BadValue),
-            ("pool = 0", FileFault::BadValue),
-            ("pool = 1025", FileFault::BadValue),
-            ("pool = 0\n[[region]]\nspeed = 1", FileFault::BadValue),
-            ("region = 3", FileFault::BadValue),
-            ("task = 3", FileFault::BadValue),
-        ],
-    ),
-    (
-        "regions are judged one by one and then together",
-        &[
-            ("region = [4096]", FileFault::BadValue),
-            ("[[region]]\nsize = 8", FileFault::MissingKey),
-            ("[[region]]\nbase = 4096", FileFault::MissingKey),
-            ("[[region]]\nbase = -8\nsize = 8", FileFault::BadValue),
-            (
-                "[[region]]\nbase = 4096\nsize = 4294967296",
-                FileFault::BadValue,
-            ),
-            (
-                "[[region]]\nbase = 4096\nsize = 8\nattrs = 8",
-                FileFault::BadValue,
-            ),
-            (
-                "[[region]]\nbase = 4096\nsize = 8\npri = 128",
-                FileFault::BadValue,
-            ),
-            (
-                "[[region]]\nbase = 4096\nsize = 8\nspeed = 1",
-                FileFault::UnknownKey,
-            ),
-            ("[[region]]\nbase = 4096\nsize = 12", FileFault::BadRegions),
-            (
-                "[[region]]\nbase = 4096\nsize = 1048584",
-                FileFault::BadRegions,
-            ),
-            (
-                "[[region]]\nbase = 4096\nsize = 12\n[[region]]\nbase = 4096",
-                FileFault::MissingKey,
-            ),
-            (
-                "[[region]]\nbase = 4096\nsize = 12\n[[task]]\nspeed = 1",
-                FileFault::BadRegions,
-            ),
-            (
-                "[[task]]\nname = \"a\"\ncode = [\"?\"]\n[[region]]\nbase = 4096\nsize = 12",
-                FileFault::BadRegions,
-            ),
-        ],
-    ),
-    (
-        "values of a task are judged in order",
-        &[
-            ("[task]\nname = \"a\"\ncode = []", FileFault::BadValue),
-            ("task = [1]", FileFault::BadValue),
-            ("[[task]]\nname = \"a\"", FileFault::MissingKey),
-            ("[[task]]\ncode = []", FileFault::MissingKey),
-            ("[[task]]\nspeed = 1", FileFault::UnknownKey),
-            ("[[task]]\nname = \"a b\"\ncode = []", FileFault::BadValue),
-            ("[[task]]\nname = \"\"\ncode = []", FileFault::BadValue),
-            (
-                "[[task]]\nname = \"a2345678901234567890123456789012\"\ncode = []",
-                FileFault::BadValue,
-            ),
-            (
-                "[[task]]\nname = 1979-05-27\ncode = []",
-                FileFault::BadValue,
-            ),
-            ("[[task]]\nname = { a = 1 }\ncode = []", FileFault::BadValue),
-            (
-                "[[task]]\nname = \"a\"\npri = 128\ncode = []",
-                FileFault::BadValue,
-            ),
-            (
-                "[[task]]\nname = \"a\"\npri = -129\ncode = []",
-                FileFault::BadValue,
-            ),
-            (
-                "[[task]]\nname = \"a\"\npri = 1.0\ncode = []",
-                FileFault::BadValue,
-            ),
-            ("[[task]]\nname = \"a\"\nstart = 1", FileFault::BadValue),
-            (
-                "[[task]]\nname = \"a\"\ncode = \"Print 1\"",
-                FileFault::BadValue,
-            ),
-            ("[[task]]\nname = \"a\"\ncode = [1]", FileFault::BadValue),
-            (
-                "[[task]]\nname = \"a\"\npri = true\n[[task]]\nname = \"a\"",
-                FileFault::BadValue,
-            ),
-            (
-                "[[task]]\nname = \"a\"\ncode = []\n[[task]]\nname = \"a\"\npri = 128",
-                FileFault::NameTwice,
-            ),
-        ],
-    ),
-    (
-        "lines are judged after the whole tree",
-        &[
-            (
-                "[[task]]\nname = \"a\"\ncode = [\"v = Forbid\"]",
-                FileFault::BadCommand,
-            ),
-            (
-                "[[task]]\nname = \"a\"\ncode = [\"\"]",
-                FileFault::BadCommand,
-            ),
-            (
-                "[[task]]\nname = \"a\"\ncode = [\"?\"]\n[[task]]\nname = \"b\"",
-                FileFault::MissingKey,
-            ),
-        ],
-    ),
-];
-
-/// What follows 1,024 lines of a body, and the fault of the file, if it is refused.
-static ENDS: [(&str, Option<FileFault>); 3] = [
-    ("]", None),
-    ("\"?\"]", Some(FileFault::TooMany)),
-    ("\"?\",1]", Some(FileFault::BadValue)),
-];
-
 /// The fault of a machine file, if it is refused.
-pub(super) fn fault_of(alloc: Global, file: &[u8]) -> Option<FileFault> {
+fn fault_of(alloc: Global, file: &[u8]) -> Option<FileFault> {
     match read_machine(alloc, file) {
         Ok(_) => None,
         Err(fault) => Some(fault),
@@ -274,16 +140,6 @@ fn an_accepted_file_gives_its_machine(rt: HostRuntime) {
 }
 
 #[test]
-fn the_first_fault_of_a_file_decides(rt: HostRuntime) {
-    for (name, files) in &REFUSED {
-        for (file, fault) in *files {
-            let found = fault_of(rt.alloc(), file.as_bytes());
-            same_at(&rt, name, file, found, Some(*fault));
-        }
-    }
-}
-
-#[test]
 fn bytes_that_are_no_text_are_not_toml(rt: HostRuntime) {
     let found = fault_of(rt.alloc(), b"# \xff\n");
     same_at(
@@ -293,69 +149,4 @@ fn bytes_that_are_no_text_are_not_toml(rt: HostRuntime) {
         found,
         Some(FileFault::NotToml),
     );
-}
-
-#[test]
-fn a_file_has_at_most_64_tasks(rt: HostRuntime) -> Result<(), Fail> {
-    let mut file = Vec::new(rt.alloc());
-    for i in 0..66 {
-        let wanted = if i <= 64 {
-            None
-        } else {
-            Some(FileFault::TooMany)
-        };
-        let task = format!(in rt.alloc(); "[[task]]\nname = \"t{i}\"\ncode = []\n")?;
-        same_at(
-            &rt,
-            "before a task",
-            task.as_str(),
-            fault_of(rt.alloc(), &file),
-            wanted,
-        );
-        file.extend_from_slice(task.as_bytes())?;
-    }
-    Ok(())
-}
-
-#[test]
-fn a_file_has_at_most_8_regions(rt: HostRuntime) -> Result<(), Fail> {
-    let mut file = Vec::new(rt.alloc());
-    for i in 1..11 {
-        let wanted = if i <= 9 {
-            None
-        } else {
-            Some(FileFault::TooMany)
-        };
-        let region = format!(in rt.alloc(); "[[region]]\nbase = {i}0000\nsize = 8\n")?;
-        same_at(
-            &rt,
-            "before a region",
-            region.as_str(),
-            fault_of(rt.alloc(), &file),
-            wanted,
-        );
-        file.extend_from_slice(region.as_bytes())?;
-    }
-    Ok(())
-}
-
-#[test]
-fn a_body_has_at_most_1024_lines(rt: HostRuntime) -> Result<(), Fail> {
-    let mut lines = Vec::new(rt.alloc());
-    lines.extend_from_slice(b"[[task]]\nname = \"a\"\ncode = [")?;
-    for _ in 0..1024 {
-        lines.extend_from_slice(b"\"Print 1\",")?;
-    }
-    for (end, fault) in &ENDS {
-        let mut file = lines.clone()?;
-        file.extend_from_slice(end.as_bytes())?;
-        same_at(
-            &rt,
-            "after 1024 lines",
-            end,
-            fault_of(rt.alloc(), &file),
-            *fault,
-        );
-    }
-    Ok(())
 }

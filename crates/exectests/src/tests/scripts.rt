@@ -1,15 +1,14 @@
-//! The bodies of tasks: the commands that their lines give, and the fault of bodies that are refused together, with the values that the
-//! format gives. Each case is a machine file with a task for each body.
+//! The bodies of tasks: the commands that their lines give, with the values that the format gives. Each case is a machine file with a
+//! task for each body. Bodies that are refused are whole runs.
 use super::comparing::same_at;
-use super::machine_files::fault_of;
 use std::alloc::{AllocError, Global};
 use std::process::Abort;
 use std::test::*;
 use taskscript::Variable::{self, Private, Shared};
 use taskscript::Word::{self, Lists, Plain, Ports, Semaphores, Signals, Tasks};
 use taskscript::{
-    Argument, Command, FileFault, ListWord, PlainWord, PortWord, SemaphoreWord, SignalWord,
-    TaskWord, read_machine,
+    Argument, Command, ListWord, PlainWord, PortWord, SemaphoreWord, SignalWord, TaskWord,
+    read_machine,
 };
 
 /// An argument, as a case writes it.
@@ -472,134 +471,6 @@ static BODIES: [Bodies; 6] = [
     },
 ];
 
-/// Bodies of so many lines, each line with a variable of its own that begins with the mark, then a body of these lines, and the fault of
-/// the file, if it is refused.
-#[derive(Clone, Copy)]
-struct Judged {
-    name: &'static str,
-    before: &'static [(usize, &'static str)],
-    lines: &'static [&'static str],
-    fault: Option<FileFault>,
-}
-
-static JUDGED: [Judged; 18] = [
-    Judged {
-        name: "a label stands once and a jump finds its label",
-        before: &[],
-        lines: &["l:", "Print 1", "l:"],
-        fault: Some(FileFault::BadLabel),
-    },
-    Judged {
-        name: "a label stands once and a jump finds its label",
-        before: &[],
-        lines: &["l:", "l:", "Print 01"],
-        fault: Some(FileFault::BadLabel),
-    },
-    Judged {
-        name: "a label stands once and a jump finds its label",
-        before: &[],
-        lines: &["l:", "Print 01", "l:"],
-        fault: Some(FileFault::BadCommand),
-    },
-    Judged {
-        name: "a label stands once and a jump finds its label",
-        before: &[],
-        lines: &["Jump l", "Print 1", "k:"],
-        fault: Some(FileFault::BadLabel),
-    },
-    Judged {
-        name: "a label stands once and a jump finds its label",
-        before: &[],
-        lines: &["Jump l", "Print 1", "Print 01"],
-        fault: Some(FileFault::BadCommand),
-    },
-    Judged {
-        name: "a label stands once and a jump finds its label",
-        before: &[],
-        lines: &["JumpZ l l", "k:", "Set l"],
-        fault: Some(FileFault::BadLabel),
-    },
-    Judged {
-        name: "a label stands once and a jump finds its label",
-        before: &[],
-        lines: &["Jump l", "k:", "k:"],
-        fault: Some(FileFault::BadLabel),
-    },
-    Judged {
-        name: "a body has at most 32 private variables",
-        before: &[(32, "v")],
-        lines: &[],
-        fault: None,
-    },
-    Judged {
-        name: "a body has at most 32 private variables",
-        before: &[(32, "v"), (32, "w")],
-        lines: &[],
-        fault: None,
-    },
-    Judged {
-        name: "a body has at most 32 private variables",
-        before: &[(32, "v"), (32, "w"), (33, "v")],
-        lines: &[],
-        fault: Some(FileFault::TooMany),
-    },
-    Judged {
-        name: "a file has at most 64 shared variables",
-        before: &[(40, "@v")],
-        lines: &[],
-        fault: None,
-    },
-    Judged {
-        name: "a file has at most 64 shared variables",
-        before: &[(40, "@v"), (24, "@w")],
-        lines: &[],
-        fault: None,
-    },
-    Judged {
-        name: "a file has at most 64 shared variables",
-        before: &[(40, "@v"), (24, "@w"), (40, "@v")],
-        lines: &[],
-        fault: None,
-    },
-    Judged {
-        name: "a file has at most 64 shared variables",
-        before: &[(40, "@v"), (24, "@w"), (40, "@v"), (25, "@w")],
-        lines: &[],
-        fault: Some(FileFault::TooMany),
-    },
-    Judged {
-        name: "the first faulty line of a body decides",
-        before: &[(64, "@a")],
-        lines: &[],
-        fault: None,
-    },
-    Judged {
-        name: "the first faulty line of a body decides",
-        before: &[(64, "@a")],
-        lines: &["Set a", "Set", "Print 01"],
-        fault: Some(FileFault::BadCommand),
-    },
-    Judged {
-        name: "the first faulty line of a body decides",
-        before: &[(64, "@a")],
-        lines: &["Set @a0", "Set @b", "Set"],
-        fault: Some(FileFault::TooMany),
-    },
-    Judged {
-        name: "the first faulty line of a body decides",
-        before: &[(64, "@a")],
-        lines: &["Set @a0", "Set", "Set @b"],
-        fault: Some(FileFault::BadCommand),
-    },
-];
-
-/// Writes the head of a task, up to its lines. The task has this number in its name.
-fn begin(alloc: Global, file: &mut Vec<u8>, number: usize) -> Result<(), AllocError> {
-    let head = format!(in alloc; "[[task]]\nname = \"t{number}\"\ncode = [")?;
-    file.extend_from_slice(head.as_bytes())?;
-    Ok(())
-}
-
 /// Writes a line of a task as a string of TOML.
 fn write_line(file: &mut Vec<u8>, line: &str) -> Result<(), AllocError> {
     file.push(b'"')?;
@@ -613,14 +484,15 @@ fn write_line(file: &mut Vec<u8>, line: &str) -> Result<(), AllocError> {
     Ok(())
 }
 
-/// Writes a task of these lines.
+/// Writes a task of these lines, with this number in its name.
 fn write_task(
     alloc: Global,
     file: &mut Vec<u8>,
     number: usize,
     lines: &[&str],
 ) -> Result<(), AllocError> {
-    begin(alloc, file, number)?;
+    let head = format!(in alloc; "[[task]]\nname = \"t{number}\"\ncode = [")?;
+    file.extend_from_slice(head.as_bytes())?;
     for line in lines {
         write_line(file, line)?;
     }
@@ -628,39 +500,12 @@ fn write_task(
     Ok(())
 }
 
-/// Writes a task of so many lines, each of which names one variable of its own.
-fn write_names(
-    alloc: Global,
-    file: &mut Vec<u8>,
-    number: usize,
-    count: usize,
-    mark: &str,
-) -> Result<(), AllocError> {
-    begin(alloc, file, number)?;
-    for i in 0..count {
-        let line = format!(in alloc; "Set {mark}{i}")?;
-        write_line(file, line.as_str())?;
-    }
-    file.extend_from_slice(b"]\n")?;
-    Ok(())
-}
-
 /// The file of these bodies.
-pub(super) fn file_of(alloc: Global, bodies: &[&[&str]]) -> Result<Vec<u8>, AllocError> {
+fn file_of(alloc: Global, bodies: &[&[&str]]) -> Result<Vec<u8>, AllocError> {
     let mut file = Vec::new(alloc);
     for (number, lines) in bodies.iter().enumerate() {
         write_task(alloc, &mut file, number, lines)?;
     }
-    Ok(file)
-}
-
-/// The file of the bodies that are judged.
-fn judged_file(alloc: Global, judged: &Judged) -> Result<Vec<u8>, AllocError> {
-    let mut file = Vec::new(alloc);
-    for (number, (count, mark)) in judged.before.iter().enumerate() {
-        write_names(alloc, &mut file, number, *count, mark)?;
-    }
-    write_task(alloc, &mut file, judged.before.len(), judged.lines)?;
     Ok(file)
 }
 
@@ -732,17 +577,6 @@ fn bodies_are_read_together(rt: HostRuntime) -> Result<(), Fail> {
             case.bodies,
             case.codes,
         )?;
-    }
-    Ok(())
-}
-
-#[test]
-fn the_first_fault_of_the_bodies_decides(rt: HostRuntime) -> Result<(), Fail> {
-    for (i, judged) in JUDGED.iter().enumerate() {
-        let case = format!(in rt.alloc(); "case {i}")?;
-        let file = judged_file(rt.alloc(), judged)?;
-        let fault = fault_of(rt.alloc(), &file);
-        same_at(&rt, judged.name, case.as_str(), fault, judged.fault);
     }
     Ok(())
 }
