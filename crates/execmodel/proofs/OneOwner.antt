@@ -1,5 +1,5 @@
 -- Each byte has one owner.
-use Rattle.std.proofs.Common.{◌≡◌, ℕ, Bool, true, false, List, Option, None, Some, refl, sym, ◌∙◌, subst}
+use Rattle.std.proofs.Common.{◌≡◌, ◌≢◌, ℕ, Bool, true, false, List, Option, None, Some, refl, sym, ◌∙◌, subst}
 use Rattle.std.specs.Prelude.{not, if◌then◌else◌, codes}
 use Rattle.std.specs.Option.{option_map}
 use Rattle.memlist.specs.Memory.{IsWellFormed}
@@ -7,7 +7,7 @@ use Rattle.memlist.proofs.Tiling.{tiled}
 use Rattle.memlist.proofs.Fitting.{disjoint}
 use Rattle.taskscript.specs.File.{MachineData}
 use Rattle.taskscript.specs.declared.event.Event.{Event}
-use Rattle.execmodel.specs.State.{Call, Object, Block, State, Outcome, booted, andthen, on_schedule}
+use Rattle.execmodel.specs.State.{Call, Object, Plain, ListHead, Node, MsgPort, Message, Semaphore, Block, State, Outcome, booted, andthen, on_schedule}
 use Rattle.execmodel.specs.Calls.{argument, alerted, unless}
 use Rattle.execmodel.specs.Scheduling.{rescheduled}
 use Rattle.execmodel.specs.Interrupts.{serves}
@@ -66,6 +66,14 @@ each_byte_has_one_owner machine list is =
       disjoint = disjoint machine.regions (extents (run machine list).state.memory.heap) formed;
     }
 
+not_plain : (object : Object) → object ≢ Plain → is_plain object ≡ false
+not_plain Plain other = absurd (other refl)
+not_plain (ListHead nodes) other = refl
+not_plain (Node key) other = refl
+not_plain (MsgPort port messages) other = refl
+not_plain (Message content) other = refl
+not_plain (Semaphore sem waiters) other = refl
+
 refused : (size : ℕ) (found : Option Block) (object : Object) → option_map (λ (block : Block). block.object) found ≡ Some object
     → is_plain object ≡ false → is_named size found ≡ false
 refused size None object e is = none_some (sym e)
@@ -80,4 +88,4 @@ pub free_mem_refuses_objects : FreeMemRefusesObjects
 unfolding does_free_mem
 free_mem_refuses_objects t call s object there is =
     stops (is_named (argument 1 call) (block_at (argument 0 call) s.memory.heap)) t call _ s
-    (refused (argument 1 call) (block_at (argument 0 call) s.memory.heap) object there is)
+    (refused (argument 1 call) (block_at (argument 0 call) s.memory.heap) object there (not_plain object is))

@@ -1,5 +1,5 @@
 -- Laws of every run: of each machine that a file may state, and each list of events.
-use Rattle.std.specs.Prelude.{◌≡◌, ◌⊎◌, ℕ, ◌≤ℤ◌, Bool, true, false, bit_and, All, List, [], ◌∷◌, ◌++◌, None, Some, slice_get, codes}
+use Rattle.std.specs.Prelude.{◌≡◌, ◌≢◌, ◌⊎◌, ℕ, ◌≤ℤ◌, Bool, true, false, bit_and, All, List, [], ◌∷◌, ◌++◌, None, Some, slice_get, codes}
 use Rattle.exectrace.specs.Trace.{Switch, TraceLine}
 use Rattle.memlist.specs.declared.region.Region.{Region}
 use Rattle.memlist.specs.Pieces.{AreDisjoint, IsTiled}
@@ -17,9 +17,9 @@ use Rattle.taskscript.specs.declared.word.Word.TheVariants as group
 use Rattle.taskscript.specs.declared.word.task_signals.SignalWord.TheVariants as signals
 use Rattle.taskscript.specs.declared.word.ports.PortWord.TheVariants as ports
 use Rattle.taskscript.specs.declared.word.semaphores.SemaphoreWord.TheVariants.{ReleaseSemaphore}
-use Rattle.execmodel.specs.State.{Call, Object, Mark, State, Outcome}
+use Rattle.execmodel.specs.State.{Call, Object, Plain, Mark, State, Outcome}
 use Rattle.execmodel.specs.Calls.{argument, alerted, next_call}
-use Rattle.execmodel.specs.Memory.{extents, is_plain, does_free_mem}
+use Rattle.execmodel.specs.Memory.{extents, does_free_mem}
 use Rattle.execmodel.specs.Objects.{object_at}
 use Rattle.execmodel.specs.Ports.{messages_of}
 use Rattle.execmodel.specs.Semaphores.{sem_of, waiters_of}
@@ -63,7 +63,7 @@ EachByteHasOneOwner =
 -- An object begins at a block of its own: at one address at most one block begins, and FreeMem refuses it where it holds an object.
 abbrev pub FreeMemRefusesObjects : Type 0
 FreeMemRefusesObjects =
-    (t : ℕ) (call : Call) (s : State) (object : Object) → object_at (argument 0 call) s.memory.heap ≡ Some object → is_plain object ≡ false
+    (t : ℕ) (call : Call) (s : State) (object : Object) → object_at (argument 0 call) s.memory.heap ≡ Some object → object ≢ Plain
     → does_free_mem t call s ≡ alerted (codes "MEM") t call s
 
 -- ---- actions
