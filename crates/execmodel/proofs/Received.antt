@@ -377,10 +377,10 @@ ticked_keeps t n s =
 
 pub received_signals_stay : ReceivedSignalsStay
 unfolding step andthen
-received_signals_stay t n machine list OneStep is h live =
+received_signals_stay t n machine list OneStep is h =
     let s = (run machine list).state in
     elim (acted t n s h) [
       | inl keeps ↦ inl (settle_keeps t n (acts s).state keeps)
       | inr own ↦ inr (refl, own)
     ]
-received_signals_stay t n machine list OneTick is h live = inl (ticked_keeps t n (run machine list).state h)
+received_signals_stay t n machine list OneTick is h = inl (ticked_keeps t n (run machine list).state h)

@@ -5,7 +5,7 @@ use Rattle.memlist.specs.declared.region.Region.{Region}
 use Rattle.memlist.specs.Pieces.{AreDisjoint, IsTiled}
 use Rattle.execlist.specs.Order.{chosen}
 use Rattle.signals.specs.Signals.{has_signal}
-use Rattle.taskq.specs.Tasks.{pri_at, is_live}
+use Rattle.taskq.specs.Tasks.{pri_at}
 use Rattle.taskq.specs.declared.TaskState.TheVariants.{Waiting}
 use Rattle.taskq.specs.declared.Why.TheVariants.{Signals}
 use Rattle.scheduler.specs.Schedule.{Schedule, name_of, priority_of, status_of, signals_of, is_switching_allowed, is_interrupting_allowed}
@@ -183,11 +183,10 @@ is_own_taking (group.Ports ports.CreateMsgPort) = true
 is_own_taking (group.Ports ports.WaitPort) = true
 is_own_taking _ = false
 
--- A signal that a task has received stays received while the task lives, unless the task itself takes, sets or clears signals in this step.
+-- A signal that a task has received stays received, unless the task itself takes, sets or clears signals in this step.
 abbrev pub ReceivedSignalsStay : Type 0
 ReceivedSignalsStay =
     (t n : ℕ) → OfEveryAction (λ action s o.
     has_signal (signals_of s.schedule t).received n ≡ true
-    → is_live (status_of o.state.schedule t) ≡ true
     → (has_signal (signals_of o.state.schedule t).received n ≡ true)
     ⊎ ((action ≡ OneStep) × ((call : Call) × IsToCall t call s × (is_own_taking call.word ≡ true))))

@@ -88,8 +88,7 @@ pub fn priority()
 {}
 
 /// No signal is lost: in every state of every run a task that waits for signals has received none of them; and a signal that a task has
-/// received stays received while the task lives, unless in this step it makes a call by which a task takes, sets or clears signals of its
-/// own.
+/// received stays received, unless in this step it makes a call by which a task takes, sets or clears signals of its own.
 ///
 /// Source: RKM Libraries, Exec Signals.
 pub fn no_lost_signal()
