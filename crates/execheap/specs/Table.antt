@@ -32,11 +32,15 @@ number_at kind address t = option_and_then (λ (block : ℕ × ℕ). number_in k
 
 -- ---- made and freed
 
+-- a pool for each kind, by its code, of which none is given
+abbrev pub free_pools : ℕ → List (Pooled ℕ)
+free_pools pool = all_free pool ∷ all_free pool ∷ all_free pool ∷ all_free pool ∷ all_free pool ∷ []
+
 -- nothing is allocated, and of each kind so many objects may live
 abbrev pub unused : List Region → ℕ → Tabled
 unused regions pool = record {
   memory = untouched regions;
-  pools = all_free pool ∷ all_free pool ∷ all_free pool ∷ all_free pool ∷ all_free pool ∷ [];
+  pools = free_pools pool;
   pool = pool;
 }
 

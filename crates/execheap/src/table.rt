@@ -2,8 +2,8 @@
 ghost use Rattle.std.specs.Prelude.{◌≡◌, ◌≤◌, not, ◌&&◌, true, false, IfOk, IfSome, IsSome, IsTrue, None, Some};
 ghost use Rattle.memlist.specs.Fit.{asks, avail, fit};
 ghost use Rattle.memlist.specs.Memory.{IsWellFormed, allocated, can_free, untouched, without_block};
-ghost use Rattle.execlist.specs.Pool.{IsStocked, slot};
-ghost use Rattle.execheap.specs.Table.{IsSound, next_object, number_at, pool_of, slots_of, unused, with_object, without_object};
+ghost use Rattle.execlist.specs.Pool.{IsStocked, all_free, slot};
+ghost use Rattle.execheap.specs.Table.{IsSound, free_pools, next_object, number_at, pool_of, slots_of, unused, with_object, without_object};
 
 use crate::kind::Kind;
 use crate::tag::{number_in, read, tag_of};
@@ -40,13 +40,7 @@ impl Table {
         ensures { IfOk result (λ t. t ≡ unused regions.now pool) }
     {
         let memory = memory_of(alloc, regions)?;
-        let pools = [
-            Pool::new(alloc, pool)?,
-            Pool::new(alloc, pool)?,
-            Pool::new(alloc, pool)?,
-            Pool::new(alloc, pool)?,
-            Pool::new(alloc, pool)?,
-        ];
+        let pools = pools_of(alloc, pool)?;
         Ok(Table {
             memory,
             pools,
@@ -150,4 +144,25 @@ fn memory_of(alloc: Global, regions: &[Region]) -> Result<MemList, AllocError>
         Ok(memory) => Ok(memory),
         Err(_) => Err(AllocError),
     }
+}
+
+/// A pool for each kind, by its code. Pools are made two by two, since each part that can fail multiplies the proof.
+fn pools_of(alloc: Global, pool: usize) -> Result<[Pool<u32>; 5], AllocError>
+    requires { pool ≤ 1024 }
+    ensures { IfOk result (λ pools. pools ≡ free_pools pool) }
+{
+    let (list, node) = two_pools(alloc, pool)?;
+    let (port, message) = two_pools(alloc, pool)?;
+    let semaphore = Pool::new(alloc, pool)?;
+    Ok([list, node, port, message, semaphore])
+}
+
+/// Two pools with room for so many items each.
+fn two_pools(alloc: Global, pool: usize) -> Result<(Pool<u32>, Pool<u32>), AllocError>
+    requires { pool ≤ 1024 }
+    ensures { IfOk result (λ pools. pools ≡ (all_free pool, all_free pool)) }
+{
+    let one = Pool::new(alloc, pool)?;
+    let other = Pool::new(alloc, pool)?;
+    Ok((one, other))
 }

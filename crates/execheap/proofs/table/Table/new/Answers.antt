@@ -3,6 +3,4 @@ use Rattle.execheap.proofs.Unused.{sound_unused}
 use Rattle.execheap.proofs.table.Table.new.Goals as goal
 
 pub invariant_of-result : goal.invariant_of-result
-invariant_of-result c =
-    rw (c.in_ok-memory.ensures, c.in_ok-new.ensures, c.in_ok-new-2.ensures, c.in_ok-new-3.ensures, c.in_ok-new-4.ensures, c.in_ok-new-5.ensures)
-    (sound_unused c.args.regions.now c.args.pool c.requires)
+invariant_of-result c = rw (c.in_ok-memory.ensures, c.in_ok-pools.ensures) (sound_unused c.args.regions.now c.args.pool c.requires)
