@@ -11,5 +11,10 @@ mod refusal;
 mod table;
 mod tag;
 
+pub use execlist::key::Name;
+pub use execlist::space::ListSpace;
 pub use heap::Heap;
+pub use memlist::Region;
+pub use msgport::action::{Action, PortAction, TaskId};
 pub use refusal::Refusal;
+pub use sigsem::semaphore::Obtained;
