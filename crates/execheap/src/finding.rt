@@ -3,7 +3,7 @@ ghost use Rattle.std.specs.Prelude.{◌≡◌, None, Some, IfOk, IfSome, IsSome,
 ghost use Rattle.std.specs.Option.{ForSome};
 ghost use Rattle.execlist.specs.Lists.{home, part_from, sequence};
 ghost use Rattle.execlist.specs.Order.{first};
-ghost use Rattle.execmodel.specs.Lists.{find_alert, free_list_alert, free_node_alert, insert_alert, link_alert, linked_alert, list_alert, or_none, pred_alert, predecessor, searched};
+ghost use Rattle.execmodel.specs.Lists as model;
 ghost use Rattle.execlist.specs.Pool.{slot};
 ghost use Rattle.execheap.specs.declared.kind.Kind.TheVariants as variant;
 ghost use Rattle.execheap.specs.Numbered.{address_in, places, shown_heap};
@@ -20,7 +20,7 @@ use execlist::space::{HeaderId, ListSpace, NodeId};
 impl<S: ListSpace> Objects<S> {
     /// The list that begins at an address.
     pub fn list_at(&self, list: u32) -> Result<HeaderId, Refusal>
-        ensures alert { alert_of result ≡ list_alert list (shown_heap self.now) }
+        ensures alert { alert_of result ≡ model.list_alert list (shown_heap self.now) }
         ensures found { IfOk result (λ h. slot (places variant.List self.now) h ≡ Some list) }
     {
         match self.number_at(Kind::List, list) {
@@ -31,7 +31,7 @@ impl<S: ListSpace> Objects<S> {
 
     /// The list that begins at an address, which has no node.
     pub fn empty_list_at(&self, list: u32) -> Result<HeaderId, Refusal>
-        ensures alert { alert_of result ≡ free_list_alert list (shown_heap self.now) }
+        ensures alert { alert_of result ≡ model.free_list_alert list (shown_heap self.now) }
         ensures found { IfOk result (λ h. slot (places variant.List self.now) h ≡ Some list) }
         ensures empty { IfOk result (λ h. first (sequence self.now.sequences h) ≡ None) }
     {
@@ -46,7 +46,7 @@ impl<S: ListSpace> Objects<S> {
 
     /// The node that begins at an address, which is not linked.
     pub fn unlinked_node_at(&self, node: u32) -> Result<NodeId, Refusal>
-        ensures alert { alert_of result ≡ free_node_alert node (shown_heap self.now) }
+        ensures alert { alert_of result ≡ model.free_node_alert node (shown_heap self.now) }
         ensures found { IfOk result (λ n. slot (places variant.Node self.now) n ≡ Some node) }
         ensures unlinked { IfOk result (λ n. home self.now.homes n ≡ None) }
     {
@@ -62,7 +62,7 @@ impl<S: ListSpace> Objects<S> {
 
     /// The node that begins at an address, which is linked, after the list that has it.
     pub fn linked_node_at(&self, node: u32) -> Result<(HeaderId, NodeId), Refusal>
-        ensures alert { alert_of result ≡ linked_alert node (shown_heap self.now) }
+        ensures alert { alert_of result ≡ model.linked_alert node (shown_heap self.now) }
         ensures found { IfOk result (λ pair. slot (places variant.Node self.now) pair.1 ≡ Some node) }
         ensures linked { IfOk result (λ pair. home self.now.homes pair.1 ≡ Some pair.0) }
     {
@@ -78,7 +78,7 @@ impl<S: ListSpace> Objects<S> {
 
     /// The list that begins at an address, and the node that begins at another and is not linked.
     pub fn to_link(&self, list: u32, node: u32) -> Result<(HeaderId, NodeId), Refusal>
-        ensures alert { alert_of result ≡ link_alert list node (shown_heap self.now) }
+        ensures alert { alert_of result ≡ model.link_alert list node (shown_heap self.now) }
         ensures list { IfOk result (λ pair. slot (places variant.List self.now) pair.0 ≡ Some list) }
         ensures node { IfOk result (λ pair. slot (places variant.Node self.now) pair.1 ≡ Some node) }
         ensures unlinked { IfOk result (λ pair. home self.now.homes pair.1 ≡ None) }
@@ -105,8 +105,8 @@ impl<S: ListSpace> Objects<S> {
 
     /// The node that begins at an address, as a predecessor: address 0 is none.
     fn predecessor_at(&self, pred: u32) -> Result<Option<NodeId>, Refusal>
-        ensures alert { alert_of result ≡ pred_alert (predecessor pred) (shown_heap self.now) }
-        ensures found { IfOk result (λ p. option_map (address_in (places variant.Node self.now)) p ≡ predecessor pred) }
+        ensures alert { alert_of result ≡ model.pred_alert (model.predecessor pred) (shown_heap self.now) }
+        ensures found { IfOk result (λ p. option_map (address_in (places variant.Node self.now)) p ≡ model.predecessor pred) }
         ensures live { IfOk result (λ p. ForSome p (λ n. IsSome (slot (places variant.Node self.now) n))) }
     {
         if pred == 0 {
@@ -126,10 +126,10 @@ impl<S: ListSpace> Objects<S> {
         node: u32,
         pred: u32,
     ) -> Result<(HeaderId, NodeId, Option<NodeId>), Refusal>
-        ensures alert { alert_of result ≡ insert_alert list node pred (shown_heap self.now) }
+        ensures alert { alert_of result ≡ model.insert_alert list node pred (shown_heap self.now) }
         ensures list { IfOk result (λ three. slot (places variant.List self.now) three.0 ≡ Some list) }
         ensures node { IfOk result (λ three. slot (places variant.Node self.now) three.1 ≡ Some node) }
-        ensures pred { IfOk result (λ three. option_map (address_in (places variant.Node self.now)) three.2 ≡ predecessor pred) }
+        ensures pred { IfOk result (λ three. option_map (address_in (places variant.Node self.now)) three.2 ≡ model.predecessor pred) }
         ensures unlinked { IfOk result (λ three. home self.now.homes three.1 ≡ None) }
         ensures pred_in { IfOk result (λ three. ForSome three.2 (λ p. home self.now.homes p ≡ Some three.0)) }
     {
@@ -157,10 +157,10 @@ impl<S: ListSpace> Objects<S> {
 
     /// Where FindName begins: at the first node of the list that begins at an address, or after the linked node that does.
     pub fn to_search(&self, start: u32) -> Result<(HeaderId, Option<NodeId>), Refusal>
-        ensures alert { alert_of result ≡ find_alert start (shown_heap self.now) }
+        ensures alert { alert_of result ≡ model.find_alert start (shown_heap self.now) }
         ensures live { IfOk result (λ pair. IsSome (slot (places variant.List self.now) pair.0)) }
         ensures after_in { IfOk result (λ pair. ForSome pair.1 (λ n. home self.now.homes n ≡ Some pair.0)) }
-        ensures searched { IfOk result (λ pair. searched start (shown_heap self.now)
+        ensures searched { IfOk result (λ pair. model.searched start (shown_heap self.now)
             ≡ map (address_in (places variant.Node self.now)) (part_from pair.1 (sequence self.now.sequences pair.0))) }
     {
         self.facts();
@@ -176,7 +176,7 @@ impl<S: ListSpace> Objects<S> {
     /// The address of a live node, or 0 for none.
     pub fn address_or_0(&self, n: Option<NodeId>) -> u32
         requires { IfSome n (λ m. IsSome (slot (places variant.Node self.now) m)) }
-        ensures { result ≡ or_none (option_map (address_in (places variant.Node self.now)) n) }
+        ensures { result ≡ model.or_none (option_map (address_in (places variant.Node self.now)) n) }
     {
         match n {
             Some(n) => self.address_of(Kind::Node, n),

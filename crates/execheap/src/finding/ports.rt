@@ -4,7 +4,7 @@ ghost use Rattle.std.specs.Option.{ForSome};
 ghost use Rattle.execlist.specs.Lists.{home};
 ghost use Rattle.execlist.specs.Pool.{slot};
 ghost use Rattle.execmodel.specs.Lists.{or_none};
-ghost use Rattle.execmodel.specs.Ports.{add_port_alert, content_of, delete_alert, loose_alert, message_alert, port_alert, put_alert, rem_port_alert, reply_alert, reply_port_alert, wait_alert};
+ghost use Rattle.execmodel.specs.Ports as model;
 ghost use Rattle.msgport.specs.Port.{wait_bit};
 ghost use Rattle.msgport.specs.Ports.{has_messages, is_message, is_port, is_public, port_at};
 ghost use Rattle.execheap.specs.declared.kind.Kind.TheVariants as variant;
@@ -21,7 +21,7 @@ use msgport::ports::{MsgId, PortId};
 impl<S: ListSpace> Objects<S> {
     /// The port that begins at an address.
     pub fn port_at(&self, port: u32) -> Result<PortId, Refusal>
-        ensures alert { alert_of result ≡ port_alert port (shown_heap self.now) }
+        ensures alert { alert_of result ≡ model.port_alert port (shown_heap self.now) }
         ensures found { IfOk result (λ p. slot (places variant.Port self.now) p ≡ Some port) }
         ensures live { IfOk result (λ p. IsTrue (is_port p self.now.ports)) }
     {
@@ -34,7 +34,7 @@ impl<S: ListSpace> Objects<S> {
 
     /// The port that begins at an address, which has no message and is not public.
     pub fn port_to_delete(&self, port: u32) -> Result<PortId, Refusal>
-        ensures alert { alert_of result ≡ delete_alert port (shown_memory self.now) }
+        ensures alert { alert_of result ≡ model.delete_alert port (shown_memory self.now) }
         ensures found { IfOk result (λ p. slot (places variant.Port self.now) p ≡ Some port) }
         ensures empty { IfOk result (λ p. IsTrue (not (has_messages p self.now.ports))) }
         ensures private { IfOk result (λ p. IsTrue (not (is_public p self.now.ports))) }
@@ -57,7 +57,7 @@ impl<S: ListSpace> Objects<S> {
 
     /// The port that begins at an address, which is not public and is to be so with that priority.
     pub fn private_port_at(&self, port: u32, pri: i8) -> Result<PortId, Refusal>
-        ensures alert { alert_of result ≡ add_port_alert port pri (shown_memory self.now) }
+        ensures alert { alert_of result ≡ model.add_port_alert port pri (shown_memory self.now) }
         ensures found { IfOk result (λ p. slot (places variant.Port self.now) p ≡ Some port) }
         ensures live { IfOk result (λ p. IsTrue (is_port p self.now.ports)) }
         ensures private { IfOk result (λ p. IsTrue (not (is_public p self.now.ports))) }
@@ -74,7 +74,7 @@ impl<S: ListSpace> Objects<S> {
 
     /// The port that begins at an address, which is public.
     pub fn public_port_at(&self, port: u32) -> Result<PortId, Refusal>
-        ensures alert { alert_of result ≡ rem_port_alert port (shown_memory self.now) }
+        ensures alert { alert_of result ≡ model.rem_port_alert port (shown_memory self.now) }
         ensures found { IfOk result (λ p. slot (places variant.Port self.now) p ≡ Some port) }
         ensures live { IfOk result (λ p. IsTrue (is_port p self.now.ports)) }
         ensures public { IfOk result (λ p. IsTrue (is_public p self.now.ports)) }
@@ -91,7 +91,7 @@ impl<S: ListSpace> Objects<S> {
 
     /// The port that begins at an address and signals a task, and the number of its signal.
     pub fn port_to_wait_at(&self, task: TaskId, port: u32) -> Result<(PortId, u32), Refusal>
-        ensures alert { alert_of result ≡ wait_alert task port (shown_heap self.now) }
+        ensures alert { alert_of result ≡ model.wait_alert task port (shown_heap self.now) }
         ensures found { IfOk result (λ pair. slot (places variant.Port self.now) pair.0 ≡ Some port) }
         ensures live { IfOk result (λ pair. IsTrue (is_port pair.0 self.now.ports)) }
         ensures bit { IfOk result (λ pair. pair.1 ≡ (port_at pair.0 self.now.ports).bit) }
@@ -109,7 +109,7 @@ impl<S: ListSpace> Objects<S> {
 
     /// The reply port at an address: none for 0, or else the port that begins there.
     pub fn reply_port_at(&self, reply: u32) -> Result<Option<PortId>, Refusal>
-        ensures alert { alert_of result ≡ reply_port_alert reply (shown_heap self.now) }
+        ensures alert { alert_of result ≡ model.reply_port_alert reply (shown_heap self.now) }
         ensures none { IfOk result (λ p. p ≡ None → reply ≡ 0) }
         ensures some { IfOk result (λ p. ForSome p (λ q. reply ≢ 0)) }
         ensures found { IfOk result (λ p. ForSome p (λ q. slot (places variant.Port self.now) q ≡ Some reply)) }
@@ -126,7 +126,7 @@ impl<S: ListSpace> Objects<S> {
 
     /// The message that begins at an address.
     pub fn message_at(&self, message: u32) -> Result<MsgId, Refusal>
-        ensures alert { alert_of result ≡ message_alert message (shown_heap self.now) }
+        ensures alert { alert_of result ≡ model.message_alert message (shown_heap self.now) }
         ensures found { IfOk result (λ m. slot (places variant.Message self.now) m ≡ Some message) }
         ensures live { IfOk result (λ m. IsTrue (is_message m self.now.ports)) }
     {
@@ -139,7 +139,7 @@ impl<S: ListSpace> Objects<S> {
 
     /// The message that begins at an address, which is in no port.
     pub fn loose_message_at(&self, message: u32) -> Result<MsgId, Refusal>
-        ensures alert { alert_of result ≡ loose_alert message (shown_heap self.now) }
+        ensures alert { alert_of result ≡ model.loose_alert message (shown_heap self.now) }
         ensures found { IfOk result (λ m. slot (places variant.Message self.now) m ≡ Some message) }
         ensures live { IfOk result (λ m. IsTrue (is_message m self.now.ports)) }
         ensures loose { IfOk result (λ m. home self.now.ports.places m ≡ None) }
@@ -156,7 +156,7 @@ impl<S: ListSpace> Objects<S> {
 
     /// The port that begins at an address, and the message that begins at another and is in no port.
     pub fn to_put(&self, port: u32, message: u32) -> Result<(PortId, MsgId), Refusal>
-        ensures alert { alert_of result ≡ put_alert port message (shown_heap self.now) }
+        ensures alert { alert_of result ≡ model.put_alert port message (shown_heap self.now) }
         ensures port { IfOk result (λ pair. slot (places variant.Port self.now) pair.0 ≡ Some port) }
         ensures live_port { IfOk result (λ pair. IsTrue (is_port pair.0 self.now.ports)) }
         ensures message { IfOk result (λ pair. slot (places variant.Message self.now) pair.1 ≡ Some message) }
@@ -174,13 +174,13 @@ impl<S: ListSpace> Objects<S> {
 
     /// The message that begins at an address and is in no port, and its reply port, or none.
     pub fn to_reply(&self, message: u32) -> Result<(MsgId, Option<PortId>), Refusal>
-        ensures alert { alert_of result ≡ reply_alert message (shown_heap self.now) }
+        ensures alert { alert_of result ≡ model.reply_alert message (shown_heap self.now) }
         ensures message { IfOk result (λ pair. slot (places variant.Message self.now) pair.0 ≡ Some message) }
         ensures live_message { IfOk result (λ pair. IsTrue (is_message pair.0 self.now.ports)) }
         ensures loose { IfOk result (λ pair. home self.now.ports.places pair.0 ≡ None) }
-        ensures none { IfOk result (λ pair. pair.1 ≡ None → (content_of message (shown_heap self.now)).reply ≡ 0) }
-        ensures some { IfOk result (λ pair. ForSome pair.1 (λ p. (content_of message (shown_heap self.now)).reply ≢ 0)) }
-        ensures reply { IfOk result (λ pair. ForSome pair.1 (λ p. slot (places variant.Port self.now) p ≡ Some (content_of message (shown_heap self.now)).reply)) }
+        ensures none { IfOk result (λ pair. pair.1 ≡ None → (model.content_of message (shown_heap self.now)).reply ≡ 0) }
+        ensures some { IfOk result (λ pair. ForSome pair.1 (λ p. (model.content_of message (shown_heap self.now)).reply ≢ 0)) }
+        ensures reply { IfOk result (λ pair. ForSome pair.1 (λ p. slot (places variant.Port self.now) p ≡ Some (model.content_of message (shown_heap self.now)).reply)) }
         ensures live_port { IfOk result (λ pair. ForSome pair.1 (λ p. IsTrue (is_port p self.now.ports))) }
     {
         self.facts();

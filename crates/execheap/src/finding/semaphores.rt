@@ -1,7 +1,7 @@
 //! The semaphores that a call names by their addresses, by number; or why the call is refused.
 ghost use Rattle.std.specs.Prelude.{◌≡◌, IfOk, IsTrue, Some, not};
 ghost use Rattle.execlist.specs.Pool.{slot};
-ghost use Rattle.execmodel.specs.Semaphores.{free_sem_alert, semaphore_alert};
+ghost use Rattle.execmodel.specs.Semaphores as model;
 ghost use Rattle.sigsem.specs.Semaphores.{is_owned, is_sem};
 ghost use Rattle.execheap.specs.declared.kind.Kind.TheVariants as variant;
 ghost use Rattle.execheap.specs.Numbered.{places, shown_heap};
@@ -16,7 +16,7 @@ use sigsem::sems::SemId;
 impl<S: ListSpace> Objects<S> {
     /// The semaphore that begins at an address.
     pub fn semaphore_at(&self, semaphore: u32) -> Result<SemId, Refusal>
-        ensures alert { alert_of result ≡ semaphore_alert semaphore (shown_heap self.now) }
+        ensures alert { alert_of result ≡ model.semaphore_alert semaphore (shown_heap self.now) }
         ensures found { IfOk result (λ n. slot (places variant.Semaphore self.now) n ≡ Some semaphore) }
         ensures live { IfOk result (λ n. IsTrue (is_sem n self.now.sems)) }
     {
@@ -29,7 +29,7 @@ impl<S: ListSpace> Objects<S> {
 
     /// The semaphore that begins at an address, which no task owns.
     pub fn semaphore_to_free(&self, semaphore: u32) -> Result<SemId, Refusal>
-        ensures alert { alert_of result ≡ free_sem_alert semaphore (shown_heap self.now) }
+        ensures alert { alert_of result ≡ model.free_sem_alert semaphore (shown_heap self.now) }
         ensures found { IfOk result (λ n. slot (places variant.Semaphore self.now) n ≡ Some semaphore) }
         ensures unowned { IfOk result (λ n. IsTrue (not (is_owned n self.now.sems))) }
     {
