@@ -2,7 +2,7 @@
 mod doubles;
 
 use self::doubles::{Broken, Shelf};
-use execrun::{Ending, FILE_LIMIT, Fault, Status, report, run};
+use execrun::{Ending, FILE_LIMIT, Fault, Status, report, run, run_on_arguments};
 use execsim::SimFault;
 use std::alloc::Global;
 use std::io::BufWriter;
@@ -181,6 +181,53 @@ fn a_refused_command_line_ends_with_2_and_reads_nothing(rt: HostRuntime) {
         assert!(rt; err.as_slice().starts_with(b"error: "));
     }
     assert_eq!(rt; files.opened(), 0);
+}
+
+/// Runs the program on the arguments of a process, and compares its status and what stands on standard output then.
+fn expect_process<R: Abort + AllocGlobal>(
+    rt: &R,
+    arguments: &'static [&'static [u8]],
+    status: u8,
+    on_out: &str,
+    is_silent: bool,
+) {
+    let alloc = rt.alloc();
+    let files = Shelf::of_process(ONE_TASK, "run 2\n", arguments);
+    let mut out = Vec::new(alloc);
+    let mut err = Vec::new(alloc);
+    assert_eq!(rt;
+        run_on_arguments(&(files, alloc), &mut out, &mut err),
+        status
+    );
+    assert!(rt; out.as_slice() == on_out.as_bytes());
+    assert_eq!(rt; err.is_empty(), is_silent);
+}
+
+#[test]
+fn the_first_argument_alone_is_no_word(rt: HostRuntime) {
+    expect_process(
+        &rt,
+        &[b"execsim", b"machine", b"events"],
+        0,
+        ONE_TASK_TRACE,
+        true,
+    );
+    expect_process(&rt, &[b"machine", b"events"], 2, "", false);
+    expect_process(&rt, &[b"execsim", b"machine"], 2, "", false);
+    expect_process(
+        &rt,
+        &[b"execsim", b"execsim", b"machine", b"events"],
+        2,
+        "",
+        false,
+    );
+    expect_process(&rt, &[], 2, "", false);
+}
+
+#[test]
+fn an_argument_that_is_no_text_ends_with_2(rt: HostRuntime) {
+    expect_process(&rt, &[b"execsim", b"machine", b"\xff"], 2, "", false);
+    expect_process(&rt, &[b"\xff", b"machine", b"events"], 2, "", false);
 }
 
 #[test]

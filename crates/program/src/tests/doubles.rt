@@ -1,25 +1,38 @@
-//! Files in memory, and a writer that fails.
+//! Files and arguments in memory, and a writer that fails.
 use std::alloc::Allocator;
 use std::cell::Cell;
+use std::env::{Env, FillError};
 use std::fs::{Metadata, OpenFile, OpenOptions};
 use std::io;
 use std::io::{ErrorKind, Read, Seek, SeekFrom, Write};
 use std::rt::Files;
 
 /// Two texts under the paths `machine` and `events`, and two files that fail: `refused` as it is opened, for want of memory,
-/// and `torn` in mid-stream. It counts the files that are opened.
+/// and `torn` in mid-stream. It counts the files that are opened. Beside them are the arguments of a process, of which the first is the
+/// program's own name.
 #[derive(Drop)]
 pub struct Shelf {
     machine: &'static str,
     events: &'static str,
+    arguments: &'static [&'static [u8]],
     opened: Cell<u32>,
 }
 
 impl Shelf {
     pub fn new(machine: &'static str, events: &'static str) -> Shelf {
+        Shelf::of_process(machine, events, &[])
+    }
+
+    /// The files of a process with these arguments.
+    pub fn of_process(
+        machine: &'static str,
+        events: &'static str,
+        arguments: &'static [&'static [u8]],
+    ) -> Shelf {
         Shelf {
             machine,
             events,
+            arguments,
             opened: Cell::new(0),
         }
     }
@@ -143,6 +156,28 @@ impl Files for Shelf {
 
     fn remove_dir_all<B: Allocator>(&self, _alloc: B, _path: &str) -> io::Result<()> {
         Err(unsupported())
+    }
+}
+
+impl Env for Shelf {
+    fn arg(&self, i: usize, buf: &mut [u8]) -> Result<usize, FillError> {
+        let Some(argument) = self.arguments.get(i) else {
+            return Err(FillError::NotPresent);
+        };
+        let length = argument.len();
+        if length > buf.len() {
+            return Err(FillError::TooLong);
+        }
+        buf[..length].copy_from_slice(argument);
+        Ok(length)
+    }
+
+    fn var(&self, _name: &str, _buf: &mut [u8]) -> Result<usize, FillError> {
+        Err(FillError::NotPresent)
+    }
+
+    fn var_at(&self, _i: usize, _buf: &mut [u8]) -> Result<usize, FillError> {
+        Err(FillError::NotPresent)
     }
 }
 
