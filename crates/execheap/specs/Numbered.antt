@@ -2,7 +2,10 @@
 use Rattle.std.specs.Prelude.{◌≡◌, ℕ, ◌≤◌, if◌then◌else◌, Bool, IsSome, IsTrue, is_some, List, length, map, slice_index_or, Option, None, Some, unwrap_or}
 use Rattle.execlist.specs.Lists.{Key, blank, sequence, home, is_at, times}
 use Rattle.execlist.specs.Pool.{Pooled, slot}
+use Rattle.memlist.specs.Memory.{IsWellFormed}
+use Rattle.msgport.specs.Ports as ports
 use Rattle.msgport.specs.Ports.{MessagePorts, is_port, port_at, message_at, messages_of}
+use Rattle.sigsem.specs.Semaphores as sems
 use Rattle.sigsem.specs.Semaphores.{Semaphores, sem_at, waiters_of}
 use Rattle.execmodel.specs.State.{Object, Plain, ListHead, Node, MsgPort, Message, Semaphore, Block, Heap, PublicPort, Memory}
 use Rattle.execmodel.specs.Lists.{is_list, is_node}
@@ -129,3 +132,11 @@ pub record IsSound (s : Numbered) : Type 0 where
 pub record IsSpace (s : Numbered) : Type 0 where
   pub stands : (h n : ℕ) → times n (sequence s.sequences h) ≡ (if is_at (home s.homes n) h then 1 else 0)
   pub keyed : length s.keys ≡ length s.homes
+
+-- what always holds of objects by number, with what each of their parts tells of itself
+pub record IsKnown (s : Numbered) : Type 0 where
+  pub sound : IsSound s
+  pub space : IsSpace s
+  pub memory : IsWellFormed s.table.memory.regions s.table.memory.blocks
+  pub ports : ports.IsSound s.ports
+  pub sems : sems.IsSound s.sems

@@ -6,7 +6,7 @@ ghost use Rattle.execlist.specs.Order.{first};
 ghost use Rattle.execmodel.specs.Lists as model;
 ghost use Rattle.execlist.specs.Pool.{slot};
 ghost use Rattle.execheap.specs.declared.kind.Kind.TheVariants as variant;
-ghost use Rattle.execheap.specs.Numbered.{address_in, places, shown_heap};
+ghost use Rattle.execheap.specs.Numbered.{IsKnown, address_in, places, shown_heap};
 ghost use Rattle.execheap.specs.Refusals.{alert_of, is_none_or_in};
 
 mod ports;
@@ -22,6 +22,7 @@ impl<S: ListSpace> Objects<S> {
     pub fn list_at(&self, list: u32) -> Result<HeaderId, Refusal>
         ensures alert { alert_of result ≡ model.list_alert list (shown_heap self.now) }
         ensures found { IfOk result (λ h. slot (places variant.List self.now) h ≡ Some list) }
+        ensures known { IsKnown self.now }
     {
         match self.number_at(Kind::List, list) {
             Some(h) => Ok(h),
@@ -34,6 +35,7 @@ impl<S: ListSpace> Objects<S> {
         ensures alert { alert_of result ≡ model.free_list_alert list (shown_heap self.now) }
         ensures found { IfOk result (λ h. slot (places variant.List self.now) h ≡ Some list) }
         ensures empty { IfOk result (λ h. first (sequence self.now.sequences h) ≡ None) }
+        ensures known { IsKnown self.now }
     {
         match self.number_at(Kind::List, list) {
             None => Err(Refusal::Handle),
@@ -49,8 +51,8 @@ impl<S: ListSpace> Objects<S> {
         ensures alert { alert_of result ≡ model.free_node_alert node (shown_heap self.now) }
         ensures found { IfOk result (λ n. slot (places variant.Node self.now) n ≡ Some node) }
         ensures unlinked { IfOk result (λ n. home self.now.homes n ≡ None) }
+        ensures known { IsKnown self.now }
     {
-        self.facts();
         match self.number_at(Kind::Node, node) {
             None => Err(Refusal::Handle),
             Some(n) => match self.home(n) {
@@ -65,8 +67,8 @@ impl<S: ListSpace> Objects<S> {
         ensures alert { alert_of result ≡ model.linked_alert node (shown_heap self.now) }
         ensures found { IfOk result (λ pair. slot (places variant.Node self.now) pair.1 ≡ Some node) }
         ensures linked { IfOk result (λ pair. home self.now.homes pair.1 ≡ Some pair.0) }
+        ensures known { IsKnown self.now }
     {
-        self.facts();
         match self.number_at(Kind::Node, node) {
             None => Err(Refusal::Handle),
             Some(n) => match self.home(n) {
@@ -82,6 +84,7 @@ impl<S: ListSpace> Objects<S> {
         ensures list { IfOk result (λ pair. slot (places variant.List self.now) pair.0 ≡ Some list) }
         ensures node { IfOk result (λ pair. slot (places variant.Node self.now) pair.1 ≡ Some node) }
         ensures unlinked { IfOk result (λ pair. home self.now.homes pair.1 ≡ None) }
+        ensures known { IsKnown self.now }
     {
         match self.list_at(list) {
             Err(why) => Err(why),
@@ -132,8 +135,8 @@ impl<S: ListSpace> Objects<S> {
         ensures pred { IfOk result (λ three. option_map (address_in (places variant.Node self.now)) three.2 ≡ model.predecessor pred) }
         ensures unlinked { IfOk result (λ three. home self.now.homes three.1 ≡ None) }
         ensures pred_in { IfOk result (λ three. ForSome three.2 (λ p. home self.now.homes p ≡ Some three.0)) }
+        ensures known { IsKnown self.now }
     {
-        self.facts();
         match self.list_at(list) {
             Err(why) => Err(why),
             Ok(h) => match self.number_at(Kind::Node, node) {
@@ -162,8 +165,8 @@ impl<S: ListSpace> Objects<S> {
         ensures after_in { IfOk result (λ pair. ForSome pair.1 (λ n. home self.now.homes n ≡ Some pair.0)) }
         ensures searched { IfOk result (λ pair. model.searched start (shown_heap self.now)
             ≡ map (address_in (places variant.Node self.now)) (part_from pair.1 (sequence self.now.sequences pair.0))) }
+        ensures known { IsKnown self.now }
     {
-        self.facts();
         match self.number_at(Kind::List, start) {
             Some(h) => Ok((h, None)),
             None => match self.linked_node_at(start) {

@@ -58,7 +58,6 @@ impl<S: ListSpace> Heap<S> {
         ensures address { result ≡ place_for size reqs self.old }
         ensures next { self.new ≡ placed size Plain result self.old }
     {
-        self.objects.facts();
         self.objects.allocate(size, reqs)
     }
 
@@ -89,7 +88,6 @@ impl<S: ListSpace> Heap<S> {
         ensures address { result ≡ place_for_object is_list 14 self.old }
         ensures next { self.new ≡ placed 14 (ListHead []) result self.old }
     {
-        self.objects.facts();
         self.objects.make_list()
     }
 
@@ -99,7 +97,6 @@ impl<S: ListSpace> Heap<S> {
         ensures address { result ≡ place_for_object is_node 14 self.old }
         ensures next { self.new ≡ placed 14 (Node (key_with pri (option_map (λ text. text.bytes) name))) result self.old }
     {
-        self.objects.facts();
         self.objects.make_node(pri, name)
     }
 
@@ -109,7 +106,6 @@ impl<S: ListSpace> Heap<S> {
         ensures next { OnOk result (self.new ≡ freed list self.old) }
         ensures kept { OnErr result (self.new ≡ self.old) }
     {
-        self.objects.facts();
         match self.objects.empty_list_at(list) {
             Err(why) => Err(why),
             Ok(h) => {
@@ -125,7 +121,6 @@ impl<S: ListSpace> Heap<S> {
         ensures next { OnOk result (self.new ≡ freed node self.old) }
         ensures kept { OnErr result (self.new ≡ self.old) }
     {
-        self.objects.facts();
         match self.objects.unlinked_node_at(node) {
             Err(why) => Err(why),
             Ok(n) => {
@@ -144,7 +139,6 @@ impl<S: ListSpace> Heap<S> {
         ensures next { OnOk result (self.new ≡ on_heap (added_head list node) self.old) }
         ensures kept { OnErr result (self.new ≡ self.old) }
     {
-        self.objects.facts();
         match self.objects.to_link(list, node) {
             Err(why) => Err(why),
             Ok((h, n)) => {
@@ -161,7 +155,6 @@ impl<S: ListSpace> Heap<S> {
         ensures next { OnOk result (self.new ≡ on_heap (added_tail list node) self.old) }
         ensures kept { OnErr result (self.new ≡ self.old) }
     {
-        self.objects.facts();
         match self.objects.to_link(list, node) {
             Err(why) => Err(why),
             Ok((h, n)) => {
@@ -178,7 +171,6 @@ impl<S: ListSpace> Heap<S> {
         ensures next { OnOk result (self.new ≡ on_heap (enqueued list node) self.old) }
         ensures kept { OnErr result (self.new ≡ self.old) }
     {
-        self.objects.facts();
         match self.objects.to_link(list, node) {
             Err(why) => Err(why),
             Ok((h, n)) => {
@@ -196,7 +188,6 @@ impl<S: ListSpace> Heap<S> {
         ensures next { OnOk result (self.new ≡ on_heap (inserted list node pred) self.old) }
         ensures kept { OnErr result (self.new ≡ self.old) }
     {
-        self.objects.facts();
         match self.objects.to_insert(list, node, pred) {
             Err(why) => Err(why),
             Ok((h, n, p)) => {
@@ -213,7 +204,6 @@ impl<S: ListSpace> Heap<S> {
         ensures next { OnOk result (self.new ≡ on_heap (unlinked node) self.old) }
         ensures kept { OnErr result (self.new ≡ self.old) }
     {
-        self.objects.facts();
         match self.objects.linked_node_at(node) {
             Err(why) => Err(why),
             Ok((_, n)) => {
@@ -231,7 +221,6 @@ impl<S: ListSpace> Heap<S> {
         ensures next { OnOk result (self.new ≡ on_heap (removed_head list) self.old) }
         ensures kept { OnErr result (self.new ≡ self.old) }
     {
-        self.objects.facts();
         match self.objects.list_at(list) {
             Err(why) => Err(why),
             Ok(h) => {
@@ -249,7 +238,6 @@ impl<S: ListSpace> Heap<S> {
         ensures next { OnOk result (self.new ≡ on_heap (removed_tail list) self.old) }
         ensures kept { OnErr result (self.new ≡ self.old) }
     {
-        self.objects.facts();
         match self.objects.list_at(list) {
             Err(why) => Err(why),
             Ok(h) => {
@@ -267,7 +255,6 @@ impl<S: ListSpace> Heap<S> {
         ensures alert { alert_of result ≡ list_alert list self.now.heap }
         ensures answer { IfOk result (λ answer. answer ≡ first_of list self.now.heap) }
     {
-        self.objects.facts();
         match self.objects.list_at(list) {
             Err(why) => Err(why),
             Ok(h) => Ok(self.objects.address_or_0(self.objects.first(h))),
@@ -280,7 +267,6 @@ impl<S: ListSpace> Heap<S> {
         ensures alert { alert_of result ≡ list_alert list self.now.heap }
         ensures answer { IfOk result (λ answer. answer ≡ last_of list self.now.heap) }
     {
-        self.objects.facts();
         match self.objects.list_at(list) {
             Err(why) => Err(why),
             Ok(h) => Ok(self.objects.address_or_0(self.objects.last(h))),
@@ -293,7 +279,6 @@ impl<S: ListSpace> Heap<S> {
         ensures alert { alert_of result ≡ linked_alert node self.now.heap }
         ensures answer { IfOk result (λ answer. answer ≡ succ_of node self.now.heap) }
     {
-        self.objects.facts();
         match self.objects.linked_node_at(node) {
             Err(why) => Err(why),
             Ok((_, n)) => Ok(self.objects.address_or_0(self.objects.succ(n))),
@@ -306,7 +291,6 @@ impl<S: ListSpace> Heap<S> {
         ensures alert { alert_of result ≡ linked_alert node self.now.heap }
         ensures answer { IfOk result (λ answer. answer ≡ pred_of node self.now.heap) }
     {
-        self.objects.facts();
         match self.objects.linked_node_at(node) {
             Err(why) => Err(why),
             Ok((_, n)) => Ok(self.objects.address_or_0(self.objects.pred(n))),
@@ -320,7 +304,6 @@ impl<S: ListSpace> Heap<S> {
         ensures alert { alert_of result ≡ find_alert start self.now.heap }
         ensures answer { IfOk result (λ answer. answer ≡ found_node start name.now self.now.heap) }
     {
-        self.objects.facts();
         match self.objects.to_search(start) {
             Err(why) => Err(why),
             Ok((h, after)) => Ok(

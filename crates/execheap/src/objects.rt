@@ -4,17 +4,15 @@ ghost use Rattle.std.specs.Option.{ForSome};
 ghost use Rattle.execlist.specs.Order.{first};
 ghost use Rattle.execlist.specs.Lists.{home, is_named, last, part_after, part_before, part_from, sequence};
 ghost use Rattle.memlist.specs.Fit.{asks, avail, fit};
-ghost use Rattle.memlist.specs.Memory.{IsWellFormed, allocated, can_free, without_block};
+ghost use Rattle.memlist.specs.Memory.{allocated, can_free, without_block};
 ghost use Rattle.execlist.specs.Pool.{slot};
-ghost use Rattle.msgport.specs.Ports as ports;
-ghost use Rattle.sigsem.specs.Semaphores as sems;
 ghost use Rattle.execmodel.specs.State.{ListHead, Node};
 ghost use Rattle.execmodel.specs.Memory.{freed, placed};
 ghost use Rattle.execmodel.specs.Objects.{place_for_object};
 ghost use Rattle.execmodel.specs.Lists.{is_list, is_node};
 ghost use Rattle.execheap.specs.declared.kind.Kind.TheVariants as variant;
 ghost use Rattle.execheap.specs.Table.{number_at};
-ghost use Rattle.execheap.specs.Numbered.{IsSound, IsSpace, places, shown_memory};
+ghost use Rattle.execheap.specs.Numbered.{IsKnown, places, shown_memory};
 ghost use Rattle.execheap.specs.Changes.{unused, key_with, at_head, at_tail, queued, put, taken_out, head_taken, tail_taken};
 
 mod ports;
@@ -88,11 +86,7 @@ impl<S: ListSpace> Objects<S> {
 
     /// What always holds of the objects. It costs nothing.
     pub fn facts(&self)
-        ensures sound { IsSound self.now }
-        ensures space { IsSpace self.now }
-        ensures memory { IsWellFormed self.now.table.memory.regions self.now.table.memory.blocks }
-        ensures ports { ports.IsSound self.now.ports }
-        ensures sems { sems.IsSound self.now.sems }
+        ensures { IsKnown self.now }
     {
         let _ = &self.space;
         self.table.facts();
@@ -129,11 +123,14 @@ impl<S: ListSpace> Objects<S> {
 
     // ---- numbers and addresses
 
-    /// The number of the object of a kind that begins at an address, if one does.
+    /// The number of the object of a kind that begins at an address, if one does. A call on objects begins here, and learns here what
+    /// always holds of them.
     pub fn number_at(&self, kind: Kind, address: u32) -> Option<usize>
         ensures value { result ≡ number_at kind address self.now.table }
         ensures live { IfSome result (λ n. slot (places kind self.now) n ≡ Some address) }
+        ensures known { IsKnown self.now }
     {
+        self.facts();
         self.table.number_at(kind, address)
     }
 

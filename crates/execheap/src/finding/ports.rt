@@ -8,7 +8,7 @@ ghost use Rattle.execmodel.specs.Ports as model;
 ghost use Rattle.msgport.specs.Port.{wait_bit};
 ghost use Rattle.msgport.specs.Ports.{has_messages, is_message, is_port, is_public, port_at};
 ghost use Rattle.execheap.specs.declared.kind.Kind.TheVariants as variant;
-ghost use Rattle.execheap.specs.Numbered.{address_in, places, shown_heap, shown_memory};
+ghost use Rattle.execheap.specs.Numbered.{IsKnown, address_in, places, shown_heap, shown_memory};
 ghost use Rattle.execheap.specs.Refusals.{alert_of};
 
 use crate::kind::Kind;
@@ -24,8 +24,8 @@ impl<S: ListSpace> Objects<S> {
         ensures alert { alert_of result ≡ model.port_alert port (shown_heap self.now) }
         ensures found { IfOk result (λ p. slot (places variant.Port self.now) p ≡ Some port) }
         ensures live { IfOk result (λ p. IsTrue (is_port p self.now.ports)) }
+        ensures known { IsKnown self.now }
     {
-        self.facts();
         match self.number_at(Kind::Port, port) {
             Some(p) => Ok(p),
             None => Err(Refusal::Handle),
@@ -38,8 +38,8 @@ impl<S: ListSpace> Objects<S> {
         ensures found { IfOk result (λ p. slot (places variant.Port self.now) p ≡ Some port) }
         ensures empty { IfOk result (λ p. IsTrue (not (has_messages p self.now.ports))) }
         ensures private { IfOk result (λ p. IsTrue (not (is_public p self.now.ports))) }
+        ensures known { IsKnown self.now }
     {
-        self.facts();
         match self.port_at(port) {
             Err(why) => Err(why),
             Ok(p) => match self.ports().first(p) {
@@ -61,8 +61,8 @@ impl<S: ListSpace> Objects<S> {
         ensures found { IfOk result (λ p. slot (places variant.Port self.now) p ≡ Some port) }
         ensures live { IfOk result (λ p. IsTrue (is_port p self.now.ports)) }
         ensures private { IfOk result (λ p. IsTrue (not (is_public p self.now.ports))) }
+        ensures known { IsKnown self.now }
     {
-        self.facts();
         match self.port_at(port) {
             Err(why) => Err(why),
             Ok(p) => {
@@ -78,8 +78,8 @@ impl<S: ListSpace> Objects<S> {
         ensures found { IfOk result (λ p. slot (places variant.Port self.now) p ≡ Some port) }
         ensures live { IfOk result (λ p. IsTrue (is_port p self.now.ports)) }
         ensures public { IfOk result (λ p. IsTrue (is_public p self.now.ports)) }
+        ensures known { IsKnown self.now }
     {
-        self.facts();
         match self.port_at(port) {
             Err(why) => Err(why),
             Ok(p) => {
@@ -96,8 +96,8 @@ impl<S: ListSpace> Objects<S> {
         ensures live { IfOk result (λ pair. IsTrue (is_port pair.0 self.now.ports)) }
         ensures bit { IfOk result (λ pair. pair.1 ≡ (port_at pair.0 self.now.ports).bit) }
         ensures signal { IfOk result (λ pair. pair.1 < 32) }
+        ensures known { IsKnown self.now }
     {
-        self.facts();
         match self.port_at(port) {
             Err(why) => Err(why),
             Ok(p) => match self.ports().wait_bit(p, task) {
@@ -129,8 +129,8 @@ impl<S: ListSpace> Objects<S> {
         ensures alert { alert_of result ≡ model.message_alert message (shown_heap self.now) }
         ensures found { IfOk result (λ m. slot (places variant.Message self.now) m ≡ Some message) }
         ensures live { IfOk result (λ m. IsTrue (is_message m self.now.ports)) }
+        ensures known { IsKnown self.now }
     {
-        self.facts();
         match self.number_at(Kind::Message, message) {
             Some(m) => Ok(m),
             None => Err(Refusal::Handle),
@@ -143,8 +143,8 @@ impl<S: ListSpace> Objects<S> {
         ensures found { IfOk result (λ m. slot (places variant.Message self.now) m ≡ Some message) }
         ensures live { IfOk result (λ m. IsTrue (is_message m self.now.ports)) }
         ensures loose { IfOk result (λ m. home self.now.ports.places m ≡ None) }
+        ensures known { IsKnown self.now }
     {
-        self.facts();
         match self.message_at(message) {
             Err(why) => Err(why),
             Ok(m) => {
@@ -162,6 +162,7 @@ impl<S: ListSpace> Objects<S> {
         ensures message { IfOk result (λ pair. slot (places variant.Message self.now) pair.1 ≡ Some message) }
         ensures live_message { IfOk result (λ pair. IsTrue (is_message pair.1 self.now.ports)) }
         ensures loose { IfOk result (λ pair. home self.now.ports.places pair.1 ≡ None) }
+        ensures known { IsKnown self.now }
     {
         match self.port_at(port) {
             Err(why) => Err(why),
@@ -182,8 +183,8 @@ impl<S: ListSpace> Objects<S> {
         ensures some { IfOk result (λ pair. ForSome pair.1 (λ p. (model.content_of message (shown_heap self.now)).reply ≢ 0)) }
         ensures reply { IfOk result (λ pair. ForSome pair.1 (λ p. slot (places variant.Port self.now) p ≡ Some (model.content_of message (shown_heap self.now)).reply)) }
         ensures live_port { IfOk result (λ pair. ForSome pair.1 (λ p. IsTrue (is_port p self.now.ports))) }
+        ensures known { IsKnown self.now }
     {
-        self.facts();
         match self.loose_message_at(message) {
             Err(why) => Err(why),
             Ok(m) => match self.reply_port_at(self.ports().reply_port(m)) {

@@ -4,7 +4,7 @@ ghost use Rattle.execlist.specs.Pool.{slot};
 ghost use Rattle.execmodel.specs.Semaphores as model;
 ghost use Rattle.sigsem.specs.Semaphores.{is_owned, is_sem};
 ghost use Rattle.execheap.specs.declared.kind.Kind.TheVariants as variant;
-ghost use Rattle.execheap.specs.Numbered.{places, shown_heap};
+ghost use Rattle.execheap.specs.Numbered.{IsKnown, places, shown_heap};
 ghost use Rattle.execheap.specs.Refusals.{alert_of};
 
 use crate::kind::Kind;
@@ -19,8 +19,8 @@ impl<S: ListSpace> Objects<S> {
         ensures alert { alert_of result ≡ model.semaphore_alert semaphore (shown_heap self.now) }
         ensures found { IfOk result (λ n. slot (places variant.Semaphore self.now) n ≡ Some semaphore) }
         ensures live { IfOk result (λ n. IsTrue (is_sem n self.now.sems)) }
+        ensures known { IsKnown self.now }
     {
-        self.facts();
         match self.number_at(Kind::Semaphore, semaphore) {
             Some(n) => Ok(n),
             None => Err(Refusal::Handle),
@@ -32,8 +32,8 @@ impl<S: ListSpace> Objects<S> {
         ensures alert { alert_of result ≡ model.free_sem_alert semaphore (shown_heap self.now) }
         ensures found { IfOk result (λ n. slot (places variant.Semaphore self.now) n ≡ Some semaphore) }
         ensures unowned { IfOk result (λ n. IsTrue (not (is_owned n self.now.sems))) }
+        ensures known { IsKnown self.now }
     {
-        self.facts();
         match self.semaphore_at(semaphore) {
             Err(why) => Err(why),
             Ok(n) => {

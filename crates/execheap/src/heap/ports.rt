@@ -29,7 +29,6 @@ impl<S: ListSpace> Heap<S> {
         ensures address { result ≡ place_for_object is_port 34 self.old }
         ensures next { self.new ≡ placed 34 (MsgPort (new_port task bit) []) result self.old }
     {
-        self.objects.facts();
         self.objects.make_port(task, bit)
     }
 
@@ -37,7 +36,6 @@ impl<S: ListSpace> Heap<S> {
     pub fn is_port(&self, port: u32) -> bool
         ensures { result ≡ is_port_at port self.now.heap }
     {
-        self.objects.facts();
         self.objects.number_at(Kind::Port, port).is_some()
     }
 
@@ -52,7 +50,6 @@ impl<S: ListSpace> Heap<S> {
         ensures next { OnOk result (self.new ≡ freed port self.old) }
         ensures kept { OnErr result (self.new ≡ self.old) }
     {
-        self.objects.facts();
         match self.objects.port_to_delete(port) {
             Err(why) => Err(why),
             Ok(p) => Ok(self.objects.free_port(p, port)),
@@ -68,7 +65,6 @@ impl<S: ListSpace> Heap<S> {
         ensures next { OnOk result (self.new ≡ listed port name.bytes pri self.old) }
         ensures kept { OnErr result (self.new ≡ self.old) }
     {
-        self.objects.facts();
         match self.objects.private_port_at(port, pri) {
             Err(why) => Err(why),
             Ok(p) => {
@@ -85,7 +81,6 @@ impl<S: ListSpace> Heap<S> {
         ensures next { OnOk result (self.new ≡ made_private port self.old) }
         ensures kept { OnErr result (self.new ≡ self.old) }
     {
-        self.objects.facts();
         match self.objects.public_port_at(port) {
             Err(why) => Err(why),
             Ok(p) => {
@@ -100,7 +95,6 @@ impl<S: ListSpace> Heap<S> {
     pub fn find_port(&self, name: &str) -> u32
         ensures { result ≡ port_or_none (find (is_called name.now) self.now.public) }
     {
-        self.objects.facts();
         self.objects.port_or_0(self.objects.ports().find_port(name))
     }
 
@@ -111,7 +105,6 @@ impl<S: ListSpace> Heap<S> {
         ensures next { OnOk result (self.new ≡ on_heap (with_action action port) self.old) }
         ensures kept { OnErr result (self.new ≡ self.old) }
     {
-        self.objects.facts();
         match self.objects.port_at(port) {
             Err(why) => Err(why),
             Ok(p) => {
@@ -132,7 +125,6 @@ impl<S: ListSpace> Heap<S> {
         ensures next { IfOk result (λ place. self.new ≡ placed 24 (Message (new_message reply word)) place self.old) }
         ensures kept { OnErr result (self.new ≡ self.old) }
     {
-        self.objects.facts();
         match self.objects.reply_port_at(reply) {
             Err(why) => Err(why),
             Ok(_) => Ok(self.objects.make_message(reply, word)),
@@ -145,7 +137,6 @@ impl<S: ListSpace> Heap<S> {
         ensures next { OnOk result (self.new ≡ freed message self.old) }
         ensures kept { OnErr result (self.new ≡ self.old) }
     {
-        self.objects.facts();
         match self.objects.loose_message_at(message) {
             Err(why) => Err(why),
             Ok(m) => {
@@ -162,7 +153,6 @@ impl<S: ListSpace> Heap<S> {
         ensures alert { alert_of result ≡ message_alert message self.now.heap }
         ensures answer { IfOk result (λ word. word ≡ (content_of message self.now.heap).word) }
     {
-        self.objects.facts();
         match self.objects.message_at(message) {
             Err(why) => Err(why),
             Ok(m) => Ok(self.objects.ports().word(m)),
@@ -175,7 +165,6 @@ impl<S: ListSpace> Heap<S> {
         ensures next { OnOk result (self.new ≡ on_heap (with_word message word) self.old) }
         ensures kept { OnErr result (self.new ≡ self.old) }
     {
-        self.objects.facts();
         match self.objects.message_at(message) {
             Err(why) => Err(why),
             Ok(m) => {
@@ -191,7 +180,6 @@ impl<S: ListSpace> Heap<S> {
         ensures alert { alert_of result ≡ message_alert message self.now.heap }
         ensures answer { IfOk result (λ kind. kind ≡ (content_of message self.now.heap).kind) }
     {
-        self.objects.facts();
         match self.objects.message_at(message) {
             Err(why) => Err(why),
             Ok(m) => Ok(self.objects.ports().kind(m)),
@@ -209,7 +197,6 @@ impl<S: ListSpace> Heap<S> {
         ensures next { OnOk result (self.new ≡ on_heap (posted nt_message port message) self.old) }
         ensures kept { OnErr result (self.new ≡ self.old) }
     {
-        self.objects.facts();
         match self.objects.to_put(port, message) {
             Err(why) => Err(why),
             Ok((p, m)) => Ok(self.objects.put(p, m)),
@@ -226,7 +213,6 @@ impl<S: ListSpace> Heap<S> {
         ensures next { OnOk result (self.new ≡ on_heap (replied_by message) self.old) }
         ensures kept { OnErr result (self.new ≡ self.old) }
     {
-        self.objects.facts();
         match self.objects.to_reply(message) {
             Err(why) => Err(why),
             Ok((m, Some(p))) => Ok(self.objects.reply(p, m)),
@@ -248,7 +234,6 @@ impl<S: ListSpace> Heap<S> {
         ensures none { OnOk result (first (messages_of port self.old.heap) ≡ None → self.new ≡ self.old) }
         ensures kept { OnErr result (self.new ≡ self.old) }
     {
-        self.objects.facts();
         match self.objects.port_at(port) {
             Err(why) => Err(why),
             Ok(p) => {
@@ -271,7 +256,6 @@ impl<S: ListSpace> Heap<S> {
         ensures bit { IfOk result (λ pair. pair.1 ≡ (port_of port self.now.heap).bit) }
         ensures signal { IfOk result (λ pair. pair.1 < 32) }
     {
-        self.objects.facts();
         match self.objects.port_to_wait_at(task, port) {
             Err(why) => Err(why),
             Ok((p, bit)) => match self.objects.ports().first(p) {

@@ -21,7 +21,6 @@ impl<S: ListSpace> Heap<S> {
         ensures address { result ≡ place_for_object is_semaphore 46 self.old }
         ensures next { self.new ≡ placed 46 (Semaphore free_sem []) result self.old }
     {
-        self.objects.facts();
         self.objects.make_semaphore()
     }
 
@@ -31,7 +30,6 @@ impl<S: ListSpace> Heap<S> {
         ensures next { OnOk result (self.new ≡ freed semaphore self.old) }
         ensures kept { OnErr result (self.new ≡ self.old) }
     {
-        self.objects.facts();
         match self.objects.semaphore_to_free(semaphore) {
             Err(why) => Err(why),
             Ok(n) => {
@@ -54,7 +52,6 @@ impl<S: ListSpace> Heap<S> {
         ensures next { OnOk result (self.new ≡ on_heap (obtained task semaphore) self.old) }
         ensures kept { OnErr result (self.new ≡ self.old) }
     {
-        self.objects.facts();
         match self.objects.semaphore_at(semaphore) {
             Err(why) => Err(why),
             Ok(n) => told(self.objects.obtain(n, task)),
@@ -70,7 +67,6 @@ impl<S: ListSpace> Heap<S> {
         ensures next { OnOk result (self.new ≡ on_heap (attempted task semaphore) self.old) }
         ensures kept { OnErr result (self.new ≡ self.old) }
     {
-        self.objects.facts();
         match self.objects.semaphore_at(semaphore) {
             Err(why) => Err(why),
             Ok(n) => told(self.objects.attempt(n, task)),
@@ -91,7 +87,6 @@ impl<S: ListSpace> Heap<S> {
         ensures next { OnOk result (self.new ≡ on_heap (released semaphore) self.old) }
         ensures kept { OnErr result (self.new ≡ self.old) }
     {
-        self.objects.facts();
         match self.objects.semaphore_at(semaphore) {
             Err(why) => Err(why),
             Ok(n) => told(self.objects.release(n, task)),

@@ -13,7 +13,7 @@ use mir.Val.{SFits}
 
 pub returns-in-Ok-clause-next : goal.returns-in-Ok-clause-next
 returns-in-Ok-clause-next g c =
-    let f = c.facts.ensures in
+    let f = c.in-Ok.ensures.known in
     let s = c.self.inside.objects in
     let e = c.in-Ok.ensures in
     let fits : SFits w8 c.args.pri = search rules in

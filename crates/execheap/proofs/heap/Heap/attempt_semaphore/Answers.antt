@@ -26,7 +26,7 @@ pub returns-in-Ok-clause-alert : goal.returns-in-Ok-clause-alert
 returns-in-Ok-clause-alert g c =
     let s = c.self.inside.objects in
     ap alert_of (refusal_told g c)
-    ∙ obtain_told c.facts.ensures.sound c.in-Ok.n c.args.semaphore c.in-Ok.ensures.found c.args.task (sems.is_open c.in-Ok.n c.args.task s.sems)
+    ∙ obtain_told c.in-Ok.ensures.known.sound c.in-Ok.n c.args.semaphore c.in-Ok.ensures.found c.args.task (sems.is_open c.in-Ok.n c.args.task s.sems)
     ∙ ap (λ (m : Memory). obtain_alert c.args.task c.args.semaphore m.heap) c.self.view_is
 
 pub returns-in-Ok-clause-answer : goal.returns-in-Ok-clause-answer
@@ -35,12 +35,12 @@ returns-in-Ok-clause-answer g c =
     let asked = is_open c.args.task (sem_of c.args.semaphore c.args.self.now.heap) in
     subst (λ r. IfOk r (λ has. has ≡ asked)) (sym (refusal_told g c))
     (told_answer (deep_fault c.in-Ok.n c.args.task s.sems) (sems.is_open c.in-Ok.n c.args.task s.sems) asked
-    (ap (is_open c.args.task) (sym (sem_of_shown c.facts.ensures.sound c.in-Ok.n c.args.semaphore c.in-Ok.ensures.found))
+    (ap (is_open c.args.task) (sym (sem_of_shown c.in-Ok.ensures.known.sound c.in-Ok.n c.args.semaphore c.in-Ok.ensures.found))
     ∙ ap (λ (m : Memory). is_open c.args.task (sem_of c.args.semaphore m.heap)) c.self.view_is))
 
 pub returns-in-Ok-clause-next : goal.returns-in-Ok-clause-next
 returns-in-Ok-clause-next g c =
-    let f = c.facts.ensures in
+    let f = c.in-Ok.ensures.known in
     let s = c.self.inside.objects in
     let e = c.in-Ok.ensures in
     subst (λ r. OnOk r (shown_memory c.attempt.new.self ≡ on_heap (attempted c.args.task c.args.semaphore) c.args.self.now))

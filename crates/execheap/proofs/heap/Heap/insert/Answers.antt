@@ -9,7 +9,7 @@ use Rattle.execheap.proofs.heap.Heap.insert.Goals as goal
 
 pub returns-in-Ok-clause-next : goal.returns-in-Ok-clause-next
 returns-in-Ok-clause-next g c =
-    let f = c.facts.ensures in
+    let f = c.in-Ok.ensures.known in
     let e = c.in-Ok.ensures in
     ap shown_memory c.insert.ensures
     ∙ put_shown f.sound f.space f.memory c.in-Ok.h c.in-Ok.n c.args.list c.args.node c.args.pred c.in-Ok.p e.list e.node e.pred

@@ -16,22 +16,22 @@ returns-in-Some-clause-message g c =
     let s = c.self.inside.objects in
     ap (λ o. Some (unwrap_or o 0)) (sym c.address_of_message.ensures)
     ∙ ap (option_map (address_in (places variant.Message s))) (c.in-Some.ensures.value ∙ ap (λ (q : ports.MessagePorts). first (ports.messages_of c.in-Ok.p q)) c.ports.ensures)
-    ∙ sym (first_message_shown c.facts.ensures.sound c.in-Ok.p c.args.port c.in-Ok.ensures.found)
+    ∙ sym (first_message_shown c.in-Ok.ensures.known.sound c.in-Ok.p c.args.port c.in-Ok.ensures.found)
     ∙ ap (λ (m : Memory). first (messages_of c.args.port m.heap)) c.self.view_is
 
 pub returns-in-Some-clause-bit : goal.returns-in-Some-clause-bit
 returns-in-Some-clause-bit g c =
-    c.in-Ok.ensures.bit ∙ ap (λ (port : Port). port.bit) (sym (port_of_shown c.facts.ensures.sound c.in-Ok.p c.args.port c.in-Ok.ensures.found))
+    c.in-Ok.ensures.bit ∙ ap (λ (port : Port). port.bit) (sym (port_of_shown c.in-Ok.ensures.known.sound c.in-Ok.p c.args.port c.in-Ok.ensures.found))
     ∙ ap (λ (m : Memory). (port_of c.args.port m.heap).bit) c.self.view_is
 
 pub returns-in-None-clause-message : goal.returns-in-None-clause-message
 returns-in-None-clause-message g c =
     let s = c.self.inside.objects in
     ap (option_map (address_in (places variant.Message s))) (c.in-None.ensures.value ∙ ap (λ (q : ports.MessagePorts). first (ports.messages_of c.in-Ok.p q)) c.ports.ensures)
-    ∙ sym (first_message_shown c.facts.ensures.sound c.in-Ok.p c.args.port c.in-Ok.ensures.found)
+    ∙ sym (first_message_shown c.in-Ok.ensures.known.sound c.in-Ok.p c.args.port c.in-Ok.ensures.found)
     ∙ ap (λ (m : Memory). first (messages_of c.args.port m.heap)) c.self.view_is
 
 pub returns-in-None-clause-bit : goal.returns-in-None-clause-bit
 returns-in-None-clause-bit g c =
-    c.in-Ok.ensures.bit ∙ ap (λ (port : Port). port.bit) (sym (port_of_shown c.facts.ensures.sound c.in-Ok.p c.args.port c.in-Ok.ensures.found))
+    c.in-Ok.ensures.bit ∙ ap (λ (port : Port). port.bit) (sym (port_of_shown c.in-Ok.ensures.known.sound c.in-Ok.p c.args.port c.in-Ok.ensures.found))
     ∙ ap (λ (m : Memory). (port_of c.args.port m.heap).bit) c.self.view_is

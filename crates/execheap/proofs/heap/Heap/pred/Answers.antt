@@ -10,7 +10,7 @@ use Rattle.execheap.proofs.heap.Heap.pred.Goals as goal
 
 pub returns-in-Ok-clause-answer : goal.returns-in-Ok-clause-answer
 returns-in-Ok-clause-answer g c =
-    let f = c.facts.ensures in
+    let f = c.in-Ok.ensures.known in
     let e = c.in-Ok.ensures in
     let s = c.self.inside.objects in
     c.address_or_0.ensures ∙ ap (λ n. or_none (option_map (address_in (places variant.Node s)) n)) (c.pred.ensures.value _ e.linked)

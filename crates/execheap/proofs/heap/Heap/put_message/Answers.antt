@@ -10,12 +10,12 @@ use Rattle.execheap.proofs.heap.Heap.put_message.Goals as goal
 
 pub returns-in-Ok-clause-answer : goal.returns-in-Ok-clause-answer
 returns-in-Ok-clause-answer g c =
-    c.put.ensures.answer ∙ ap acting (sym (port_of_shown c.facts.ensures.sound c.in-Ok.p c.args.port c.in-Ok.ensures.port))
+    c.put.ensures.answer ∙ ap acting (sym (port_of_shown c.in-Ok.ensures.known.sound c.in-Ok.p c.args.port c.in-Ok.ensures.port))
     ∙ ap (λ (m : Memory). acting (port_of c.args.port m.heap)) c.self.view_is
 
 pub returns-in-Ok-clause-next : goal.returns-in-Ok-clause-next
 returns-in-Ok-clause-next g c =
-    let f = c.facts.ensures in
+    let f = c.in-Ok.ensures.known in
     let e = c.in-Ok.ensures in
     ap shown_memory c.put.ensures.next
     ∙ posted_shown f.sound f.ports f.memory c.in-Ok.p c.args.port e.port e.live_port c.in-Ok.m c.args.message e.message e.live_message nt_message

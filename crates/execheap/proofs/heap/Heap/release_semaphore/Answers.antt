@@ -26,7 +26,7 @@ pub returns-in-Ok-clause-alert : goal.returns-in-Ok-clause-alert
 returns-in-Ok-clause-alert g c =
     let s = c.self.inside.objects in
     ap alert_of (refusal_told g c)
-    ∙ release_told c.facts.ensures.sound c.in-Ok.n c.args.semaphore c.in-Ok.ensures.found c.args.task (sems.heir c.in-Ok.n s.sems)
+    ∙ release_told c.in-Ok.ensures.known.sound c.in-Ok.n c.args.semaphore c.in-Ok.ensures.found c.args.task (sems.heir c.in-Ok.n s.sems)
     ∙ ap (λ (m : Memory). release_alert c.args.task c.args.semaphore m.heap) c.self.view_is
 
 pub returns-in-Ok-clause-answer : goal.returns-in-Ok-clause-answer
@@ -35,12 +35,12 @@ returns-in-Ok-clause-answer g c =
     let next = heir c.args.semaphore c.args.self.now.heap in
     subst (λ r. IfOk r (λ owner. owner ≡ next)) (sym (refusal_told g c))
     (told_answer (release_fault c.in-Ok.n c.args.task s.sems) (sems.heir c.in-Ok.n s.sems) next
-    (sym (heir_shown c.facts.ensures.sound c.in-Ok.n c.args.semaphore c.in-Ok.ensures.found)
+    (sym (heir_shown c.in-Ok.ensures.known.sound c.in-Ok.n c.args.semaphore c.in-Ok.ensures.found)
     ∙ ap (λ (m : Memory). heir c.args.semaphore m.heap) c.self.view_is))
 
 pub returns-in-Ok-clause-next : goal.returns-in-Ok-clause-next
 returns-in-Ok-clause-next g c =
-    let f = c.facts.ensures in
+    let f = c.in-Ok.ensures.known in
     let s = c.self.inside.objects in
     let e = c.in-Ok.ensures in
     subst (λ r. OnOk r (shown_memory c.release.new.self ≡ on_heap (released c.args.semaphore) c.args.self.now))

@@ -7,6 +7,6 @@ use Rattle.execheap.proofs.heap.Heap.rem_port.Goals as goal
 
 pub returns-in-Ok-clause-next : goal.returns-in-Ok-clause-next
 returns-in-Ok-clause-next g c =
-    let f = c.facts.ensures in
+    let f = c.in-Ok.ensures.known in
     ap shown_memory c.rem_port.ensures
     ∙ made_private_shown f.sound f.ports c.in-Ok.p c.args.port c.in-Ok.ensures.found ∙ ap (made_private c.args.port) c.self.view_is

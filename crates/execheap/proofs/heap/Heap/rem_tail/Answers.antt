@@ -12,7 +12,7 @@ use Rattle.execheap.proofs.heap.Heap.rem_tail.Goals as goal
 
 pub returns-in-Ok-clause-answer : goal.returns-in-Ok-clause-answer
 returns-in-Ok-clause-answer g c =
-    let f = c.facts.ensures in
+    let f = c.in-Ok.ensures.known in
     let s = c.self.inside.objects in
     c.address_or_0.ensures
     ∙ ap (λ (x : Numbered). or_none (option_map (address_in (places variant.Node x)) c.rem_tail-n.result)) c.rem_tail-n.ensures.next
@@ -22,6 +22,6 @@ returns-in-Ok-clause-answer g c =
 
 pub returns-in-Ok-clause-next : goal.returns-in-Ok-clause-next
 returns-in-Ok-clause-next g c =
-    let f = c.facts.ensures in
+    let f = c.in-Ok.ensures.known in
     ap shown_memory c.rem_tail-n.ensures.next ∙ tail_taken_shown f.sound f.space f.memory c.in-Ok.h c.args.list c.in-Ok.ensures.found
     ∙ ap (on_heap (removed_tail c.args.list)) c.self.view_is

@@ -16,13 +16,13 @@ returns-in-Ok-default-Some-clause-answer g c =
     let e = c.in-Ok-default-Some.ensures in
     let p = c.in-Ok-default-Some.p in
     let port = (content_of c.args.message (shown_heap s)).reply in
-    c.reply.ensures.answer ∙ ap acting (sym (port_of_shown c.facts.ensures.sound p port (e.reply p c.in-Ok-default-Some.field-0-1-is)))
+    c.reply.ensures.answer ∙ ap acting (sym (port_of_shown c.in-Ok-default-Some.ensures.known.sound p port (e.reply p c.in-Ok-default-Some.field-0-1-is)))
     ∙ sym (replying_some c.args.message (shown_heap s) (e.some p c.in-Ok-default-Some.field-0-1-is))
     ∙ ap (λ (m : Memory). replying c.args.message m.heap) c.self.view_is
 
 pub returns-in-Ok-default-Some-clause-next : goal.returns-in-Ok-default-Some-clause-next
 returns-in-Ok-default-Some-clause-next g c =
-    let f = c.facts.ensures in
+    let f = c.in-Ok-default-Some.ensures.known in
     let s = c.self.inside.objects in
     let e = c.in-Ok-default-Some.ensures in
     let p = c.in-Ok-default-Some.p in
@@ -40,7 +40,7 @@ returns-in-Ok-default-None-clause-answer g c =
 
 pub returns-in-Ok-default-None-clause-next : goal.returns-in-Ok-default-None-clause-next
 returns-in-Ok-default-None-clause-next g c =
-    let f = c.facts.ensures in
+    let f = c.in-Ok-default-None.ensures.known in
     let s = c.self.inside.objects in
     let e = c.in-Ok-default-None.ensures in
     ap shown_memory c.reply_none.ensures

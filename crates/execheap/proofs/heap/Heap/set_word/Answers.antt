@@ -8,7 +8,7 @@ use Rattle.execheap.proofs.heap.Heap.set_word.Goals as goal
 
 pub returns-in-Ok-clause-next : goal.returns-in-Ok-clause-next
 returns-in-Ok-clause-next g c =
-    let f = c.facts.ensures in
+    let f = c.in-Ok.ensures.known in
     ap shown_memory c.set_word.ensures
     ∙ word_shown f.sound f.ports f.memory c.in-Ok.m c.args.message c.in-Ok.ensures.found c.in-Ok.ensures.live c.args.word
     ∙ ap (on_heap (with_word c.args.message c.args.word)) c.self.view_is

@@ -15,7 +15,7 @@ use Rattle.execheap.proofs.heap.Heap.take_message.Goals as goal
 
 pub returns-in-Ok-clause-answer : goal.returns-in-Ok-clause-answer
 returns-in-Ok-clause-answer g c =
-    let f = c.facts.ensures in
+    let f = c.in-Ok.ensures.known in
     let s = c.self.inside.objects in
     c.message_or_0.ensures
     ∙ ap (λ (x : Numbered). or_none (option_map (address_in (places variant.Message x)) c.take_message-m.result)) c.take_message-m.ensures.next
@@ -25,7 +25,7 @@ returns-in-Ok-clause-answer g c =
 
 pub returns-in-Ok-clause-next : goal.returns-in-Ok-clause-next
 returns-in-Ok-clause-next g c =
-    let f = c.facts.ensures in
+    let f = c.in-Ok.ensures.known in
     ap shown_memory c.take_message-m.ensures.next
     ∙ taken_off_shown f.sound f.ports f.memory c.in-Ok.p c.args.port c.in-Ok.ensures.found c.in-Ok.ensures.live
     ∙ ap (on_heap (taken_off c.args.port)) c.self.view_is
@@ -37,7 +37,7 @@ from_none f (Some a) e = absurd (none-some (f a) (sym e))
 
 pub returns-in-Ok-clause-none : goal.returns-in-Ok-clause-none
 returns-in-Ok-clause-none g c empty =
-    let f = c.facts.ensures in
+    let f = c.in-Ok.ensures.known in
     let s = c.self.inside.objects in
     let none : first (ports.messages_of c.in-Ok.p s.ports) ≡ None =
     from_none (address_in (places variant.Message s)) (first (ports.messages_of c.in-Ok.p s.ports))

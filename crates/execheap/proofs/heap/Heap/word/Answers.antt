@@ -9,5 +9,5 @@ use Rattle.execheap.proofs.heap.Heap.word.Goals as goal
 pub returns-in-Ok-clause-answer : goal.returns-in-Ok-clause-answer
 returns-in-Ok-clause-answer g c =
     c.word.ensures ∙ ap (λ (q : MessagePorts). (message_at c.in-Ok.m q).word) c.ports.ensures
-    ∙ ap (λ content. content.word) (sym (content_of_shown c.facts.ensures.sound c.in-Ok.m c.args.message c.in-Ok.ensures.found))
+    ∙ ap (λ content. content.word) (sym (content_of_shown c.in-Ok.ensures.known.sound c.in-Ok.m c.args.message c.in-Ok.ensures.found))
     ∙ ap (λ (m : Memory). (content_of c.args.message m.heap).word) c.self.view_is

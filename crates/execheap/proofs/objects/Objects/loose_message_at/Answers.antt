@@ -10,10 +10,10 @@ returns-in-Err-clause-alert g c = sym (loose_by_handle c.args.message (shown_hea
 
 pub returns-then-linked-clause-alert : goal.returns-then-linked-clause-alert
 returns-then-linked-clause-alert g c =
-    let f = c.facts.ensures in
+    let f = c.in-Ok.ensures.known in
     sym (loose_found f.sound f.ports c.in-Ok.m c.args.message c.in-Ok.ensures.found (sym c.in-Ok.ensures.alert) (ap (is_linked c.in-Ok.m) (sym c.ports.ensures) ∙ sym c.is_linked-linked.ensures ∙ c.if-linked.true))
 
 pub returns-else-linked-clause-alert : goal.returns-else-linked-clause-alert
 returns-else-linked-clause-alert g c =
-    let f = c.facts.ensures in
+    let f = c.in-Ok.ensures.known in
     sym (loose_found f.sound f.ports c.in-Ok.m c.args.message c.in-Ok.ensures.found (sym c.in-Ok.ensures.alert) (ap (is_linked c.in-Ok.m) (sym c.ports.ensures) ∙ sym c.is_linked-linked.ensures ∙ c.if-linked.false))

@@ -15,5 +15,5 @@ returns-in-None-clause-alert g c = sym (message_refused c.args.self.now c.args.m
 pub returns-in-Some-clause-live : goal.returns-in-Some-clause-live
 returns-in-Some-clause-live g c =
     let s = c.args.self.now in
-    sym (shape_lives (pool_of variant.Message s.table) s.ports.messages (c.facts.ensures.sound.kept.in_step variant.Message) c.in-Some.m)
+    sym (shape_lives (pool_of variant.Message s.table) s.ports.messages (c.in-Some.ensures.known.sound.kept.in_step variant.Message) c.in-Some.m)
     ∙ ap is_some c.in-Some.ensures.live

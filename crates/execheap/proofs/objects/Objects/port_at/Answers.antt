@@ -15,5 +15,5 @@ returns-in-None-clause-alert g c = sym (port_refused c.args.self.now c.args.port
 pub returns-in-Some-clause-live : goal.returns-in-Some-clause-live
 returns-in-Some-clause-live g c =
     let s = c.args.self.now in
-    sym (shape_lives (pool_of variant.Port s.table) s.ports.ports (c.facts.ensures.sound.kept.in_step variant.Port) c.in-Some.p)
+    sym (shape_lives (pool_of variant.Port s.table) s.ports.ports (c.in-Some.ensures.known.sound.kept.in_step variant.Port) c.in-Some.p)
     ∙ ap is_some c.in-Some.ensures.live

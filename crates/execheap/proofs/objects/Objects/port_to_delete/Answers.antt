@@ -10,7 +10,7 @@ returns-in-Err-clause-alert g c = sym (delete_refused c.args.port (shown_memory 
 
 pub returns-in-Some-clause-alert : goal.returns-in-Some-clause-alert
 returns-in-Some-clause-alert g c =
-    let f = c.facts.ensures in
+    let f = c.in-Ok.ensures.known in
     let has : has_messages c.in-Ok.p c.args.self.now.ports ≡ true =
     ap (has_messages c.in-Ok.p) (sym c.ports.ensures) ∙ ap is_some (sym c.in-Some.ensures.value) in
     sym (delete_found f.sound f.ports c.in-Ok.p c.args.port c.in-Ok.ensures.found (sym c.in-Ok.ensures.alert)
@@ -18,7 +18,7 @@ returns-in-Some-clause-alert g c =
 
 pub returns-then-is_public-clause-alert : goal.returns-then-is_public-clause-alert
 returns-then-is_public-clause-alert g c =
-    let f = c.facts.ensures in
+    let f = c.in-Ok.ensures.known in
     let has : has_messages c.in-Ok.p c.args.self.now.ports ≡ false =
     ap (has_messages c.in-Ok.p) (sym c.ports.ensures) ∙ ap is_some (sym c.in-None.ensures.value) in
     let public : is_public c.in-Ok.p c.args.self.now.ports ≡ true =
@@ -27,7 +27,7 @@ returns-then-is_public-clause-alert g c =
 
 pub returns-else-is_public-clause-alert : goal.returns-else-is_public-clause-alert
 returns-else-is_public-clause-alert g c =
-    let f = c.facts.ensures in
+    let f = c.in-Ok.ensures.known in
     let has : has_messages c.in-Ok.p c.args.self.now.ports ≡ false =
     ap (has_messages c.in-Ok.p) (sym c.ports.ensures) ∙ ap is_some (sym c.in-None.ensures.value) in
     let public : is_public c.in-Ok.p c.args.self.now.ports ≡ false =

@@ -11,8 +11,8 @@ returns-in-Err-clause-alert g c = sym (wait_refused c.args.task c.args.port (sho
 
 pub returns-in-Some-clause-alert : goal.returns-in-Some-clause-alert
 returns-in-Some-clause-alert g c =
-    sym (wait_found c.facts.ensures.sound c.args.task c.in-Ok.p c.args.port c.in-Ok.ensures.found (sym c.in-Ok.ensures.alert) (ap (λ q. wait_bit c.args.task (port_at c.in-Ok.p q)) (sym c.ports.ensures) ∙ sym c.in-Some.ensures.value))
+    sym (wait_found c.in-Ok.ensures.known.sound c.args.task c.in-Ok.p c.args.port c.in-Ok.ensures.found (sym c.in-Ok.ensures.alert) (ap (λ q. wait_bit c.args.task (port_at c.in-Ok.p q)) (sym c.ports.ensures) ∙ sym c.in-Some.ensures.value))
 
 pub returns-in-None-clause-alert : goal.returns-in-None-clause-alert
 returns-in-None-clause-alert g c =
-    sym (wait_found c.facts.ensures.sound c.args.task c.in-Ok.p c.args.port c.in-Ok.ensures.found (sym c.in-Ok.ensures.alert) (ap (λ q. wait_bit c.args.task (port_at c.in-Ok.p q)) (sym c.ports.ensures) ∙ sym c.in-None.ensures.value))
+    sym (wait_found c.in-Ok.ensures.known.sound c.args.task c.in-Ok.p c.args.port c.in-Ok.ensures.found (sym c.in-Ok.ensures.alert) (ap (λ q. wait_bit c.args.task (port_at c.in-Ok.p q)) (sym c.ports.ensures) ∙ sym c.in-None.ensures.value))

@@ -11,14 +11,14 @@ returns-in-Err-clause-alert g c = sym (private_refused c.args.port (shown_memory
 
 pub returns-then-public-clause-alert : goal.returns-then-public-clause-alert
 returns-then-public-clause-alert g c =
-    let f = c.facts.ensures in
+    let f = c.in-Ok.ensures.known in
     let fits : is_priority c.args.pri ≡ true = search rules in
     sym (private_found f.sound f.ports c.in-Ok.p c.args.port c.in-Ok.ensures.found (sym c.in-Ok.ensures.alert) c.args.pri fits
     (ap (is_public c.in-Ok.p) (sym c.ports.ensures) ∙ sym c.is_public-public.ensures ∙ c.if-public.true))
 
 pub returns-else-public-clause-alert : goal.returns-else-public-clause-alert
 returns-else-public-clause-alert g c =
-    let f = c.facts.ensures in
+    let f = c.in-Ok.ensures.known in
     let fits : is_priority c.args.pri ≡ true = search rules in
     sym (private_found f.sound f.ports c.in-Ok.p c.args.port c.in-Ok.ensures.found (sym c.in-Ok.ensures.alert) c.args.pri fits
     (ap (is_public c.in-Ok.p) (sym c.ports.ensures) ∙ sym c.is_public-public.ensures ∙ c.if-public.false))

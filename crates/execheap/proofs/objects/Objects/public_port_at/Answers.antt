@@ -10,12 +10,12 @@ returns-in-Err-clause-alert g c = sym (public_refused c.args.port (shown_memory 
 
 pub returns-then-listed-clause-alert : goal.returns-then-listed-clause-alert
 returns-then-listed-clause-alert g c =
-    let f = c.facts.ensures in
+    let f = c.in-Ok.ensures.known in
     sym (public_found f.sound f.ports c.in-Ok.p c.args.port c.in-Ok.ensures.found (sym c.in-Ok.ensures.alert)
     (ap (is_public c.in-Ok.p) (sym c.ports.ensures) ∙ sym c.is_public-listed.ensures ∙ c.if-listed.true))
 
 pub returns-else-listed-clause-alert : goal.returns-else-listed-clause-alert
 returns-else-listed-clause-alert g c =
-    let f = c.facts.ensures in
+    let f = c.in-Ok.ensures.known in
     sym (public_found f.sound f.ports c.in-Ok.p c.args.port c.in-Ok.ensures.found (sym c.in-Ok.ensures.alert)
     (ap (is_public c.in-Ok.p) (sym c.ports.ensures) ∙ sym c.is_public-listed.ensures ∙ c.if-listed.false))

@@ -15,5 +15,5 @@ returns-in-None-clause-alert g c = sym (semaphore_refused c.args.self.now c.args
 pub returns-in-Some-clause-live : goal.returns-in-Some-clause-live
 returns-in-Some-clause-live g c =
     let s = c.args.self.now in
-    sym (shape_lives (pool_of variant.Semaphore s.table) s.sems.sems (c.facts.ensures.sound.kept.in_step variant.Semaphore) c.in-Some.n)
+    sym (shape_lives (pool_of variant.Semaphore s.table) s.sems.sems (c.in-Some.ensures.known.sound.kept.in_step variant.Semaphore) c.in-Some.n)
     ∙ ap is_some c.in-Some.ensures.live

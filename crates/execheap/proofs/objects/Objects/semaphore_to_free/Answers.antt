@@ -10,10 +10,10 @@ returns-in-Err-clause-alert g c = sym (free_refused c.args.semaphore (shown_heap
 
 pub returns-then-owned-clause-alert : goal.returns-then-owned-clause-alert
 returns-then-owned-clause-alert g c =
-    sym (free_found c.facts.ensures.sound c.in-Ok.n c.args.semaphore c.in-Ok.ensures.found
+    sym (free_found c.in-Ok.ensures.known.sound c.in-Ok.n c.args.semaphore c.in-Ok.ensures.found
     (ap (is_owned c.in-Ok.n) (sym c.sems.ensures) ∙ sym c.is_owned-owned.ensures ∙ c.if-owned.true))
 
 pub returns-else-owned-clause-alert : goal.returns-else-owned-clause-alert
 returns-else-owned-clause-alert g c =
-    sym (free_found c.facts.ensures.sound c.in-Ok.n c.args.semaphore c.in-Ok.ensures.found
+    sym (free_found c.in-Ok.ensures.known.sound c.in-Ok.n c.args.semaphore c.in-Ok.ensures.found
     (ap (is_owned c.in-Ok.n) (sym c.sems.ensures) ∙ sym c.is_owned-owned.ensures ∙ c.if-owned.false))

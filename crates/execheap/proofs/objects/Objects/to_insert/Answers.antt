@@ -18,18 +18,18 @@ returns-in-Err-predecessor_at-clause-alert g c =
 pub returns-in-Some-home-clause-alert : goal.returns-in-Some-home-clause-alert
 returns-in-Some-home-clause-alert g c =
     sym (insert_by_link c.args.self.now c.args.list c.args.node c.args.pred (sym c.in-Ok.ensures.alert) (sym c.in-Some.ensures.value)
-    (sym c.in-Ok-predecessor_at.ensures.alert) c.facts.ensures.sound c.facts.ensures.space (sym c.in-Some-home.ensures))
+    (sym c.in-Ok-predecessor_at.ensures.alert) c.in-Ok.ensures.known.sound c.in-Ok.ensures.known.space (sym c.in-Some-home.ensures))
 
 pub returns-then-is_in-clause-alert : goal.returns-then-is_in-clause-alert
 returns-then-is_in-clause-alert g c =
     let pred = c.in-Ok-predecessor_at in
-    sym (insert_found c.facts.ensures.sound c.facts.ensures.space c.args.list c.in-Ok.h c.in-Ok.ensures.found c.args.node c.args.pred
+    sym (insert_found c.in-Ok.ensures.known.sound c.in-Ok.ensures.known.space c.args.list c.in-Ok.h c.in-Ok.ensures.found c.args.node c.args.pred
     pred.p (sym c.in-Ok.ensures.alert) (sym c.in-Some.ensures.value) (sym pred.ensures.alert) pred.ensures.found pred.ensures.live
     (sym c.in-None-home.ensures) (sym c.is_in.ensures ∙ c.if-is_in.true))
 
 pub returns-else-is_in-clause-alert : goal.returns-else-is_in-clause-alert
 returns-else-is_in-clause-alert g c =
     let pred = c.in-Ok-predecessor_at in
-    sym (insert_found c.facts.ensures.sound c.facts.ensures.space c.args.list c.in-Ok.h c.in-Ok.ensures.found c.args.node c.args.pred
+    sym (insert_found c.in-Ok.ensures.known.sound c.in-Ok.ensures.known.space c.args.list c.in-Ok.h c.in-Ok.ensures.found c.args.node c.args.pred
     pred.p (sym c.in-Ok.ensures.alert) (sym c.in-Some.ensures.value) (sym pred.ensures.alert) pred.ensures.found pred.ensures.live
     (sym c.in-None-home.ensures) (sym c.is_in.ensures ∙ c.if-is_in.false))

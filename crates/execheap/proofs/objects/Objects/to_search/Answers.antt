@@ -18,5 +18,5 @@ returns-in-Ok-clause-alert g c = c.in-Ok.ensures.alert ∙ sym (find_node c.args
 
 pub returns-in-Ok-clause-searched : goal.returns-in-Ok-clause-searched
 returns-in-Ok-clause-searched g c =
-    searched_node c.facts.ensures.sound c.facts.ensures.space c.args.start c.in-Ok.n c.in-Ok.h (sym c.in-None.ensures.value)
+    searched_node c.in-Ok.ensures.known.sound c.in-Ok.ensures.known.space c.args.start c.in-Ok.n c.in-Ok.h (sym c.in-None.ensures.value)
     c.in-Ok.ensures.found c.in-Ok.ensures.linked

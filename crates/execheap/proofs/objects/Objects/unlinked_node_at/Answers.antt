@@ -8,10 +8,10 @@ returns-in-None-clause-alert g c = sym (free_node_refused c.args.self.now c.args
 
 pub returns-in-Some-home-clause-alert : goal.returns-in-Some-home-clause-alert
 returns-in-Some-home-clause-alert g c =
-    sym (free_node_found c.facts.ensures.sound c.facts.ensures.space c.args.node c.in-Some.n
+    sym (free_node_found c.in-Some.ensures.known.sound c.in-Some.ensures.known.space c.args.node c.in-Some.n
     (sym c.in-Some.ensures.value) (sym c.in-Some-home.ensures))
 
 pub returns-in-None-home-clause-alert : goal.returns-in-None-home-clause-alert
 returns-in-None-home-clause-alert g c =
-    sym (free_node_found c.facts.ensures.sound c.facts.ensures.space c.args.node c.in-Some.n
+    sym (free_node_found c.in-Some.ensures.known.sound c.in-Some.ensures.known.space c.args.node c.in-Some.n
     (sym c.in-Some.ensures.value) (sym c.in-None-home.ensures))
