@@ -19,7 +19,8 @@ use Rattle.execsim.specs.declared.simulation.SimFault.TheVariants as sim
 use Rattle.execrun.specs.CommandLine.{AreRight, two_paths}
 use Rattle.execrun.specs.Ending.{code_of, ending_after, status_of}
 use Rattle.execrun.specs.Fault.{fault_of}
-use Rattle.execrun.specs.Running.{EndsRun, Held, IsGivenIn, ReadsNothing, RunsFiles, RunsWords, WritesWhole, answer_of, good_sink}
+use Rattle.execrun.specs.Running.{EndsRun, Held, IsGivenIn, ReadsNothing, RunsGiven, RunsWords, WritesWhole, answer_of, good_sink}
+use Rattle.execrun.specs.Texts.{TextAt}
 use Rattle.execrun.specs.declared.ending.Ending.{Ending}
 use Rattle.execrun.specs.declared.ending.Ending.TheVariants.{Failed}
 use Rattle.execrun.specs.declared.fault.Fault.{Fault}
@@ -31,10 +32,10 @@ lacks_memory kinds error none (inl memory) = memory
 lacks_memory [] error none (inr among) = absurd among
 lacks_memory (k ∷ ks) error none (inr among) = cc
 
-pub runs_out_of_memory : {W : Type 0} (words : List Text) (held : W → Held) (old new : W) (error : Error) (ending : Ending) → AreRight words
+pub runs_out_of_memory : {W : Type 0} (text_at : TextAt) (words : List Text) (held : W → Held) (old new : W) (error : Error) (ending : Ending) → AreRight words
     → HasKind (clap.fault_of two_paths words) error → (kind_of error ≡ OutOfMemory → ending ≡ Failed NoMemory)
-    → (kind_of error ≡ OutOfMemory → new ≡ old) → RunsWords words (held old) (held new) ending
-runs_out_of_memory words held old new error ending right failed ends kept =
+    → (kind_of error ≡ OutOfMemory → new ≡ old) → RunsWords text_at words (held old) (held new) ending
+runs_out_of_memory text_at words held old new error ending right failed ends kept =
     let memory = lacks_memory (clap.fault_of two_paths words) error right failed in record {
       result = Err NoMemory;
       ends = ends memory;
@@ -53,25 +54,31 @@ ends_so : (result : Result End Fault) (first how : End) → result ≡ Ok first 
 ends_so result first how is so = cc
 
 -- an answer that is an end is the simulator's, which wrote the whole trace
-whole_trace : (machine events : List ℕ) (before after : Held) (sink : Tape) (ended : Result End SimFault) (flushed : Bool) (how : End)
-    → answer_of ended flushed ≡ Ok how → Simulates (file_of machine) (script_of events) (good_sink before) sink ended → Keeps sink.taken after
-    → WritesWhole before after how
-whole_trace machine events before after sink (Ok first) true how is s keeps = record {
-  machine = machine;
-  events = events;
-  sink = sink;
-  runs = subst (λ (e : End). RunsWhole (file_of machine) (script_of events) (good_sink before) sink e) (ends_so _ first how refl is) s;
-  keeps = keeps;
-}
-whole_trace machine events before after sink (Ok first) false how is s keeps = absurd (fault_is_no_end _ WriteFailed how refl is)
-whole_trace machine events before after sink (Err why) flushed how is s keeps = absurd (fault_is_no_end _ (fault_of why) how refl is)
+whole_trace : (machine events : List ℕ) (before : Held) (sink : Tape) (ended : Result End SimFault) (flushed : Bool) (how : End)
+    → answer_of ended flushed ≡ Ok how → Simulates (file_of machine) (script_of events) (good_sink before) sink ended
+    → RunsWhole (file_of machine) (script_of events) (good_sink before) sink how
+whole_trace machine events before sink (Ok first) true how is s =
+    subst (λ (e : End). RunsWhole (file_of machine) (script_of events) (good_sink before) sink e) (ends_so _ first how refl is) s
+whole_trace machine events before sink (Ok first) false how is s = absurd (fault_is_no_end _ WriteFailed how refl is)
+whole_trace machine events before sink (Err why) flushed how is s = absurd (fault_is_no_end _ (fault_of why) how refl is)
 
-whole_run : (words : List Text) (before after : Held) (result : Result End Fault) (how : End) → result ≡ Ok how
-    → RunsFiles before after result ⊎ ReadsNothing (IsGivenIn words) before after result → WritesWhole before after how
-whole_run words before after result how is (inl ran) =
-    let w = ran.writes in
-    whole_trace ran.machine ran.events before after w.sink w.ended w.flushed how (sym w.answers ∙ is) w.simulates w.keeps
-whole_run words before after result how is (inr none) = absurd (fault_is_no_end result none.fault how none.fails is)
+whole_run : (text_at : TextAt) (words : List Text) (before after : Held) (result : Result End Fault) (how : End) → result ≡ Ok how
+    → RunsGiven text_at words before after result ⊎ ReadsNothing (IsGivenIn words) before after result → WritesWhole text_at words before after how
+whole_run text_at words before after result how is (inl ran) =
+    let files = ran.files in
+    let w = files.writes in
+    record {
+      paths = ran.paths;
+      given = ran.given;
+      machine = files.machine;
+      events = files.events;
+      machine_is = files.machine_is;
+      events_is = files.events_is;
+      sink = w.sink;
+      runs = whole_trace files.machine files.events before w.sink w.ended w.flushed how (sym w.answers ∙ is) w.simulates;
+      keeps = w.keeps;
+    }
+whole_run text_at words before after result how is (inr none) = absurd (fault_is_no_end result none.fault how none.fails is)
 
 result_done : (result : Result End Fault) → code_of (status_of (ending_after result)) ≡ 0 → result ≡ Ok Ran
 result_done (Ok Ran) e = refl
@@ -91,23 +98,25 @@ result_alerted (Err NoMemory) e = absurd (omega (arith, e))
 result_alerted (Err (CannotRead path)) e = absurd (omega (arith, e))
 result_alerted (Err WriteFailed) e = absurd (omega (arith, e))
 
-pub ends_run : (words : List Text) (before after : Held) (ending : Ending) (code : ℕ) → code ≡ code_of (status_of ending)
-    → RunsWords words before after ending → EndsRun words before after code
-ends_run words before after ending code status runs = record { ending = ending; status = status; runs = runs }
+pub ends_run : (text_at : TextAt) (words : List Text) (before after : Held) (ending : Ending) (code : ℕ) → code ≡ code_of (status_of ending)
+    → RunsWords text_at words before after ending → EndsRun text_at words before after code
+ends_run text_at words before after ending code status runs = record { ending = ending; status = status; runs = runs }
 
-code_after : (words : List Text) (before after : Held) (code : ℕ) (r : EndsRun words before after code) → code ≡ code_of (status_of (ending_after r.runs.result))
-code_after words before after code r = r.status ∙ ap (λ e. code_of (status_of e)) r.runs.ends
+code_after : (text_at : TextAt) (words : List Text) (before after : Held) (code : ℕ) (r : EndsRun text_at words before after code)
+    → code ≡ code_of (status_of (ending_after r.runs.result))
+code_after text_at words before after code r = r.status ∙ ap (λ e. code_of (status_of e)) r.runs.ends
 
 -- status 0 is a run to its end
-pub whole_at_done : (words : List Text) (before after : Held) (code : ℕ) → EndsRun words before after code → code ≡ 0 → WritesWhole before after Ran
-whole_at_done words before after code r is =
-    whole_run words before after r.runs.result Ran (result_done r.runs.result (sym (code_after words before after code r) ∙ is)) r.runs.runs
+pub whole_at_done : (text_at : TextAt) (words : List Text) (before after : Held) (code : ℕ) → EndsRun text_at words before after code → code ≡ 0
+    → WritesWhole text_at words before after Ran
+whole_at_done text_at words before after code r is =
+    whole_run text_at words before after r.runs.result Ran (result_done r.runs.result (sym (code_after text_at words before after code r) ∙ is)) r.runs.runs
 
 -- status 3 is a run that an alert ended
-pub whole_at_alerted : (words : List Text) (before after : Held) (code : ℕ) → EndsRun words before after code → code ≡ 3
-    → WritesWhole before after end.Alerted
-whole_at_alerted words before after code r is =
-    whole_run words before after r.runs.result end.Alerted (result_alerted r.runs.result (sym (code_after words before after code r) ∙ is)) r.runs.runs
+pub whole_at_alerted : (text_at : TextAt) (words : List Text) (before after : Held) (code : ℕ) → EndsRun text_at words before after code → code ≡ 3
+    → WritesWhole text_at words before after end.Alerted
+whole_at_alerted text_at words before after code r is =
+    whole_run text_at words before after r.runs.result end.Alerted (result_alerted r.runs.result (sym (code_after text_at words before after code r) ∙ is)) r.runs.runs
 
 -- a text that is refused is answered before anything is written
 refused_trace : (machine events : List ℕ) (before after : Held) (sink : Tape) (ended : Result End SimFault) (flushed : Bool)
@@ -124,14 +133,16 @@ refused_trace machine events before after sink (Err sim.Memory) flushed is s kee
     subst (λ (t : Tape). Keeps t.taken after) s.untouched keeps
 refused_trace machine events before after sink (Err sim.Write) flushed is s keeps = absurd (omega (arith, is))
 
-refused_run : (words : List Text) (before after : Held) (result : Result End Fault) → code_of (status_of (ending_after result)) ≡ 1
-    → RunsFiles before after result ⊎ ReadsNothing (IsGivenIn words) before after result → Keeps before after
-refused_run words before after result is (inl ran) =
-    let w = ran.writes in
-    refused_trace ran.machine ran.events before after w.sink w.ended w.flushed (ap (λ r. code_of (status_of (ending_after r))) (sym w.answers) ∙ is) w.simulates w.keeps
-refused_run words before after result is (inr none) = none.untouched
+refused_run : (text_at : TextAt) (words : List Text) (before after : Held) (result : Result End Fault) → code_of (status_of (ending_after result)) ≡ 1
+    → RunsGiven text_at words before after result ⊎ ReadsNothing (IsGivenIn words) before after result → Keeps before after
+refused_run text_at words before after result is (inl ran) =
+    let files = ran.files in
+    let w = files.writes in
+    refused_trace files.machine files.events before after w.sink w.ended w.flushed (ap (λ r. code_of (status_of (ending_after r))) (sym w.answers) ∙ is) w.simulates w.keeps
+refused_run text_at words before after result is (inr none) = none.untouched
 
 -- status 1 leaves standard output alone
-pub kept_at_refused : (words : List Text) (before after : Held) (code : ℕ) → EndsRun words before after code → code ≡ 1 → Keeps before after
-kept_at_refused words before after code r is =
-    refused_run words before after r.runs.result (sym (code_after words before after code r) ∙ is) r.runs.runs
+pub kept_at_refused : (text_at : TextAt) (words : List Text) (before after : Held) (code : ℕ) → EndsRun text_at words before after code → code ≡ 1
+    → Keeps before after
+kept_at_refused text_at words before after code r is =
+    refused_run text_at words before after r.runs.result (sym (code_after text_at words before after code r) ∙ is) r.runs.runs

@@ -4,4 +4,5 @@ pub mod Fault
 pub mod Reading
 pub mod Ending
 pub mod Lending
+pub mod Texts
 pub mod Running

@@ -10,9 +10,10 @@ use Rattle.taskscript.specs.Events.{script_of}
 use Rattle.execsim.specs.Headline.{RunsWhole, Simulates}
 use Rattle.execsim.specs.declared.simulation.End.{End}
 use Rattle.execsim.specs.declared.simulation.SimFault.{SimFault}
-use Rattle.execrun.specs.CommandLine.{two_paths}
+use Rattle.execrun.specs.CommandLine.{AreGivenBy, two_paths}
 use Rattle.execrun.specs.Ending.{code_of, ending_after, status_of}
 use Rattle.execrun.specs.Fault.{fault_of}
+use Rattle.execrun.specs.Texts.{TextAt, IsTextAt}
 use Rattle.execrun.specs.declared.command_line.Paths.{Paths}
 use Rattle.execrun.specs.declared.ending.Ending.{Ending}
 use Rattle.execrun.specs.declared.fault.Fault.{Fault}
@@ -42,10 +43,13 @@ pub record WritesTrace (machine events : List ℕ) (before after : Held) (result
   pub flushed : Bool
   pub answers : result ≡ answer_of ended flushed
 
--- Both files were read, and the trace of their run was written: there are bytes of two files, within the limit, whose trace it is.
-pub record RunsFiles (before after : Held) (result : Result End Fault) : Type 0 where
+-- Both texts were read, and the trace of their run was written: it is that of the machine at the one path over the events at the other,
+-- as far as it is told what stands there, and both are within the limit.
+pub record RunsFiles (text_at : TextAt) (paths : Paths) (before after : Held) (result : Result End Fault) : Type 0 where
   pub machine : List ℕ
   pub events : List ℕ
+  pub machine_is : IsTextAt text_at paths.machine.now machine
+  pub events_is : IsTextAt text_at paths.events.now events
   pub machine_within : length machine ≤ 4194304
   pub events_within : length events ≤ 4194304
   pub writes : WritesTrace machine events before after result
@@ -67,22 +71,33 @@ IsGivenIn words path =
     (first_of (codes "MACHINE") (matches_of two_paths words) ≡ Some path.now)
     ⊎ (first_of (codes "EVENTS") (matches_of two_paths words) ≡ Some path.now)
 
--- The end is that of a run of the two files that the words give, or of files that could not be had.
-pub record RunsWords (words : List Text) (before after : Held) (ending : Ending) : Type 0 where
+-- The words give the paths of the two texts of the run.
+pub record RunsGiven (text_at : TextAt) (words : List Text) (before after : Held) (result : Result End Fault) : Type 0 where
+  pub paths : Paths
+  pub given : AreGivenBy words paths
+  pub files : RunsFiles text_at paths before after result
+
+-- The end is that of a run of the two texts whose paths the words give, or of texts that could not be had.
+pub record RunsWords (text_at : TextAt) (words : List Text) (before after : Held) (ending : Ending) : Type 0 where
   pub result : Result End Fault
   pub ends : ending ≡ ending_after result
-  pub runs : RunsFiles before after result ⊎ ReadsNothing (IsGivenIn words) before after result
+  pub runs : RunsGiven text_at words before after result ⊎ ReadsNothing (IsGivenIn words) before after result
 
 -- The same where the end is told by the number of its status.
-pub record EndsRun (words : List Text) (before after : Held) (code : ℕ) : Type 0 where
+pub record EndsRun (text_at : TextAt) (words : List Text) (before after : Held) (code : ℕ) : Type 0 where
   pub ending : Ending
   pub status : code ≡ code_of (status_of ending)
-  pub runs : RunsWords words before after ending
+  pub runs : RunsWords text_at words before after ending
 
--- The writer took the whole trace of the run of two texts, as the headline says of a run that ends so, and holds it after the flush.
-pub record WritesWhole (before after : Held) (how : End) : Type 0 where
+-- The writer took the whole trace of the run of the two texts whose paths the words give, as the headline says of a run that ends so, and
+-- holds it after the flush.
+pub record WritesWhole (text_at : TextAt) (words : List Text) (before after : Held) (how : End) : Type 0 where
+  pub paths : Paths
+  pub given : AreGivenBy words paths
   pub machine : List ℕ
   pub events : List ℕ
+  pub machine_is : IsTextAt text_at paths.machine.now machine
+  pub events_is : IsTextAt text_at paths.events.now events
   pub sink : Tape
   pub runs : RunsWhole (file_of machine) (script_of events) (good_sink before) sink how
   pub keeps : Keeps sink.taken after

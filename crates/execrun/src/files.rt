@@ -1,13 +1,14 @@
-//! Reading a file whole, up to a limit.
+//! Reading a text whole, up to a limit.
 ghost use Rattle.std.specs.Prelude.{◌≡◌, ◌<◌, ◌≤◌, ◌⊎◌, IfErr, IfOk, IfSome, IsErrOf, length, vec_len};
 ghost use Rattle.std.specs.IoError.{error_kind};
 ghost use Rattle.execrun.specs.Reading.{fault_at};
+ghost use Rattle.execrun.specs.Texts.{IsTextAt};
 
 use crate::fault::Fault;
+use crate::texts::Texts;
 use std::alloc::Global;
+use std::io;
 use std::io::{ErrorKind, Read};
-use std::rt::Files;
-use std::{fs, io};
 
 /// The length in bytes of the longest file that is read.
 pub const FILE_LIMIT: usize = 4_194_304;
@@ -64,15 +65,28 @@ fn fault_at(path: &str, fault: ReadFault) -> Fault<'_>
     }
 }
 
-/// The bytes of the file at a path, at most `FILE_LIMIT` of them.
+/// The bytes of the text at a path, at most `FILE_LIMIT` of them.
 ///
 /// # Errors
 ///
-/// `NoMemory` where memory is refused, and `CannotRead` where the file cannot be opened or read, or is longer.
-pub fn read_file<'a, R: Files>(rt: &R, alloc: Global, path: &'a str) -> Result<Vec<u8>, Fault<'a>>
+/// `NoMemory` where memory is refused, and `CannotRead` where the text cannot be opened or read, or is longer.
+///
+/// Source: own choice.
+#[tactic(auto, using(crate::proofs::ReadLemmas::read_whole))]
+pub fn read_text<'a, T: Texts>(
+    texts: &T,
+    alloc: Global,
+    path: &'a str,
+) -> Result<Vec<u8>, Fault<'a>>
+    ensures whole { IfOk result (λ bytes. IsTextAt (T.text_at texts.now) path.now bytes.items) }
     ensures within { IfOk result (λ bytes. vec_len bytes ≤ 4194304) }
     ensures faults { IfErr result (λ fault. (fault ≡ Fault.NoMemory) ⊎ (fault ≡ Fault.CannotRead path.entry)) }
 {
-    let file = fs::open(rt, path).map_err(|error| fault_at(path, ReadFault::from(error)))?;
-    read_limited(alloc, file).map_err(|fault| fault_at(path, fault))
+    match texts.open_text(path) {
+        Err(error) => Err(fault_at(path, ReadFault::from(error))),
+        Ok(text) => match read_limited(alloc, text) {
+            Ok(bytes) => Ok(bytes),
+            Err(fault) => Err(fault_at(path, fault)),
+        },
+    }
 }

@@ -1,4 +1,4 @@
-//! The program `execsim` whole, over any files, any words and any two writers: command line, files, statuses and messages.
+//! The program `execsim` whole, over any texts, any words and any two writers: command line, files, statuses and messages.
 #![tactic(auto)]
 
 mod arguments;
@@ -8,10 +8,12 @@ mod fault;
 mod files;
 mod lent;
 mod running;
+mod texts;
 
 pub use arguments::run_on_arguments;
 pub use command_line::Paths;
 pub use ending::{Ending, Status, report};
 pub use fault::Fault;
 pub use files::FILE_LIMIT;
-pub use running::run;
+pub use running::{run, run_on_texts};
+pub use texts::{SystemTexts, Texts};

@@ -1,17 +1,19 @@
-//! The program over any files, any words and any two writers.
+//! The program over any texts, any words and any two writers.
 ghost use Rattle.std.specs.Prelude.{◌≡◌, ◌≢◌, ◌≤◌, ◌⊎◌};
 ghost use Rattle.std.specs.Io.KnownBytes.{Keeps};
-ghost use Rattle.clap.specs.Walk.{texts};
+ghost use Rattle.clap.specs.Walk.{texts as words_of};
 ghost use Rattle.clap.specs.Words.{kind_of};
 ghost use Rattle.execrun.specs.CommandLine.{AreRefused, AreRight, AskForHelp};
 ghost use Rattle.execrun.specs.Ending.{status_of};
+ghost use Rattle.execrun.specs.Texts.{nothing_told};
 ghost use Rattle.execrun.specs.Running.{EndsRun, Grows, IsOneOf, ReadsNothing, RunsFiles, RunsWords, WritesTrace, WritesWhole, answer_of};
 
 use crate::command_line::{Paths, paths_given, write_answer};
 use crate::ending::{Ending, Status, report};
 use crate::fault::Fault;
-use crate::files::read_file;
+use crate::files::read_text;
 use crate::lent::Lent;
+use crate::texts::{SystemTexts, Texts};
 use clap::error::ErrorKind;
 use execsim::{End, SimFault, simulate};
 use exectrace::WriteSink;
@@ -59,17 +61,17 @@ fn write_trace<'a, W: Write>(
 }
 
 /// Reads the machine file, and then the event text, and writes the trace of their run. Nothing is judged before both are read.
-fn simulate_files<'a, R: Files, W: Write>(
-    rt: &R,
+fn simulate_files<'a, T: Texts, W: Write>(
+    texts: &T,
     alloc: Global,
     paths: Paths<'a>,
     out: &mut W,
 ) -> Result<End, Fault<'a>>
-    ensures { RunsFiles (W.contents out.old) (W.contents out.new) result
+    ensures { RunsFiles (T.text_at texts.now) paths.entry (W.contents out.old) (W.contents out.new) result
         ⊎ ReadsNothing (IsOneOf paths.entry) (W.contents out.old) (W.contents out.new) result }
 {
-    let machine = read_file(rt, alloc, paths.machine)?;
-    let events = read_file(rt, alloc, paths.events)?;
+    let machine = read_text(texts, alloc, paths.machine)?;
+    let events = read_text(texts, alloc, paths.events)?;
     write_trace(alloc, &machine, &events, out)
 }
 
@@ -98,27 +100,54 @@ fn ending_without_paths<'a, W: Write>(alloc: Global, error: clap::Error, out: &m
 }
 
 /// Does what the words ask for, and says how the program ends.
-fn ending_of<'a, R: Files, W: Write>(
-    rt: &R,
+fn ending_of<'a, T: Texts, W: Write>(
+    texts: &T,
     alloc: Global,
     words: &'a [&'a str],
     out: &mut W,
 ) -> Ending<'a>
-    ensures right { AreRight (texts words.now) → status_of result ≢ Status.CommandLineRefused }
-    ensures refused { AreRefused (texts words.now)
+    ensures right { AreRight (words_of words.now) → status_of result ≢ Status.CommandLineRefused }
+    ensures refused { AreRefused (words_of words.now)
         → (status_of result ≡ Status.CommandLineRefused) ⊎ (result ≡ Ending.Failed Fault.NoMemory) }
-    ensures runs { AreRight (texts words.now) → RunsWords (texts words.now) (W.contents out.old) (W.contents out.new) result }
-    ensures help { AskForHelp (texts words.now)
+    ensures runs { AreRight (words_of words.now) → RunsWords (T.text_at texts.now) (words_of words.now) (W.contents out.old) (W.contents out.new) result }
+    ensures help { AskForHelp (words_of words.now)
         → ((result ≡ Ending.Done) × Grows (W.contents out.old) (W.contents out.new)) ⊎ (status_of result ≡ Status.Failed) }
     ensures untouched { status_of result ≡ Status.CommandLineRefused → out.new ≡ out.old }
 {
     match paths_given(alloc, words) {
-        Ok(paths) => Ending::from(simulate_files(rt, alloc, paths, out)),
+        Ok(paths) => Ending::from(simulate_files(texts, alloc, paths, out)),
         Err(error) => ending_without_paths(alloc, error, out),
     }
 }
 
-/// Runs the program on the words of its command line, without its own name, and answers the status with which it ends.
+/// Runs the program over any texts on the words of its command line, without its own name, and answers the status with which it
+/// ends.
+///
+/// The trace, or the help, goes to `out`, and is flushed. What went wrong goes to `err`, where a write that fails changes nothing.
+pub fn run_on_texts<T: Texts, W: Write, E: Write>(
+    texts: &T,
+    alloc: Global,
+    words: &[&str],
+    out: &mut W,
+    err: &mut E,
+) -> u8
+    ensures status { result ≤ 4 }
+    ensures right { AreRight (words_of words.now) → result ≢ 2 }
+    // A command line is also refused for want of memory, with 4.
+    ensures refused { AreRefused (words_of words.now) → (result ≡ 2) ⊎ (result ≡ 4) }
+    ensures runs { AreRight (words_of words.now) → EndsRun (T.text_at texts.now) (words_of words.now) (W.contents out.old) (W.contents out.new) result }
+    ensures ran { AreRight (words_of words.now) → result ≡ 0 → WritesWhole (T.text_at texts.now) (words_of words.now) (W.contents out.old) (W.contents out.new) End.Ran }
+    ensures alerted { AreRight (words_of words.now) → result ≡ 3 → WritesWhole (T.text_at texts.now) (words_of words.now) (W.contents out.old) (W.contents out.new) End.Alerted }
+    ensures refused_text { AreRight (words_of words.now) → result ≡ 1 → Keeps (W.contents out.old) (W.contents out.new) }
+    ensures help { AskForHelp (words_of words.now) → ((result ≡ 0) × Grows (W.contents out.old) (W.contents out.new)) ⊎ (result ≡ 4) }
+    ensures silent { (result ≡ 0) ⊎ (result ≡ 3) → err.new ≡ err.old }
+    ensures untouched { result ≡ 2 → out.new ≡ out.old }
+{
+    report(&ending_of(texts, alloc, words, out), err).code()
+}
+
+/// Runs the program over the system's files on the words of its command line, without its own name, and answers the status with
+/// which it ends.
 ///
 /// The trace, or the help, goes to `out`, and is flushed. What went wrong goes to `err`, where a write that fails changes nothing.
 pub fn run<R: Files, W: Write, E: Write>(
@@ -129,16 +158,16 @@ pub fn run<R: Files, W: Write, E: Write>(
     err: &mut E,
 ) -> u8
     ensures status { result ≤ 4 }
-    ensures right { AreRight (texts words.now) → result ≢ 2 }
+    ensures right { AreRight (words_of words.now) → result ≢ 2 }
     // A command line is also refused for want of memory, with 4.
-    ensures refused { AreRefused (texts words.now) → (result ≡ 2) ⊎ (result ≡ 4) }
-    ensures runs { AreRight (texts words.now) → EndsRun (texts words.now) (W.contents out.old) (W.contents out.new) result }
-    ensures ran { AreRight (texts words.now) → result ≡ 0 → WritesWhole (W.contents out.old) (W.contents out.new) End.Ran }
-    ensures alerted { AreRight (texts words.now) → result ≡ 3 → WritesWhole (W.contents out.old) (W.contents out.new) End.Alerted }
-    ensures refused_text { AreRight (texts words.now) → result ≡ 1 → Keeps (W.contents out.old) (W.contents out.new) }
-    ensures help { AskForHelp (texts words.now) → ((result ≡ 0) × Grows (W.contents out.old) (W.contents out.new)) ⊎ (result ≡ 4) }
+    ensures refused { AreRefused (words_of words.now) → (result ≡ 2) ⊎ (result ≡ 4) }
+    ensures runs { AreRight (words_of words.now) → EndsRun nothing_told (words_of words.now) (W.contents out.old) (W.contents out.new) result }
+    ensures ran { AreRight (words_of words.now) → result ≡ 0 → WritesWhole nothing_told (words_of words.now) (W.contents out.old) (W.contents out.new) End.Ran }
+    ensures alerted { AreRight (words_of words.now) → result ≡ 3 → WritesWhole nothing_told (words_of words.now) (W.contents out.old) (W.contents out.new) End.Alerted }
+    ensures refused_text { AreRight (words_of words.now) → result ≡ 1 → Keeps (W.contents out.old) (W.contents out.new) }
+    ensures help { AskForHelp (words_of words.now) → ((result ≡ 0) × Grows (W.contents out.old) (W.contents out.new)) ⊎ (result ≡ 4) }
     ensures silent { (result ≡ 0) ⊎ (result ≡ 3) → err.new ≡ err.old }
     ensures untouched { result ≡ 2 → out.new ≡ out.old }
 {
-    report(&ending_of(rt, alloc, words, out), err).code()
+    run_on_texts(&SystemTexts(rt), alloc, words, out, err)
 }

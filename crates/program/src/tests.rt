@@ -1,8 +1,8 @@
 //! The program from its words to its status, over files in memory and over the system's.
 mod doubles;
 
-use self::doubles::{Broken, Shelf};
-use execrun::{Ending, FILE_LIMIT, Fault, Status, report, run, run_on_arguments};
+use self::doubles::{Broken, Shelf, Told};
+use execrun::{Ending, FILE_LIMIT, Fault, Status, report, run, run_on_arguments, run_on_texts};
 use execsim::SimFault;
 use std::alloc::Global;
 use std::io::BufWriter;
@@ -59,6 +59,21 @@ fn a_run_ends_with_0_and_an_alert_with_3(rt: HostRuntime) {
     expect_run(&rt, rt.alloc(), &ran, &words, (0, ONE_TASK_TRACE, ""));
     let alerted = Shelf::new(SIGNALS_NO_TASK, "run 1\n");
     expect_run(&rt, rt.alloc(), &alerted, &words, (3, ALERT_TRACE, ""));
+}
+
+#[test]
+fn texts_in_memory_are_run_as_files_are(rt: HostRuntime) {
+    let alloc = rt.alloc();
+    let told = Told {
+        machine: ONE_TASK.as_bytes(),
+        events: b"run 2\n",
+    };
+    let mut out = Vec::new(alloc);
+    let mut err = Vec::new(alloc);
+    let words = ["machine", "events"];
+    assert_eq!(rt; run_on_texts(&told, alloc, &words, &mut out, &mut err), 0);
+    assert!(rt; out.as_slice() == ONE_TASK_TRACE.as_bytes());
+    assert!(rt; err.is_empty());
 }
 
 #[test]

@@ -1,4 +1,7 @@
 //! Files and arguments in memory, and a writer that fails.
+ghost use Rattle.std.specs.Prelude.{bytes_eq, codes, None, Some, if◌then◌else◌};
+
+use execrun::Texts;
 use std::alloc::Allocator;
 use std::cell::Cell;
 use std::env::{Env, FillError};
@@ -6,6 +9,32 @@ use std::fs::{Metadata, OpenFile, OpenOptions};
 use std::io;
 use std::io::{ErrorKind, Read, Seek, SeekFrom, Write};
 use std::rt::Files;
+
+/// Two texts under the paths `machine` and `events`, of which the contracts know that they stand there.
+#[derive(Clone, Copy)]
+pub struct Told<'a> {
+    pub machine: &'a [u8],
+    pub events: &'a [u8],
+}
+
+impl<'a> Texts for Told<'a> {
+    type Text = &'a [u8];
+
+    ghost text_at = { λ told path.
+        if bytes_eq path (codes "machine") then Some told.machine.now
+        else if bytes_eq path (codes "events") then Some told.events.now
+        else None };
+
+    fn open_text(&self, path: &str) -> io::Result<&'a [u8]> {
+        if path == "machine" {
+            Ok(self.machine)
+        } else if path == "events" {
+            Ok(self.events)
+        } else {
+            Err(io::Error::from(ErrorKind::NotFound))
+        }
+    }
+}
 
 /// Two texts under the paths `machine` and `events`, and two files that fail: `refused` as it is opened, for want of memory,
 /// and `torn` in mid-stream. It counts the files that are opened. Beside them are the arguments of a process, of which the first is the
