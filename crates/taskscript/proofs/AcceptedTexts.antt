@@ -8,18 +8,19 @@ use Rattle.taskscript.specs.declared.event.Event.{Event}
 use Rattle.taskscript.specs.declared.fault.EventFault.{EventFault}
 use Rattle.taskscript.specs.declared.fault.EventFault.TheVariants.{TooMany}
 use Rattle.taskscript.specs.declared.fault.FileFault.{FileFault}
-use Rattle.taskscript.specs.Events.{event_of, is_skipped, events_of, is_within, fault_by, line_faults, faults as line_by_line, first as first_line, judged as judged_lines, lines_of, script_of, turns, AreWithin}
-use Rattle.taskscript.specs.Faults.{first}
-use Rattle.taskscript.specs.File.{MachineData, faults, machine_of, judged, file_of_document, file_of}
+use Rattle.taskscript.specs.Events.{event_of, is_skipped, events_of, is_within, fault_by, line_faults, faults as line_by_line, text_lines, script_of, turns, AreWithin}
+use Rattle.taskscript.specs.Faults.{first, judged}
+use Rattle.taskscript.specs.File.{MachineData, faults, machine_of, file_of_document, file_of}
 use Rattle.taskscript.specs.Machines.{IsMachine}
 use Rattle.taskscript.specs.Tree.{document_of}
 use Rattle.taskscript.proofs.EventSizes.{events_some}
 use Rattle.taskscript.proofs.EventTurns.{events_push}
+use Rattle.taskscript.proofs.Firsts.{first_left, first_right}
 use Rattle.taskscript.proofs.Machines.{machine_holds}
 
 -- ---- machine files
 
-of_tree : (tree : Members) (m : MachineData) (fault : Option FileFault) → first (faults tree) ≡ fault → judged tree fault ≡ Ok m → IsMachine m
+of_tree : (tree : Members) (m : MachineData) (fault : Option FileFault) → first (faults tree) ≡ fault → judged (machine_of tree) fault ≡ Ok m → IsMachine m
 of_tree tree m None none is = let same : machine_of tree ≡ m = cc in subst (λ (x : MachineData). IsMachine x) same (machine_holds tree none)
 of_tree tree m (Some f) some is = absurd cc
 
@@ -33,33 +34,25 @@ accepted_machine bytes m is = of_document (document_of bytes) m is
 
 -- ---- event texts
 
-left : (a b : List EventFault) → first_line (a ++ b) ≡ None → first_line a ≡ None
-left [] b h = refl
-left (f ∷ a) b h = absurd cc
-
-right : (a b : List EventFault) → first_line (a ++ b) ≡ None → first_line b ≡ None
-right [] b h = h
-right (f ∷ a) b h = absurd cc
-
-tells : (events : List Event) (within : Bool) → All (λ e. 1 ≤ turns e) events → is_within events ≡ within → first_line (if within then [] else TooMany ∷ []) ≡ None → AreWithin events
+tells : (events : List Event) (within : Bool) → All (λ e. 1 ≤ turns e) events → is_within events ≡ within → first (if within then [] else TooMany ∷ []) ≡ None → AreWithin events
 tells events true some is h = record { some = some; steps = grind (arith, nat_tests, is); ticks = grind (arith, nat_tests, is); count = grind (arith, nat_tests, is) }
 tells events false some is h = absurd cc
 
-with_event : (event : Option Event) (number : ℕ) (events : List Event) → All (λ e. 1 ≤ turns e) events → first_line (fault_by event number events) ≡ None → AreWithin events
+with_event : (event : Option Event) (number : ℕ) (events : List Event) → All (λ e. 1 ≤ turns e) events → first (fault_by event number events) ≡ None → AreWithin events
 with_event None number events some h = absurd cc
 with_event (Some e) number events some h = tells events (is_within events) some refl h
 
-after_line : (skipped : Bool) (before : List (List ℕ)) (line : List ℕ) → is_skipped line ≡ skipped → AreWithin (events_of before) → first_line (line_faults before line) ≡ None → AreWithin (events_of (before ++ line ∷ []))
+after_line : (skipped : Bool) (before : List (List ℕ)) (line : List ℕ) → is_skipped line ≡ skipped → AreWithin (events_of before) → first (line_faults before line) ≡ None → AreWithin (events_of (before ++ line ∷ []))
 after_line true before line is so_far h = rw (events_push before line, is, append-nil (events_of before)) so_far
 after_line false before line is so_far h = with_event (event_of line) (length before + 1) (events_of (before ++ line ∷ [])) (events_some (before ++ line ∷ [])) (rw is at h)
 
-after_lines : (before lines : List (List ℕ)) → AreWithin (events_of before) → first_line (line_by_line before lines) ≡ None → AreWithin (events_of (before ++ lines))
+after_lines : (before lines : List (List ℕ)) → AreWithin (events_of before) → first (line_by_line before lines) ≡ None → AreWithin (events_of (before ++ lines))
 after_lines before [] so_far h = rw append-nil so_far
 after_lines before (line ∷ lines) so_far h =
-    let here = after_line (is_skipped line) before line refl so_far (left (line_faults before line) _ h) in
-    rw (← append_assoc before (line ∷ []) lines) (after_lines (before ++ line ∷ []) lines here (right (line_faults before line) _ h))
+    let here = after_line (is_skipped line) before line refl so_far (first_left (line_faults before line) _ h) in
+    rw (← append_assoc before (line ∷ []) lines) (after_lines (before ++ line ∷ []) lines here (first_right (line_faults before line) _ h))
 
-of_lines : (lines : List (List ℕ)) (events : List Event) (fault : Option EventFault) → first_line (line_by_line [] lines) ≡ fault → judged_lines (events_of lines) fault ≡ Ok events → AreWithin events
+of_lines : (lines : List (List ℕ)) (events : List Event) (fault : Option EventFault) → first (line_by_line [] lines) ≡ fault → judged (events_of lines) fault ≡ Ok events → AreWithin events
 of_lines lines events None none is =
     let same : events_of lines ≡ events = cc in
     let nothing : AreWithin [] = record { some = All-nil (λ e. 1 ≤ turns e); steps = omega arith; ticks = omega arith; count = omega arith } in
@@ -68,4 +61,4 @@ of_lines lines events (Some f) some is = absurd cc
 
 pub accepted_events : (text : List ℕ) (events : List Event) → script_of text ≡ Ok events → AreWithin events
 unfolding script_of
-accepted_events text events is = of_lines (lines_of text) events (first_line (line_by_line [] (lines_of text))) refl is
+accepted_events text events is = of_lines (text_lines text) events (first (line_by_line [] (text_lines text))) refl is

@@ -8,7 +8,8 @@ use Rattle.std.proofs.Math.ListN.{get_or-map as default_map}
 use Rattle.taskscript.specs.declared.event.Event.{Event}
 use Rattle.taskscript.specs.declared.fault.EventFault.{EventFault}
 use Rattle.taskscript.specs.declared.fault.EventFault.TheVariants.{BadLine, TooMany, OutOfMemory}
-use Rattle.taskscript.specs.Events.{event_of, is_skipped, events_on, events_of, steps, ticks, are_within, is_within, line_faults, faults, first, lines_of, script_of, JudgesLines, AreWithin}
+use Rattle.taskscript.specs.Faults.{first}
+use Rattle.taskscript.specs.Events.{event_of, is_skipped, events_on, events_of, steps, ticks, are_within, is_within, line_faults, faults, text_lines, script_of, JudgesLines, AreWithin}
 use Rattle.taskscript.proofs.EventSizes.{events_some}
 
 abbrev pub nowhere : Bor (List ℕ)
@@ -86,7 +87,7 @@ limits s t n h = (grind (arith, nat_tests), grind (arith, nat_tests), grind (ari
 pub all_within : (es : List Event) (lines : List (List ℕ)) (s t : ℕ) → es ≡ events_of lines → s ≡ sum_by steps es → t ≡ sum_by ticks es → s ≤ 1000000 → t ≤ 1000000 → length es ≤ 100000 → AreWithin es
 all_within es lines s t found p q few short count = record { some = rw found (events_some lines); steps = omega arith; ticks = omega arith; count = count }
 
-pub decided : (text : List ℕ) (ls : List (List ℕ)) (r : Result (List Event) EventFault) → ls ≡ lines_of text → JudgesLines r (faults [] ls) (λ v. v ≡ events_of ls)
+pub decided : (text : List ℕ) (ls : List (List ℕ)) (r : Result (List Event) EventFault) → ls ≡ text_lines text → JudgesLines r (faults [] ls) (λ v. v ≡ events_of ls)
     → MatchResult r (λ v. script_of text ≡ Ok v) (λ f. ¬ (f ≡ OutOfMemory) → script_of text ≡ Err f)
 unfolding script_of
 decided text ls (Ok v) same h = rw (← same, h.0) (ap Ok (sym h.1))

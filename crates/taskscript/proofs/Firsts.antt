@@ -3,19 +3,19 @@ use Rattle.std.proofs.Common.{◌≡◌, List, [], ◌∷◌, ◌++◌, Some, No
 use Rattle.taskscript.specs.declared.fault.FileFault.{FileFault}
 use Rattle.taskscript.specs.Faults.{first, IsFirst}
 
-pub first_none : (a b : List FileFault) → first a ≡ None → first (a ++ b) ≡ first b
+pub first_none : {F : Type 0} (a b : List F) → first a ≡ None → first (a ++ b) ≡ first b
 first_none [] b h = refl
 first_none (f ∷ a) b h = absurd cc
 
-pub first_some : (a b : List FileFault) (f : FileFault) → first a ≡ Some f → first (a ++ b) ≡ Some f
+pub first_some : {F : Type 0} (a b : List F) (f : F) → first a ≡ Some f → first (a ++ b) ≡ Some f
 first_some [] b f h = absurd cc
 first_some (g ∷ a) b f h = h
 
-pub first_left : (a b : List FileFault) → first (a ++ b) ≡ None → first a ≡ None
+pub first_left : {F : Type 0} (a b : List F) → first (a ++ b) ≡ None → first a ≡ None
 first_left [] b h = refl
 first_left (f ∷ a) b h = absurd cc
 
-pub first_right : (a b : List FileFault) → first (a ++ b) ≡ None → first b ≡ None
+pub first_right : {F : Type 0} (a b : List F) → first (a ++ b) ≡ None → first b ≡ None
 first_right [] b h = h
 first_right (f ∷ a) b h = absurd cc
 
@@ -24,5 +24,5 @@ pub skip : (a b : List FileFault) (f : FileFault) → first a ≡ None → IsFir
 skip a b f none is ne = first_none a b none ∙ is ne
 
 -- two places without faults
-pub both : (a b : List FileFault) → first a ≡ None → first b ≡ None → first (a ++ b) ≡ None
+pub both : {F : Type 0} (a b : List F) → first a ≡ None → first b ≡ None → first (a ++ b) ≡ None
 both a b none last = first_none a b none ∙ last

@@ -14,7 +14,7 @@ use Rattle.taskscript.specs.declared.fault.FileFault.{FileFault}
 use Rattle.taskscript.specs.declared.fault.FileFault.TheVariants.{UnknownKey, BadValue, NameTwice, BadRegions, TooMany}
 use Rattle.taskscript.specs.Code.{lines_in, body_faults, shared_after}
 use Rattle.taskscript.specs.Faults.{first, check}
-use Rattle.taskscript.specs.File.{TaskData, top_keys, task_keys, name_of, task_faults, tasks_faults, tasks_in, lines_of, bodies_faults, faults, region_faults, regions_faults, regions_in, quantum_of, pool_of, settings_faults, both_passes_faults, task_of, tasks_of, machine_of}
+use Rattle.taskscript.specs.File.{TaskData, top_keys, task_keys, name_of, task_faults, tasks_faults, tasks_in, code_lines, bodies_faults, faults, region_faults, regions_faults, regions_in, quantum_of, pool_of, settings_faults, both_passes_faults, task_of, tasks_of, machine_of}
 use Rattle.taskscript.specs.Machines.{IsTask, IsMachine, task_names}
 use Rattle.taskscript.specs.Names.{is_name}
 use Rattle.taskscript.specs.Tree.{required, optional, keys_are_among, integer_faults, pri_faults, boolean_faults, name_faults, count_items, array_faults, are_strings, code_faults, number_or, items_faults, string_or_nothing, items_or_none}
@@ -109,7 +109,7 @@ is_named before (boolean b) h = absurd cc
 is_named before (datetime d) h = absurd cc
 is_named before (array ds) h = absurd cc
 
-is_short : (before : List (List ℕ)) (d : Data) → first (task_faults before d) ≡ None → length (lines_of d) ≤ 1024
+is_short : (before : List (List ℕ)) (d : Data) → first (task_faults before d) ≡ None → length (code_lines d) ≤ 1024
 is_short before (table ms) h = rw (length-lines_in (items_or_none (get_member (codes "code") ms))) (code_passes (get_member (codes "code") ms) (code_part before ms h))
 is_short before (string s) h = absurd cc
 is_short before (integer z) h = absurd cc
@@ -118,14 +118,14 @@ is_short before (boolean b) h = absurd cc
 is_short before (datetime d) h = absurd cc
 is_short before (array ds) h = absurd cc
 
-task_holds : (before shared : List (List ℕ)) (d : Data) → first (task_faults before d) ≡ None → first (body_faults shared (lines_of d)) ≡ None → IsTask (task_of shared d)
+task_holds : (before shared : List (List ℕ)) (d : Data) → first (task_faults before d) ≡ None → first (body_faults shared (code_lines d)) ≡ None → IsTask (task_of shared d)
 task_holds before shared d h k = record {
   name = is_named before d h;
-  code = omega (arith, length-code_of shared (lines_of d), is_short before d h);
-  commands = commands_fit shared (lines_of d) k;
-  arguments = commands_have shared (lines_of d);
-  names = quotes_once shared (lines_of d);
-  jumps = jumps_fit shared (lines_of d);
+  code = omega (arith, length-code_of shared (code_lines d), is_short before d h);
+  commands = commands_fit shared (code_lines d) k;
+  arguments = commands_have shared (code_lines d);
+  names = quotes_once shared (code_lines d);
+  jumps = jumps_fit shared (code_lines d);
 }
 
 -- ---- all tasks
@@ -133,13 +133,13 @@ task_holds before shared d h k = record {
 tasks_hold : (before shared : List (List ℕ)) (ds : Items) → first (tasks_faults before ds) ≡ None → first (bodies_faults shared ds) ≡ None → All IsTask (tasks_of shared ds)
 tasks_hold before shared no_items h k = All-nil IsTask
 tasks_hold before shared (item d ds) h k =
-    All-cons IsTask (task_of shared d) (tasks_of (shared_after shared (lines_of d)) ds)
+    All-cons IsTask (task_of shared d) (tasks_of (shared_after shared (code_lines d)) ds)
     (task_holds before shared d (first_left _ _ h) (first_left _ _ k))
-    (tasks_hold (before ++ name_of d ∷ []) (shared_after shared (lines_of d)) ds (first_right (task_faults before d) _ h) (first_right (body_faults shared (lines_of d)) _ k))
+    (tasks_hold (before ++ name_of d ∷ []) (shared_after shared (code_lines d)) ds (first_right (task_faults before d) _ h) (first_right (body_faults shared (code_lines d)) _ k))
 
 length-tasks_of : (shared : List (List ℕ)) (ds : Items) → length (tasks_of shared ds) ≡ count_items ds
 length-tasks_of shared no_items = refl
-length-tasks_of shared (item d ds) = rw (length-tasks_of (shared_after shared (lines_of d)) ds) (omega arith)
+length-tasks_of shared (item d ds) = rw (length-tasks_of (shared_after shared (code_lines d)) ds) (omega arith)
 
 -- ---- names
 
@@ -149,7 +149,7 @@ names_in (item d ds) = name_of d ∷ names_in ds
 
 task_names-tasks_of : (shared : List (List ℕ)) (ds : Items) → task_names (tasks_of shared ds) ≡ names_in ds
 task_names-tasks_of shared no_items = refl
-task_names-tasks_of shared (item d ds) = ap (λ ns. name_of d ∷ ns) (task_names-tasks_of (shared_after shared (lines_of d)) ds)
+task_names-tasks_of shared (item d ds) = ap (λ ns. name_of d ∷ ns) (task_names-tasks_of (shared_after shared (code_lines d)) ds)
 
 unused_parts : (n : List ℕ) (before : List (List ℕ)) (x : List ℕ) → list_any (bytes_eq n) (before ++ x ∷ []) ≡ false → (list_any (bytes_eq n) before ≡ false) × (bytes_eq n x ≡ false)
 unused_parts n before x h =

@@ -10,7 +10,7 @@ use Rattle.taskscript.specs.declared.file.TaskRecord.{TaskRecord}
 use Rattle.taskscript.specs.declared.tasks.Head.{Head}
 use Rattle.taskscript.specs.Code.{body_faults, shared_after}
 use Rattle.taskscript.specs.Faults.{first, IsFirst}
-use Rattle.taskscript.specs.File.{name_of, task_faults, tasks_faults, lines_of, bodies_faults, shared_after_bodies, task_of, tasks_of, TaskData}
+use Rattle.taskscript.specs.File.{name_of, task_faults, tasks_faults, code_lines, bodies_faults, shared_after_bodies, task_of, tasks_of, TaskData}
 use Rattle.taskscript.specs.Records.{HeadData, head_names, head_view, head_of, heads_of, task_view}
 use Rattle.taskscript.proofs.Firsts.{first_none, first_some}
 
@@ -56,25 +56,25 @@ heads_at (x ∷ hs) (w ∷ vs) (suc i) h v e lt p q = heads_at hs vs i h v (ap (
 -- ---- the second pass
 
 bodies_here : (shared : List (List ℕ)) (vs : List Value) (i : ℕ) (v : Value) → i < length vs → v ≡ get_or vs i v
-    → bodies_faults shared (items_view (drop i vs)) ≡ body_faults shared (lines_of (view v)) ++ bodies_faults (shared_after shared (lines_of (view v))) (items_view (drop (i + 1) vs))
+    → bodies_faults shared (items_view (drop i vs)) ≡ body_faults shared (code_lines (view v)) ++ bodies_faults (shared_after shared (code_lines (view v))) (items_view (drop (i + 1) vs))
 bodies_here shared vs i v lt is = ap (bodies_faults shared) (items_view-drop vs i v lt) ∙ ap (λ (w : Value). bodies_faults shared (item (view w) (items_view (drop (i + 1) vs)))) (sym is)
 
 pub bodies_stop : (start shared : List (List ℕ)) (vs : List Value) (i : ℕ) (v : Value) (f : FileFault) → i < length vs → v ≡ get_or vs i v
-    → first (bodies_faults shared (items_view (drop i vs))) ≡ first (bodies_faults start (items_view vs)) → IsFirst f (body_faults shared (lines_of (view v))) → IsFirst f (bodies_faults start (items_view vs))
+    → first (bodies_faults shared (items_view (drop i vs))) ≡ first (bodies_faults start (items_view vs)) → IsFirst f (body_faults shared (code_lines (view v))) → IsFirst f (bodies_faults start (items_view vs))
 bodies_stop start shared vs i v f lt is so_far h ne = sym so_far ∙ ap first (bodies_here shared vs i v lt is) ∙ first_some _ _ f (h ne)
 
 pub bodies_go_on : (shared more : List (List ℕ)) (vs : List Value) (i : ℕ) (v : Value) → i < length vs → v ≡ get_or vs i v
-    → first (body_faults shared (lines_of (view v))) ≡ None → more ≡ shared_after shared (lines_of (view v))
+    → first (body_faults shared (code_lines (view v))) ≡ None → more ≡ shared_after shared (code_lines (view v))
     → first (bodies_faults shared (items_view (drop i vs))) ≡ first (bodies_faults more (items_view (drop (i + 1) vs)))
 bodies_go_on shared more vs i v lt is good after = ap first (bodies_here shared vs i v lt is) ∙ first_none _ _ good ∙ ap (λ (s : List (List ℕ)). first (bodies_faults s (items_view (drop (i + 1) vs)))) (sym after)
 
-pub shared_go_on : (shared more : List (List ℕ)) (vs : List Value) (i : ℕ) (v : Value) → i < length vs → v ≡ get_or vs i v → more ≡ shared_after shared (lines_of (view v))
+pub shared_go_on : (shared more : List (List ℕ)) (vs : List Value) (i : ℕ) (v : Value) → i < length vs → v ≡ get_or vs i v → more ≡ shared_after shared (code_lines (view v))
     → shared_after_bodies shared (items_view (drop i vs)) ≡ shared_after_bodies more (items_view (drop (i + 1) vs))
 shared_go_on shared more vs i v lt is after =
     ap (shared_after_bodies shared) (items_view-drop vs i v lt) ∙ ap (λ (w : Value). shared_after_bodies shared (item (view w) (items_view (drop (i + 1) vs)))) (sym is)
     ∙ ap (λ (s : List (List ℕ)). shared_after_bodies s (items_view (drop (i + 1) vs))) (sym after)
 
-pub tasks_found : (shared more : List (List ℕ)) (ts : List TaskRecord) (t : TaskRecord) (vs : List Value) (i : ℕ) (v : Value) → i < length vs → v ≡ get_or vs i v → more ≡ shared_after shared (lines_of (view v))
+pub tasks_found : (shared more : List (List ℕ)) (ts : List TaskRecord) (t : TaskRecord) (vs : List Value) (i : ℕ) (v : Value) → i < length vs → v ≡ get_or vs i v → more ≡ shared_after shared (code_lines (view v))
     → task_view t ≡ task_of shared (view v)
     → map task_view ts ++ tasks_of shared (items_view (drop i vs)) ≡ map task_view (ts ++ t ∷ []) ++ tasks_of more (items_view (drop (i + 1) vs))
 tasks_found shared more ts t vs i v lt is after same =

@@ -6,6 +6,7 @@ use Rattle.taskscript.specs.declared.event.Event.{Event}
 use Rattle.taskscript.specs.declared.event.Event.TheVariants.{Run, Tick}
 use Rattle.taskscript.specs.declared.fault.EventFault.{EventFault}
 use Rattle.taskscript.specs.declared.fault.EventFault.TheVariants.{BadLine, TooMany, OutOfMemory}
+use Rattle.taskscript.specs.Faults.{first, judged}
 
 -- ---- one line
 
@@ -76,21 +77,13 @@ abbrev pub faults : List (List ℕ) → List (List ℕ) → List EventFault
 faults before [] = []
 faults before (line ∷ lines) = line_faults before line ++ faults (before ++ line ∷ []) lines
 
-abbrev pub first : List EventFault → Option EventFault
-first [] = None
-first (f ∷ fs) = Some f
-
-abbrev pub judged : List Event → Option EventFault → Result (List Event) EventFault
-judged events None = Ok events
-judged events (Some f) = Err f
-
 -- a text is cut at its line feeds
-abbrev pub lines_of : List ℕ → List (List ℕ)
-lines_of text = slice_split (λ b. b == 10) text
+abbrev pub text_lines : List ℕ → List (List ℕ)
+text_lines text = slice_split (λ b. b == 10) text
 
 -- the events of a text, or the fault of its first faulty line
 unfoldable pub script_of : List ℕ → Result (List Event) EventFault
-script_of text = judged (events_of (lines_of text)) (first (faults [] (lines_of text)))
+script_of text = judged (events_of (text_lines text)) (first (faults [] (text_lines text)))
 
 -- ---- what a reader of lines answers
 

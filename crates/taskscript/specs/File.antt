@@ -6,7 +6,7 @@ use Rattle.toml.specs.Data.{Data, table, Items, no_items, item, Members, get_mem
 use Rattle.taskscript.specs.declared.fault.FileFault.{FileFault}
 use Rattle.taskscript.specs.declared.fault.FileFault.TheVariants.{NotToml, UnknownKey, BadValue, BadRegions}
 use Rattle.taskscript.specs.Commands.{CommandData}
-use Rattle.taskscript.specs.Faults.{first, check}
+use Rattle.taskscript.specs.Faults.{first, judged, check}
 use Rattle.taskscript.specs.Tree.{document_of, required, optional, keys_are_among, integer_faults, pri_faults, boolean_faults, name_faults, array_faults, items_faults, code_faults, pri_in, number_or, boolean_or, string_or_nothing, items_or_none, members_or_none}
 use Rattle.taskscript.specs.Code.{lines_in, body_faults, code_of, shared_after}
 
@@ -115,18 +115,18 @@ tasks_in tree = items_or_none (get_member (codes "task") tree)
 -- ---- the second pass: the lines
 
 -- the lines of what has a `code`
-abbrev pub lines_of : Data → List (List ℕ)
-lines_of owner = lines_in (items_or_none (get_member (codes "code") (members_or_none owner)))
+abbrev pub code_lines : Data → List (List ℕ)
+code_lines owner = lines_in (items_or_none (get_member (codes "code") (members_or_none owner)))
 
 -- the bodies in their order, each after the shared variables of those before it
 abbrev pub bodies_faults : List (List ℕ) → Items → List FileFault
 bodies_faults shared no_items = []
-bodies_faults shared (item owner rest) = body_faults shared (lines_of owner) ++ bodies_faults (shared_after shared (lines_of owner)) rest
+bodies_faults shared (item owner rest) = body_faults shared (code_lines owner) ++ bodies_faults (shared_after shared (code_lines owner)) rest
 
 -- the shared variables after some bodies
 abbrev pub shared_after_bodies : List (List ℕ) → Items → List (List ℕ)
 shared_after_bodies shared no_items = shared
-shared_after_bodies shared (item owner rest) = shared_after_bodies (shared_after shared (lines_of owner)) rest
+shared_after_bodies shared (item owner rest) = shared_after_bodies (shared_after shared (code_lines owner)) rest
 
 -- ---- the whole
 
@@ -152,22 +152,18 @@ faults tree =
 
 -- a task, whose body stands after those shared variables
 abbrev pub task_of : List (List ℕ) → Data → TaskData
-task_of shared task = record { name = name_of task; pri = pri_of task; start = start_of task; code = code_of shared (lines_of task) }
+task_of shared task = record { name = name_of task; pri = pri_of task; start = start_of task; code = code_of shared (code_lines task) }
 
 abbrev pub tasks_of : List (List ℕ) → Items → List TaskData
 tasks_of shared no_items = []
-tasks_of shared (item task rest) = task_of shared task ∷ tasks_of (shared_after shared (lines_of task)) rest
+tasks_of shared (item task rest) = task_of shared task ∷ tasks_of (shared_after shared (code_lines task)) rest
 
 abbrev pub machine_of : Members → MachineData
 machine_of tree = record { quantum = quantum_of tree; pool = pool_of tree; regions = regions_in tree; tasks = tasks_of [] (tasks_in tree) }
 
-abbrev pub judged : Members → Option FileFault → Result MachineData FileFault
-judged tree None = Ok (machine_of tree)
-judged tree (Some fault) = Err fault
-
 abbrev pub file_of_document : Option Members → Result MachineData FileFault
 file_of_document None = Err NotToml
-file_of_document (Some tree) = judged tree (first (faults tree))
+file_of_document (Some tree) = judged (machine_of tree) (first (faults tree))
 
 -- the machine that the bytes of a file state, or the fault at the first of its faulty places
 unfoldable pub file_of : List ℕ → Result MachineData FileFault

@@ -7,7 +7,7 @@ use Rattle.taskscript.specs.declared.file.TaskRecord.{TaskRecord}
 use Rattle.taskscript.specs.declared.tasks.Head.{Head}
 use Rattle.taskscript.specs.Code.{code_of}
 use Rattle.taskscript.specs.Commands.{command_view}
-use Rattle.taskscript.specs.File.{TaskData, name_of, pri_of, start_of, lines_of}
+use Rattle.taskscript.specs.File.{TaskData, name_of, pri_of, start_of, code_lines}
 use Rattle.taskscript.specs.Tree.{document_of}
 
 -- why there is no tree
@@ -40,4 +40,4 @@ heads_of (item task rest) = head_of task ∷ heads_of rest
 
 -- the task of a head, whose body stands after those shared variables
 abbrev pub task_with : HeadData → List (List ℕ) → Data → TaskData
-task_with head shared task = record { name = head.name; pri = head.pri; start = head.start; code = code_of shared (lines_of task) }
+task_with head shared task = record { name = head.name; pri = head.pri; start = head.start; code = code_of shared (code_lines task) }

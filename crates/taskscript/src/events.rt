@@ -1,6 +1,6 @@
 //! Reading an event text: bytes, cut at line feeds and never decoded.
 ghost use Rattle.std.specs.Prelude.{◌≡◌, map, [], IfOk, Ok, Err, MatchResult};
-ghost use Rattle.taskscript.specs.Events.{turns_of, event_of, is_skipped, are_within, lines_of, faults, events_of, script_of, JudgesLines};
+ghost use Rattle.taskscript.specs.Events.{turns_of, event_of, is_skipped, are_within, text_lines, faults, events_of, script_of, JudgesLines};
 ghost use Rattle.taskscript.specs.declared.fault.EventFault.TheVariants.{OutOfMemory};
 
 use crate::event::{Event, Events};
@@ -52,7 +52,7 @@ fn is_skipped(line: &[u8]) -> bool
 }
 
 fn lines_of(alloc: Global, text: &[u8]) -> Result<Vec<&[u8]>, AllocError>
-    ensures { IfOk result (λ v. map (λ l. l.now) v.items ≡ lines_of text.now) }
+    ensures { IfOk result (λ v. map (λ l. l.now) v.items ≡ text_lines text.now) }
 {
     text.split(|b| *b == 10).collect(alloc)
 }

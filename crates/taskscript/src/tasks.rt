@@ -5,7 +5,7 @@ ghost use Rattle.toml.specs.Data.{table as a_table, get_member};
 ghost use Rattle.toml.specs.View.{table_view, view, items_view};
 ghost use Rattle.taskscript.specs.Code.{lines_in, body_faults, shared_after};
 ghost use Rattle.taskscript.specs.Faults.{Judges};
-ghost use Rattle.taskscript.specs.File.{task_table_faults, task_faults, tasks_faults, lines_of, bodies_faults, both_passes_faults, shared_after_bodies, tasks_of, tasks_in};
+ghost use Rattle.taskscript.specs.File.{task_table_faults, task_faults, tasks_faults, code_lines, bodies_faults, both_passes_faults, shared_after_bodies, tasks_of, tasks_in};
 ghost use Rattle.taskscript.specs.Numbering.{texts};
 ghost use Rattle.taskscript.specs.Records.{head_view, head_names, head_of, heads_of, task_view, task_with};
 ghost use Rattle.taskscript.specs.Tree.{required, optional, name_faults, string_or_nothing, code_faults, array_faults};
@@ -142,7 +142,7 @@ fn task_heads(alloc: Global, table: &Table) -> Result<Vec<Head>, FileFault>
 
 /// The lines of what has a `code`, or none.
 fn lines_of(owner: &Value) -> &[Value]
-    ensures { lines_in (items_view result.now) ≡ lines_of (view owner.now) }
+    ensures { lines_in (items_view result.now) ≡ code_lines (view owner.now) }
 {
     match owner.as_table() {
         None => &[],
@@ -156,8 +156,8 @@ fn task_of(
     item: &Value,
     shared: &mut IndexSet<VariableName>,
 ) -> Result<TaskRecord, FileFault>
-    ensures judged { Judges result (body_faults (texts shared.old.keys) (lines_of (view item.now))) (λ t. task_view t ≡ task_with (head_view head) (texts shared.old.keys) (view item.now)) }
-    ensures shared { OnOk result (texts shared.new.keys ≡ shared_after (texts shared.old.keys) (lines_of (view item.now))) }
+    ensures judged { Judges result (body_faults (texts shared.old.keys) (code_lines (view item.now))) (λ t. task_view t ≡ task_with (head_view head) (texts shared.old.keys) (view item.now)) }
+    ensures shared { OnOk result (texts shared.new.keys ≡ shared_after (texts shared.old.keys) (code_lines (view item.now))) }
 {
     let code = read_code(alloc, lines_of(item), shared)?;
     Ok(TaskRecord {
