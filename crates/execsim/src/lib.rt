@@ -22,4 +22,4 @@ mod tasks;
 /// Laws of every run of the abstract machine, which the machine follows.
 pub use execmodel::laws;
 pub use machine::{Flow, Machine};
-pub use simulation::{End, SimFault, simulate};
+pub use simulation::{End, SimFault, simulate, simulate_on};

@@ -7,6 +7,7 @@ ghost use Rattle.execsim.specs.Headline.{Simulates, ended};
 
 use crate::machine::{Flow, Machine};
 use execlist::link::LinkSpace;
+use execlist::space::ListSpace;
 use exectrace::{Sink, WriteFault};
 use std::alloc::Global;
 use taskscript::{EventFault, FileFault, read_events, read_machine};
@@ -68,6 +69,25 @@ pub fn simulate<W: Sink>(
     requires { (W.tape out.old).state ≡ SinkState.Good }
     ensures { Simulates (file_of file.now) (script_of events.now) (W.tape out.old) (W.tape out.new) result }
 {
+    simulate_on::<LinkSpace, W>(alloc, file, events, out)
+}
+
+/// Runs a machine as `simulate` does, over list spaces of the type S: the trace is the same whatever the space.
+///
+/// # Errors
+///
+/// Those of `simulate`.
+///
+/// Source: own choice.
+pub fn simulate_on<S: ListSpace, W: Sink>(
+    alloc: Global,
+    file: &[u8],
+    events: &[u8],
+    out: &mut W,
+) -> Result<End, SimFault>
+    requires { (W.tape out.old).state ≡ SinkState.Good }
+    ensures { Simulates (file_of file.now) (script_of events.now) (W.tape out.old) (W.tape out.new) result }
+{
     let file = match read_machine(alloc, file) {
         Ok(file) => file,
         Err(fault) => return Err(SimFault::File(fault)),
@@ -76,7 +96,7 @@ pub fn simulate<W: Sink>(
         Ok(events) => events,
         Err(fault) => return Err(SimFault::Events(fault)),
     };
-    let mut machine: Machine<LinkSpace> = match Machine::boot(alloc, &file) {
+    let mut machine: Machine<S> = match Machine::boot(alloc, &file) {
         Ok(machine) => machine,
         Err(_) => return Err(SimFault::Memory),
     };

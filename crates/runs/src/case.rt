@@ -5,6 +5,9 @@ ghost use Rattle.taskscript.specs.Events.{script_of};
 ghost use Rattle.runs.specs.Outcomes.{IsOutcome};
 
 use crate::outcome::{Outcome, outcome_of};
+use execlist::link::LinkSpace;
+use execlist::plain::PlainSpace;
+use execlist::space::ListSpace;
 use std::io;
 use std::str::from_utf8;
 
@@ -44,7 +47,21 @@ fn print_difference(
     Ok(())
 }
 
-/// Whether the program comes to what is wanted of it. Where it does not, the first difference is printed.
+/// Whether the program comes to what is wanted of it on list spaces of the type S. Where it does not, the first difference is printed.
+fn is_met<S: ListSpace>(rt: &HostRuntime, table: &str, case: &Case<'_>) -> io::Result<bool>
+    ensures { IfOk result (λ same. same ≡ true
+        → IsOutcome (file_of case.now.machine.now) (script_of case.now.events.now) case.now.status case.now.written.now) }
+{
+    let outcome = outcome_of::<S>(rt.alloc(), case.machine.as_bytes(), case.events.as_bytes())?;
+    if outcome.status == case.status && outcome.written.as_slice() == case.written.as_bytes() {
+        return Ok(true);
+    }
+    print_difference(rt, table, case, &outcome)?;
+    Ok(false)
+}
+
+/// Whether the program comes to what is wanted of it, on lists in vectors and on linked cells: then both write the same bytes. Where it
+/// does not, the first difference is printed.
 ///
 /// # Errors
 ///
@@ -55,10 +72,8 @@ pub fn is_as_wanted(rt: &HostRuntime, table: &str, case: &Case<'_>) -> io::Resul
     ensures { IfOk result (λ same. same ≡ true
         → IsOutcome (file_of case.now.machine.now) (script_of case.now.events.now) case.now.status case.now.written.now) }
 {
-    let outcome = outcome_of(rt.alloc(), case.machine.as_bytes(), case.events.as_bytes())?;
-    if outcome.status == case.status && outcome.written.as_slice() == case.written.as_bytes() {
-        return Ok(true);
+    if !is_met::<PlainSpace>(rt, table, case)? {
+        return Ok(false);
     }
-    print_difference(rt, table, case, &outcome)?;
-    Ok(false)
+    is_met::<LinkSpace>(rt, table, case)
 }

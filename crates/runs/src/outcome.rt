@@ -5,6 +5,7 @@ ghost use Rattle.taskscript.specs.Events.{script_of};
 ghost use Rattle.runs.specs.Outcomes.{IsOutcome};
 
 use crate::run::run_of;
+use execlist::space::ListSpace;
 use execrun::{Ending, Fault};
 use std::alloc::{AllocError, Global};
 
@@ -15,17 +16,21 @@ pub struct Outcome {
     pub written: Vec<u8>,
 }
 
-/// What the program comes to over a machine file and an event text.
+/// What the program comes to over a machine file and an event text, on list spaces of the type S.
 ///
 /// # Errors
 ///
 /// Where memory is lacking for the line of a fault.
 ///
 /// Source: own choice.
-pub fn outcome_of(alloc: Global, machine: &[u8], events: &[u8]) -> Result<Outcome, AllocError>
+pub fn outcome_of<S: ListSpace>(
+    alloc: Global,
+    machine: &[u8],
+    events: &[u8],
+) -> Result<Outcome, AllocError>
     ensures { IfOk result (λ outcome. IsOutcome (file_of machine.now) (script_of events.now) outcome.status outcome.written.items) }
 {
-    match run_of(alloc, machine, events) {
+    match run_of::<S>(alloc, machine, events) {
         Ok(run) => Ok(Outcome {
             status: Ending::from(Ok(run.end)).status().code(),
             written: run.trace,

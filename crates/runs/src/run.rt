@@ -4,7 +4,8 @@ ghost use Rattle.taskscript.specs.File.{file_of};
 ghost use Rattle.taskscript.specs.Events.{script_of};
 ghost use Rattle.runs.specs.Runs.{IsRun, IsFault};
 
-use execsim::{End, SimFault, simulate};
+use execlist::space::ListSpace;
+use execsim::{End, SimFault, simulate_on};
 use exectrace::WriteSink;
 use std::alloc::Global;
 
@@ -16,18 +17,18 @@ pub struct Run {
     pub end: End,
 }
 
-/// Runs the machine of a machine file over the events of an event text, and keeps the whole trace.
+/// Runs the machine of a machine file over the events of an event text, on list spaces of the type S, and keeps the whole trace.
 ///
 /// # Errors
 ///
 /// The fault of `simulate`. `Write` comes where memory is lacking for the trace.
 ///
 /// Source: own choice.
-pub fn run_of(alloc: Global, machine: &[u8], events: &[u8]) -> Result<Run, SimFault>
+pub fn run_of<S: ListSpace>(alloc: Global, machine: &[u8], events: &[u8]) -> Result<Run, SimFault>
     ensures { MatchResult result (λ run. IsRun (file_of machine.now) (script_of events.now) run.trace.items run.end) (λ fault. IsFault (file_of machine.now) (script_of events.now) fault) }
 {
     let mut out = WriteSink::new(Vec::new(alloc));
-    match simulate(alloc, machine, events, &mut out) {
+    match simulate_on::<S, WriteSink<Vec<u8>>>(alloc, machine, events, &mut out) {
         Ok(end) => Ok(Run {
             trace: out.into_inner(),
             end,
