@@ -7,6 +7,7 @@ pub mod Endings
 pub mod Following
 pub mod Forbidding
 pub mod Listing
+pub mod Naming
 pub mod Obtaining
 pub mod Ordering
 pub mod PortOrder

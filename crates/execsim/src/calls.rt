@@ -7,12 +7,12 @@ ghost use Rattle.execmodel.specs.Calls.{done, answered, waiting, silent, alerted
 ghost use Rattle.execsim.specs.Agreement.{Follows, line_seen};
 ghost use Rattle.execsim.specs.Views.{call_view};
 
+use crate::command::Call;
 use crate::kernel::Kernel;
-use crate::program::Call;
 use execlist::space::ListSpace;
 use exectrace::Sink;
 use exectrace::lines::CallOutcome;
-use exectrace::printing::{put_alert, put_call};
+use exectrace::printing::{put_alert, put_short_call};
 use taskq::TaskId;
 
 impl<S: ListSpace> Kernel<S> {
@@ -22,7 +22,8 @@ impl<S: ListSpace> Kernel<S> {
         ensures { Puts (W.tape out.old) (W.tape out.new) (printed_line (line_seen t (call_view call.now) (shown_outcome outcome) self.now)) }
     {
         let name = self.name(t);
-        put_call(&name, call.word.text(), call.shown(), outcome, out);
+        let word = call.word.text();
+        put_short_call(&name, word, call.shown(), &call.quoted, outcome, out);
     }
 
     /// The call answers nothing, and task t goes on.

@@ -1,22 +1,21 @@
 //! The machine without its failure to write. The methods here touch its fields, and have one equation each.
-ghost use Rattle.std.specs.Prelude.{◌≡◌, ◌<◌, ◌≤◌, length, true, false, Some, None, slice_set, map, replicate};
+ghost use Rattle.std.specs.Prelude.{◌≡◌, ◌<◌, ◌≤◌, ℕ, List, length, true, false, Some, None, slice_set, map, replicate};
 ghost use Rattle.std.specs.Option.{option_map};
-ghost use Rattle.exectrace.specs.Shown.{shown_argument};
-ghost use Rattle.taskscript.specs.Commands.{argument_view, command_view};
+ghost use Rattle.exectrace.specs.Short.{short_argument};
 ghost use Rattle.scheduler.specs.Schedule.{name_of, task_count};
 ghost use Rattle.execmodel.specs.State.{program_of, shared_variables};
 ghost use Rattle.execmodel.specs.Calls.{content, evaluated, stored, goes_on, keeps, call_of, next_call};
 ghost use Rattle.execmodel.specs.Signals.{is_task};
-ghost use Rattle.execsim.specs.Views.{call_view};
+ghost use Rattle.execsim.specs.Views.{call_view, operand_view, slot_view, small_view};
 
-use crate::program::{Call, Program};
+use crate::command::{Call, Operand, Slot, SmallCommand};
+use crate::program::Program;
 use execheap::Heap;
 use execlist::space::ListSpace;
-use exectrace::{Arg, Name};
+use exectrace::{Name, ShortArg};
 use scheduler::Sched;
 use std::marker::Model;
 use taskq::TaskId;
-use taskscript::{Argument, Command, Variable};
 
 /// How many variables all tasks share.
 const SHARED_VARIABLES: usize = 64;
@@ -89,35 +88,35 @@ impl<S: ListSpace> Kernel<S> {
     }
 
     /// What a variable holds for task t; 0 where there is no such variable.
-    fn content(&self, t: TaskId, variable: Variable) -> u32
+    fn content(&self, t: TaskId, variable: Slot) -> u32
         requires { t < length self.now.scripts.programs }
-        ensures { result ≡ content t self.now.scripts variable }
+        ensures { result ≡ content t self.now.scripts (slot_view variable) }
     {
         match variable {
-            Variable::Private(k) => self.programs[t].variable(k),
-            Variable::Shared(k) => self.shared.get(k).copied().unwrap_or(0),
+            Slot::Private(k) => self.programs[t].variable(k as usize),
+            Slot::Shared(k) => self.shared.get(k as usize).copied().unwrap_or(0),
         }
     }
 
     /// The value of an argument for task t.
-    fn evaluate(&self, t: TaskId, argument: &Argument) -> Arg
+    fn evaluate(&self, t: TaskId, operand: Operand) -> ShortArg
         requires { t < length self.now.scripts.programs }
-        ensures { shown_argument result ≡ evaluated t self.now.scripts (argument_view argument.now) }
+        ensures { (name : List ℕ) → short_argument name result ≡ evaluated t self.now.scripts (operand_view name operand) }
     {
-        match argument {
-            Argument::Number(n) => Arg::Value(*n),
-            Argument::Variable(variable) => Arg::Value(self.content(t, *variable)),
-            Argument::Quoted(name) => Arg::Quoted(*name),
-            Argument::Place(place) => Arg::Value(*place),
+        match operand {
+            Operand::Number(n) => ShortArg::Value(n),
+            Operand::Variable(variable) => ShortArg::Value(self.content(t, variable)),
+            Operand::Quoted => ShortArg::Quoted,
+            Operand::Place(place) => ShortArg::Value(place),
         }
     }
 
     /// The values of all arguments of a command for task t.
-    fn evaluate_all(&self, t: TaskId, arguments: &[Argument; 4]) -> [Arg; 4]
+    fn evaluate_all(&self, t: TaskId, operands: &[Operand; 4]) -> [ShortArg; 4]
         requires { t < length self.now.scripts.programs }
-        ensures { map shown_argument result ≡ map (λ a. evaluated t self.now.scripts (argument_view a)) arguments.now }
+        ensures { (name : List ℕ) → map (short_argument name) result ≡ map (λ a. evaluated t self.now.scripts (operand_view name a)) operands.now }
     {
-        let [first, second, third, fourth] = arguments;
+        let [first, second, third, fourth] = *operands;
         [
             self.evaluate(t, first),
             self.evaluate(t, second),
@@ -127,14 +126,16 @@ impl<S: ListSpace> Kernel<S> {
     }
 
     /// The call that a command is for task t, where the next command stands at that place.
-    fn call_of(&self, t: TaskId, next: usize, command: &Command) -> Call
+    fn call_of(&self, t: TaskId, next: usize, command: &SmallCommand) -> Call
         requires { t < length self.now.scripts.programs }
-        ensures { call_view result ≡ call_of t next (command_view command.now) self.now.scripts }
+        ensures { call_view result ≡ call_of t next (small_view command.now) self.now.scripts }
     {
         Call {
             word: command.word,
             target: command.target,
-            arguments: self.evaluate_all(t, &command.arguments),
+            arguments: self.evaluate_all(t, &command.operands),
+            count: command.count,
+            quoted: command.name,
             next,
             awaited: 0,
         }
@@ -157,14 +158,14 @@ impl<S: ListSpace> Kernel<S> {
     }
 
     /// Gives a variable of task t, or none, a value.
-    pub(crate) fn store(&mut self, t: TaskId, target: Option<Variable>, value: u32)
+    pub(crate) fn store(&mut self, t: TaskId, target: Option<Slot>, value: u32)
         requires { t < length self.old.scripts.programs }
-        ensures { self.new ≡ record self.old { scripts = stored t target value self.old.scripts } }
+        ensures { self.new ≡ record self.old { scripts = stored t (option_map slot_view target) value self.old.scripts } }
     {
         match target {
             None => {}
-            Some(Variable::Private(k)) => self.programs[t].store(k, value),
-            Some(Variable::Shared(k)) => self.store_shared(k, value),
+            Some(Slot::Private(k)) => self.programs[t].store(k as usize, value),
+            Some(Slot::Shared(k)) => self.store_shared(k as usize, value),
         }
     }
 

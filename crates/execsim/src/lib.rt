@@ -4,6 +4,7 @@
 #![tactic(auto)]
 
 mod calls;
+mod command;
 mod interrupts;
 mod kernel;
 mod lists;
@@ -15,6 +16,7 @@ mod ports;
 mod program;
 mod semaphores;
 mod simulation;
+mod small;
 mod step;
 mod task_signals;
 mod tasks;

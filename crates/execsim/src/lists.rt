@@ -16,8 +16,8 @@ ghost use Rattle.execsim.specs.Agreement.{Follows};
 ghost use Rattle.execsim.specs.Endings.{answered_or_alerted, done_or_alerted};
 ghost use Rattle.execsim.specs.Views.{call_view};
 
+use crate::command::Call;
 use crate::kernel::Kernel;
-use crate::program::Call;
 use crate::tasks::is_priority;
 use execheap::Refusal;
 use execlist::space::ListSpace;

@@ -1,9 +1,9 @@
 //! The machine as its callers see it: made from a machine file, started once, and given one event after another.
-ghost use Rattle.std.specs.Prelude.{◌≡◌, ◌≤◌, true, false, length, map, IfOk};
+ghost use Rattle.std.specs.Prelude.{◌≡◌, ◌≤◌, true, false, All, length, map, IfOk};
 ghost use Rattle.exectrace.specs.Sink.{Writes};
 ghost use Rattle.exectrace.specs.Trace.{printed};
 ghost use Rattle.exectrace.specs.declared.sinks.SinkState.{SinkState};
-ghost use Rattle.taskscript.specs.Commands.{command_view};
+ghost use Rattle.taskscript.specs.Machines.{IsTask};
 ghost use Rattle.taskscript.specs.Records.{task_view};
 ghost use Rattle.execmodel.specs.State.{State, booted, begun, andthen};
 ghost use Rattle.execmodel.specs.Step.{starts, event, events};
@@ -12,6 +12,7 @@ ghost use Rattle.execsim.specs.Headline.{Acts, StaysFailed, Finishes, flow_of};
 
 use crate::kernel::Kernel;
 use crate::program::Program;
+use crate::small::small_code;
 use execheap::Heap;
 use execlist::space::ListSpace;
 use exectrace::sinks::written;
@@ -20,7 +21,7 @@ use scheduler::Sched;
 use std::alloc::{AllocError, Global};
 use std::marker::Model;
 use taskq::TaskInit;
-use taskscript::{Command, Event, MachineFile, TaskRecord};
+use taskscript::{Event, MachineFile, TaskRecord};
 
 /// Whether a machine goes on.
 #[derive(Clone, Copy, Debug, PartialEq, Eq)]
@@ -62,23 +63,23 @@ fn inits_of(alloc: Global, tasks: &[TaskRecord]) -> Result<Vec<TaskInit>, AllocE
     Ok(inits)
 }
 
-/// A copy of the commands of a task.
-fn code_of(alloc: Global, code: &[Command]) -> Result<Vec<Command>, AllocError>
-    ensures { IfOk result (λ v. v.items ≡ code.now) }
+/// The program of a task at its first command.
+fn program_of(alloc: Global, task: &TaskRecord) -> Result<Program, AllocError>
+    requires { IsTask (task_view task.now) }
+    ensures { IfOk result (λ p. p ≡ begun (task_view task.now)) }
 {
-    let mut copy = Vec::new(alloc);
-    copy.extend_from_slice(code)?;
-    Ok(copy)
+    let code = small_code(alloc, &task.code)?;
+    Ok(Program::new(code, task.start))
 }
 
 /// The programs of the tasks, in the order of the file.
 fn programs_of(alloc: Global, tasks: &[TaskRecord]) -> Result<Vec<Program>, AllocError>
+    requires { All IsTask (map task_view tasks.now) }
     ensures { IfOk result (λ v. v.items ≡ map begun (map task_view tasks.now)) }
 {
     let mut programs = Vec::new(alloc);
     for task in tasks {
-        let code = code_of(alloc, &task.code)?;
-        programs.push(Program::new(code, task.start))?;
+        programs.push(program_of(alloc, task)?)?;
     }
     Ok(programs)
 }

@@ -6,8 +6,8 @@ ghost use Rattle.execmodel.specs.Memory.{block_at, can_be_asked, does_alloc_mem,
 ghost use Rattle.execsim.specs.Agreement.{Follows};
 ghost use Rattle.execsim.specs.Views.{call_view};
 
+use crate::command::Call;
 use crate::kernel::Kernel;
-use crate::program::Call;
 use execlist::space::ListSpace;
 use exectrace::Sink;
 use taskq::TaskId;

@@ -7,8 +7,8 @@ ghost use Rattle.execmodel.specs.Nesting.{done_or_nest, does_forbid, does_permit
 ghost use Rattle.execsim.specs.Agreement.{Follows};
 ghost use Rattle.execsim.specs.Views.{call_view};
 
+use crate::command::Call;
 use crate::kernel::Kernel;
-use crate::program::Call;
 use execlist::space::ListSpace;
 use exectrace::Sink;
 use taskq::TaskId;

@@ -5,8 +5,8 @@ ghost use Rattle.execmodel.specs.Plain.{does_set, does_add, does_sub, does_and, 
 ghost use Rattle.execsim.specs.Agreement.{Follows};
 ghost use Rattle.execsim.specs.Views.{call_view};
 
+use crate::command::Call;
 use crate::kernel::Kernel;
-use crate::program::Call;
 use execlist::space::ListSpace;
 use exectrace::Sink;
 use taskq::TaskId;

@@ -20,8 +20,8 @@ ghost use Rattle.execsim.specs.Actions.{given_back_or_alerted, performed, perfor
 ghost use Rattle.execsim.specs.Agreement.{Follows};
 ghost use Rattle.execsim.specs.Views.{call_view};
 
+use crate::command::Call;
 use crate::kernel::Kernel;
-use crate::program::Call;
 use crate::tasks::is_priority;
 use execheap::Refusal;
 use execlist::space::ListSpace;

@@ -1,39 +1,24 @@
 //! What a task executes: its commands, its own variables, and the call that it waits in.
-ghost use Rattle.std.specs.Prelude.{◌≡◌, ◌<◌, ◌+◌, map, length, Some, None, slice_get, slice_set, slice_index_or, option_copied};
+ghost use Rattle.std.specs.Prelude.{◌≡◌, ◌<◌, ◌≤◌, ◌+◌, map, length, Some, None, slice_get, slice_set, slice_index_or, option_copied};
 ghost use Rattle.std.specs.Option.{option_map};
-ghost use Rattle.exectrace.specs.Shown.{shown_argument};
-ghost use Rattle.taskscript.specs.Commands.{command_view};
+ghost use Rattle.exectrace.specs.Short.{short_argument};
 ghost use Rattle.execmodel.specs.Calls.{argument, name_argument};
 ghost use Rattle.execmodel.specs.State.{begun_with};
-ghost use Rattle.execsim.specs.Views.{call_view};
+ghost use Rattle.execsim.specs.Views.{call_view, small_view};
 
-use exectrace::{Arg, Name};
+use crate::command::{Call, SmallCommand};
+use exectrace::{Name, ShortArg};
 use std::marker::Model;
-use taskscript::{Command, Variable, Word};
 
 /// How many variables of its own a task has.
 pub const PRIVATE_VARIABLES: usize = 32;
 
-/// A command of a task with the values that its arguments had when it was first tried.
-#[derive(Clone, Copy)]
-pub struct Call {
-    pub word: Word,
-    /// Where the answer goes.
-    pub target: Option<Variable>,
-    /// The arguments from left to right; anything past those that the word has.
-    pub arguments: [Arg; 4],
-    /// The place of the command after it.
-    pub next: usize,
-    /// The signals that the task waits for, where it waits in the call at a port; else 0.
-    pub awaited: u32,
-}
-
 impl Call {
-    /// The arguments that the word has, as the trace prints them.
-    pub fn shown(&self) -> &[Arg]
-        ensures { map shown_argument result.now ≡ (call_view self.now).arguments }
+    /// The arguments that the word has, as the trace prints them, each name as the call's.
+    pub fn shown(&self) -> &[ShortArg]
+        ensures { map (short_argument self.now.quoted.bytes) result.now ≡ (call_view self.now).arguments }
     {
-        &self.arguments[..self.word.kinds().len()]
+        &self.arguments[..self.count]
     }
 
     /// The number that stands at an argument, counted from 0; 0 where none does.
@@ -41,7 +26,7 @@ impl Call {
         ensures { result ≡ argument k (call_view self.now) }
     {
         match self.shown().get(k) {
-            Some(Arg::Value(n)) => *n,
+            Some(ShortArg::Value(n)) => *n,
             _ => 0,
         }
     }
@@ -51,7 +36,7 @@ impl Call {
         ensures { option_map (λ n. n.bytes) result ≡ name_argument k (call_view self.now) }
     {
         match self.shown().get(k) {
-            Some(Arg::Quoted(name)) => Some(*name),
+            Some(ShortArg::Quoted) => Some(self.quoted),
             _ => None,
         }
     }
@@ -66,10 +51,17 @@ impl Call {
     }
 }
 
+/// The command of that place, if there is one.
+fn command_at(code: &[SmallCommand], place: usize) -> Option<&SmallCommand>
+    ensures { option_copied result ≡ slice_get code.now place }
+{
+    code.get(place)
+}
+
 /// The program of a task.
 #[derive(Drop)]
 pub struct Program {
-    code: Vec<Command>,
+    code: Vec<SmallCommand>,
     place: usize,
     variables: [u32; PRIVATE_VARIABLES],
     kept: Option<Call>,
@@ -79,14 +71,13 @@ pub struct Program {
 impl Model for Program {
     ghost use Rattle.std.specs.Prelude.{map};
     ghost use Rattle.std.specs.Option.{option_map};
-    ghost use Rattle.taskscript.specs.Commands.{command_view};
     ghost use Rattle.execmodel.specs.State as model;
-    ghost use Rattle.execsim.specs.Views.{call_view};
+    ghost use Rattle.execsim.specs.Views.{call_view, small_view};
 
     ghost Value = { model.Program };
 
     ghost view = { λ p. record {
-      code = map command_view p.code.items;
+      code = map small_view p.code.items;
       place = p.place;
       variables = p.variables;
       kept = option_map call_view p.kept;
@@ -96,8 +87,8 @@ impl Model for Program {
 
 impl Program {
     /// The program of these commands, at its first one, with every variable 0, of a task that starts with the machine or not.
-    pub fn new(code: Vec<Command>, starts: bool) -> Self
-        ensures { result ≡ begun_with (map command_view code.items) starts }
+    pub fn new(code: Vec<SmallCommand>, starts: bool) -> Self
+        ensures { result ≡ begun_with (map small_view code.items) starts }
     {
         Program {
             code,
@@ -123,10 +114,10 @@ impl Program {
     }
 
     /// The next command, if any is left.
-    pub fn command(&self) -> Option<&Command>
-        ensures { option_map command_view (option_copied result) ≡ slice_get self.now.code self.now.place }
+    pub fn command(&self) -> Option<&SmallCommand>
+        ensures { option_map small_view (option_copied result) ≡ slice_get self.now.code self.now.place }
     {
-        self.code.as_slice().get(self.place)
+        command_at(self.code.as_slice(), self.place)
     }
 
     /// The place of the command after the next one.

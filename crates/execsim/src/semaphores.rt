@@ -13,8 +13,8 @@ ghost use Rattle.execsim.specs.Actions.{obtains_or_alerted, passes_or_alerted, w
 ghost use Rattle.execsim.specs.Agreement.{Follows};
 ghost use Rattle.execsim.specs.Views.{call_view};
 
+use crate::command::Call;
 use crate::kernel::Kernel;
-use crate::program::Call;
 use execheap::Refusal;
 use execlist::space::ListSpace;
 use exectrace::Sink;

@@ -10,8 +10,8 @@ ghost use Rattle.execmodel.specs.Interrupts.{interrupts};
 ghost use Rattle.execsim.specs.Agreement.{Follows, FollowsWhileGood, Moves};
 ghost use Rattle.execsim.specs.Views.{call_view};
 
+use crate::command::Call;
 use crate::kernel::Kernel;
-use crate::program::Call;
 use execlist::space::ListSpace;
 use exectrace::lines::CallOutcome;
 use exectrace::printing::{put_call, put_idle, put_switch};

@@ -8,8 +8,8 @@ ghost use Rattle.execmodel.specs.Signals.{is_mask, does_alloc_signal, does_free_
 ghost use Rattle.execsim.specs.Agreement.{Follows};
 ghost use Rattle.execsim.specs.Views.{call_view};
 
+use crate::command::Call;
 use crate::kernel::Kernel;
-use crate::program::Call;
 use execlist::space::ListSpace;
 use exectrace::Sink;
 use taskq::TaskId;

@@ -12,8 +12,8 @@ ghost use Rattle.execmodel.specs.Tasks.{is_live_task, is_priority, is_caller, fo
 ghost use Rattle.execsim.specs.Agreement.{Follows};
 ghost use Rattle.execsim.specs.Views.{call_view};
 
+use crate::command::Call;
 use crate::kernel::Kernel;
-use crate::program::Call;
 use execlist::space::ListSpace;
 use exectrace::{Name, Sink};
 use taskq::TaskId;

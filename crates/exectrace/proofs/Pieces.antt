@@ -193,11 +193,14 @@ puts_line line p = put_same _ p (append-nil (printed_line line))
 pub puts_lines : {a b c : Tape} (lines more : List TraceLine) → Puts a b (printed lines) → Puts b c (printed more) → Puts a c (printed (lines ++ more))
 puts_lines lines more p q = puts_then _ p q (flat_map-append printed_line lines more)
 
--- the texts of one element more
-pub flat_map_mapped_next : {X Y A : Type 0} (f : Y → List A) (g : X → Y) (xs : List X) (i : ℕ) (d : X) → i < length xs → get_or xs i d ≡ d → flat_map f (map g (take (i + 1) xs)) ≡ flat_map f (map g (take i xs)) ++ f (g d)
-flat_map_mapped_next f g xs i d h e =
+-- one more of what is made of a list
+pub flat_map_mapped_more : {X Y A : Type 0} (f : Y → List A) (g : X → Y) (xs : List X) (i : ℕ) (d : X) → i < length xs → flat_map f (map g (take (i + 1) xs)) ≡ flat_map f (map g (take i xs)) ++ f (g (get_or xs i d))
+flat_map_mapped_more f g xs i d h =
     ap (λ z. flat_map f (map g z)) (take_more xs i d h)
     ∙ ap (flat_map f) (map-append g (take i xs) (get_or xs i d ∷ []))
     ∙ flat_map-append f (map g (take i xs)) (g (get_or xs i d) ∷ [])
     ∙ ap (λ z. flat_map f (map g (take i xs)) ++ z) (append-nil (f (g (get_or xs i d))))
-    ∙ ap (λ z. flat_map f (map g (take i xs)) ++ f (g z)) e
+
+-- the texts of one element more
+pub flat_map_mapped_next : {X Y A : Type 0} (f : Y → List A) (g : X → Y) (xs : List X) (i : ℕ) (d : X) → i < length xs → get_or xs i d ≡ d → flat_map f (map g (take (i + 1) xs)) ≡ flat_map f (map g (take i xs)) ++ f (g d)
+flat_map_mapped_next f g xs i d h e = flat_map_mapped_more f g xs i d h ∙ ap (λ z. flat_map f (map g (take i xs)) ++ f (g z)) e

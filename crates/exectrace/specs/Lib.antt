@@ -1,3 +1,4 @@
 pub mod Trace
 pub mod Sink
 pub mod Shown
+pub mod Short

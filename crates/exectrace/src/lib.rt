@@ -11,6 +11,6 @@ pub mod lines;
 pub mod printing;
 pub mod sinks;
 
-pub use lines::{Arg, Arguments, CallLine, CallOutcome, Line, Name};
+pub use lines::{Arg, Arguments, CallLine, CallOutcome, Line, Name, ShortArg};
 pub use printing::emit;
 pub use sinks::{Sink, SinkFault, SinkState, WriteFault, WriteSink};

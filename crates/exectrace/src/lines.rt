@@ -27,6 +27,15 @@ impl Default for Arg {
     }
 }
 
+/// An argument of a call of which at most one name is quoted: the name stands beside the arguments.
+#[derive(Clone, Copy)]
+pub enum ShortArg {
+    /// A 32-bit word, printed as `$` and eight digits.
+    Value(u32),
+    /// The name that stands beside, printed between double quotes.
+    Quoted,
+}
+
 /// How a call ends.
 #[derive(Clone, Copy)]
 pub enum CallOutcome {

@@ -5,11 +5,12 @@
 ghost use Rattle.std.specs.Prelude.{◌≡◌, ◌<◌, ◌≤◌, length, map, codes, ◌++◌};
 ghost use Rattle.std.specs.List.{flat_map};
 ghost use Rattle.exectrace.specs.Sink.{Adds, Puts, Writes};
-ghost use Rattle.exectrace.specs.Trace.{printed_line, value_text, hex_digit, quoted_count, Switch, Idle, Call, Serve, Timer, Server, Softint, Alert, argument_text, outcome_text};
+ghost use Rattle.exectrace.specs.Trace.{printed_line, value_text, hex_digit, quoted_count, Switch, Idle, Call, Serve, Timer, Server, Softint, Alert, Value, Quoted, argument_text, outcome_text};
 ghost use Rattle.exectrace.specs.Shown.{shown, shown_argument, shown_outcome, shown_call};
+ghost use Rattle.exectrace.specs.Short.{short_argument};
 ghost use Rattle.exectrace.specs.declared.sinks.SinkState.{SinkState};
 
-use crate::lines::{Arg, CallLine, CallOutcome, Line, Name};
+use crate::lines::{Arg, CallLine, CallOutcome, Line, Name, ShortArg};
 use crate::sinks::{Sink, WriteFault, put, written};
 use arrayvec::ArrayVec;
 
@@ -101,20 +102,30 @@ fn put_between<W: Sink>(before: &[u8], text: &[u8], after: &[u8], out: &mut W)
     hand_over(&line, out);
 }
 
+/// Adds a space and the word.
+fn add_value<W: Sink>(line: &mut Draft, n: u32, out: &mut W)
+    ensures { Adds (W.tape out.old) (W.tape out.new) line.old.items line.new.items (argument_text (Value n)) }
+{
+    let text = spaced_digits(n);
+    add(line, &text, out);
+}
+
+/// Adds a space and the name between double quotes.
+fn add_quoted<W: Sink>(line: &mut Draft, name: &Name, out: &mut W)
+    ensures { Adds (W.tape out.old) (W.tape out.new) line.old.items line.new.items (argument_text (Quoted name.now.bytes)) }
+{
+    add(line, b" \"", out);
+    add_name(line, name, out);
+    add(line, b"\"", out);
+}
+
 /// Adds a space and the argument.
 fn add_argument<W: Sink>(line: &mut Draft, argument: &Arg, out: &mut W)
     ensures { Adds (W.tape out.old) (W.tape out.new) line.old.items line.new.items (argument_text (shown_argument argument.now)) }
 {
     match argument {
-        Arg::Value(n) => {
-            let text = spaced_digits(*n);
-            add(line, &text, out);
-        }
-        Arg::Quoted(name) => {
-            add(line, b" \"", out);
-            add_name(line, name, out);
-            add(line, b"\"", out);
-        }
+        Arg::Value(n) => add_value(line, *n, out),
+        Arg::Quoted(name) => add_quoted(line, name, out),
     }
 }
 
@@ -123,6 +134,30 @@ fn add_arguments<W: Sink>(line: &mut Draft, arguments: &[Arg], out: &mut W)
 {
     for argument in arguments {
         add_argument(line, argument, out);
+    }
+}
+
+/// Adds a space and the argument, which is that name where it is quoted.
+fn add_short<W: Sink>(line: &mut Draft, argument: &ShortArg, quoted: &Name, out: &mut W)
+    ensures { Adds (W.tape out.old) (W.tape out.new) line.old.items line.new.items (argument_text (short_argument quoted.now.bytes argument.now)) }
+{
+    match argument {
+        ShortArg::Value(n) => add_value(line, *n, out),
+        ShortArg::Quoted => add_quoted(line, quoted, out),
+    }
+}
+
+fn add_short_arguments<W: Sink>(
+    line: &mut Draft,
+    arguments: &[ShortArg],
+    quoted: &Name,
+    out: &mut W,
+)
+    ensures { Adds (W.tape out.old) (W.tape out.new) line.old.items line.new.items
+        (flat_map argument_text (map (short_argument quoted.now.bytes) arguments.now)) }
+{
+    for argument in arguments {
+        add_short(line, argument, quoted, out);
     }
 }
 
@@ -170,6 +205,28 @@ pub fn put_call<W: Sink>(
     add(&mut line, b" ", out);
     add_text(&mut line, word, out);
     add_arguments(&mut line, arguments, out);
+    add_outcome(&mut line, outcome, out);
+    add(&mut line, b"\n", out);
+    hand_over(&line, out);
+}
+
+/// Puts the line of a call as `put_call` does, where each quoted argument is that name.
+pub fn put_short_call<W: Sink>(
+    name: &Name,
+    word: &str,
+    arguments: &[ShortArg],
+    quoted: &Name,
+    outcome: CallOutcome,
+    out: &mut W,
+)
+    ensures { Puts (W.tape out.old) (W.tape out.new)
+        (printed_line (Call name.now.bytes word.now (map (short_argument quoted.now.bytes) arguments.now) (shown_outcome outcome))) }
+{
+    let mut line = Draft::new();
+    add_name(&mut line, name, out);
+    add(&mut line, b" ", out);
+    add_text(&mut line, word, out);
+    add_short_arguments(&mut line, arguments, quoted, out);
     add_outcome(&mut line, outcome, out);
     add(&mut line, b"\n", out);
     hand_over(&line, out);
