@@ -3,7 +3,7 @@ use Rattle.std.specs.Prelude.{ℕ, ◌^◌, ◌==◌, if◌then◌else◌, Optio
 use Rattle.msgport.specs.declared.action.Action.{Action}
 use Rattle.msgport.specs.declared.action.Action.TheVariants as action
 use Rattle.msgport.specs.declared.action.PortAction.{PortAction}
-use Rattle.msgport.specs.declared.action.PortAction.TheVariants.{Signal, Ignore}
+use Rattle.msgport.specs.declared.action.PortAction.TheVariants.{Signal, Cause, Ignore}
 
 -- the task of a port, the number of its signal, and its action
 pub record Port : Type 0 where
@@ -18,6 +18,7 @@ new_port task bit = record { task = task; bit = bit; action = Signal }
 -- what is to be done for a message that arrives at a port with that action
 abbrev pub acting_by : PortAction → Port → Action
 acting_by Signal port = action.Signal port.task (2 ^ port.bit)
+acting_by (Cause i) port = action.Cause i
 acting_by Ignore port = action.Nothing
 
 abbrev pub acting : Port → Action
@@ -26,6 +27,7 @@ acting port = acting_by port.action port
 -- the signal of that number, at a port of the task
 abbrev pub wait_bit_by : PortAction → ℕ → Port → Option ℕ
 wait_bit_by Signal task port = if port.task == task then Some port.bit else None
+wait_bit_by (Cause i) task port = None
 wait_bit_by Ignore task port = None
 
 -- the number of the signal that the task waits for at the port, if the port signals that task

@@ -64,6 +64,7 @@ impl Port {
     {
         match self.action {
             PortAction::Signal => Action::Signal(self.task, 1 << self.bit),
+            PortAction::Cause(i) => Action::Cause(i),
             PortAction::Ignore => Action::Nothing,
         }
     }
@@ -81,7 +82,7 @@ impl Port {
                     None
                 }
             }
-            PortAction::Ignore => None,
+            PortAction::Cause(_) | PortAction::Ignore => None,
         }
     }
 }

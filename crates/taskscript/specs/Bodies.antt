@@ -4,8 +4,9 @@ use Rattle.std.specs.List.{fold}
 use Rattle.arrayvec.specs.ArrayString.{ArrayString}
 use Rattle.taskscript.specs.declared.body.Body.{Body}
 use Rattle.taskscript.specs.declared.fault.FileFault.{FileFault}
-use Rattle.taskscript.specs.declared.fault.FileFault.TheVariants.{BadCommand, BadLabel, TooMany}
+use Rattle.taskscript.specs.declared.fault.FileFault.TheVariants.{BadCommand, NotInInterrupt, BadLabel, TooMany}
 use Rattle.taskscript.specs.Faults.{check, Judges}
+use Rattle.taskscript.specs.Interrupting.{Setting, may_stand, names_softints}
 use Rattle.taskscript.specs.Labels.{Mark, place_in, marks_view}
 use Rattle.taskscript.specs.Lines.{NamedCommandData, LineData, label_line, command_line, named_command_view}
 use Rattle.taskscript.specs.Meaning.{says}
@@ -33,19 +34,23 @@ abbrev pub reading_after : Reading → List (List ℕ) → Reading
 reading_after r lines = fold (λ before line. reading_with before (says line)) r lines
 
 -- the faults of what one line says
-abbrev pub said_faults : Reading → Option LineData → List FileFault
-said_faults r None = BadCommand ∷ []
-said_faults r (Some (label_line name)) = check (not (is_some (place_in r.marks name))) BadLabel
-said_faults r (Some (command_line c)) = check (have_room r.names (variables_of c)) TooMany
+abbrev pub said_faults : Setting → Reading → Option LineData → List FileFault
+said_faults setting r None = BadCommand ∷ []
+said_faults setting r (Some (label_line name)) =
+    check (not setting.of_interrupt) NotInInterrupt ++ check (not (is_some (place_in r.marks name))) BadLabel
+said_faults setting r (Some (command_line c)) =
+    check (names_softints setting c) BadCommand
+    ++ (check (may_stand setting c) NotInInterrupt
+    ++ check (have_room r.names (variables_of c)) TooMany)
 
-abbrev pub faults_after : Reading → List (List ℕ) → List FileFault
-faults_after r [] = []
-faults_after r (line ∷ others) =
-    said_faults r (says line) ++ faults_after (reading_with r (says line)) others
+abbrev pub faults_after : Setting → Reading → List (List ℕ) → List FileFault
+faults_after setting r [] = []
+faults_after setting r (line ∷ others) =
+    said_faults setting r (says line) ++ faults_after setting (reading_with r (says line)) others
 
 -- the body is read by what one line says, or the line has a fault
-abbrev pub ReadsOn : {X : Type 0} → Result X FileFault → Reading → Reading → Option LineData → Type 0
-ReadsOn result before after said = Judges result (said_faults before said) (λ _. after ≡ reading_with before said)
+abbrev pub ReadsOn : {X : Type 0} → Setting → Result X FileFault → Reading → Reading → Option LineData → Type 0
+ReadsOn setting result before after said = Judges result (said_faults setting before said) (λ _. after ≡ reading_with before said)
 
 -- ---- what the code holds
 

@@ -4,10 +4,11 @@ use Rattle.std.specs.List.{list_all, list_any, filter_map, flat_map, before_firs
 use Rattle.std.specs.Option.{option_map_or}
 use Rattle.toml.specs.Data.{Data, string, Items, no_items, item}
 use Rattle.taskscript.specs.declared.fault.FileFault.{FileFault}
-use Rattle.taskscript.specs.declared.fault.FileFault.TheVariants.{BadCommand, BadLabel, TooMany}
+use Rattle.taskscript.specs.declared.fault.FileFault.TheVariants.{BadCommand, NotInInterrupt, BadLabel, TooMany}
 use Rattle.taskscript.specs.Commands.{CommandData}
 use Rattle.taskscript.specs.Faults.{check}
 use Rattle.taskscript.specs.Lines.{NamedCommandData, LineData, label_line, command_line}
+use Rattle.taskscript.specs.Interrupting.{Setting, may_stand, names_softints}
 use Rattle.taskscript.specs.Meaning.{says}
 use Rattle.taskscript.specs.Numbering.{Names, names_after, variable_in, command_in, is_within, variables_of, labels_of_arguments}
 
@@ -53,27 +54,33 @@ names_of shared lines = names_after (record { private = []; shared = shared }) (
 
 -- ---- faults
 
--- what a line says, after the labels before it: BadCommand where it says nothing, BadLabel where it is a label that
--- stood before, TooMany where it has a variable past its limit
-abbrev pub line_faults : Names → List (List ℕ) → Option LineData → List FileFault
-line_faults names before None = BadCommand ∷ []
-line_faults names before (Some (label_line name)) = check (not (list_any (bytes_eq name) before)) BadLabel
-line_faults names before (Some (command_line c)) = check (list_all (λ v. is_within (variable_in names v)) (variables_of c)) TooMany
+-- what a line says, after the labels before it: BadCommand where it says nothing, or names a software interrupt that the file lacks;
+-- NotInInterrupt where the body is an interrupt's and may not have it; BadLabel where it is a label that stood before; TooMany where it has
+-- a variable past its limit
+abbrev pub line_faults : Setting → Names → List (List ℕ) → Option LineData → List FileFault
+line_faults setting names before None = BadCommand ∷ []
+line_faults setting names before (Some (label_line name)) =
+    check (not setting.of_interrupt) NotInInterrupt ++ check (not (list_any (bytes_eq name) before)) BadLabel
+line_faults setting names before (Some (command_line c)) =
+    check (names_softints setting c) BadCommand
+    ++ (check (may_stand setting c) NotInInterrupt
+    ++ check (list_all (λ v. is_within (variable_in names v)) (variables_of c)) TooMany)
 
 -- the lines in their order, each after the labels before it
-abbrev pub lines_faults : Names → List (List ℕ) → List (List ℕ) → List FileFault
-lines_faults names before [] = []
-lines_faults names before (line ∷ others) = line_faults names before (says line) ++ lines_faults names (before ++ labels_of (line ∷ [])) others
+abbrev pub lines_faults : Setting → Names → List (List ℕ) → List (List ℕ) → List FileFault
+lines_faults setting names before [] = []
+lines_faults setting names before (line ∷ others) =
+    line_faults setting names before (says line) ++ lines_faults setting names (before ++ labels_of (line ∷ [])) others
 
 -- a jump to a label that is not among these
 abbrev pub jump_faults : List (List ℕ) → NamedCommandData → List FileFault
 jump_faults labels c = check (list_all (λ name. list_any (bytes_eq name) labels) (labels_of_arguments c.arguments)) BadLabel
 
 -- a body has at most 1,024 lines; then its lines in their order, and then its jumps in theirs
-unfoldable pub body_faults : List (List ℕ) → List (List ℕ) → List FileFault
-body_faults shared lines =
+unfoldable pub body_faults : Setting → List (List ℕ) → List (List ℕ) → List FileFault
+body_faults setting shared lines =
     check (nat_le (length lines) 1024) TooMany
-    ++ (lines_faults (names_of shared lines) [] lines
+    ++ (lines_faults setting (names_of shared lines) [] lines
     ++ flat_map (jump_faults (labels_of lines)) (commands_of lines))
 
 -- ---- the code

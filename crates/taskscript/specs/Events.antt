@@ -2,8 +2,9 @@
 use Rattle.std.specs.Prelude.{◌≡◌, ℕ, ◌+◌, ◌≤◌, Bool, true, ◌&&◌, nat_le, ◌==◌, bytes_eq, codes, All, List, [], ◌∷◌, ◌++◌, length, drop, take, sum_by, Option, Some, None, Result, Ok, Err, option_map, option_and_then, option_to_list, if◌then◌else◌}
 use Rattle.std.specs.List.{slice_split}
 use Rattle.taskscript.specs.Numbers.{decimal_of}
+use Rattle.taskscript.specs.Sources.{requested_source_of}
 use Rattle.taskscript.specs.declared.event.Event.{Event}
-use Rattle.taskscript.specs.declared.event.Event.TheVariants.{Run, Tick}
+use Rattle.taskscript.specs.declared.event.Event.TheVariants.{Run, Tick, Irq}
 use Rattle.taskscript.specs.declared.fault.EventFault.{EventFault}
 use Rattle.taskscript.specs.declared.fault.EventFault.TheVariants.{BadLine, TooMany, OutOfMemory}
 use Rattle.taskscript.specs.Faults.{first, judged}
@@ -25,6 +26,7 @@ unfoldable pub event_of : List ℕ → Option Event
 event_of line =
     if begins_with (codes "run ") line then option_map Run (turns_of (drop 4 line))
     else if begins_with (codes "tick ") line then option_map Tick (turns_of (drop 5 line))
+    else if begins_with (codes "irq ") line then option_map Irq (requested_source_of (drop 4 line))
     else None
 
 -- an empty line, and one that begins with #, is skipped
@@ -92,10 +94,11 @@ abbrev pub JudgesLines : {X : Type 0} → Result X EventFault → List EventFaul
 JudgesLines (Ok x) fs right = (first fs ≡ None) × right x
 JudgesLines (Err f) fs right = ¬ (f ≡ OutOfMemory) → first fs ≡ Some f
 
--- the turns that an event asks for
+-- the turns that an event asks for; a request is one
 abbrev pub turns : Event → ℕ
 turns (Run n) = n
 turns (Tick n) = n
+turns (Irq source) = 1
 
 -- what holds of the events of every text that is accepted: each asks for at least one turn, and they are within the limits
 pub record AreWithin (events : List Event) : Type 0 where

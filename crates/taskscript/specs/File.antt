@@ -1,13 +1,17 @@
 -- The machine that a file states, or its first fault.
-use Rattle.std.specs.Prelude.{is_none, ℕ, ℤ, pos, Bool, true, codes, List, [], ◌∷◌, ◌++◌, Option, Some, None, Result, Ok, Err}
+use Rattle.std.specs.Prelude.{is_none, ℕ, ℤ, pos, Bool, true, false, unwrap_or, codes, List, [], ◌∷◌, ◌++◌, Option, Some, None, Result, Ok, Err}
 use Rattle.memlist.specs.declared.region.Region.{Region}
 use Rattle.memlist.specs.Regions.{regions_fault}
 use Rattle.toml.specs.Data.{Data, table, Items, no_items, item, Members, get_member}
 use Rattle.taskscript.specs.declared.fault.FileFault.{FileFault}
 use Rattle.taskscript.specs.declared.fault.FileFault.TheVariants.{NotToml, UnknownKey, BadValue, BadRegions}
+use Rattle.taskscript.specs.declared.source.Source.{Source}
+use Rattle.taskscript.specs.declared.source.Source.TheVariants.{Ports}
 use Rattle.taskscript.specs.Commands.{CommandData}
 use Rattle.taskscript.specs.Faults.{first, judged, check}
-use Rattle.taskscript.specs.Tree.{document_of, required, optional, keys_are_among, integer_faults, pri_faults, boolean_faults, name_faults, array_faults, items_faults, code_faults, pri_in, number_or, boolean_or, string_or_nothing, items_or_none, members_or_none}
+use Rattle.taskscript.specs.Interrupting.{Setting}
+use Rattle.taskscript.specs.Sources.{source_of}
+use Rattle.taskscript.specs.Tree.{document_of, required, optional, keys_are_among, integer_faults, pri_faults, softint_pri_faults, source_faults, boolean_faults, name_faults, array_faults, items_faults, code_faults, pri_in, number_or, boolean_or, string_or_nothing, items_or_none, members_or_none}
 use Rattle.taskscript.specs.Code.{lines_in, body_faults, code_of, shared_after}
 
 -- ---- machines
@@ -19,18 +23,35 @@ pub record TaskData : Type 0 where
   pub start : Bool
   pub code : List CommandData
 
--- a machine: the quantum in servings of VERTB (1 to 255), the number of objects of each kind that may live (1 to 1,024), its regions of memory and
--- its tasks, both in the order of the file; the first task is task 1
+-- a software interrupt: its name, its priority (-32, -16, 0, 16 or 32), and its commands in the order of its lines
+pub record SoftintData : Type 0 where
+  pub name : List ℕ
+  pub pri : ℤ
+  pub code : List CommandData
+
+-- a server: its name, the source that it serves, its priority (-128 to 127), whether it ends the chain of its source, and its commands in the
+-- order of its lines
+pub record ServerData : Type 0 where
+  pub name : List ℕ
+  pub source : Source
+  pub pri : ℤ
+  pub claim : Bool
+  pub code : List CommandData
+
+-- a machine: the quantum in servings of VERTB (1 to 255), the number of objects of each kind that may live (1 to 1,024), and its regions of
+-- memory, its software interrupts, its servers and its tasks, each in the order of the file; the first task is task 1
 pub record MachineData : Type 0 where
   pub quantum : ℕ
   pub pool : ℕ
   pub regions : List Region
+  pub softints : List SoftintData
+  pub servers : List ServerData
   pub tasks : List TaskData
 
 -- ---- the first pass: the tree
 
 abbrev pub top_keys : List (List ℕ)
-top_keys = codes "quantum" ∷ codes "pool" ∷ codes "region" ∷ codes "task" ∷ []
+top_keys = codes "quantum" ∷ codes "pool" ∷ codes "region" ∷ codes "softint" ∷ codes "server" ∷ codes "task" ∷ []
 
 abbrev pub task_keys : List (List ℕ)
 task_keys = codes "name" ∷ codes "pri" ∷ codes "start" ∷ codes "code" ∷ []
@@ -73,6 +94,40 @@ regions_faults tree =
     optional (array_faults 8 (items_faults region_faults)) (get_member (codes "region") tree)
     ++ check (is_none (regions_fault 1048576 (regions_in tree))) BadRegions
 
+-- ---- software interrupts, servers and tasks: what has a name and a code
+
+abbrev pub softint_keys : List (List ℕ)
+softint_keys = codes "name" ∷ codes "pri" ∷ codes "code" ∷ []
+
+abbrev pub server_keys : List (List ℕ)
+server_keys = codes "name" ∷ codes "source" ∷ codes "pri" ∷ codes "claim" ∷ codes "code" ∷ []
+
+-- the table of a software interrupt after the names before it: its keys, then its values in the order name, pri, code
+abbrev pub softint_table_faults : List (List ℕ) → Members → List FileFault
+softint_table_faults before softint =
+    check (keys_are_among softint_keys softint) UnknownKey
+    ++ (required (name_faults before) (get_member (codes "name") softint)
+    ++ (required softint_pri_faults (get_member (codes "pri") softint)
+    ++ required code_faults (get_member (codes "code") softint)))
+
+abbrev pub softint_faults : List (List ℕ) → Data → List FileFault
+softint_faults before (table softint) = softint_table_faults before softint
+softint_faults before _ = BadValue ∷ []
+
+-- the table of a server after the names before it: its keys, then its values in the order name, source, pri, claim, code
+abbrev pub server_table_faults : List (List ℕ) → Members → List FileFault
+server_table_faults before server =
+    check (keys_are_among server_keys server) UnknownKey
+    ++ (required (name_faults before) (get_member (codes "name") server)
+    ++ (required source_faults (get_member (codes "source") server)
+    ++ (pri_faults server
+    ++ (optional boolean_faults (get_member (codes "claim") server)
+    ++ required code_faults (get_member (codes "code") server)))))
+
+abbrev pub server_faults : List (List ℕ) → Data → List FileFault
+server_faults before (table server) = server_table_faults before server
+server_faults before _ = BadValue ∷ []
+
 -- the table of a task after the names before it: its keys, then its values in the order name, pri, start, code
 abbrev pub task_table_faults : List (List ℕ) → Members → List FileFault
 task_table_faults before task =
@@ -87,18 +142,29 @@ task_faults before (table task) = task_table_faults before task
 task_faults before _ = BadValue ∷ []
 
 abbrev pub name_of : Data → List ℕ
-name_of task = string_or_nothing (get_member (codes "name") (members_or_none task))
+name_of owner = string_or_nothing (get_member (codes "name") (members_or_none owner))
 
 abbrev pub pri_of : Data → ℤ
-pri_of task = pri_in (members_or_none task)
+pri_of owner = pri_in (members_or_none owner)
 
 abbrev pub start_of : Data → Bool
 start_of task = boolean_or true (get_member (codes "start") (members_or_none task))
 
--- the tasks in their order, each after the names before it
-abbrev pub tasks_faults : List (List ℕ) → Items → List FileFault
-tasks_faults before no_items = []
-tasks_faults before (item task rest) = task_faults before task ++ tasks_faults (before ++ name_of task ∷ []) rest
+abbrev pub claim_of : Data → Bool
+claim_of server = boolean_or false (get_member (codes "claim") (members_or_none server))
+
+abbrev pub server_source_of : Data → Source
+server_source_of server = unwrap_or (source_of (string_or_nothing (get_member (codes "source") (members_or_none server)))) Ports
+
+-- the items in their order, each after the names before it
+abbrev pub named_faults : (List (List ℕ) → Data → List FileFault) → List (List ℕ) → Items → List FileFault
+named_faults judge before no_items = []
+named_faults judge before (item owner rest) = judge before owner ++ named_faults judge (before ++ name_of owner ∷ []) rest
+
+-- the names of the items
+abbrev pub item_names : Items → List (List ℕ)
+item_names no_items = []
+item_names (item owner rest) = name_of owner ∷ item_names rest
 
 -- the quantum, 4 where the file has none
 abbrev pub quantum_of : Members → ℕ
@@ -108,7 +174,13 @@ quantum_of tree = number_or 4 (get_member (codes "quantum") tree)
 abbrev pub pool_of : Members → ℕ
 pool_of tree = number_or 64 (get_member (codes "pool") tree)
 
--- the items of the array `task`
+-- the items of the arrays `softint`, `server` and `task`
+abbrev pub softints_in : Members → Items
+softints_in tree = items_or_none (get_member (codes "softint") tree)
+
+abbrev pub servers_in : Members → Items
+servers_in tree = items_or_none (get_member (codes "server") tree)
+
 abbrev pub tasks_in : Members → Items
 tasks_in tree = items_or_none (get_member (codes "task") tree)
 
@@ -118,10 +190,15 @@ tasks_in tree = items_or_none (get_member (codes "task") tree)
 abbrev pub code_lines : Data → List (List ℕ)
 code_lines owner = lines_in (items_or_none (get_member (codes "code") (members_or_none owner)))
 
+-- what the body of an interrupt, or of a task, is judged by
+abbrev pub setting_of : Bool → Members → Setting
+setting_of of_interrupt tree = record { of_interrupt = of_interrupt; softints = item_names (softints_in tree) }
+
 -- the bodies in their order, each after the shared variables of those before it
-abbrev pub bodies_faults : List (List ℕ) → Items → List FileFault
-bodies_faults shared no_items = []
-bodies_faults shared (item owner rest) = body_faults shared (code_lines owner) ++ bodies_faults (shared_after shared (code_lines owner)) rest
+abbrev pub bodies_faults : Setting → List (List ℕ) → Items → List FileFault
+bodies_faults setting shared no_items = []
+bodies_faults setting shared (item owner rest) =
+    body_faults setting shared (code_lines owner) ++ bodies_faults setting (shared_after shared (code_lines owner)) rest
 
 -- the shared variables after some bodies
 abbrev pub shared_after_bodies : List (List ℕ) → Items → List (List ℕ)
@@ -136,11 +213,37 @@ settings_faults tree =
     optional (integer_faults (pos 1) (pos 255)) (get_member (codes "quantum") tree)
     ++ optional (integer_faults (pos 1) (pos 1024)) (get_member (codes "pool") tree)
 
--- the tasks, and after all of them their lines
+-- the shared variables after the bodies of the software interrupts, and after those of the servers too
+abbrev pub shared_after_softints : Members → List (List ℕ)
+shared_after_softints tree = shared_after_bodies [] (softints_in tree)
+
+abbrev pub shared_after_servers : Members → List (List ℕ)
+shared_after_servers tree = shared_after_bodies (shared_after_softints tree) (servers_in tree)
+
+-- the names before the servers, and before the tasks: no two of all these are alike
+abbrev pub names_before_servers : Members → List (List ℕ)
+names_before_servers tree = item_names (softints_in tree)
+
+abbrev pub names_before_tasks : Members → List (List ℕ)
+names_before_tasks tree = names_before_servers tree ++ item_names (servers_in tree)
+
+-- the software interrupts, the servers and the tasks
+abbrev pub owners_faults : Members → List FileFault
+owners_faults tree =
+    optional (array_faults 32 (named_faults softint_faults [])) (get_member (codes "softint") tree)
+    ++ (optional (array_faults 32 (named_faults server_faults (names_before_servers tree))) (get_member (codes "server") tree)
+    ++ optional (array_faults 64 (named_faults task_faults (names_before_tasks tree))) (get_member (codes "task") tree))
+
+-- their lines
+abbrev pub lines_of_all_faults : Members → List FileFault
+lines_of_all_faults tree =
+    bodies_faults (setting_of true tree) [] (softints_in tree)
+    ++ (bodies_faults (setting_of true tree) (shared_after_softints tree) (servers_in tree)
+    ++ bodies_faults (setting_of false tree) (shared_after_servers tree) (tasks_in tree))
+
+-- the software interrupts, the servers and the tasks, and after all of them their lines
 abbrev pub both_passes_faults : Members → List FileFault
-both_passes_faults tree =
-    optional (array_faults 64 (tasks_faults [])) (get_member (codes "task") tree)
-    ++ bodies_faults [] (tasks_in tree)
+both_passes_faults tree = owners_faults tree ++ lines_of_all_faults tree
 
 -- the faults of all places of a tree, in their order
 abbrev pub faults : Members → List FileFault
@@ -158,8 +261,40 @@ abbrev pub tasks_of : List (List ℕ) → Items → List TaskData
 tasks_of shared no_items = []
 tasks_of shared (item task rest) = task_of shared task ∷ tasks_of (shared_after shared (code_lines task)) rest
 
+-- a software interrupt, and a server, whose body stands after those shared variables
+abbrev pub softint_of : List (List ℕ) → Data → SoftintData
+softint_of shared softint = record {
+  name = name_of softint;
+  pri = pri_of softint;
+  code = code_of shared (code_lines softint);
+}
+
+abbrev pub softints_of : List (List ℕ) → Items → List SoftintData
+softints_of shared no_items = []
+softints_of shared (item softint rest) = softint_of shared softint ∷ softints_of (shared_after shared (code_lines softint)) rest
+
+abbrev pub server_of : List (List ℕ) → Data → ServerData
+server_of shared server = record {
+  name = name_of server;
+  source = server_source_of server;
+  pri = pri_of server;
+  claim = claim_of server;
+  code = code_of shared (code_lines server);
+}
+
+abbrev pub servers_of : List (List ℕ) → Items → List ServerData
+servers_of shared no_items = []
+servers_of shared (item server rest) = server_of shared server ∷ servers_of (shared_after shared (code_lines server)) rest
+
 abbrev pub machine_of : Members → MachineData
-machine_of tree = record { quantum = quantum_of tree; pool = pool_of tree; regions = regions_in tree; tasks = tasks_of [] (tasks_in tree) }
+machine_of tree = record {
+  quantum = quantum_of tree;
+  pool = pool_of tree;
+  regions = regions_in tree;
+  softints = softints_of [] (softints_in tree);
+  servers = servers_of (shared_after_softints tree) (servers_in tree);
+  tasks = tasks_of (shared_after_servers tree) (tasks_in tree);
+}
 
 abbrev pub file_of_document : Option Members → Result MachineData FileFault
 file_of_document None = Err NotToml

@@ -5,6 +5,8 @@ pub mod Events
 pub mod Faults
 pub mod File
 pub mod Identifiers
+pub mod InterruptWords
+pub mod Interrupting
 pub mod Labels
 pub mod Lines
 pub mod ListWords
@@ -26,6 +28,7 @@ pub mod Rows
 pub mod Says
 pub mod SemaphoreWords
 pub mod SignalWords
+pub mod Sources
 pub mod Sound
 pub mod TaskWords
 pub mod Tree

@@ -1,11 +1,14 @@
 -- What holds of the machine of every file that is accepted.
-use Rattle.std.specs.Prelude.{◌≡◌, ◌≢◌, ℕ, ◌≤◌, Bool, true, false, None, All, List, [], ◌∷◌, count_by, length, map}
-use Rattle.std.specs.List.{AllPairs}
+use Rattle.std.specs.Prelude.{◌≡◌, ◌≢◌, ◌⊎◌, ℕ, ℤ, pos, negsuc, ◌≤◌, Bool, true, false, None, IfSome, All, List, [], ◌∷◌, ◌++◌, bytes_eq, count_by, length, map}
+use Rattle.std.specs.List.{AllPairs, list_any}
 use Rattle.memlist.specs.Regions.{regions_fault}
 use Rattle.taskscript.specs.declared.word.row.Kind.{Kind}
-use Rattle.taskscript.specs.declared.word.row.Kind.TheVariants.{Value, Label, Name, NameOrNone}
+use Rattle.taskscript.specs.declared.word.row.Kind.TheVariants.{Value, Label, Name, NameOrNone, Softint}
 use Rattle.taskscript.specs.Commands.{ArgumentData, number, variable, quoted, place, CommandData, CommandFits}
-use Rattle.taskscript.specs.File.{TaskData, MachineData}
+use Rattle.taskscript.specs.declared.variable.Variable.{Variable}
+use Rattle.taskscript.specs.declared.variable.Variable.TheVariants.{Private, Shared}
+use Rattle.taskscript.specs.File.{SoftintData, ServerData, TaskData, MachineData}
+use Rattle.taskscript.specs.Interrupting.{is_word_of_interrupt}
 use Rattle.taskscript.specs.Names.{is_name}
 use Rattle.taskscript.specs.Words.{kinds}
 
@@ -25,6 +28,7 @@ IsOfKind Label (place k) = Unit {0}
 IsOfKind Name (quoted n) = is_name n ≡ true
 IsOfKind NameOrNone (quoted n) = is_name n ≡ true
 IsOfKind NameOrNone (number n) = n ≡ 0
+IsOfKind Softint (quoted n) = is_name n ≡ true
 IsOfKind _ _ = ⊥
 
 abbrev pub AreOfKinds : List Kind → List ArgumentData → Type 0
@@ -47,27 +51,87 @@ is_quoted (place k) = false
 abbrev pub QuotesOnce : CommandData → Type 0
 QuotesOnce c = count_by is_quoted c.arguments ≤ 1
 
--- a task of a file: its name is a name, it has at most 1,024 commands, each has its word's arguments, of which at most one is a name,
--- their variables are within the limits, and their jumps stay in it
-pub record IsTask (task : TaskData) : Type 0 where
+-- a variable that all bodies share
+abbrev pub IsShared : Variable → Type 0
+IsShared (Private k) = ⊥
+IsShared (Shared k) = Unit {0}
+
+abbrev pub ReadsShared : ArgumentData → Type 0
+ReadsShared (variable v) = IsShared v
+ReadsShared _ = Unit {0}
+
+-- a command that the body of an interrupt may have
+pub record IsOfInterrupt (c : CommandData) : Type 0 where
+  pub word : is_word_of_interrupt c.word ≡ true
+  pub target : IfSome c.target IsShared
+  pub arguments : All ReadsShared c.arguments
+
+-- the names that stand where a word asks for a software interrupt
+abbrev pub softints_named : List Kind → List ArgumentData → List (List ℕ)
+softints_named (Softint ∷ kinds) (quoted name ∷ others) = name ∷ softints_named kinds others
+softints_named (kind ∷ kinds) (a ∷ others) = softints_named kinds others
+softints_named _ _ = []
+
+-- each software interrupt that a command names is one of these
+abbrev pub NamesSoftints : List (List ℕ) → CommandData → Type 0
+NamesSoftints softints c = All (λ name. list_any (bytes_eq name) softints ≡ true) (softints_named (kinds c.word) c.arguments)
+
+-- the commands of a body, in a file with software interrupts of those names: at most 1,024, each with its word's arguments, of which at
+-- most one is a name, with variables within the limits, and with a software interrupt of the file where its word asks for one
+pub record IsCode (softints : List (List ℕ)) (code : List CommandData) : Type 0 where
+  pub few : length code ≤ 1024
+  pub commands : All CommandFits code
+  pub arguments : All HasItsArguments code
+  pub names : All QuotesOnce code
+  pub softints : All (NamesSoftints softints) code
+
+-- a task of a file: its name is a name, and its jumps stay in its body
+pub record IsTask (softints : List (List ℕ)) (task : TaskData) : Type 0 where
   pub name : is_name task.name ≡ true
-  pub code : length task.code ≤ 1024
-  pub commands : All CommandFits task.code
-  pub arguments : All HasItsArguments task.code
-  pub names : All QuotesOnce task.code
+  pub code : IsCode softints task.code
   pub jumps : All (JumpsFit (length task.code)) task.code
 
--- the names of some tasks
+-- the priorities of software interrupts (RKM Libraries, Exec Interrupts: software interrupts)
+abbrev pub IsSoftintPri : ℤ → Type 0
+IsSoftintPri pri = (pri ≡ pos 32) ⊎ (pri ≡ pos 16) ⊎ (pri ≡ pos 0) ⊎ (pri ≡ negsuc 15) ⊎ (pri ≡ negsuc 31)
+
+-- a software interrupt of a file, and a server: each of its commands is one that the body of an interrupt may have
+pub record IsSoftint (softints : List (List ℕ)) (softint : SoftintData) : Type 0 where
+  pub name : is_name softint.name ≡ true
+  pub pri : IsSoftintPri softint.pri
+  pub code : IsCode softints softint.code
+  pub words : All IsOfInterrupt softint.code
+
+pub record IsServer (softints : List (List ℕ)) (server : ServerData) : Type 0 where
+  pub name : is_name server.name ≡ true
+  pub code : IsCode softints server.code
+  pub words : All IsOfInterrupt server.code
+
+abbrev pub softint_names : List SoftintData → List (List ℕ)
+softint_names softints = map (λ (i : SoftintData). i.name) softints
+
+abbrev pub server_names : List ServerData → List (List ℕ)
+server_names servers = map (λ (s : ServerData). s.name) servers
+
 abbrev pub task_names : List TaskData → List (List ℕ)
 task_names tasks = map (λ (t : TaskData). t.name) tasks
 
--- a machine of a file: a quantum of 1 to 255, a pool of 1 to 1,024, regions that memory may have, and at most 64 tasks, whose names differ
+-- the names of all that has a body, in the order of the file
+abbrev pub body_names : MachineData → List (List ℕ)
+body_names machine = softint_names machine.softints ++ (server_names machine.servers ++ task_names machine.tasks)
+
+-- a machine of a file: a quantum of 1 to 255, a pool of 1 to 1,024, regions that memory may have, and at most 32 software interrupts, 32
+-- servers and 64 tasks, whose names differ
 pub record IsMachine (machine : MachineData) : Type 0 where
   pub some_quantum : 1 ≤ machine.quantum
   pub short_quantum : machine.quantum ≤ 255
   pub some_pool : 1 ≤ machine.pool
   pub small_pool : machine.pool ≤ 1024
   pub regions : regions_fault 1048576 machine.regions ≡ None
+  pub few_softints : length machine.softints ≤ 32
+  pub softints : All (IsSoftint (softint_names machine.softints)) machine.softints
+  pub few_servers : length machine.servers ≤ 32
+  pub servers : All (IsServer (softint_names machine.softints)) machine.servers
   pub few : length machine.tasks ≤ 64
-  pub tasks : All IsTask machine.tasks
-  pub names : AllPairs (λ s t. s ≢ t) (task_names machine.tasks)
+  pub tasks : All (IsTask (softint_names machine.softints)) machine.tasks
+  pub names : AllPairs (λ s t. s ≢ t) (body_names machine)

@@ -3,7 +3,7 @@
 use Rattle.std.specs.Prelude.{ℕ, ◌-◌, Bool, true, false, ◌&&◌, nat_le, ◌==◌, bytes_eq, codes, List, [], ◌∷◌, length, take, drop, slice_index, Option, Some, None, option_map, if◌then◌else◌}
 use Rattle.std.specs.Option.{option_or}
 use Rattle.taskscript.specs.declared.word.row.Kind.{Kind}
-use Rattle.taskscript.specs.declared.word.row.Kind.TheVariants.{Value, Label, Name, NameOrNone}
+use Rattle.taskscript.specs.declared.word.row.Kind.TheVariants.{Value, Label, Name, NameOrNone, Softint}
 use Rattle.taskscript.specs.Identifiers.{identifier_in}
 use Rattle.taskscript.specs.Lines.{NamedVariableData, NamedArgumentData, number, variable, label, quoted, NamedCommandData, LineData, label_line, command_line}
 use Rattle.taskscript.specs.Names.{is_name}
@@ -38,6 +38,7 @@ abbrev pub argument_of : Kind → List ℕ → Option NamedArgumentData
 argument_of Value field = option_or (option_map variable (variable_of field)) (option_map number (number_of field))
 argument_of Label field = option_map label (identifier_in field)
 argument_of Name field = option_map quoted (quoted_in field)
+argument_of Softint field = option_map quoted (quoted_in field)
 argument_of NameOrNone field = if bytes_eq field (codes "0") then Some (number 0) else option_map quoted (quoted_in field)
 
 infixl 10 ◌>>=◌

@@ -1,12 +1,12 @@
 -- Words of message ports and messages (RKM Libraries, Exec Messages and Ports).
 use Rattle.std.specs.Prelude.{codes, List, [], ◌∷◌}
 use Rattle.taskscript.specs.declared.word.ports.PortWord.{PortWord}
-use Rattle.taskscript.specs.declared.word.ports.PortWord.TheVariants.{CreateMsgPort, DeleteMsgPort, AddPort, RemPort, FindPort, PortSignal, PortIgnore, NewMsg, FreeMsg, MsgWord, SetMsgWord, MsgType, PutMsg, GetMsg, WaitPort, ReplyMsg}
-use Rattle.taskscript.specs.declared.word.row.Kind.TheVariants.{Value, Name}
+use Rattle.taskscript.specs.declared.word.ports.PortWord.TheVariants.{CreateMsgPort, DeleteMsgPort, AddPort, RemPort, FindPort, PortSignal, PortCause, PortIgnore, NewMsg, FreeMsg, MsgWord, SetMsgWord, MsgType, PutMsg, GetMsg, WaitPort, ReplyMsg}
+use Rattle.taskscript.specs.declared.word.row.Kind.TheVariants.{Value, Name, Softint}
 use Rattle.taskscript.specs.Rows.{RowData, answering, without_answer}
 
 abbrev pub port_words : List PortWord
-port_words = CreateMsgPort ∷ DeleteMsgPort ∷ AddPort ∷ RemPort ∷ FindPort ∷ PortSignal ∷ PortIgnore ∷ NewMsg ∷ FreeMsg ∷ MsgWord ∷ SetMsgWord ∷ MsgType ∷ PutMsg ∷ GetMsg ∷ WaitPort ∷ ReplyMsg ∷ []
+port_words = CreateMsgPort ∷ DeleteMsgPort ∷ AddPort ∷ RemPort ∷ FindPort ∷ PortSignal ∷ PortCause ∷ PortIgnore ∷ NewMsg ∷ FreeMsg ∷ MsgWord ∷ SetMsgWord ∷ MsgType ∷ PutMsg ∷ GetMsg ∷ WaitPort ∷ ReplyMsg ∷ []
 
 -- the row of a word
 abbrev pub port_row : PortWord → RowData
@@ -16,6 +16,7 @@ port_row AddPort = without_answer (codes "AddPort") (Value ∷ Name ∷ Value �
 port_row RemPort = without_answer (codes "RemPort") (Value ∷ [])
 port_row FindPort = answering (codes "FindPort") (Name ∷ [])
 port_row PortSignal = without_answer (codes "PortSignal") (Value ∷ [])
+port_row PortCause = without_answer (codes "PortCause") (Value ∷ Softint ∷ [])
 port_row PortIgnore = without_answer (codes "PortIgnore") (Value ∷ [])
 port_row NewMsg = answering (codes "NewMsg") (Value ∷ Value ∷ [])
 port_row FreeMsg = without_answer (codes "FreeMsg") (Value ∷ [])

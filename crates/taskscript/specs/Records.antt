@@ -3,18 +3,26 @@ use Rattle.std.specs.Prelude.{◌≡◌, ℕ, ℤ, Bool, List, ◌∷◌, [], ma
 use Rattle.toml.specs.Data.{Data, Items, no_items, item}
 use Rattle.taskscript.specs.declared.fault.FileFault.{FileFault}
 use Rattle.taskscript.specs.declared.fault.FileFault.TheVariants.{NotToml, OutOfMemory}
+use Rattle.taskscript.specs.declared.file.SoftintRecord.{SoftintRecord}
+use Rattle.taskscript.specs.declared.file.ServerRecord.{ServerRecord}
 use Rattle.taskscript.specs.declared.file.TaskRecord.{TaskRecord}
 use Rattle.taskscript.specs.declared.tasks.Head.{Head}
 use Rattle.taskscript.specs.Code.{code_of}
 use Rattle.taskscript.specs.Commands.{command_view}
-use Rattle.taskscript.specs.File.{TaskData, name_of, pri_of, start_of, code_lines}
+use Rattle.taskscript.specs.File.{SoftintData, ServerData, TaskData, name_of, pri_of, start_of, code_lines}
 use Rattle.taskscript.specs.Tree.{document_of}
 
 -- why there is no tree
 abbrev pub DocumentFault : FileFault → List ℕ → Type 0
 DocumentFault fault bytes = ¬ (fault ≡ OutOfMemory) → (document_of bytes ≡ None) × (fault ≡ NotToml)
 
--- a task, as its record has it
+-- a software interrupt, a server and a task, as its record has it
+abbrev pub softint_view : SoftintRecord → SoftintData
+softint_view i = record { name = i.name.bytes; pri = i.pri; code = map command_view i.code.items }
+
+abbrev pub server_view : ServerRecord → ServerData
+server_view s = record { name = s.name.bytes; source = s.source; pri = s.pri; claim = s.claim; code = map command_view s.code.items }
+
 abbrev pub task_view : TaskRecord → TaskData
 task_view t = record { name = t.name.bytes; pri = t.pri; start = t.start; code = map command_view t.code.items }
 

@@ -1,7 +1,7 @@
 -- What a line says, as a relation between its fields and a label or a command.
 use Rattle.std.specs.Prelude.{◌≡◌, ℕ, Bool, true, codes, List, [], ◌∷◌, ◌++◌, Option, Some, None, if◌then◌else◌}
 use Rattle.taskscript.specs.declared.word.row.Kind.{Kind}
-use Rattle.taskscript.specs.declared.word.row.Kind.TheVariants.{Value, Label, Name, NameOrNone}
+use Rattle.taskscript.specs.declared.word.row.Kind.TheVariants.{Value, Label, Name, NameOrNone, Softint}
 use Rattle.taskscript.specs.Identifiers.{is_identifier}
 use Rattle.taskscript.specs.Names.{is_name}
 use Rattle.taskscript.specs.Numbers.{number_of}
@@ -29,6 +29,7 @@ IsArgument Label field (label n) = (field ≡ n) × (is_identifier n ≡ true)
 IsArgument Name field (quoted n) = (field ≡ quote ++ n ++ quote) × (is_name n ≡ true)
 IsArgument NameOrNone field (quoted n) = (field ≡ quote ++ n ++ quote) × (is_name n ≡ true)
 IsArgument NameOrNone field (number n) = (field ≡ codes "0") × (n ≡ 0)
+IsArgument Softint field (quoted n) = (field ≡ quote ++ n ++ quote) × (is_name n ≡ true)
 IsArgument _ _ _ = ⊥
 
 -- one field of each kind

@@ -1,5 +1,5 @@
 -- The tree that a text states, and the faults of its places. Each place is judged by itself, from the tree alone.
-use Rattle.std.specs.Prelude.{ℕ, ◌+◌, Bool, true, false, not, ◌&&◌, ℤ, pos, negsuc, codes, unsigned_abs, int_le, nat_le, bytes_eq, List, [], ◌∷◌, ◌++◌, Option, Some, None, if◌then◌else◌}
+use Rattle.std.specs.Prelude.{ℕ, ◌+◌, Bool, true, false, not, ◌&&◌, ◌||◌, ℤ, pos, negsuc, codes, unsigned_abs, int_le, int_eq, is_some, nat_le, bytes_eq, List, [], ◌∷◌, ◌++◌, Option, Some, None, if◌then◌else◌}
 use Rattle.std.specs.List.{list_any}
 use Rattle.std.specs.Str.{is_utf8}
 use Rattle.toml.specs.Data.{Data, string, integer, boolean, array, table, Items, no_items, item, Members, no_members, member, get_member}
@@ -8,6 +8,7 @@ use Rattle.taskscript.specs.declared.fault.FileFault.{FileFault}
 use Rattle.taskscript.specs.declared.fault.FileFault.TheVariants.{MissingKey, BadValue, NameTwice, TooMany}
 use Rattle.taskscript.specs.Faults.{check}
 use Rattle.taskscript.specs.Names.{is_name}
+use Rattle.taskscript.specs.Sources.{source_of}
 
 -- the tree of a text: none for bytes that are no UTF-8, and for a text that is no TOML document
 abbrev pub document_of : List ℕ → Option Members
@@ -40,6 +41,20 @@ integer_faults low high _ = BadValue ∷ []
 -- a priority, of the key `pri`
 abbrev pub pri_faults : Members → List FileFault
 pri_faults owner = optional (integer_faults (negsuc 127) (pos 127)) (get_member (codes "pri") owner)
+
+-- the priority of a software interrupt (RKM Libraries, Exec Interrupts: software interrupts)
+abbrev pub is_softint_pri : ℤ → Bool
+is_softint_pri pri =
+    int_eq pri (negsuc 31) || (int_eq pri (negsuc 15) || (int_eq pri (pos 0) || (int_eq pri (pos 16) || int_eq pri (pos 32))))
+
+abbrev pub softint_pri_faults : Data → List FileFault
+softint_pri_faults (integer z) = check (is_softint_pri z) BadValue
+softint_pri_faults _ = BadValue ∷ []
+
+-- the name of a source
+abbrev pub source_faults : Data → List FileFault
+source_faults (string s) = check (is_some (source_of s)) BadValue
+source_faults _ = BadValue ∷ []
 
 abbrev pub boolean_faults : Data → List FileFault
 boolean_faults (boolean b) = []

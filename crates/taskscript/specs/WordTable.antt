@@ -2,15 +2,16 @@
 use Rattle.std.proofs.Common.{◌≡◌, ◌≤◌, lit≤, false, nat_le, length, Some, refl}
 use Rattle.std.specs.Prelude.{slice_index}
 use Rattle.taskscript.specs.declared.word.Word.{Word}
-use Rattle.taskscript.specs.declared.word.Word.TheVariants.{Plain, Signals, Nesting, Tasks, Lists, Memory, Ports, Semaphores}
+use Rattle.taskscript.specs.declared.word.Word.TheVariants.{Plain, Signals, Nesting, Tasks, Lists, Memory, Ports, Semaphores, Interrupts}
 use Rattle.taskscript.specs.declared.word.plain.PlainWord.TheVariants.{Set, Add, Sub, And, Or, Jump, JumpZ, JumpNZ, Print}
 use Rattle.taskscript.specs.declared.word.task_signals.SignalWord.TheVariants.{AllocSignal, FreeSignal, SetSignal, Signal, Wait}
 use Rattle.taskscript.specs.declared.word.nesting.NestingWord.TheVariants.{Forbid, Permit, Disable, Enable}
 use Rattle.taskscript.specs.declared.word.tasks.TaskWord.TheVariants.{SetTaskPri, AddTask, RemTask, FindTask}
 use Rattle.taskscript.specs.declared.word.lists.ListWord.TheVariants.{NewList, FreeList, NewNode, FreeNode, AddHead, AddTail, Enqueue, Insert, Remove, RemHead, RemTail, First, Last, Succ, Pred, FindName}
 use Rattle.taskscript.specs.declared.word.memory.MemoryWord.TheVariants.{AllocMem, FreeMem, AvailMem}
-use Rattle.taskscript.specs.declared.word.ports.PortWord.TheVariants.{CreateMsgPort, DeleteMsgPort, AddPort, RemPort, FindPort, PortSignal, PortIgnore, NewMsg, FreeMsg, MsgWord, SetMsgWord, MsgType, PutMsg, GetMsg, WaitPort, ReplyMsg}
+use Rattle.taskscript.specs.declared.word.ports.PortWord.TheVariants.{CreateMsgPort, DeleteMsgPort, AddPort, RemPort, FindPort, PortSignal, PortCause, PortIgnore, NewMsg, FreeMsg, MsgWord, SetMsgWord, MsgType, PutMsg, GetMsg, WaitPort, ReplyMsg}
 use Rattle.taskscript.specs.declared.word.semaphores.SemaphoreWord.TheVariants.{NewSem, FreeSem, ObtainSemaphore, AttemptSemaphore, ReleaseSemaphore}
+use Rattle.taskscript.specs.declared.word.interrupts.InterruptWord.TheVariants.{Cause}
 use Rattle.taskscript.specs.Words.{word_text, word_of, kinds}
 
 -- no word has more than four arguments
@@ -62,6 +63,7 @@ few_kinds (Ports AddPort) = lit≤ tt
 few_kinds (Ports RemPort) = lit≤ tt
 few_kinds (Ports FindPort) = lit≤ tt
 few_kinds (Ports PortSignal) = lit≤ tt
+few_kinds (Ports PortCause) = lit≤ tt
 few_kinds (Ports PortIgnore) = lit≤ tt
 few_kinds (Ports NewMsg) = lit≤ tt
 few_kinds (Ports FreeMsg) = lit≤ tt
@@ -77,6 +79,7 @@ few_kinds (Semaphores FreeSem) = lit≤ tt
 few_kinds (Semaphores ObtainSemaphore) = lit≤ tt
 few_kinds (Semaphores AttemptSemaphore) = lit≤ tt
 few_kinds (Semaphores ReleaseSemaphore) = lit≤ tt
+few_kinds (Interrupts Cause) = lit≤ tt
 
 -- a word is the word of its text
 pub word_known : (w : Word) → word_of (word_text w) ≡ Some w
@@ -127,6 +130,7 @@ word_known (Ports AddPort) = refl
 word_known (Ports RemPort) = refl
 word_known (Ports FindPort) = refl
 word_known (Ports PortSignal) = refl
+word_known (Ports PortCause) = refl
 word_known (Ports PortIgnore) = refl
 word_known (Ports NewMsg) = refl
 word_known (Ports FreeMsg) = refl
@@ -142,6 +146,7 @@ word_known (Semaphores FreeSem) = refl
 word_known (Semaphores ObtainSemaphore) = refl
 word_known (Semaphores AttemptSemaphore) = refl
 word_known (Semaphores ReleaseSemaphore) = refl
+word_known (Interrupts Cause) = refl
 
 -- a word begins with no small letter
 pub word_is_capital : (w : Word) → nat_le 97 (slice_index (word_text w) 0) ≡ false
@@ -192,6 +197,7 @@ word_is_capital (Ports AddPort) = refl
 word_is_capital (Ports RemPort) = refl
 word_is_capital (Ports FindPort) = refl
 word_is_capital (Ports PortSignal) = refl
+word_is_capital (Ports PortCause) = refl
 word_is_capital (Ports PortIgnore) = refl
 word_is_capital (Ports NewMsg) = refl
 word_is_capital (Ports FreeMsg) = refl
@@ -207,3 +213,4 @@ word_is_capital (Semaphores FreeSem) = refl
 word_is_capital (Semaphores ObtainSemaphore) = refl
 word_is_capital (Semaphores AttemptSemaphore) = refl
 word_is_capital (Semaphores ReleaseSemaphore) = refl
+word_is_capital (Interrupts Cause) = refl

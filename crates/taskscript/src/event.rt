@@ -2,6 +2,7 @@
 ghost use Rattle.std.specs.Prelude.{◌≡◌};
 ghost use Rattle.taskscript.specs.Events.{steps, ticks, AreWithin};
 
+use crate::source::Source;
 use std::marker::Model;
 
 /// One event.
@@ -11,6 +12,8 @@ pub enum Event {
     Run(u32),
     /// So many ticks of the vertical blank, each followed by a settle: 1 to 1,000,000.
     Tick(u32),
+    /// One request of an interrupt by that source, PORTS or EXTER, followed by a settle.
+    Irq(Source),
 }
 
 impl Event {
@@ -20,7 +23,7 @@ impl Event {
     {
         match self {
             Event::Run(n) => n,
-            Event::Tick(_) => 0,
+            Event::Tick(_) | Event::Irq(_) => 0,
         }
     }
 
@@ -29,7 +32,7 @@ impl Event {
         ensures { result ≡ ticks self }
     {
         match self {
-            Event::Run(_) => 0,
+            Event::Run(_) | Event::Irq(_) => 0,
             Event::Tick(n) => n,
         }
     }

@@ -1,11 +1,13 @@
 //! Reading an event text: bytes, cut at line feeds and never decoded.
 ghost use Rattle.std.specs.Prelude.{◌≡◌, map, [], IfOk, Ok, Err, MatchResult};
 ghost use Rattle.taskscript.specs.Events.{turns_of, event_of, is_skipped, are_within, text_lines, faults, events_of, script_of, JudgesLines};
+ghost use Rattle.taskscript.specs.Sources.{requested_source_of};
 ghost use Rattle.taskscript.specs.declared.fault.EventFault.TheVariants.{OutOfMemory};
 
 use crate::event::{Event, Events};
 use crate::fault::EventFault;
 use crate::number::decimal_of;
+use crate::source::Source;
 use std::alloc::{AllocError, Global};
 
 fn turns_of(digits: &[u8]) -> Option<u32>
@@ -23,6 +25,19 @@ fn turns_of(digits: &[u8]) -> Option<u32>
     }
 }
 
+/// The source that an event may request, by its name.
+fn requested_source_of(name: &[u8]) -> Option<Source>
+    ensures { result ≡ requested_source_of name.now }
+{
+    if name == b"PORTS" {
+        Some(Source::Ports)
+    } else if name == b"EXTER" {
+        Some(Source::Exter)
+    } else {
+        None
+    }
+}
+
 #[tactic(auto, unfolding(crate::specs::Events::event_of))]
 fn event_of(line: &[u8]) -> Option<Event>
     ensures { result ≡ event_of line.now }
@@ -36,6 +51,11 @@ fn event_of(line: &[u8]) -> Option<Event>
         match turns_of(digits) {
             None => None,
             Some(n) => Some(Event::Tick(n)),
+        }
+    } else if let Some(name) = line.strip_prefix(b"irq ") {
+        match requested_source_of(name) {
+            None => None,
+            Some(source) => Some(Event::Irq(source)),
         }
     } else {
         None
@@ -90,7 +110,8 @@ fn events_of(alloc: Global, lines: &[&[u8]]) -> Result<Events, EventFault>
 /// Reads an event text.
 ///
 /// Lines end with a line feed; the last one may lack it. An empty line and a line that begins with `#` are skipped, whatever bytes follow.
-/// Every other line is `run N` or `tick N`, with one space and N in decimal without leading zeros from 1 to 1000000.
+/// Every other line is `run N` or `tick N`, with one space and N in decimal without leading zeros from 1 to 1000000, or `irq PORTS` or
+/// `irq EXTER`.
 ///
 /// # Errors
 ///

@@ -1,22 +1,49 @@
 //! What a machine file states: the machine's parts, as records.
 ghost use Rattle.std.specs.Prelude.{◌≡◌, map};
 ghost use Rattle.taskscript.specs.Machines.{IsMachine};
-ghost use Rattle.taskscript.specs.Records.{task_view};
+ghost use Rattle.taskscript.specs.Records.{softint_view, server_view, task_view};
 
 use crate::command::Command;
 use crate::name::Name;
+use crate::source::Source;
 use memlist::Region;
 use std::marker::Model;
 
 /// A task of the machine.
 #[derive(Drop)]
 pub struct TaskRecord {
-    /// Its name, which no other task has.
+    /// Its name, which no other software interrupt, server or task has.
     pub name: Name,
     /// Its priority.
     pub pri: i8,
     /// Whether it is added when the machine starts.
     pub start: bool,
+    /// Its commands, in the order of its lines: at most 1,024.
+    pub code: Vec<Command>,
+}
+
+/// A software interrupt of the machine.
+#[derive(Drop)]
+pub struct SoftintRecord {
+    /// Its name, which no other software interrupt, server or task has.
+    pub name: Name,
+    /// Its priority: -32, -16, 0, 16 or 32.
+    pub pri: i8,
+    /// Its commands, in the order of its lines: at most 1,024.
+    pub code: Vec<Command>,
+}
+
+/// A server of the machine.
+#[derive(Drop)]
+pub struct ServerRecord {
+    /// Its name, which no other software interrupt, server or task has.
+    pub name: Name,
+    /// The source that it serves.
+    pub source: Source,
+    /// Its priority.
+    pub pri: i8,
+    /// Whether it ends the chain of its source.
+    pub claim: bool,
     /// Its commands, in the order of its lines: at most 1,024.
     pub code: Vec<Command>,
 }
@@ -29,6 +56,8 @@ pub struct MachineFile {
     pub(crate) quantum: u8,
     pub(crate) pool: u32,
     pub(crate) regions: Vec<Region>,
+    pub(crate) softints: Vec<SoftintRecord>,
+    pub(crate) servers: Vec<ServerRecord>,
     pub(crate) tasks: Vec<TaskRecord>,
 }
 
@@ -36,13 +65,27 @@ impl Model for MachineFile {
     ghost use Rattle.std.specs.Prelude.{map};
     ghost use Rattle.taskscript.specs.File.{MachineData};
     ghost use Rattle.taskscript.specs.Machines.{IsMachine};
-    ghost use Rattle.taskscript.specs.Records.{task_view};
+    ghost use Rattle.taskscript.specs.Records.{softint_view, server_view, task_view};
 
     ghost Value = { MachineData };
 
-    ghost view = { λ m. record { quantum = m.quantum; pool = m.pool; regions = m.regions.items; tasks = map task_view m.tasks.items } };
+    ghost view = { λ m. record {
+      quantum = m.quantum;
+      pool = m.pool;
+      regions = m.regions.items;
+      softints = map softint_view m.softints.items;
+      servers = map server_view m.servers.items;
+      tasks = map task_view m.tasks.items;
+    } };
 
-    ghost invariant = { λ m. IsMachine (record { quantum = m.quantum; pool = m.pool; regions = m.regions.items; tasks = map task_view m.tasks.items }) };
+    ghost invariant = { λ m. IsMachine (record {
+      quantum = m.quantum;
+      pool = m.pool;
+      regions = m.regions.items;
+      softints = map softint_view m.softints.items;
+      servers = map server_view m.servers.items;
+      tasks = map task_view m.tasks.items;
+    }) };
 }
 
 impl MachineFile {
@@ -69,6 +112,22 @@ impl MachineFile {
         ensures machine { IsMachine self.now }
     {
         &self.regions
+    }
+
+    /// The software interrupts, in the order of the file: at most 32 (RKM Libraries, Exec Interrupts).
+    pub fn softints(&self) -> &[SoftintRecord]
+        ensures softints { map softint_view result.now ≡ self.now.softints }
+        ensures machine { IsMachine self.now }
+    {
+        &self.softints
+    }
+
+    /// The servers of all sources, in the order of the file: at most 32 (RKM Libraries, Exec Interrupts).
+    pub fn servers(&self) -> &[ServerRecord]
+        ensures servers { map server_view result.now ≡ self.now.servers }
+        ensures machine { IsMachine self.now }
+    {
+        &self.servers
     }
 
     /// The tasks, in the order of the file: at most 64. The first one is task 1.

@@ -21,6 +21,7 @@ mod quoted;
 mod reading;
 mod regions;
 mod resolving;
+mod source;
 mod tasks;
 mod tree;
 mod variable;
@@ -31,15 +32,16 @@ pub use command::{Argument, Command};
 pub use event::{Event, Events};
 pub use events::read_events;
 pub use fault::{EventFault, FileFault};
-pub use file::{MachineFile, TaskRecord};
+pub use file::{MachineFile, ServerRecord, SoftintRecord, TaskRecord};
 pub use laws::{
     one_command, one_meaning, one_reading, read_line_is_said, refused_line_says_nothing,
     said_line_is_read,
 };
 pub use name::Name;
 pub use reading::read_machine;
+pub use source::Source;
 pub use variable::{Variable, VariableName};
 pub use word::{
-    Kind, ListWord, MemoryWord, NestingWord, PlainWord, PortWord, SemaphoreWord, SignalWord,
+    InterruptWord, Kind, ListWord, MemoryWord, NestingWord, PlainWord, PortWord, SemaphoreWord, SignalWord,
     TaskWord, Word, word_of,
 };

@@ -45,7 +45,7 @@ fn argument_of(kind: Kind, field: &str) -> Option<NamedArgument>
             Some(name) => Some(NamedArgument::Label(name)),
             None => None,
         },
-        Kind::Name => quoted_argument(field),
+        Kind::Name | Kind::Softint => quoted_argument(field),
         Kind::NameOrNone => {
             if field == "0" {
                 Some(NamedArgument::Number(0))

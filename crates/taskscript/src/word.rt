@@ -5,6 +5,7 @@ ghost use Rattle.std.specs.Prelude.{◌≡◌, bytes_eq, find};
 ghost use Rattle.taskscript.specs.Rows.{row_view};
 ghost use Rattle.taskscript.specs.Words.{answers, kinds, row, word_of, word_text};
 
+mod interrupts;
 mod lists;
 mod memory;
 mod nesting;
@@ -15,6 +16,7 @@ mod semaphores;
 mod task_signals;
 mod tasks;
 
+pub use interrupts::InterruptWord;
 pub use lists::ListWord;
 pub use memory::MemoryWord;
 pub use nesting::NestingWord;
@@ -45,6 +47,8 @@ pub enum Word {
     Ports(PortWord),
     /// A call on signal semaphores.
     Semaphores(SemaphoreWord),
+    /// A call on interrupts.
+    Interrupts(InterruptWord),
 }
 
 impl Word {
@@ -60,6 +64,7 @@ impl Word {
             Word::Memory(word) => word.row(),
             Word::Ports(word) => word.row(),
             Word::Semaphores(word) => word.row(),
+            Word::Interrupts(word) => word.row(),
         }
     }
 
@@ -104,4 +109,5 @@ pub fn word_of(text: &str) -> Option<Word>
         .or(found(&memory::ALL, text))
         .or(found(&ports::ALL, text))
         .or(found(&semaphores::ALL, text))
+        .or(found(&interrupts::ALL, text))
 }

@@ -21,6 +21,9 @@ pub enum PortWord {
     FindPort,
     /// Sets the port's action to PA_SIGNAL (own choice; RKM Libraries, Exec Messages and Ports: mp_Flags).
     PortSignal,
+    /// Sets the port's action to PA_SOFTINT, which causes a software interrupt (own choice; RKM Libraries, Exec Messages and Ports:
+    /// mp_Flags).
+    PortCause,
     /// Sets the port's action to PA_IGNORE (own choice; RKM Libraries, Exec Messages and Ports: mp_Flags).
     PortIgnore,
     /// Makes a message with a reply port, or with none, and with a word (own choice).
@@ -44,13 +47,14 @@ pub enum PortWord {
 }
 
 /// The words of this group.
-pub(super) const ALL: [Word; 16] = [
+pub(super) const ALL: [Word; 17] = [
     Word::Ports(PortWord::CreateMsgPort),
     Word::Ports(PortWord::DeleteMsgPort),
     Word::Ports(PortWord::AddPort),
     Word::Ports(PortWord::RemPort),
     Word::Ports(PortWord::FindPort),
     Word::Ports(PortWord::PortSignal),
+    Word::Ports(PortWord::PortCause),
     Word::Ports(PortWord::PortIgnore),
     Word::Ports(PortWord::NewMsg),
     Word::Ports(PortWord::FreeMsg),
@@ -78,6 +82,7 @@ impl PortWord {
             PortWord::RemPort => Row::without_answer("RemPort", &[Kind::Value]),
             PortWord::FindPort => Row::answering("FindPort", &[Kind::Name]),
             PortWord::PortSignal => Row::without_answer("PortSignal", &[Kind::Value]),
+            PortWord::PortCause => Row::without_answer("PortCause", &[Kind::Value, Kind::Softint]),
             PortWord::PortIgnore => Row::without_answer("PortIgnore", &[Kind::Value]),
             PortWord::NewMsg => Row::answering("NewMsg", &[Kind::Value, Kind::Value]),
             PortWord::FreeMsg => Row::without_answer("FreeMsg", &[Kind::Value]),

@@ -13,6 +13,8 @@ pub enum Kind {
     Name,
     /// A name between double quotes, or `0` alone for none.
     NameOrNone,
+    /// The name of a software interrupt of the file, between double quotes.
+    Softint,
 }
 
 /// The row of a word.

@@ -1,0 +1,13 @@
+-- Words of interrupts (RKM Libraries, Exec Interrupts).
+use Rattle.std.specs.Prelude.{codes, List, [], ◌∷◌}
+use Rattle.taskscript.specs.declared.word.interrupts.InterruptWord.{InterruptWord}
+use Rattle.taskscript.specs.declared.word.interrupts.InterruptWord.TheVariants.{Cause}
+use Rattle.taskscript.specs.declared.word.row.Kind.TheVariants.{Softint}
+use Rattle.taskscript.specs.Rows.{RowData, without_answer}
+
+abbrev pub interrupt_words : List InterruptWord
+interrupt_words = Cause ∷ []
+
+-- the row of a word
+abbrev pub interrupt_row : InterruptWord → RowData
+interrupt_row Cause = without_answer (codes "Cause") (Softint ∷ [])

@@ -1,0 +1,70 @@
+-- Which lines a body may have. That of a software interrupt or of a server has few words and no variables of its own; and whichever body it
+-- is, a word that names a software interrupt names one of the file.
+use Rattle.std.specs.Prelude.{ℕ, Bool, true, false, not, ◌&&◌, ◌||◌, bytes_eq, List, [], ◌∷◌}
+use Rattle.std.specs.List.{list_all, list_any}
+use Rattle.taskscript.specs.declared.word.Word.{Word}
+use Rattle.taskscript.specs.declared.word.Word.TheVariants.{Plain, Signals, Ports, Interrupts}
+use Rattle.taskscript.specs.declared.word.plain.PlainWord.{PlainWord}
+use Rattle.taskscript.specs.declared.word.plain.PlainWord.TheVariants.{Jump, JumpZ, JumpNZ}
+use Rattle.taskscript.specs.declared.word.task_signals.SignalWord.{SignalWord}
+use Rattle.taskscript.specs.declared.word.task_signals.SignalWord.TheVariants.{Signal}
+use Rattle.taskscript.specs.declared.word.ports.PortWord.{PortWord}
+use Rattle.taskscript.specs.declared.word.ports.PortWord.TheVariants.{PutMsg, GetMsg, ReplyMsg}
+use Rattle.taskscript.specs.declared.word.row.Kind.{Kind}
+use Rattle.taskscript.specs.declared.word.row.Kind.TheVariants.{Softint}
+use Rattle.taskscript.specs.Lines.{NamedVariableData, NamedArgumentData, quoted, NamedCommandData}
+use Rattle.taskscript.specs.Numbering.{variables_of}
+use Rattle.taskscript.specs.Words.{kinds}
+
+-- what a body is judged by, beside its lines: whether it is that of an interrupt, and the names of the software interrupts of the file
+pub record Setting : Type 0 where
+  pub of_interrupt : Bool
+  pub softints : List (List ℕ)
+
+-- ---- the words of an interrupt (own choice)
+
+abbrev pub is_plain_of_interrupt : PlainWord → Bool
+is_plain_of_interrupt Jump = false
+is_plain_of_interrupt JumpZ = false
+is_plain_of_interrupt JumpNZ = false
+is_plain_of_interrupt _ = true
+
+abbrev pub is_signal_of_interrupt : SignalWord → Bool
+is_signal_of_interrupt Signal = true
+is_signal_of_interrupt _ = false
+
+abbrev pub is_port_of_interrupt : PortWord → Bool
+is_port_of_interrupt PutMsg = true
+is_port_of_interrupt GetMsg = true
+is_port_of_interrupt ReplyMsg = true
+is_port_of_interrupt _ = false
+
+-- a word that the body of an interrupt may have
+abbrev pub is_word_of_interrupt : Word → Bool
+is_word_of_interrupt (Plain word) = is_plain_of_interrupt word
+is_word_of_interrupt (Signals word) = is_signal_of_interrupt word
+is_word_of_interrupt (Ports word) = is_port_of_interrupt word
+is_word_of_interrupt (Interrupts word) = true
+is_word_of_interrupt _ = false
+
+-- a command that the body of an interrupt may have: its word is one of those, and its variables are shared
+abbrev pub is_of_interrupt : NamedCommandData → Bool
+is_of_interrupt c = is_word_of_interrupt c.word && list_all (λ (v : NamedVariableData). v.is_shared) (variables_of c)
+
+-- a command may stand in a body
+abbrev pub may_stand : Setting → NamedCommandData → Bool
+may_stand setting c = not setting.of_interrupt || is_of_interrupt c
+
+-- ---- the software interrupts that a command names
+
+abbrev pub softints_among : List Kind → List NamedArgumentData → List (List ℕ)
+softints_among (Softint ∷ kinds) (quoted name ∷ others) = name ∷ softints_among kinds others
+softints_among (kind ∷ kinds) (a ∷ others) = softints_among kinds others
+softints_among _ _ = []
+
+abbrev pub softints_of : NamedCommandData → List (List ℕ)
+softints_of c = softints_among (kinds c.word) c.arguments
+
+-- each software interrupt that a command names is one of the file
+abbrev pub names_softints : Setting → NamedCommandData → Bool
+names_softints setting c = list_all (λ name. list_any (bytes_eq name) setting.softints) (softints_of c)

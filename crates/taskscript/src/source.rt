@@ -1,0 +1,27 @@
+//! Where interrupts come from, as both texts name it.
+ghost use Rattle.std.specs.Prelude.{◌≡◌};
+ghost use Rattle.taskscript.specs.Sources.{source_text};
+
+/// A source of interrupts. RKM Libraries, Exec Interrupts: the order of their priorities.
+#[derive(Clone, Copy, Debug, PartialEq, Eq)]
+pub enum Source {
+    /// Ports, timers and the keyboard.
+    Ports,
+    /// The start of the vertical blank.
+    Vertb,
+    /// An external interrupt.
+    Exter,
+}
+
+impl Source {
+    /// The name of the source, as it stands in the texts and in the trace.
+    pub fn text(self) -> &'static str
+        ensures { result.now ≡ source_text self }
+    {
+        match self {
+            Source::Ports => "PORTS",
+            Source::Vertb => "VERTB",
+            Source::Exter => "EXTER",
+        }
+    }
+}
