@@ -1,20 +1,100 @@
--- Interrupts (RKM Libraries, Exec Interrupts). A request is a latch: further ones before the serving are the same request.
-use Rattle.std.specs.Prelude.{Bool, false, ◌&&◌, if◌then◌else◌, codes}
-use Rattle.exectrace.specs.Trace.{Serve}
-use Rattle.scheduler.specs.Schedule.{Schedule, is_interrupting_allowed, ticked}
-use Rattle.execmodel.specs.State.{State, Outcome, quiet, says, on_schedule}
+-- How interrupts run (RKM Libraries, Exec Interrupts): software interrupts one a step, the servers of a source where it is served.
+use Rattle.std.specs.Prelude.{ℕ, ℤ, zero, suc, pos, Bool, false, if◌then◌else◌, List, [], ◌∷◌, Option, None, Some, length, map, filter, slice_index_or}
+use Rattle.std.specs.List.{range_with_len}
+use Rattle.exectrace.specs.Trace.{Serve, Server, Softint}
+use Rattle.execlist.specs.Order.{chosen, without}
+use Rattle.softint.specs.Interrupts.{pri_at}
+use Rattle.softint.specs.Sources.{is_source}
+use Rattle.softint.specs.declared.source.Source.{Source}
+use Rattle.softint.specs.declared.source.Source.TheVariants as source
+use Rattle.taskscript.specs.Commands.{CommandData}
+use Rattle.taskscript.specs.File.{SoftintData, ServerData}
+use Rattle.taskscript.specs.Sources.{source_text}
+use Rattle.taskscript.specs.declared.source.Source.TheVariants as named
+use Rattle.scheduler.specs.Schedule.{Schedule, ticked}
+use Rattle.execmodel.specs.State.{Bodies, State, Outcome, quiet, says, andthen, unless_stopped, on_schedule, on_pending}
+use Rattle.execmodel.specs.Pending.{source_named, taken_off, with_latch_of, next_source}
+use Rattle.execmodel.specs.Bodies.{runs_body}
 
-abbrev pub on_latch : Bool → State → State
-on_latch latched s = record s { latched = latched }
+-- ---- software interrupts
 
--- an interrupt was requested, and interrupts are allowed
-abbrev pub is_due : Bool → Schedule → Bool
-is_due latched schedule = latched && is_interrupting_allowed schedule.running schedule
+abbrev pub no_softint : SoftintData
+no_softint = record { name = []; pri = pos 0; code = [] }
 
--- VERTB is served: the latch is cleared, and the quantum of the running task loses one serving (own choice)
-unfoldable pub serves : State → Outcome
-serves s = says (Serve (codes "VERTB")) (on_schedule ticked (on_latch false s))
+abbrev pub softint_at : ℕ → Bodies → SoftintData
+softint_at i bodies = slice_index_or bodies.softints i no_softint
 
--- what is requested is served, where interrupts are allowed
-abbrev pub interrupts : State → Outcome
-interrupts s = if is_due s.latched s.schedule then serves s else quiet s
+-- software interrupt i runs: it is not caused any more, so that its body may cause it again, and then its whole body runs
+unfoldable pub runs_softint : ℕ → State → Outcome
+runs_softint i s =
+    let softint = softint_at i s.bodies in
+    andthen (says (Softint softint.name)) (runs_body softint.name softint.code) (on_pending (taken_off i) s)
+
+-- ---- servers
+
+abbrev pub no_server : ServerData
+no_server = record { name = []; source = named.Ports; pri = pos 0; claim = false; code = [] }
+
+abbrev pub server_at : ℕ → Bodies → ServerData
+server_at k bodies = slice_index_or bodies.servers k no_server
+
+abbrev pub server_pri : List ServerData → ℕ → ℤ
+server_pri servers k = pri_at (map (λ (s : ServerData). s.pri) servers) k
+
+-- the servers of a source, in the order of the file
+abbrev pub servers_of : Source → List ServerData → List ℕ
+servers_of asks servers =
+    filter (λ k. is_source (source_named (slice_index_or servers k no_server).source) asks) (range_with_len 0 (length servers))
+
+-- the items as they are chosen one after another, each from those that are left: so many of them
+unfoldable pub by_choice : ℕ → (ℕ → ℤ) → List ℕ → List ℕ
+by_choice zero key left = []
+by_choice (suc n) key left =
+    elim (chosen key left) as (λ (x : Option ℕ). List ℕ) [ None ↦ [] | Some k ↦ k ∷ by_choice n key (without k left) ]
+
+-- the servers of a source as they run: by priority, and those of one priority in the order of the file (autodoc exec.library/AddIntServer)
+unfoldable pub chain_of : Source → List ServerData → List ℕ
+chain_of asks servers = by_choice (length servers) (server_pri servers) (servers_of asks servers)
+
+-- server k runs its whole body
+unfoldable pub runs_server : ℕ → State → Outcome
+runs_server k s =
+    let server = server_at k s.bodies in
+    andthen (says (Server server.name)) (runs_body server.name server.code) s
+
+-- the servers run one after another, until one claims the interrupt, or an alert stops the machine
+unfoldable pub runs_chain : List ℕ → State → Outcome
+runs_chain [] s = quiet s
+runs_chain (k ∷ others) s =
+    andthen (runs_server k) (unless_stopped (if (server_at k s.bodies).claim then quiet else runs_chain others)) s
+
+-- ---- serving
+
+-- the text of a source
+abbrev pub text_of_source : Source → List ℕ
+text_of_source source.Ports = source_text named.Ports
+text_of_source source.Vertb = source_text named.Vertb
+text_of_source source.Exter = source_text named.Exter
+
+-- for VERTB the quantum of the running task loses one serving (own choice)
+abbrev pub counted : Source → Schedule → Schedule
+counted source.Ports schedule = schedule
+counted source.Vertb schedule = ticked schedule
+counted source.Exter schedule = schedule
+
+-- A source is served: its latch is cleared, and then its servers run.
+unfoldable pub serves : Source → State → Outcome
+serves asks s =
+    andthen (says (Serve (text_of_source asks))) (runs_chain (chain_of asks s.bodies.servers))
+    (on_schedule (counted asks) (on_pending (with_latch_of asks false) s))
+
+-- so many servings: while interrupts are allowed and a source asks for it, the one of highest level is served
+unfoldable pub servings : ℕ → State → Outcome
+servings zero s = quiet s
+servings (suc n) s =
+    elim (next_source s) as (λ (x : Option Source). Outcome)
+    [ None ↦ quiet s | Some asks ↦ andthen (serves asks) (unless_stopped (servings n)) s ]
+
+-- All that asks is served. There are three sources, and no serving sets a latch, so three servings leave none that may be served.
+unfoldable pub interrupts : State → Outcome
+interrupts s = servings 3 s

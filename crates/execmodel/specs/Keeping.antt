@@ -8,8 +8,9 @@ use Rattle.taskscript.specs.declared.word.lists.ListWord.{ListWord}
 use Rattle.taskscript.specs.declared.word.memory.MemoryWord.{MemoryWord}
 use Rattle.taskscript.specs.declared.word.ports.PortWord.{PortWord}
 use Rattle.taskscript.specs.declared.word.semaphores.SemaphoreWord.{SemaphoreWord}
+use Rattle.taskscript.specs.declared.word.interrupts.InterruptWord.{InterruptWord}
 use Rattle.scheduler.specs.Schedule.{Schedule}
-use Rattle.execmodel.specs.State.{Call, Memory, Program, Scripts, State, Outcome, program_of, with_program}
+use Rattle.execmodel.specs.State.{Call, Memory, Pending, Program, Scripts, State, Outcome, program_of, with_program}
 use Rattle.execmodel.specs.Plain.{does_plain}
 use Rattle.execmodel.specs.Signals.{does_signals}
 use Rattle.execmodel.specs.Nesting.{does_nesting}
@@ -18,6 +19,7 @@ use Rattle.execmodel.specs.Lists.{does_lists}
 use Rattle.execmodel.specs.Memory.{does_memory}
 use Rattle.execmodel.specs.Ports.{does_ports}
 use Rattle.execmodel.specs.Semaphores.{does_semaphores}
+use Rattle.execmodel.specs.Causing.{does_interrupts}
 
 -- ---- parts blanked out
 
@@ -52,6 +54,10 @@ without_blocks memory = record memory { heap = [] }
 abbrev pub without_blocks_and_public_ports : Memory → Memory
 without_blocks_and_public_ports memory = record memory { heap = []; public = [] }
 
+-- pending interrupts without the software interrupts that are caused
+abbrev pub without_caused : Pending → Pending
+without_caused pending = record pending { caused = [] }
+
 -- ---- what the words of a group leave: a state in which all that they may change is blanked out
 
 abbrev pub beside_plain : ℕ → State → State
@@ -83,6 +89,14 @@ beside_ports s = record s {
   scripts = no_scripts;
   schedule = without_signals (without_states s.schedule);
   memory = without_blocks_and_public_ports s.memory;
+  pending = without_caused s.pending;
+  stopped = false;
+}
+
+abbrev pub beside_interrupts : State → State
+beside_interrupts s = record s {
+  scripts = no_scripts;
+  pending = without_caused s.pending;
   stopped = false;
 }
 
@@ -132,3 +146,7 @@ PortWordsChangePortsSignalsAndStates = (word : PortWord) (t : ℕ) (call : Call)
 abbrev pub SemaphoreWordsChangeStatesAndObjects : Type 0
 SemaphoreWordsChangeStatesAndObjects =
     (word : SemaphoreWord) (t : ℕ) (call : Call) → Keeps beside_semaphores (does_semaphores word t call)
+
+abbrev pub InterruptWordsChangeWhatIsCaused : Type 0
+InterruptWordsChangeWhatIsCaused =
+    (word : InterruptWord) (t : ℕ) (call : Call) → Keeps beside_interrupts (does_interrupts word t call)

@@ -1,6 +1,6 @@
 -- Laws of every run: of each machine that a file may state, and each list of events.
-use Rattle.std.specs.Prelude.{◌≡◌, ◌≢◌, ◌⊎◌, ℕ, ◌≤ℤ◌, Bool, true, false, bit_and, All, List, [], ◌∷◌, ◌++◌, None, Some, slice_get, codes}
-use Rattle.exectrace.specs.Trace.{Switch, TraceLine}
+use Rattle.std.specs.Prelude.{◌≡◌, ◌≢◌, ◌⊎◌, ℕ, ◌≤◌, ◌≤ℤ◌, Bool, true, false, bit_and, count_by, All, List, [], ◌∷◌, ◌++◌, None, Some, slice_get, codes}
+use Rattle.exectrace.specs.Trace.{Switch, Serve, TraceLine}
 use Rattle.memlist.specs.declared.region.Region.{Region}
 use Rattle.memlist.specs.Pieces.{AreDisjoint, IsTiled}
 use Rattle.execlist.specs.Order.{chosen}
@@ -8,7 +8,9 @@ use Rattle.signals.specs.Signals.{has_signal}
 use Rattle.taskq.specs.Tasks.{pri_at}
 use Rattle.taskq.specs.declared.TaskState.TheVariants.{Waiting}
 use Rattle.taskq.specs.declared.Why.TheVariants.{Signals}
-use Rattle.scheduler.specs.Schedule.{Schedule, name_of, priority_of, status_of, signals_of, is_switching_allowed, is_interrupting_allowed}
+use Rattle.scheduler.specs.Schedule.{Schedule, name_of, priority_of, status_of, signals_of, is_switching_allowed}
+use Rattle.softint.specs.declared.source.Source.{Source}
+use Rattle.softint.specs.Sources.{is_latched}
 use Rattle.taskscript.specs.File.{MachineData}
 use Rattle.taskscript.specs.Machines.{IsMachine}
 use Rattle.taskscript.specs.declared.event.Event.{Event}
@@ -23,8 +25,9 @@ use Rattle.execmodel.specs.Memory.{extents, does_free_mem}
 use Rattle.execmodel.specs.Objects.{object_at}
 use Rattle.execmodel.specs.Ports.{messages_of}
 use Rattle.execmodel.specs.Semaphores.{sem_of, waiters_of}
-use Rattle.execmodel.specs.Interrupts.{interrupts}
-use Rattle.execmodel.specs.Step.{does, ends, step, tick, switches, events, run}
+use Rattle.execmodel.specs.Pending.{allows_interrupts, next_softint}
+use Rattle.execmodel.specs.Interrupts.{interrupts, runs_softint}
+use Rattle.execmodel.specs.Step.{does, ends, step, tick, request, settle, switches, events, run}
 use Rattle.execmodel.specs.Agreement.{Agrees}
 use Rattle.execmodel.specs.Queues.{IsInOrder}
 use Rattle.execmodel.specs.Marks.{turns_at_port, turns_at_semaphore}
@@ -72,19 +75,22 @@ FreeMemRefusesObjects =
 pub data Action : Type 0 where
   OneStep : Action
   OneTick : Action
+  OneRequest : (asks : Source) → Action
 
 abbrev pub performed : Action → State → Outcome
 performed OneStep s = step s
 performed OneTick s = tick s
+performed (OneRequest asks) s = request asks s
 
--- Something holds of every action of a run: of the state before a step or a tick, and of what that does.
+-- Something holds of every action of a run: of the state before a step, a tick or a request, and of what that does.
 abbrev pub OfEveryAction : (Action → State → Outcome → Type 0) → Type 0
 OfEveryAction Holds =
     (machine : MachineData) (list : List Event) (action : Action) → IsMachine machine
     → Holds action (run machine list).state (performed action (run machine list).state)
 
--- the running task is to make that call
+-- the running task is to make that call: no software interrupt runs before it
 pub record IsToCall (t : ℕ) (call : Call) (s : State) : Type 0 where
+  pub first : next_softint s ≡ None
   pub runs : s.schedule.running ≡ Some t
   pub calls : next_call t s.scripts ≡ Some call
 
@@ -135,9 +141,9 @@ pub record IsSettled (s : State) : Type 0 where
   pub none_left : s.schedule.running ≡ None → s.schedule.queue.ready ≡ []
   pub none_higher : (r : ℕ) → s.schedule.running ≡ Some r → is_switching_allowed (Some r) s.schedule ≡ true
       → All (λ t. priority_of s.schedule t ≤ℤ priority_of s.schedule r) s.schedule.queue.ready
-  pub none_latched : s.latched ≡ true → is_interrupting_allowed s.schedule.running s.schedule ≡ false
+  pub none_latched : (asks : Source) → is_latched asks s.pending.latches ≡ true → allows_interrupts s.schedule ≡ false
 
--- After the start and after each step and tick the machine is settled, unless an alert has stopped it.
+-- After the start and after each step, tick and request the machine is settled, unless an alert has stopped it.
 abbrev pub EachStateIsSettled : Type 0
 EachStateIsSettled = InEveryState (λ s. s.stopped ≡ false → IsSettled s)
 
@@ -164,6 +170,7 @@ says_switch (_ ∷ lines) = says_switch lines
 pub record OnlySwitchesSaySo : Type 0 where
   pub of_calls : (t : ℕ) (call : Call) (s : State) → says_switch (does t call s).lines ≡ false
   pub of_ends : (t : ℕ) (s : State) → says_switch (ends t s).lines ≡ false
+  pub of_softints : (i : ℕ) (s : State) → says_switch (runs_softint i s).lines ≡ false
   pub of_interrupts : (s : State) → says_switch (interrupts s).lines ≡ false
 
 -- ---- signals
@@ -190,3 +197,19 @@ ReceivedSignalsStay =
     has_signal (signals_of s.schedule t).received n ≡ true
     → (has_signal (signals_of o.state.schedule t).received n ≡ true)
     ⊎ ((action ≡ OneStep) × ((call : Call) × IsToCall t call s × (is_own_taking call.word ≡ true))))
+
+-- ---- interrupts
+
+-- No body changes how a task has nested Forbid and Disable: neither a software interrupt, nor the servers that one settle runs.
+pub record InterruptsKeepNestings : Type 0 where
+  pub of_softints : (i : ℕ) (s : State) → (runs_softint i s).state.schedule.nestings ≡ s.schedule.nestings
+  pub of_interrupts : (s : State) → (interrupts s).state.schedule.nestings ≡ s.schedule.nestings
+
+-- the line of a serving
+abbrev pub is_serving : TraceLine → Bool
+is_serving (Serve name) = true
+is_serving _ = false
+
+-- One settle serves three times at most.
+abbrev pub ThreeServingsAtMost : Type 0
+ThreeServingsAtMost = (s : State) → count_by is_serving (settle s).lines ≤ 3

@@ -10,7 +10,10 @@ pub mod Memory
 pub mod Objects
 pub mod Semaphores
 pub mod Lists
+pub mod Pending
+pub mod Causing
 pub mod Ports
+pub mod Bodies
 pub mod Interrupts
 pub mod Step
 pub mod Keeping

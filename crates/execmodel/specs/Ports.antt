@@ -12,15 +12,16 @@ use Rattle.scheduler.specs.Schedule.{Schedule, signals_of, allocates, clears_and
 use Rattle.msgport.specs.declared.action.Action.{Action}
 use Rattle.msgport.specs.declared.action.Action.TheVariants as action
 use Rattle.msgport.specs.declared.action.PortAction.{PortAction}
-use Rattle.msgport.specs.declared.action.PortAction.TheVariants.{Signal, Ignore}
+use Rattle.msgport.specs.declared.action.PortAction.TheVariants.{Signal, Cause, Ignore}
 use Rattle.msgport.specs.declared.message.Message.{Message as Content}
 use Rattle.msgport.specs.Port.{Port, acting, new_port, wait_bit}
 use Rattle.msgport.specs.Ports.{new_message, nt_freemsg, nt_message, nt_replymsg}
 use Rattle.taskscript.specs.declared.word.ports.PortWord.{PortWord}
 use Rattle.taskscript.specs.declared.word.ports.PortWord.TheVariants as word
 use Rattle.execmodel.specs.State.{Call, Object, MsgPort, Message, Block, Heap, PublicPort, Memory, State, Outcome, put, got, leaving, on_schedule, on_memory, on_heap}
-use Rattle.execmodel.specs.Calls.{Caller, ByTask, argument, name_argument, done, done_by, answered, waiting, unless, unless_by}
+use Rattle.execmodel.specs.Calls.{Caller, ByTask, argument, name_argument, done, done_by, answered, answered_by, waiting, unless, unless_by}
 use Rattle.execmodel.specs.Scheduling.{signalled}
+use Rattle.execmodel.specs.Pending.{causes, softint_named}
 use Rattle.execmodel.specs.Memory.{allocates as memory_allocated, freed, placed}
 use Rattle.execmodel.specs.Objects.{object_at, is_kind, place_for_object, replaced}
 use Rattle.execmodel.specs.Tasks.{is_priority}
@@ -226,6 +227,14 @@ does_port_signal t call s =
     let port = argument 0 call in
     unless (port_alert port s.memory.heap) t call (λ s. done t call (on_memory (on_heap (with_action Signal port)) s)) s
 
+-- PortCause port name: the port causes the software interrupt of that name (RKM Libraries, Exec Messages and Ports: mp_Flags, PA_SOFTINT; that
+-- there is a call for it: own choice)
+unfoldable pub does_port_cause : ℕ → Call → State → Outcome
+does_port_cause t call s =
+    let port = argument 0 call in
+    let i = softint_named (unwrap_or (name_argument 1 call) []) s.bodies.softints in
+    unless (port_alert port s.memory.heap) t call (λ s. done t call (on_memory (on_heap (with_action (Cause i) port)) s)) s
+
 -- PortIgnore port: the port does nothing where a message arrives (RKM Libraries, Exec Messages and Ports: mp_Flags, PA_IGNORE; that there
 -- is a call for it: own choice)
 unfoldable pub does_port_ignore : ℕ → Call → State → Outcome
@@ -302,6 +311,7 @@ posted kind port message heap = appended port message (typed kind message heap)
 -- what is to be done for a message that has arrived
 abbrev pub performed : Action → State → State
 performed (action.Signal task mask) s = on_schedule (signalled task mask) s
+performed (action.Cause i) s = causes i s
 performed action.Nothing s = s
 
 -- a message is put at a port as one of that type, and the port acts
@@ -331,17 +341,24 @@ reply_alert message heap =
     else (if is_queued message heap then Some (codes "LINK") else reply_port_alert (content_of message heap).reply heap)
 
 -- a message with that reply port, or 0, is replied
+abbrev pub replied_by : ℕ → Caller → Call → ℕ → State → Outcome
+replied_by reply c call message s =
+    if nat_eq reply 0 then done_by c call (on_memory (on_heap (typed nt_freemsg message)) s)
+    else leaving (put reply message) (done_by c call (delivered nt_replymsg reply message s))
+
 abbrev pub replied : ℕ → ℕ → Call → ℕ → State → Outcome
-replied reply t call message s =
-    if nat_eq reply 0 then done t call (on_memory (on_heap (typed nt_freemsg message)) s)
-    else leaving (put reply message) (done t call (delivered nt_replymsg reply message s))
+replied reply t call message s = replied_by reply (ByTask t) call message s
 
 -- ReplyMsg message: the message is put at its reply port, the one that begins at that address now; one without gets the type NT_FREEMSG
 -- (autodoc exec.library/ReplyMsg; the alerts: own choice)
-unfoldable pub does_reply_msg : ℕ → Call → State → Outcome
-does_reply_msg t call s =
+abbrev pub does_reply_msg_by : Caller → Call → State → Outcome
+does_reply_msg_by c call s =
     let message = argument 0 call in
-    unless (reply_alert message s.memory.heap) t call (λ s. replied (content_of message s.memory.heap).reply t call message s) s
+    unless_by (reply_alert message s.memory.heap) c call
+    (λ s. replied_by (content_of message s.memory.heap).reply c call message s) s
+
+unfoldable pub does_reply_msg : ℕ → Call → State → Outcome
+does_reply_msg t call s = does_reply_msg_by (ByTask t) call s
 
 -- ---- taking and waiting
 
@@ -350,15 +367,21 @@ unfoldable pub taken_off : ℕ → Heap → Heap
 taken_off port heap = with_port port (port_of port heap) (drop 1 (messages_of port heap)) heap
 
 -- the first message of a port, if there is one, is answered and taken
+abbrev pub taken_by : ℕ → Option ℕ → Caller → Call → State → Outcome
+taken_by port None c call s = answered_by c call 0 s
+taken_by port (Some message) c call s = leaving (got port message) (answered_by c call message (on_memory (on_heap (taken_off port)) s))
+
 abbrev pub taken : ℕ → Option ℕ → ℕ → Call → State → Outcome
-taken port None t call s = answered t call 0 s
-taken port (Some message) t call s = leaving (got port message) (answered t call message (on_memory (on_heap (taken_off port)) s))
+taken port message t call s = taken_by port message (ByTask t) call s
 
 -- GetMsg port: answers the first message, which leaves the port, or 0 (autodoc exec.library/GetMsg)
-unfoldable pub does_get_msg : ℕ → Call → State → Outcome
-does_get_msg t call s =
+abbrev pub does_get_msg_by : Caller → Call → State → Outcome
+does_get_msg_by c call s =
     let port = argument 0 call in
-    unless (port_alert port s.memory.heap) t call (λ s. taken port (first (messages_of port s.memory.heap)) t call s) s
+    unless_by (port_alert port s.memory.heap) c call (λ s. taken_by port (first (messages_of port s.memory.heap)) c call s) s
+
+unfoldable pub does_get_msg : ℕ → Call → State → Outcome
+does_get_msg t call s = does_get_msg_by (ByTask t) call s
 
 -- the alert of WaitPort for task t: the port has to signal that task
 unfoldable pub wait_alert : ℕ → ℕ → Heap → Option (List ℕ)
@@ -396,6 +419,7 @@ does_ports word.AddPort t call s = does_add_port t call s
 does_ports word.RemPort t call s = does_rem_port t call s
 does_ports word.FindPort t call s = does_find_port t call s
 does_ports word.PortSignal t call s = does_port_signal t call s
+does_ports word.PortCause t call s = does_port_cause t call s
 does_ports word.PortIgnore t call s = does_port_ignore t call s
 does_ports word.NewMsg t call s = does_new_msg t call s
 does_ports word.FreeMsg t call s = does_free_msg t call s

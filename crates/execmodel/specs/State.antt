@@ -1,12 +1,14 @@
 -- The state of the abstract machine, and what an action makes of it. Nothing in it is linked and nothing is sorted: each
 -- queue is a sequence in order of arrival.
-use Rattle.std.specs.Prelude.{ℕ, Bool, false, List, [], ◌∷◌, ◌++◌, Option, None, map, length, replicate, slice_index_or, slice_set}
+use Rattle.std.specs.Prelude.{ℕ, Bool, false, if◌then◌else◌, List, [], ◌∷◌, ◌++◌, Option, None, map, length, replicate, slice_index_or, slice_set}
 use Rattle.exectrace.specs.Trace.{Argument, TraceLine}
 use Rattle.taskscript.specs.declared.word.Word.{Word}
 use Rattle.taskscript.specs.declared.variable.Variable.{Variable}
 use Rattle.taskscript.specs.Commands.{CommandData}
-use Rattle.taskscript.specs.File.{MachineData, TaskData}
+use Rattle.taskscript.specs.File.{MachineData, SoftintData, ServerData, TaskData}
 use Rattle.scheduler.specs.Schedule.{Schedule, unstarted}
+use Rattle.softint.specs.Sources.{no_latches}
+use Rattle.softint.specs.declared.latches.Latches.{Latches}
 pub use Rattle.execmodel.specs.Blocks.{Object, Plain, ListHead, Node, MsgPort, Message, Semaphore, Block, Heap, PublicPort, Memory, on_heap}
 
 -- a command of a task with the values that its arguments had when it was first tried, and the place of the command after it; and, where
@@ -32,6 +34,17 @@ pub record Scripts : Type 0 where
   pub programs : List Program
   pub shared : List ℕ
 
+-- what the software interrupts and the servers of all sources execute, both in the order of the file; nothing changes it
+pub record Bodies : Type 0 where
+  pub softints : List SoftintData
+  pub servers : List ServerData
+
+-- the interrupts that are pending: the software interrupts that are caused, by number from 0, in order of arrival; and the latches, which
+-- tell the sources that ask to be served
+pub record Pending : Type 0 where
+  pub caused : List ℕ
+  pub latches : Latches
+
 pub record State : Type 0 where
   -- the tasks' names, priorities, states and signals, the ready sequence, and the running task
   pub schedule : Schedule
@@ -39,8 +52,10 @@ pub record State : Type 0 where
   pub scripts : Scripts
   -- the regions, and the blocks and objects that lie in them
   pub memory : Memory
-  -- VERTB was requested, and is not served yet
-  pub latched : Bool
+  -- what interrupts execute
+  pub bodies : Bodies
+  -- the interrupts that are asked for, and have not run yet
+  pub pending : Pending
   -- an alert has stopped the machine
   pub stopped : Bool
 
@@ -80,6 +95,10 @@ andthen first next s =
     let b = next a.state in
     record { state = b.state; lines = a.lines ++ b.lines; marks = a.marks ++ b.marks }
 
+-- an action, unless an alert has stopped the machine
+abbrev pub unless_stopped : (State → Outcome) → State → Outcome
+unless_stopped next s = if s.stopped then quiet s else next s
+
 -- ---- parts of a state
 
 abbrev pub no_program : Program
@@ -92,7 +111,7 @@ program_of scripts t = slice_index_or scripts.programs t no_program
 abbrev pub with_program : ℕ → Program → Scripts → Scripts
 with_program t program scripts = record scripts { programs = slice_set scripts.programs t program }
 
--- an action on the schedule alone, on the scripts alone, or on the memory alone
+-- an action on the schedule alone, on the scripts alone, on the memory alone, or on the pending interrupts alone
 abbrev pub on_schedule : (Schedule → Schedule) → State → State
 on_schedule f s = record s { schedule = f s.schedule }
 
@@ -101,6 +120,9 @@ on_scripts f s = record s { scripts = f s.scripts }
 
 abbrev pub on_memory : (Memory → Memory) → State → State
 on_memory f s = record s { memory = f s.memory }
+
+abbrev pub on_pending : (Pending → Pending) → State → State
+on_pending f s = record s { pending = f s.pending }
 
 -- ---- the first state
 
@@ -119,12 +141,13 @@ abbrev pub begun : TaskData → Program
 begun task = begun_with task.code task.start
 
 -- The machine of a file before its start: no task was added, nothing runs, it was not yet told to be idle, and no interrupt was
--- requested. No memory is allocated, and no port is public.
+-- asked for. No memory is allocated, and no port is public.
 unfoldable pub booted : MachineData → State
 booted machine = record {
   schedule = unstarted (length machine.tasks) (map (λ (task : TaskData). task.pri) machine.tasks) (map (λ (task : TaskData). task.name) machine.tasks) machine.quantum;
   scripts = record { programs = map begun machine.tasks; shared = replicate shared_variables 0 };
   memory = record { regions = machine.regions; pool = machine.pool; heap = []; public = [] };
-  latched = false;
+  bodies = record { softints = machine.softints; servers = machine.servers };
+  pending = record { caused = []; latches = no_latches };
   stopped = false;
 }

@@ -3,16 +3,17 @@ use Rattle.std.specs.Prelude.{ℕ, zero, suc, true, if◌then◌else◌, List, [
 use Rattle.exectrace.specs.Trace.{Value, Done, Switch, Idle}
 use Rattle.exectrace.specs.Trace as trace
 use Rattle.taskscript.specs.declared.word.Word.{Word}
-use Rattle.taskscript.specs.declared.word.Word.TheVariants.{Plain, Signals, Nesting, Tasks, Lists, Memory, Ports, Semaphores}
+use Rattle.taskscript.specs.declared.word.Word.TheVariants.{Plain, Signals, Nesting, Tasks, Lists, Memory, Ports, Semaphores, Interrupts}
 use Rattle.taskscript.specs.declared.event.Event.{Event}
-use Rattle.taskscript.specs.declared.event.Event.TheVariants.{Run, Tick}
+use Rattle.taskscript.specs.declared.event.Event.TheVariants.{Run, Tick, Irq}
 use Rattle.taskscript.specs.File.{MachineData}
 use Rattle.scheduler.specs.Schedule.{Schedule, name_of, leaves}
 use Rattle.scheduler.specs.declared.Switch.{Switch as Choice}
 use Rattle.scheduler.specs.declared.Switch.TheVariants as switch
-use Rattle.execmodel.specs.State.{Call, Scripts, State, Outcome, quiet, says, andthen, program_of, on_schedule, booted}
+use Rattle.execmodel.specs.State.{Call, Scripts, State, Outcome, quiet, says, andthen, unless_stopped, program_of, on_schedule, on_pending, booted}
 use Rattle.execmodel.specs.Scheduling.{switch_of, rescheduled, added}
-use Rattle.execmodel.specs.Interrupts.{on_latch, interrupts}
+use Rattle.execmodel.specs.Pending.{source_named, with_latch_of, next_softint}
+use Rattle.execmodel.specs.Interrupts.{interrupts, runs_softint}
 use Rattle.execmodel.specs.Calls.{next_call}
 use Rattle.execmodel.specs.Plain.{does_plain}
 use Rattle.execmodel.specs.Signals.{does_signals}
@@ -22,6 +23,9 @@ use Rattle.execmodel.specs.Lists.{does_lists}
 use Rattle.execmodel.specs.Memory.{does_memory}
 use Rattle.execmodel.specs.Ports.{does_ports}
 use Rattle.execmodel.specs.Semaphores.{does_semaphores}
+use Rattle.execmodel.specs.Causing.{does_interrupts}
+use Rattle.softint.specs.declared.source.Source.{Source}
+use Rattle.softint.specs.declared.source.Source.TheVariants.{Vertb}
 
 -- ---- settle
 
@@ -34,10 +38,6 @@ announced (Some switch.Idle) s = says Idle s
 -- the switch to another task, or to being idle
 unfoldable pub switches : State → Outcome
 switches s = announced (switch_of s.schedule) (on_schedule rescheduled s)
-
--- an action, unless an alert has stopped the machine
-abbrev pub unless_stopped : (State → Outcome) → State → Outcome
-unless_stopped next s = if s.stopped then quiet s else next s
 
 -- what follows each action: what is requested is served, and then there is at most one switch; a stopped machine stays as it is
 unfoldable pub settle : State → Outcome
@@ -55,6 +55,7 @@ does_word (Lists word) t call s = does_lists word t call s
 does_word (Memory word) t call s = does_memory word t call s
 does_word (Ports word) t call s = does_ports word t call s
 does_word (Semaphores word) t call s = does_semaphores word t call s
+does_word (Interrupts word) t call s = does_interrupts word t call s
 
 unfoldable pub does : ℕ → Call → State → Outcome
 does t call s = does_word call.word t call s
@@ -72,14 +73,19 @@ abbrev pub task_step : Option ℕ → State → Outcome
 task_step None s = quiet s
 task_step (Some t) s = call_step t (next_call t s.scripts) s
 
+-- a software interrupt that may run does so before any task's command
+abbrev pub softint_or_task_step : Option ℕ → State → Outcome
+softint_or_task_step None s = task_step s.schedule.running s
+softint_or_task_step (Some i) s = runs_softint i s
+
 unfoldable pub acting : State → Outcome
-acting s = task_step s.schedule.running s
+acting s = softint_or_task_step (next_softint s) s
 
 -- a stopped machine does nothing
 unfoldable pub acts : State → Outcome
 acts s = unless_stopped acting s
 
--- the running task does one command, and then the machine settles
+-- a software interrupt runs, or else the running task does one command; and then the machine settles
 unfoldable pub step : State → Outcome
 step s = andthen acts settle s
 
@@ -90,9 +96,13 @@ steps (suc n) s = andthen (steps n) step s
 
 -- ---- run
 
--- one tick: VERTB is requested, and the machine settles; a stopped machine does nothing
+-- an interrupt is requested: its source asks to be served, and the machine settles; a stopped machine does nothing
+unfoldable pub request : Source → State → Outcome
+request asks s = unless_stopped (λ s. settle (on_pending (with_latch_of asks true) s)) s
+
+-- one tick requests VERTB
 unfoldable pub tick : State → Outcome
-tick s = unless_stopped (λ s. settle (on_latch true s)) s
+tick s = request Vertb s
 
 -- so many ticks
 unfoldable pub ticks : ℕ → State → Outcome
@@ -115,6 +125,7 @@ starts s = settle (on_schedule (all_added s.scripts (length s.scripts.programs))
 unfoldable pub event : Event → State → Outcome
 event (Run n) s = steps n s
 event (Tick n) s = ticks n s
+event (Irq name) s = request (source_named name) s
 
 -- one event after another
 unfoldable pub events : List Event → State → Outcome

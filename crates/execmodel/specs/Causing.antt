@@ -1,0 +1,19 @@
+-- Calls on interrupts (RKM Libraries, Exec Interrupts: software interrupts).
+use Rattle.std.specs.Prelude.{ℕ, [], unwrap_or}
+use Rattle.taskscript.specs.declared.word.interrupts.InterruptWord.{InterruptWord}
+use Rattle.taskscript.specs.declared.word.interrupts.InterruptWord.TheVariants as word
+use Rattle.execmodel.specs.State.{Call, State, Outcome}
+use Rattle.execmodel.specs.Calls.{Caller, ByTask, name_argument, done_by}
+use Rattle.execmodel.specs.Pending.{causes, softint_named}
+
+-- Cause name: the software interrupt of that name is caused (autodoc exec.library/Cause)
+abbrev pub does_cause_by : Caller → Call → State → Outcome
+does_cause_by c call s = done_by c call (causes (softint_named (unwrap_or (name_argument 0 call) []) s.bodies.softints) s)
+
+unfoldable pub does_cause : ℕ → Call → State → Outcome
+does_cause t call s = does_cause_by (ByTask t) call s
+
+-- ---- the words of this group
+
+abbrev pub does_interrupts : InterruptWord → ℕ → Call → State → Outcome
+does_interrupts word.Cause t call s = does_cause t call s
