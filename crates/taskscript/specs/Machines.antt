@@ -83,7 +83,7 @@ pub record IsCode (softints : List (List ℕ)) (code : List CommandData) : Type 
   pub commands : All CommandFits code
   pub arguments : All HasItsArguments code
   pub names : All QuotesOnce code
-  pub softints : All (NamesSoftints softints) code
+  pub causes : All (NamesSoftints softints) code
 
 -- a task of a file: its name is a name, and its jumps stay in its body
 pub record IsTask (softints : List (List ℕ)) (task : TaskData) : Type 0 where

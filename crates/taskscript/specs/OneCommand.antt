@@ -6,7 +6,7 @@ use Rattle.std.proofs.lemmas.Option.{same_Some}
 use Rattle.std.proofs.lemmas.Slice.Eq.{bytes_eq-Decides}
 use Rattle.taskscript.specs.declared.word.Word.{Word}
 use Rattle.taskscript.specs.declared.word.row.Kind.{Kind}
-use Rattle.taskscript.specs.declared.word.row.Kind.TheVariants.{Value, Label, Name, NameOrNone}
+use Rattle.taskscript.specs.declared.word.row.Kind.TheVariants.{Value, Label, Name, NameOrNone, Softint}
 use Rattle.taskscript.specs.Identifiers.{is_identifier}
 use Rattle.taskscript.specs.Numbers.{is_digit, decimal_of, number_of}
 use Rattle.taskscript.specs.Words.{word_text, answers, kinds}
@@ -53,6 +53,10 @@ not_equals_sign NameOrNone f (variable v) sign h = h
 not_equals_sign NameOrNone f (number n) sign h = no_zero f sign h.0
 not_equals_sign NameOrNone f (label n) sign h = h
 not_equals_sign NameOrNone f (quoted n) sign h = no_quote f n sign h.0
+not_equals_sign Softint f (variable v) sign h = h
+not_equals_sign Softint f (number n) sign h = h
+not_equals_sign Softint f (label n) sign h = h
+not_equals_sign Softint f (quoted n) sign h = no_quote f n sign h.0
 
 arg_is_other : (k : Kind) (f : List ℕ) (a : NamedArgumentData) → IsArgument k f a → bytes_eq f (codes "=") ≡ false
 arg_is_other k f a h =
@@ -117,6 +121,10 @@ arg_from NameOrNone f (variable v) h = absurd h
 arg_from NameOrNone f (number n) h = rw (h.0, h.1)
 arg_from NameOrNone f (label n) h = absurd h
 arg_from NameOrNone f (quoted n) h = rw h.0 (ap (λ (o : Option (List ℕ)). option_map quoted o) (quoted_from n h.1))
+arg_from Softint f (variable v) h = absurd h
+arg_from Softint f (number n) h = absurd h
+arg_from Softint f (label n) h = absurd h
+arg_from Softint f (quoted n) h = rw h.0 (ap (λ (o : Option (List ℕ)). option_map quoted o) (quoted_from n h.1))
 
 args_from : (ks : List Kind) (fs : List (List ℕ)) (found : List NamedArgumentData) → AreArguments ks fs found → arguments_of ks fs ≡ Some found
 unfolding arguments_of

@@ -5,7 +5,7 @@ use Rattle.std.proofs.lemmas.Option.{same_Some}
 use Rattle.std.proofs.lemmas.Slice.Eq.{bytes_eq-Decides}
 use Rattle.taskscript.specs.declared.word.Word.{Word}
 use Rattle.taskscript.specs.declared.word.row.Kind.{Kind}
-use Rattle.taskscript.specs.declared.word.row.Kind.TheVariants.{Value, Label, Name, NameOrNone}
+use Rattle.taskscript.specs.declared.word.row.Kind.TheVariants.{Value, Label, Name, NameOrNone, Softint}
 use Rattle.taskscript.specs.Identifiers.{is_identifier}
 use Rattle.taskscript.specs.Numbers.{number_of}
 use Rattle.taskscript.specs.Words.{word_text, word_of, all_words, answers, kinds}
@@ -43,6 +43,10 @@ arg_is_name : (o : Option (List ℕ)) (f : List ℕ) (a : NamedArgumentData) →
 arg_is_name (Some n) f a e h = subst (λ (x : NamedArgumentData). IsArgument Name f x) (same_Some _ _ h) (quoted_back f n e)
 arg_is_name None f a e h = absurd cc
 
+arg_is_softint : (o : Option (List ℕ)) (f : List ℕ) (a : NamedArgumentData) → quoted_in f ≡ o → option_map quoted o ≡ Some a → IsArgument Softint f a
+arg_is_softint (Some n) f a e h = subst (λ (x : NamedArgumentData). IsArgument Softint f x) (same_Some _ _ h) (quoted_back f n e)
+arg_is_softint None f a e h = absurd cc
+
 or_none : (o : Option (List ℕ)) (f : List ℕ) (a : NamedArgumentData) → quoted_in f ≡ o → option_map quoted o ≡ Some a → IsArgument NameOrNone f a
 or_none (Some n) f a e h = subst (λ (x : NamedArgumentData). IsArgument NameOrNone f x) (same_Some _ _ h) (quoted_back f n e)
 or_none None f a e h = absurd cc
@@ -55,6 +59,7 @@ arg_is : (k : Kind) (f : List ℕ) (a : NamedArgumentData) → argument_of k f �
 arg_is Value f a h = arg_is_value (variable_of f) (number_of f) f a refl refl h
 arg_is Label f a h = arg_is_label (is_identifier f) f a refl h
 arg_is Name f a h = arg_is_name (quoted_in f) f a refl h
+arg_is Softint f a h = arg_is_softint (quoted_in f) f a refl h
 arg_is NameOrNone f a h = arg_is_name_or_none (bytes_eq f (codes "0")) f a refl h
 
 pub args_are : (ks : List Kind) (fs : List (List ℕ)) (found : List NamedArgumentData) → arguments_of ks fs ≡ Some found → AreArguments ks fs found
