@@ -5,7 +5,9 @@ use Rattle.std.proofs.lemmas.Bool.Decides.{nat_tests}
 use Rattle.std.proofs.lemmas.List.Elements.{All-nil, All-cons, All-append}
 use Rattle.taskscript.specs.Numbers.{decimal_of}
 use Rattle.taskscript.specs.declared.event.Event.{Event}
-use Rattle.taskscript.specs.declared.event.Event.TheVariants.{Run, Tick}
+use Rattle.taskscript.specs.declared.event.Event.TheVariants.{Run, Tick, Irq}
+use Rattle.taskscript.specs.declared.source.Source.{Source}
+use Rattle.taskscript.specs.Sources.{requested_source_of}
 use Rattle.taskscript.specs.Events.{in_turns, turns_of, begins_with, event_of, is_skipped, turns, events_on, events_of}
 
 in_turns_some : (n k : ℕ) → in_turns n ≡ Some k → 1 ≤ k
@@ -28,15 +30,22 @@ tick_some : (number : Option ℕ) (e : Event) → ((k : ℕ) → number ≡ Some
 tick_some None e some h = absurd cc
 tick_some (Some n) e some h = let same : Tick n ≡ e = cc in rw (← same) (some n refl)
 
-stated_some : (line : List ℕ) (e : Event) (runs ticks : Bool)
-    → (if runs then option_map Run (turns_of (drop 4 line)) else if ticks then option_map Tick (turns_of (drop 5 line)) else None) ≡ Some e → 1 ≤ turns e
-stated_some line e true ticks h = run_some (turns_of (drop 4 line)) e (turns_of_some (decimal_of (drop 4 line))) h
-stated_some line e false true h = tick_some (turns_of (drop 5 line)) e (turns_of_some (decimal_of (drop 5 line))) h
-stated_some line e false false h = absurd cc
+irq_some : (source : Option Source) (e : Event) → option_map Irq source ≡ Some e → 1 ≤ turns e
+irq_some None e h = absurd cc
+irq_some (Some source) e h = let same : Irq source ≡ e = cc in rw (← same) (omega arith)
+
+stated_some : (line : List ℕ) (e : Event) (runs ticks irqs : Bool)
+    → (if runs then option_map Run (turns_of (drop 4 line)) else if ticks then option_map Tick (turns_of (drop 5 line))
+        else if irqs then option_map Irq (requested_source_of (drop 4 line)) else None) ≡ Some e → 1 ≤ turns e
+stated_some line e true ticks irqs h = run_some (turns_of (drop 4 line)) e (turns_of_some (decimal_of (drop 4 line))) h
+stated_some line e false true irqs h = tick_some (turns_of (drop 5 line)) e (turns_of_some (decimal_of (drop 5 line))) h
+stated_some line e false false true h = irq_some (requested_source_of (drop 4 line)) e h
+stated_some line e false false false h = absurd cc
 
 event_of_some : (line : List ℕ) (e : Event) → event_of line ≡ Some e → 1 ≤ turns e
 unfolding event_of
-event_of_some line e h = stated_some line e (begins_with (codes "run ") line) (begins_with (codes "tick ") line) h
+event_of_some line e h =
+    stated_some line e (begins_with (codes "run ") line) (begins_with (codes "tick ") line) (begins_with (codes "irq ") line) h
 
 -- ---- all events of some lines
 

@@ -29,9 +29,9 @@ fn turns_of(digits: &[u8]) -> Option<u32>
 fn requested_source_of(name: &[u8]) -> Option<Source>
     ensures { result ≡ requested_source_of name.now }
 {
-    if name == b"PORTS" {
+    if name == b"PORTS".as_slice() {
         Some(Source::Ports)
-    } else if name == b"EXTER" {
+    } else if name == b"EXTER".as_slice() {
         Some(Source::Exter)
     } else {
         None
