@@ -5,10 +5,10 @@ use std::alloc::{AllocError, Global};
 use std::process::Abort;
 use std::test::*;
 use taskscript::Variable::{self, Private, Shared};
-use taskscript::Word::{self, Lists, Plain, Ports, Semaphores, Signals, Tasks};
+use taskscript::Word::{self, Interrupts, Lists, Plain, Ports, Semaphores, Signals, Tasks};
 use taskscript::{
-    Argument, Command, ListWord, PlainWord, PortWord, SemaphoreWord, SignalWord, TaskWord,
-    read_machine,
+    Argument, Command, InterruptWord, ListWord, PlainWord, PortWord, SemaphoreWord, SignalWord,
+    TaskWord, read_machine,
 };
 
 /// An argument, as a case writes it.
@@ -34,7 +34,7 @@ type Line = (
 );
 
 /// The lines that are commands, by groups, each group with its name. The target is numbered before the arguments.
-static COMMANDS: [(&str, &[Line]); 8] = [
+static COMMANDS: [(&str, &[Line]); 9] = [
     (
         "each word of lists and nodes is read",
         &[
@@ -176,6 +176,12 @@ static COMMANDS: [(&str, &[Line]); 8] = [
                 &[Held(Shared(0))],
             ),
             (
+                "PortCause p \"go\"",
+                Ports(PortWord::PortCause),
+                None,
+                &[Held(Private(0)), Quoted("go")],
+            ),
+            (
                 "PortIgnore p",
                 Ports(PortWord::PortIgnore),
                 None,
@@ -271,6 +277,15 @@ static COMMANDS: [(&str, &[Line]); 8] = [
                 &[Number(0x1050)],
             ),
         ],
+    ),
+    (
+        "each word of interrupts is read",
+        &[(
+            "Cause \"go\"",
+            Interrupts(InterruptWord::Cause),
+            None,
+            &[Quoted("go")],
+        )],
     ),
     (
         "a name to find stands between quotes",
@@ -500,9 +515,10 @@ fn write_task(
     Ok(())
 }
 
-/// The file of these bodies.
+/// The file of these bodies, and of the software interrupt that lines name.
 fn file_of(alloc: Global, bodies: &[&[&str]]) -> Result<Vec<u8>, AllocError> {
     let mut file = Vec::new(alloc);
+    file.extend_from_slice(b"[[softint]]\nname = \"go\"\npri = 0\ncode = []\n")?;
     for (number, lines) in bodies.iter().enumerate() {
         write_task(alloc, &mut file, number, lines)?;
     }
