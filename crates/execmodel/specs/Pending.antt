@@ -35,9 +35,13 @@ is_caused i pending = list_any (λ other. other == i) pending.caused
 abbrev pub arrived : ℕ → Pending → Pending
 arrived i pending = record pending { caused = pending.caused ++ i ∷ [] }
 
--- software interrupt i is caused: it arrives, unless it is caused already (autodoc exec.library/Cause); a number that none has does nothing
+-- software interrupt i, of so many, arrives, unless it is caused already; a number that none has does nothing
+abbrev pub with_caused : ℕ → ℕ → Pending → Pending
+with_caused i count pending = if nat_lt i count && not (is_caused i pending) then arrived i pending else pending
+
+-- software interrupt i is caused (autodoc exec.library/Cause)
 unfoldable pub causes : ℕ → State → State
-causes i s = if nat_lt i (length s.bodies.softints) && not (is_caused i s.pending) then on_pending (arrived i) s else s
+causes i s = on_pending (with_caused i (length s.bodies.softints)) s
 
 -- software interrupt i is not caused any more
 abbrev pub taken_off : ℕ → Pending → Pending

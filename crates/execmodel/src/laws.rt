@@ -1,13 +1,13 @@
 //! Laws of whole runs and of words: functions without effect whose contracts say what the definitions amount to.
 ghost use Rattle.std.specs.Prelude.{◌≡◌, true, List};
 ghost use Rattle.taskscript.specs.declared.event.Event.{Event};
-ghost use Rattle.execmodel.specs.Keeping.{PlainWordsChangeScripts, SignalWordsChangeSignalsAndStates, NestingWordsChangeNestings, TaskWordsChangeStatesPrioritiesAndObjects, ListWordsChangeTheMemory, MemoryWordsChangeTheMemory, PortWordsChangePortsSignalsAndStates, SemaphoreWordsChangeStatesAndObjects};
-ghost use Rattle.execmodel.specs.Laws.{FirstInFirstOut, EachByteHasOneOwner, FreeMemRefusesObjects, OwnersChangeAtTheLastRelease, FreeSemaphoresHaveNoWaiters, SemaphoresPassInOrder, QueuesAgreeWithTheSchedule, EachStateIsSettled, SwitchesGoToTheChosen, OnlySwitchesSaySo, WaitersHaveReceivedNone, ReceivedSignalsStay};
-ghost use Rattle.execmodel.specs.State.{State, Outcome, quiet, andthen};
-ghost use Rattle.execmodel.specs.Step.{unless_stopped, event, events};
+ghost use Rattle.execmodel.specs.Keeping.{PlainWordsChangeScripts, SignalWordsChangeSignalsAndStates, NestingWordsChangeNestings, TaskWordsChangeStatesPrioritiesAndObjects, ListWordsChangeTheMemory, MemoryWordsChangeTheMemory, PortWordsChangePortsSignalsAndStates, SemaphoreWordsChangeStatesAndObjects, InterruptWordsChangeWhatIsCaused};
+ghost use Rattle.execmodel.specs.Laws.{FirstInFirstOut, EachByteHasOneOwner, FreeMemRefusesObjects, OwnersChangeAtTheLastRelease, FreeSemaphoresHaveNoWaiters, SemaphoresPassInOrder, QueuesAgreeWithTheSchedule, EachStateIsSettled, SwitchesGoToTheChosen, OnlySwitchesSaySo, WaitersHaveReceivedNone, ReceivedSignalsStay, InterruptsKeepNestings, ThreeServingsAtMost};
+ghost use Rattle.execmodel.specs.State.{State, Outcome, quiet, andthen, unless_stopped};
+ghost use Rattle.execmodel.specs.Step.{event, events};
 
 /// After an alert no event does anything: the state stays as it is, no line is printed and no mark is left. Where an alert comes between
-/// two parts of an action, as in the midst of a settle, the second part does nothing.
+/// two parts of an action, as in the midst of a body or of a settle, the second part does nothing.
 ///
 /// Source: own choice.
 pub fn an_alert_ends_all()
@@ -20,9 +20,10 @@ pub fn an_alert_ends_all()
 /// The words of a group change their part of the state, and leave all else as it is: plain words the shared variables, and of the
 /// programs the caller's progress alone (its place, its variables and the call that it waits in). Words of signals change signals and
 /// which tasks are ready, running or waiting; words of nesting the nestings; words of lists and memory the blocks of memory and the
-/// objects in them; words of ports these, which ports are public, signals, and which tasks are ready, running or waiting; words of
-/// semaphores the objects and which tasks are ready, running or waiting, and words of tasks these and the priorities. Each word may
-/// change the scripts, and an alert stops the machine.
+/// objects in them; words of ports these, which ports are public, signals, which tasks are ready, running or waiting, and which software
+/// interrupts are caused; words of semaphores the objects and which tasks are ready, running or waiting, words of tasks these and the
+/// priorities, and words of interrupts which software interrupts are caused. Each word may change the scripts, and an alert stops the
+/// machine.
 ///
 /// Source: own choice.
 pub fn each_group_keeps_to_its_part()
@@ -34,6 +35,7 @@ pub fn each_group_keeps_to_its_part()
     ensures memory { MemoryWordsChangeTheMemory }
     ensures ports { PortWordsChangePortsSignalsAndStates }
     ensures semaphores { SemaphoreWordsChangeStatesAndObjects }
+    ensures interrupts { InterruptWordsChangeWhatIsCaused }
 {}
 
 /// Messages leave a port in the order in which they came: over every stretch of every run, the messages that the port had at first and
@@ -74,7 +76,7 @@ pub fn agreement()
     ensures { QueuesAgreeWithTheSchedule }
 {}
 
-/// After the start and after each step and tick of every run, unless an alert stopped the machine: where no task runs none is ready; where
+/// After the start and after each step, tick and request of every run, unless an alert stopped the machine: where no task runs none is ready; where
 /// switching is allowed no ready task has a higher priority than the running one; and a request is left only where interrupts are not
 /// allowed. A switch to a task is to the earliest among those of greatest priority, of the ready tasks and the one that ran until then,
 /// which comes last; and a task that runs leaves for one of its own priority only where its quantum has ended. Nothing else says that a
@@ -94,4 +96,13 @@ pub fn priority()
 pub fn no_lost_signal()
     ensures none { WaitersHaveReceivedNone }
     ensures stay { ReceivedSignalsStay }
+{}
+
+/// Interrupts leave the tasks' nestings as they are: neither the body of a software interrupt nor that of a server changes how a task has
+/// nested Forbid and Disable. One settle serves three times at most.
+///
+/// Source: RKM Libraries, Exec Interrupts.
+pub fn interrupts()
+    ensures nestings { InterruptsKeepNestings }
+    ensures servings { ThreeServingsAtMost }
 {}
