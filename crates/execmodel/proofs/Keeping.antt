@@ -1,6 +1,6 @@
 -- The words of a group change their part of the state alone.
 use Rattle.std.proofs.Common.{◌≡◌, ℕ, zero, suc, ℤ, Bool, true, false, List, [], ◌∷◌, Option, None, Some, slice_set, ap, ◌∙◌, refl}
-use Rattle.std.specs.Prelude.{◌-◌, negsuc, not, if◌then◌else◌, nat_eq, slice_index_or}
+use Rattle.std.specs.Prelude.{◌-◌, negsuc, not, ◌&&◌, if◌then◌else◌, nat_eq, nat_lt, length, slice_index_or, unwrap_or}
 use Rattle.std.specs.Int.{cast_signed, w32}
 use Rattle.execlist.specs.Order.{first}
 use Rattle.signals.specs.Signals.{grant, taken_signals}
@@ -17,13 +17,16 @@ use Rattle.taskscript.specs.declared.word.lists.ListWord.TheVariants as lists
 use Rattle.taskscript.specs.declared.word.memory.MemoryWord.TheVariants as memory
 use Rattle.taskscript.specs.declared.word.ports.PortWord.TheVariants as ports
 use Rattle.taskscript.specs.declared.word.semaphores.SemaphoreWord.TheVariants as semaphores
+use Rattle.taskscript.specs.declared.word.interrupts.InterruptWord.TheVariants as interrupts
 use Rattle.sigsem.specs.declared.semaphore.Obtained.{Obtained}
 use Rattle.msgport.specs.declared.action.Action.{Action}
 use Rattle.msgport.specs.declared.action.Action.TheVariants as action
 use Rattle.sigsem.specs.declared.semaphore.Obtained.TheVariants.{Owner, Waits}
-use Rattle.execmodel.specs.State.{Call, Object, Plain, ListHead, Program, Scripts, State, Outcome, no_program, on_schedule, on_scripts}
+use Rattle.execmodel.specs.State.{Call, Object, Plain, ListHead, Pending, Program, Scripts, State, Outcome, no_program, on_schedule, on_scripts}
+use Rattle.execmodel.specs.Pending.{arrived, is_caused, causes, softint_named}
+use Rattle.execmodel.specs.Causing.{does_interrupts, does_cause}
 use Rattle.execmodel.specs.Scheduling.{arrives, added, reprioritized, signalled}
-use Rattle.execmodel.specs.Calls.{argument, stored, goes_on, done, answered, waiting, silent, alerted, unless}
+use Rattle.execmodel.specs.Calls.{argument, name_argument, stored, goes_on, done, answered, waiting, silent, alerted, unless}
 use Rattle.execmodel.specs.Plain.{does_set, does_add, does_sub, does_and, does_or, jumps, does_jump, does_jump_zero, does_jump_not_zero, does_print}
 use Rattle.execmodel.specs.Signals.{mask_alert, free_signal_alert, signal_alert, waited, does_alloc_signal, does_free_signal, does_set_signal, does_signal, does_wait}
 use Rattle.execmodel.specs.Nesting.{counted, does_forbid, does_permit, does_disable, does_enable}
@@ -31,9 +34,9 @@ use Rattle.execmodel.specs.Tasks.{live_task_alert, set_task_pri_alert, add_task_
 use Rattle.execmodel.specs.Objects.{place_for_object}
 use Rattle.execmodel.specs.Memory.{allocates, place_for, alloc_alert, free_alert, avail_alert, does_alloc_mem, does_free_mem, does_avail_mem}
 use Rattle.execmodel.specs.Lists.{is_list, list_size, is_node, node_size, free_list_alert, new_node_alert, free_node_alert, link_alert, insert_alert, linked_alert, list_alert, find_alert, does_new_list, does_free_list, does_new_node, does_free_node, does_add_head, does_add_tail, does_enqueue, does_insert, does_remove, does_rem_head, does_rem_tail, does_first, does_last, does_succ, does_pred, does_find_name}
-use Rattle.execmodel.specs.Ports.{is_port, is_message, port_size, message_size, port_created, port_alert, message_alert, port_of, loses, messages_of, content_of, delete_alert, add_port_alert, rem_port_alert, reply_port_alert, loose_alert, put_alert, reply_alert, wait_alert, made_public, made_private, replied, delivered, performed, taken, looked, does_create_msg_port, does_delete_msg_port, does_add_port, does_rem_port, does_find_port, does_port_signal, does_port_ignore, does_new_msg, does_free_msg, does_msg_word, does_set_msg_word, does_msg_type, does_put_msg, does_get_msg, does_wait_port, does_reply_msg}
+use Rattle.execmodel.specs.Ports.{is_port, is_message, port_size, message_size, port_created, port_alert, message_alert, port_of, loses, messages_of, content_of, delete_alert, add_port_alert, rem_port_alert, reply_port_alert, loose_alert, put_alert, reply_alert, wait_alert, made_public, made_private, replied, delivered, performed, taken, looked, does_create_msg_port, does_delete_msg_port, does_add_port, does_rem_port, does_find_port, does_port_signal, does_port_cause, does_port_ignore, does_new_msg, does_free_msg, does_msg_word, does_set_msg_word, does_msg_type, does_put_msg, does_get_msg, does_wait_port, does_reply_msg}
 use Rattle.execmodel.specs.Semaphores.{awaited_by, free_sem_alert, heir, is_semaphore, is_tried_again, leaving_queue, obtain_alert, obtains, outcome_for, passes, release_alert, sem_of, semaphore_size, woken, does_new_sem, does_free_sem, does_obtain_semaphore, does_attempt_semaphore, does_release_semaphore}
-use Rattle.execmodel.specs.Keeping.{without_progress, without_progress_of, without_states, without_priorities, without_signals, beside_plain, beside_signals, beside_nestings, beside_memory, beside_ports, beside_semaphores, beside_tasks, PlainWordsChangeScripts, SignalWordsChangeSignalsAndStates, NestingWordsChangeNestings, TaskWordsChangeStatesPrioritiesAndObjects, ListWordsChangeTheMemory, MemoryWordsChangeTheMemory, PortWordsChangePortsSignalsAndStates, SemaphoreWordsChangeStatesAndObjects}
+use Rattle.execmodel.specs.Keeping.{without_progress, without_progress_of, without_states, without_priorities, without_signals, beside_plain, beside_signals, beside_nestings, beside_memory, beside_ports, beside_interrupts, beside_semaphores, beside_tasks, without_caused, PlainWordsChangeScripts, SignalWordsChangeSignalsAndStates, NestingWordsChangeNestings, TaskWordsChangeStatesPrioritiesAndObjects, ListWordsChangeTheMemory, MemoryWordsChangeTheMemory, PortWordsChangePortsSignalsAndStates, SemaphoreWordsChangeStatesAndObjects, InterruptWordsChangeWhatIsCaused}
 
 -- a part that both ways keep
 either : {A : Type 0} (part : State → A) (a : A) (test : Bool) (o p : Outcome) → part o.state ≡ a → part p.state ≡ a
@@ -238,8 +241,19 @@ port_created_keeps t call None place s = refl
 port_created_keeps t call (Some bit) None s = refl
 port_created_keeps t call (Some bit) (Some address) s = port_signals_change (allocates_signal t (negsuc 0)) s (allocates_signal_keeps t (negsuc 0) s.schedule)
 
+-- pending interrupts among which one may be caused more
+arrived_keeps : (test : Bool) (i : ℕ) (pending : Pending) → without_caused (if test then arrived i pending else pending) ≡ without_caused pending
+arrived_keeps true i pending = refl
+arrived_keeps false i pending = refl
+
+caused_keeps : (i : ℕ) (s : State) → without_caused (causes i s).pending ≡ without_caused s.pending
+unfolding causes
+caused_keeps i s = arrived_keeps (nat_lt i (length s.bodies.softints) && not (is_caused i s.pending)) i s.pending
+
 performed_keeps : (act : Action) (s : State) → beside_ports (performed act s) ≡ beside_ports s
+unfolding causes
 performed_keeps (action.Signal task mask) s = port_signals_change (signalled task mask) s (signalled_keeps task mask s.schedule)
+performed_keeps (action.Cause i) s = ap (λ (pending : Pending). record (beside_ports s) { pending = pending }) (caused_keeps i s)
 performed_keeps action.Nothing s = refl
 
 replied_keeps : (reply t : ℕ) (call : Call) (message : ℕ) (s : State) → beside_ports (replied reply t call message s).state ≡ beside_ports s
@@ -259,7 +273,7 @@ looked_keeps None mask t call s r keeps = port_signals_change (clears_and_waits 
 looked_keeps (Some message) mask t call s r keeps = keeps
 
 pub port_words_change_ports_signals_and_states : PortWordsChangePortsSignalsAndStates
-unfolding does_create_msg_port does_delete_msg_port does_add_port does_rem_port does_find_port does_port_signal does_port_ignore does_new_msg does_free_msg does_msg_word does_set_msg_word does_msg_type does_put_msg does_get_msg does_wait_port does_reply_msg made_public made_private delivered done answered
+unfolding does_create_msg_port does_delete_msg_port does_add_port does_rem_port does_find_port does_port_signal does_port_cause does_port_ignore does_new_msg does_free_msg does_msg_word does_set_msg_word does_msg_type does_put_msg does_get_msg does_wait_port does_reply_msg made_public made_private delivered done answered
 port_words_change_ports_signals_and_states ports.CreateMsgPort t call s =
     port_created_keeps t call (grant (negsuc 0) (signals_of s.schedule t)) (place_for_object is_port port_size s.memory) s
 port_words_change_ports_signals_and_states ports.DeleteMsgPort t call s =
@@ -272,6 +286,8 @@ port_words_change_ports_signals_and_states ports.RemPort t call s =
     unless_keeps beside_ports (rem_port_alert (argument 0 call) s.memory) t call _ s refl refl
 port_words_change_ports_signals_and_states ports.FindPort t call s = refl
 port_words_change_ports_signals_and_states ports.PortSignal t call s =
+    unless_keeps beside_ports (port_alert (argument 0 call) s.memory.heap) t call _ s refl refl
+port_words_change_ports_signals_and_states ports.PortCause t call s =
     unless_keeps beside_ports (port_alert (argument 0 call) s.memory.heap) t call _ s refl refl
 port_words_change_ports_signals_and_states ports.PortIgnore t call s =
     unless_keeps beside_ports (port_alert (argument 0 call) s.memory.heap) t call _ s refl refl
@@ -374,3 +390,9 @@ semaphore_words_change_states_and_objects semaphores.AttemptSemaphore t call s =
 semaphore_words_change_states_and_objects semaphores.ReleaseSemaphore t call s =
     unless_keeps beside_semaphores (release_alert t (argument 0 call) s.memory.heap) t call _ s refl
     (passes_keeps (heir (argument 0 call) s.memory.heap) (argument 0 call) t call s _ refl)
+
+pub interrupt_words_change_what_is_caused : InterruptWordsChangeWhatIsCaused
+unfolding does_cause done causes
+interrupt_words_change_what_is_caused interrupts.Cause t call s =
+    ap (λ (pending : Pending). record (beside_interrupts s) { pending = pending })
+    (caused_keeps (softint_named (unwrap_or (name_argument 0 call) []) s.bodies.softints) s)

@@ -1,5 +1,7 @@
 pub mod Agreement
 pub mod Bits
+pub mod BodyActions
+pub mod Chains
 pub mod Keeping
 pub mod Fifo
 pub mod FifoLaw
@@ -15,6 +17,7 @@ pub mod Passing
 pub mod Queues
 pub mod Received
 pub mod Saying
+pub mod Servings
 pub mod Settled
 pub mod Shifts
 pub mod Stopped

@@ -1,18 +1,21 @@
 -- What an answer unfolds to compute a run on literals.
 use Rattle.std.specs.Prelude.{⊤}
 use Rattle.execmodel.specs.Calls.{alerted, answered, call_of, done, next_call, silent, waiting}
-use Rattle.execmodel.specs.Interrupts.{serves}
+use Rattle.execmodel.specs.Bodies.{body_step, does_in_body, runs_body}
+use Rattle.execmodel.specs.Causing.{does_cause}
+use Rattle.execmodel.specs.Interrupts.{by_choice, chain_of, interrupts, runs_chain, runs_server, runs_softint, serves, servings}
+use Rattle.execmodel.specs.Pending.{causes, next_softint, next_source}
 use Rattle.execmodel.specs.Lists.{added_head, added_tail, does_add_head, does_add_tail, does_enqueue, does_find_name, does_first, does_free_list, does_free_node, does_insert, does_last, does_new_list, does_new_node, does_pred, does_rem_head, does_rem_tail, does_remove, does_succ, enqueued, find_alert, first_of, found_node, free_list_alert, free_node_alert, insert_alert, inserted, is_list_at, is_node_at, key_of, last_of, link_alert, linked_alert, list_alert, nodes_of, pred_of, removed_head, removed_tail, searched, sequence_with, succ_of, unlinked, with_nodes}
 use Rattle.execmodel.specs.Memory.{does_alloc_mem, does_avail_mem, does_free_mem}
 use Rattle.execmodel.specs.Nesting.{does_disable, does_enable, does_forbid, does_permit}
 use Rattle.execmodel.specs.Objects.{place_for_object}
 use Rattle.execmodel.specs.Plain.{does_add, does_and, does_jump, does_jump_not_zero, does_jump_zero, does_or, does_print, does_set, does_sub, jumps}
-use Rattle.execmodel.specs.Ports.{add_port_alert, appended, content_of, delete_alert, delivered, does_add_port, does_create_msg_port, does_delete_msg_port, does_find_port, does_free_msg, does_get_msg, does_msg_type, does_msg_word, does_new_msg, does_port_ignore, does_port_signal, does_put_msg, does_rem_port, does_reply_msg, does_set_msg_word, does_wait_port, found_port, is_message_at, is_port_at, is_queued, loose_alert, made_private, made_public, message_alert, messages_of, port_alert, port_of, posted, put_alert, rem_port_alert, reply_alert, reply_port_alert, taken_off, typed, wait_alert, with_action, with_content, with_port, with_word}
+use Rattle.execmodel.specs.Ports.{add_port_alert, appended, content_of, delete_alert, delivered, does_add_port, does_create_msg_port, does_delete_msg_port, does_find_port, does_free_msg, does_get_msg, does_msg_type, does_msg_word, does_new_msg, does_port_cause, does_port_ignore, does_port_signal, does_put_msg, does_rem_port, does_reply_msg, does_set_msg_word, does_wait_port, found_port, is_message_at, is_port_at, is_queued, loose_alert, made_private, made_public, message_alert, messages_of, port_alert, port_of, posted, put_alert, rem_port_alert, reply_alert, reply_port_alert, taken_off, typed, wait_alert, with_action, with_content, with_port, with_word}
 use Rattle.execmodel.specs.Scheduling.{added, arrives, reprioritized, rescheduled, signalled, switch_of}
 use Rattle.execmodel.specs.Semaphores.{attempted, does_attempt_semaphore, does_free_sem, does_new_sem, does_obtain_semaphore, does_release_semaphore, dropped, entered, free_sem_alert, handed_on, heir, is_semaphore_at, obtain_alert, obtained, queued, release_alert, released, released_once, sem_of, waiters_of, with_semaphore, woken}
 use Rattle.execmodel.specs.Signals.{does_alloc_signal, does_free_signal, does_set_signal, does_signal, does_wait}
 use Rattle.execmodel.specs.State.{andthen, booted}
-use Rattle.execmodel.specs.Step.{acting, acts, all_added, does, ends, event, events, run, settle, starts, step, steps, switches, tick, ticks}
+use Rattle.execmodel.specs.Step.{acting, acts, all_added, does, ends, event, events, request, run, settle, starts, step, steps, switches, tick, ticks}
 use Rattle.execmodel.specs.Tasks.{does_add_task, does_find_task, does_rem_task, does_set_task_pri}
 use Rattle.memlist.specs.Blocks.{gaps}
 use Rattle.memlist.specs.Fit.{avail, fit}
@@ -20,5 +23,5 @@ use Rattle.scheduler.specs.Schedule.{allocates, begins, found, frees, leaves, re
 use Rattle.signals.specs.Signals.{highest_free}
 
 unfoldable pub runs_on_literals : ⊤
-unfolding acting acts add_port_alert added added_head added_tail alerted all_added allocates andthen answered appended arrives attempted avail begins booted call_of content_of delete_alert delivered does does_add does_add_head does_add_port does_add_tail does_add_task does_alloc_mem does_alloc_signal does_and does_attempt_semaphore does_avail_mem does_create_msg_port does_delete_msg_port does_disable does_enable does_enqueue does_find_name does_find_port does_find_task does_first does_forbid does_free_list does_free_mem does_free_msg does_free_node does_free_sem does_free_signal does_get_msg does_insert does_jump does_jump_not_zero does_jump_zero does_last does_msg_type does_msg_word does_new_list does_new_msg does_new_node does_new_sem does_obtain_semaphore does_or does_permit does_port_ignore does_port_signal does_pred does_print does_put_msg does_release_semaphore does_rem_head does_rem_port does_rem_tail does_rem_task does_remove does_reply_msg does_set does_set_msg_word does_set_signal does_set_task_pri does_signal does_sub does_succ does_wait does_wait_port done dropped ends enqueued entered event events find_alert first_of fit found found_node found_port free_list_alert free_node_alert free_sem_alert frees gaps handed_on heir highest_free insert_alert inserted is_list_at is_message_at is_node_at is_port_at is_queued is_semaphore_at jumps key_of last_of leaves link_alert linked_alert list_alert loose_alert made_private made_public message_alert messages_of next_call nodes_of obtain_alert obtained place_for_object port_alert port_of posted pred_of put_alert queued release_alert released released_once rem_port_alert removed removed_head removed_tail reply_alert reply_port_alert reprioritized rescheduled run searched sem_of sequence_with serves sets_signals settle signalled silent starts step steps succ_of switch_of switches taken_off takes tick ticked ticks typed unlinked wait_alert waiters_of waiting waits_at_semaphore waits_for with_action with_content with_nodes with_port with_semaphore with_word woken
+unfolding acting acts add_port_alert added added_head added_tail alerted all_added allocates andthen answered appended arrives attempted avail begins body_step booted by_choice call_of causes chain_of content_of delete_alert delivered does does_add does_add_head does_add_port does_add_tail does_add_task does_alloc_mem does_alloc_signal does_and does_attempt_semaphore does_avail_mem does_cause does_create_msg_port does_delete_msg_port does_disable does_enable does_enqueue does_find_name does_find_port does_find_task does_first does_forbid does_free_list does_free_mem does_free_msg does_free_node does_free_sem does_free_signal does_get_msg does_in_body does_insert does_jump does_jump_not_zero does_jump_zero does_last does_msg_type does_msg_word does_new_list does_new_msg does_new_node does_new_sem does_obtain_semaphore does_or does_permit does_port_cause does_port_ignore does_port_signal does_pred does_print does_put_msg does_release_semaphore does_rem_head does_rem_port does_rem_tail does_rem_task does_remove does_reply_msg does_set does_set_msg_word does_set_signal does_set_task_pri does_signal does_sub does_succ does_wait does_wait_port done dropped ends enqueued entered event events find_alert first_of fit found found_node found_port free_list_alert free_node_alert free_sem_alert frees gaps handed_on heir highest_free insert_alert inserted interrupts is_list_at is_message_at is_node_at is_port_at is_queued is_semaphore_at jumps key_of last_of leaves link_alert linked_alert list_alert loose_alert made_private made_public message_alert messages_of next_call next_softint next_source nodes_of obtain_alert obtained place_for_object port_alert port_of posted pred_of put_alert queued release_alert released released_once rem_port_alert removed removed_head removed_tail reply_alert reply_port_alert reprioritized request rescheduled run runs_body runs_chain runs_server runs_softint searched sem_of sequence_with serves servings sets_signals settle signalled silent starts step steps succ_of switch_of switches taken_off takes tick ticked ticks typed unlinked wait_alert waiters_of waiting waits_at_semaphore waits_for with_action with_content with_nodes with_port with_semaphore with_word woken
 runs_on_literals = tt

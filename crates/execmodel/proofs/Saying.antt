@@ -1,9 +1,10 @@
--- No word says the line of a switch, nor does a task that ends, nor a served request.
+-- No word says the line of a switch, nor does a task that ends, a software interrupt, or what is served.
 use Rattle.std.proofs.Common.{◌≡◌, ℕ, Bool, true, false, List, Option, None, Some, refl}
 use Rattle.std.specs.Prelude.{◌-◌, negsuc, if◌then◌else◌, nat_eq}
 use Rattle.execmodel.specs.State.{Call, State, Outcome, quiet}
 use Rattle.execmodel.specs.Calls.{argument, done, answered, waiting, silent, alerted, unless}
-use Rattle.execmodel.specs.Interrupts.{serves, interrupts, is_due}
+use Rattle.execmodel.specs.Interrupts.{runs_softint, interrupts}
+use Rattle.execmodel.specs.Causing.{does_interrupts, does_cause}
 use Rattle.execmodel.specs.Step.{does, does_word, ends}
 use Rattle.execmodel.specs.Laws.{OnlySwitchesSaySo, says_switch}
 use Rattle.taskscript.specs.declared.word.Word.{Word}
@@ -14,6 +15,7 @@ use Rattle.taskscript.specs.declared.word.lists.ListWord.{ListWord}
 use Rattle.taskscript.specs.declared.word.memory.MemoryWord.{MemoryWord}
 use Rattle.taskscript.specs.declared.word.ports.PortWord.{PortWord}
 use Rattle.taskscript.specs.declared.word.semaphores.SemaphoreWord.{SemaphoreWord}
+use Rattle.taskscript.specs.declared.word.interrupts.InterruptWord.{InterruptWord}
 use Rattle.taskscript.specs.declared.word.plain.PlainWord.{PlainWord}
 use Rattle.taskscript.specs.declared.word.nesting.NestingWord.{NestingWord}
 use Rattle.std.specs.Int.{cast_signed, w32}
@@ -29,6 +31,7 @@ use Rattle.taskscript.specs.declared.word.lists.ListWord.TheVariants as lists
 use Rattle.taskscript.specs.declared.word.memory.MemoryWord.TheVariants as memory
 use Rattle.taskscript.specs.declared.word.ports.PortWord.TheVariants as ports
 use Rattle.taskscript.specs.declared.word.semaphores.SemaphoreWord.TheVariants as semaphores
+use Rattle.taskscript.specs.declared.word.interrupts.InterruptWord.TheVariants as causing
 use Rattle.sigsem.specs.declared.semaphore.Obtained.{Obtained}
 use Rattle.sigsem.specs.declared.semaphore.Obtained.TheVariants.{Owner, Waits}
 use Rattle.execmodel.specs.Plain.{does_plain, does_set, does_add, does_sub, does_and, does_or, jumps, does_jump, does_jump_zero, does_jump_not_zero, does_print}
@@ -38,8 +41,10 @@ use Rattle.execmodel.specs.Tasks.{does_tasks, live_task_alert, set_task_pri_aler
 use Rattle.execmodel.specs.Objects.{place_for_object}
 use Rattle.execmodel.specs.Memory.{does_memory, alloc_alert, free_alert, avail_alert, does_alloc_mem, does_free_mem, does_avail_mem}
 use Rattle.execmodel.specs.Lists.{does_lists, free_list_alert, new_node_alert, free_node_alert, link_alert, insert_alert, linked_alert, list_alert, find_alert, does_new_list, does_free_list, does_new_node, does_free_node, does_add_head, does_add_tail, does_enqueue, does_insert, does_remove, does_rem_head, does_rem_tail, does_first, does_last, does_succ, does_pred, does_find_name}
-use Rattle.execmodel.specs.Ports.{does_ports, is_port, port_size, port_created, port_alert, message_alert, messages_of, content_of, delete_alert, add_port_alert, rem_port_alert, reply_port_alert, loose_alert, put_alert, reply_alert, wait_alert, replied, taken, looked, does_create_msg_port, does_delete_msg_port, does_add_port, does_rem_port, does_find_port, does_port_signal, does_port_ignore, does_new_msg, does_free_msg, does_msg_word, does_set_msg_word, does_msg_type, does_put_msg, does_get_msg, does_wait_port, does_reply_msg}
+use Rattle.execmodel.specs.Ports.{does_ports, is_port, port_size, port_created, port_alert, message_alert, messages_of, content_of, delete_alert, add_port_alert, rem_port_alert, reply_port_alert, loose_alert, put_alert, reply_alert, wait_alert, replied, taken, looked, does_create_msg_port, does_delete_msg_port, does_add_port, does_rem_port, does_find_port, does_port_signal, does_port_cause, does_port_ignore, does_new_msg, does_free_msg, does_msg_word, does_set_msg_word, does_msg_type, does_put_msg, does_get_msg, does_wait_port, does_reply_msg}
 use Rattle.execmodel.specs.Semaphores.{does_semaphores, awaited_by, free_sem_alert, heir, is_tried_again, leaving_queue, obtain_alert, obtains, outcome_for, passes, release_alert, sem_of, does_new_sem, does_free_sem, does_obtain_semaphore, does_attempt_semaphore, does_release_semaphore}
+use Rattle.execmodel.proofs.BodyActions.{softint_bodily}
+use Rattle.execmodel.proofs.Servings.{none_switched, all_served}
 
 -- an outcome without the line of a switch
 abbrev Silent : Outcome → Type 0
@@ -180,7 +185,7 @@ looked_silent None mask t call s = refl
 looked_silent (Some message) mask t call s = refl
 
 ports_silent : (word : PortWord) (t : ℕ) (call : Call) (s : State) → Silent (does_ports word t call s)
-unfolding does_create_msg_port does_delete_msg_port does_add_port does_rem_port does_find_port does_port_signal does_port_ignore does_new_msg does_free_msg does_msg_word does_set_msg_word does_msg_type does_put_msg does_get_msg does_wait_port does_reply_msg done answered
+unfolding does_create_msg_port does_delete_msg_port does_add_port does_rem_port does_find_port does_port_signal does_port_cause does_port_ignore does_new_msg does_free_msg does_msg_word does_set_msg_word does_msg_type does_put_msg does_get_msg does_wait_port does_reply_msg done answered
 ports_silent ports.CreateMsgPort t call s =
     created_silent t call (grant (negsuc 0) (signals_of s.schedule t)) (place_for_object is_port port_size s.memory) s
 ports_silent ports.DeleteMsgPort t call s =
@@ -192,6 +197,8 @@ ports_silent ports.RemPort t call s =
     unless_silent (rem_port_alert (argument 0 call) s.memory) t call _ s refl
 ports_silent ports.FindPort t call s = refl
 ports_silent ports.PortSignal t call s =
+    unless_silent (port_alert (argument 0 call) s.memory.heap) t call _ s refl
+ports_silent ports.PortCause t call s =
     unless_silent (port_alert (argument 0 call) s.memory.heap) t call _ s refl
 ports_silent ports.PortIgnore t call s =
     unless_silent (port_alert (argument 0 call) s.memory.heap) t call _ s refl
@@ -237,6 +244,10 @@ semaphores_silent semaphores.AttemptSemaphore t call s =
 semaphores_silent semaphores.ReleaseSemaphore t call s =
     unless_silent (release_alert t (argument 0 call) s.memory.heap) t call _ s (passes_silent (heir (argument 0 call) s.memory.heap) (argument 0 call) t call _)
 
+interrupts_silent : (word : InterruptWord) (t : ℕ) (call : Call) (s : State) → Silent (does_interrupts word t call s)
+unfolding does_cause done
+interrupts_silent causing.Cause t call s = refl
+
 word_silent : (word : Word) (t : ℕ) (call : Call) (s : State) → Silent (does_word word t call s)
 word_silent (group.Plain word) t call s = plain_silent word t call s
 word_silent (group.Signals word) t call s = signals_silent word t call s
@@ -246,6 +257,7 @@ word_silent (group.Memory word) t call s = memory_silent word t call s
 word_silent (group.Lists word) t call s = lists_silent word t call s
 word_silent (group.Ports word) t call s = ports_silent word t call s
 word_silent (group.Semaphores word) t call s = semaphores_silent word t call s
+word_silent (group.Interrupts word) t call s = interrupts_silent word t call s
 
 call_silent : (t : ℕ) (call : Call) (s : State) → says_switch (does t call s).lines ≡ false
 unfolding does
@@ -255,9 +267,12 @@ end_silent : (t : ℕ) (s : State) → says_switch (ends t s).lines ≡ false
 unfolding ends
 end_silent t s = refl
 
-interrupts_silent : (s : State) → says_switch (interrupts s).lines ≡ false
-unfolding serves
-interrupts_silent s = either_silent (is_due s.latched s.schedule) (serves s) (quiet s) refl refl
+softint_silent : (i : ℕ) (s : State) → says_switch (runs_softint i s).lines ≡ false
+softint_silent i s = none_switched (runs_softint i s).lines (softint_bodily i s).told
+
+servings_silent : (s : State) → says_switch (interrupts s).lines ≡ false
+unfolding interrupts
+servings_silent s = (all_served 3 s).silent
 
 pub only_switches_say_so : OnlySwitchesSaySo
-only_switches_say_so = record { of_calls = call_silent; of_ends = end_silent; of_interrupts = interrupts_silent }
+only_switches_say_so = record { of_calls = call_silent; of_ends = end_silent; of_softints = softint_silent; of_interrupts = servings_silent }

@@ -12,14 +12,19 @@ use Rattle.scheduler.specs.Schedule.{Schedule, priority_of, nesting_of, switch_f
 use Rattle.scheduler.specs.declared.Switch.{Switch}
 use Rattle.scheduler.specs.declared.Switch.TheVariants.{To, Idle}
 use Rattle.taskscript.specs.declared.event.Event.{Event}
-use Rattle.taskscript.specs.declared.event.Event.TheVariants.{Run, Tick}
-use Rattle.execmodel.specs.State.{State, Outcome, quiet, on_schedule, andthen, booted}
+use Rattle.taskscript.specs.declared.event.Event.TheVariants.{Run, Tick, Irq}
+use Rattle.execmodel.specs.State.{State, Outcome, quiet, on_schedule, on_pending, andthen, unless_stopped, booted}
 use Rattle.execmodel.specs.Scheduling.{arrives, displaced, after_switch, switch_of, rescheduled}
-use Rattle.execmodel.specs.Interrupts.{on_latch, serves, interrupts, is_due}
-use Rattle.execmodel.specs.Step.{announced, switches, unless_stopped, settle, acts, step, steps, tick, ticks, starts, all_added, event, events, run}
+use Rattle.execmodel.specs.Pending.{source_named, with_latch_of, allows_interrupts}
+use Rattle.execmodel.specs.Interrupts.{interrupts}
+use Rattle.execmodel.specs.Step.{announced, switches, settle, acts, step, steps, request, tick, ticks, starts, all_added, event, events, run}
+use Rattle.softint.specs.declared.source.Source.{Source}
+use Rattle.softint.specs.declared.source.Source.TheVariants.{Vertb}
+use Rattle.softint.specs.Sources.{is_latched}
 use Rattle.execmodel.specs.Laws.{IsSettled, EachStateIsSettled}
 use Rattle.execmodel.proofs.Heaps.{true_is_not_false}
 use Rattle.execmodel.proofs.FifoLaw.{switches_quiet}
+use Rattle.execmodel.proofs.Servings.{interrupts_blocked}
 
 announced_state : (c : Option Switch) (s : State) → (announced c s).state ≡ s
 announced_state None s = refl
@@ -240,22 +245,17 @@ blocked_for (Some r) (Some t) s is e =
 
 -- ---- a settled machine
 
-settled_switch : (s : State) → (s.latched ≡ true → is_interrupting_allowed s.schedule.running s.schedule ≡ false) → IsSettled (switches s).state
+settled_switch : (s : State) → ((asks : Source) → is_latched asks s.pending.latches ≡ true → allows_interrupts s.schedule ≡ false)
+    → IsSettled (switches s).state
 unfolding rescheduled switch_of
 settled_switch s blocked = record {
   none_left = none_ready_where_none_runs s;
   none_higher = subst (λ (r : State). IsHigh r.schedule) (sym (switches_quiet s).1)
       (high_for s.schedule.running (chosen (pri_at s.schedule.queue.pris) s.schedule.queue.ready) s.schedule refl refl);
-  none_latched = subst (λ (r : State). r.latched ≡ true → is_interrupting_allowed r.schedule.running r.schedule ≡ false) (sym (switches_quiet s).1)
-      (λ latched. blocked_for s.schedule.running (chosen (pri_at s.schedule.queue.pris) s.schedule.queue.ready) s.schedule refl (blocked latched));
+  none_latched = subst (λ (r : State). (asks : Source) → is_latched asks r.pending.latches ≡ true → allows_interrupts r.schedule ≡ false)
+      (sym (switches_quiet s).1)
+      (λ asks latched. blocked_for s.schedule.running (chosen (pri_at s.schedule.queue.pris) s.schedule.queue.ready) s.schedule refl (blocked asks latched));
 }
-
-served_blocked : (test : Bool) (s : State) → is_due s.latched s.schedule ≡ test
-    → (if test then serves s else quiet s).state.latched ≡ true
-    → is_interrupting_allowed (if test then serves s else quiet s).state.schedule.running (if test then serves s else quiet s).state.schedule ≡ false
-unfolding serves
-served_blocked true s due latched = true_is_not_false (sym latched)
-served_blocked false s due latched = no_second s.latched (is_interrupting_allowed s.schedule.running s.schedule) due latched
 
 -- settled, unless an alert has stopped the machine
 abbrev Rests : State → Type 0
@@ -270,7 +270,7 @@ unfolding settle andthen
 settle_rests s =
     either_rests s.stopped s (andthen interrupts (unless_stopped switches) s) refl
     (λ going. either_rests (interrupts s).state.stopped (interrupts s).state (switches (interrupts s).state) refl
-    (λ still here. settled_switch (interrupts s).state (served_blocked (is_due s.latched s.schedule) s refl)))
+    (λ still here. settled_switch (interrupts s).state (interrupts_blocked s still)))
 
 step_rests : (s : State) → Rests (step s).state
 unfolding step andthen
@@ -281,9 +281,14 @@ unfolding steps andthen
 steps_rest zero s rests = rests
 steps_rest (suc n) s rests = step_rests (steps n s).state
 
+request_rests : (asks : Source) (s : State) → Rests s → Rests (request asks s).state
+unfolding request
+request_rests asks s rests =
+    either_rests s.stopped s (settle (on_pending (with_latch_of asks true) s)) refl (λ going. settle_rests (on_pending (with_latch_of asks true) s))
+
 tick_rests : (s : State) → Rests s → Rests (tick s).state
 unfolding tick
-tick_rests s rests = either_rests s.stopped s (settle (on_latch true s)) refl (λ going. settle_rests (on_latch true s))
+tick_rests s rests = request_rests Vertb s rests
 
 ticks_rest : (n : ℕ) (s : State) → Rests s → Rests (ticks n s).state
 unfolding ticks andthen
@@ -294,6 +299,7 @@ event_rests : (e : Event) (s : State) → Rests s → Rests (event e s).state
 unfolding event
 event_rests (Run n) s rests = steps_rest n s rests
 event_rests (Tick n) s rests = ticks_rest n s rests
+event_rests (Irq name) s rests = request_rests (source_named name) s rests
 
 events_rest : (list : List Event) (s : State) → Rests s → Rests (events list s).state
 unfolding events andthen

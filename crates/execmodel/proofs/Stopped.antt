@@ -3,9 +3,12 @@ use Rattle.std.proofs.Common.{◌≡◌, ℕ, zero, suc, Bool, true, false, List
 use Rattle.std.specs.Prelude.{if◌then◌else◌}
 use Rattle.std.proofs.lemmas.List.{append-nil}
 use Rattle.taskscript.specs.declared.event.Event.{Event}
-use Rattle.taskscript.specs.declared.event.Event.TheVariants.{Run, Tick}
-use Rattle.execmodel.specs.State.{State, Outcome, quiet, andthen}
-use Rattle.execmodel.specs.Step.{unless_stopped, acts, settle, step, steps, tick, ticks, event, events}
+use Rattle.taskscript.specs.declared.event.Event.TheVariants.{Run, Tick, Irq}
+use Rattle.execmodel.specs.State.{State, Outcome, quiet, andthen, unless_stopped}
+use Rattle.execmodel.specs.Pending.{source_named}
+use Rattle.execmodel.specs.Step.{acts, settle, step, steps, request, tick, ticks, event, events}
+use Rattle.softint.specs.declared.source.Source.{Source}
+use Rattle.softint.specs.declared.source.Source.TheVariants.{Vertb}
 
 -- an outcome, and then another action
 abbrev after : (State → Outcome) → Outcome → Outcome
@@ -34,9 +37,13 @@ unfolding steps
 steps_stopped zero s h = refl
 steps_stopped (suc n) s h = both_quiet (steps n) step s (steps_stopped n s h) (step_stopped s h)
 
+request_stopped : (asks : Source) (s : State) → s.stopped ≡ true → request asks s ≡ quiet s
+unfolding request
+request_stopped asks s h = rw h refl
+
 tick_stopped : (s : State) → s.stopped ≡ true → tick s ≡ quiet s
 unfolding tick
-tick_stopped s h = rw h refl
+tick_stopped s h = request_stopped Vertb s h
 
 ticks_stopped : (n : ℕ) (s : State) → s.stopped ≡ true → ticks n s ≡ quiet s
 unfolding ticks
@@ -47,6 +54,7 @@ pub event_stopped : (e : Event) (s : State) → s.stopped ≡ true → event e s
 unfolding event
 event_stopped (Run n) s h = steps_stopped n s h
 event_stopped (Tick n) s h = ticks_stopped n s h
+event_stopped (Irq name) s h = request_stopped (source_named name) s h
 
 pub events_stopped : (list : List Event) (s : State) → s.stopped ≡ true → events list s ≡ quiet s
 unfolding events
