@@ -23,7 +23,8 @@ use Rattle.msgport.specs.declared.message.Message.{Message as Content}
 use Rattle.sigsem.specs.declared.semaphore.Sem.{Sem}
 use Rattle.memlist.specs.Fit.{round}
 use Rattle.std.specs.Ordering.{nat_cmp, eq_by_cmp}
-use Rattle.execmodel.proofs.Moves.{none_some, IsNew, MayGo, leaving_marks, Moves, stays, places, frees, relists, unlinks, sets, fills, puts, gets, enters, queues, hands, opens, releases, drops}
+use Rattle.execmodel.proofs.Commands.{Touches, remains, fills, puts, gets, none_some}
+use Rattle.execmodel.proofs.Moves.{IsNew, MayGo, leaving_marks, Moves, touches, places, frees, relists, unlinks, sets, enters, queues, hands, opens, releases, drops}
 
 pub both_false : {A : Type 0} (b c : Bool) → (b || c) ≡ false → (b ≡ false → c ≡ false → A) → A
 both_false true c e f = true_is_not_false e
@@ -247,10 +248,32 @@ left_marks : (semaphore : Option ℕ) (t p : ℕ) → turns_at_port p (leaving_m
 left_marks None t p = refl
 left_marks (Some semaphore) t p = refl
 
+-- each thing that a call makes of the blocks, also one in a body
+pub touched_follow : (old : Heap) (marks : List Mark) (new : Heap) → Touches old marks new
+    → (p : ℕ) → Follows (messages_of p old) (turns_at_port p marks) (messages_of p new)
+unfolding appended taken_off
+touched_follow old marks new remains p = refl
+touched_follow old marks new (fills message content is) p = content_still message content p old is
+touched_follow old marks new (puts port message content is also loose) p =
+    let mid = filled message content old in
+    turned p port (Came message) (messages_of p old) (messages_of p new)
+    (λ same. (
+      subst (λ a. IsAway message (messages_of a old)) (sym same) (is_away message port old loose),
+      ap (λ a. messages_of a new) same
+          ∙ port_there port _ (messages_of port mid ++ message ∷ []) mid (port_stays port message _ old is also)
+          ∙ ap (λ q. q ++ message ∷ []) (content_still message _ port old also ∙ sym (ap (λ a. messages_of a old) same)),
+    ))
+    (λ apart. port_elsewhere p port _ (messages_of port mid ++ message ∷ []) mid apart ∙ content_still message _ p old also)
+touched_follow old marks new (gets port message is e) p =
+    turned p port (Served message) (messages_of p old) (messages_of p new)
+    (λ same. ap (λ a. messages_of a old) same ∙ first_is message (messages_of port old) e
+    ∙ ap (λ q. message ∷ q) (sym (ap (λ a. messages_of a new) same ∙ port_there port _ (drop 1 (messages_of port old)) old is)))
+    (λ apart. port_elsewhere p port _ (drop 1 (messages_of port old)) old apart)
+
 pub moves_follow : (regions : List Region) (t : ℕ) (call : Call) (old : Heap) (marks : List Mark) (new : Heap) → Moves regions t call old marks new
     → IsWellFormed regions (extents old) → (p : ℕ) → Follows (messages_of p old) (turns_at_port p marks) (messages_of p new)
-unfolding with_nodes unlinked with_action appended taken_off entered queued dropped handed_on released_once is_list_at
-moves_follow regions t call old marks new stays formed p = refl
+unfolding with_nodes unlinked with_action entered queued dropped handed_on released_once is_list_at
+moves_follow regions t call old marks new (touches how) formed p = touched_follow old marks new how p
 moves_follow regions t call old marks new (places size reqs address object is fits) formed p =
     unfold messages_of in cases_eq p address
     (λ same. ap (λ found. messages_of_object found) (ap (λ a. object_at a new) same ∙ object_placed_here address (round size) object old)
@@ -268,22 +291,6 @@ moves_follow regions t call old marks new (sets act port is) formed p =
     cases_eq p port
     (λ same. ap (λ a. messages_of a new) same ∙ port_there port _ (messages_of port old) old is ∙ sym (ap (λ a. messages_of a old) same))
     (λ apart. port_elsewhere p port _ (messages_of port old) old apart)
-moves_follow regions t call old marks new (fills message content is) formed p = content_still message content p old is
-moves_follow regions t call old marks new (puts port message content is also loose) formed p =
-    let mid = filled message content old in
-    turned p port (Came message) (messages_of p old) (messages_of p new)
-    (λ same. (
-      subst (λ a. IsAway message (messages_of a old)) (sym same) (is_away message port old loose),
-      ap (λ a. messages_of a new) same
-          ∙ port_there port _ (messages_of port mid ++ message ∷ []) mid (port_stays port message _ old is also)
-          ∙ ap (λ q. q ++ message ∷ []) (content_still message _ port old also ∙ sym (ap (λ a. messages_of a old) same)),
-    ))
-    (λ apart. port_elsewhere p port _ (messages_of port mid ++ message ∷ []) mid apart ∙ content_still message _ p old also)
-moves_follow regions t call old marks new (gets port message is e) formed p =
-    turned p port (Served message) (messages_of p old) (messages_of p new)
-    (λ same. ap (λ a. messages_of a old) same ∙ first_is message (messages_of port old) e
-    ∙ ap (λ q. message ∷ q) (sym (ap (λ a. messages_of a new) same ∙ port_there port _ (drop 1 (messages_of port old)) old is)))
-    (λ apart. port_elsewhere p port _ (drop 1 (messages_of port old)) old apart)
 moves_follow regions t call old marks new (enters semaphore is e) formed p = semaphore_still semaphore _ _ p old is
 moves_follow regions t call old marks new (queues semaphore is e) formed p =
     semaphore_still semaphore _ _ p (dropped t old) (still_semaphore t semaphore old is) ∙ all_remade (left_by_task t) (task_left_same t) p old

@@ -9,18 +9,19 @@ use Rattle.taskscript.specs.File.{MachineData}
 use Rattle.taskscript.specs.Machines.{IsMachine}
 use Rattle.taskscript.specs.declared.event.Event.{Event}
 use Rattle.execmodel.specs.State.{Call, Mark, State, Outcome, on_schedule, booted, andthen}
-use Rattle.execmodel.specs.Interrupts.{serves}
 use Rattle.execmodel.specs.Scheduling.{switch_of, rescheduled}
 use Rattle.execmodel.specs.Memory.{extents}
 use Rattle.execmodel.specs.Ports.{messages_of}
+use Rattle.execmodel.specs.Bodies.{body_step}
 use Rattle.execmodel.specs.Step.{announced, switches, does, ends, starts, events, run}
 use Rattle.execmodel.specs.Marks.{port_turn, turns_at_port}
 use Rattle.execmodel.specs.Laws.{FirstInFirstOut}
 use Rattle.execmodel.proofs.Queues.{Follows, IsOnce, follows_more, follows_once, in_order}
 use Rattle.execmodel.proofs.Stretches.{Relation, HoldsOfEach, of_starts, of_events}
+use Rattle.execmodel.proofs.Commands.{Alters, body_alters}
 use Rattle.execmodel.proofs.Moves.{Makes, call_makes}
-use Rattle.execmodel.proofs.Formed.{moves_formed}
-use Rattle.execmodel.proofs.Fifo.{moves_follow}
+use Rattle.execmodel.proofs.Formed.{touched_formed, moves_formed}
+use Rattle.execmodel.proofs.Fifo.{touched_follow, moves_follow}
 
 -- a switch leaves no mark, and the memory as it is
 pub announced_quiet : (c : Option Switch) (s : State) → ((announced c s).marks ≡ []) × ((announced c s).state ≡ s)
@@ -59,22 +60,32 @@ calling t call s o makes formed = (
   moves_follow s.memory.regions t call s.memory.heap o.marks o.state.memory.heap makes.1 formed,
 )
 
+commanding : (s : State) (marks : List Mark) (r : State) → Alters s marks r → Ports s marks r
+commanding s marks r alters formed = (
+  subst (λ regions. IsWellFormed regions (extents r.memory.heap)) (sym alters.regions)
+      (touched_formed s.memory.regions s.memory.heap marks r.memory.heap alters.blocks formed),
+  touched_follow s.memory.heap marks r.memory.heap alters.blocks,
+)
+
 -- a relation that holds where nothing happens holds of a switch
 pub quietly : (R : Relation) (s : State) (o : Outcome) (r : State) → (o.marks ≡ []) × (o.state ≡ r) → R s [] r → R s o.marks o.state
 quietly R s o r e holds = subst (λ q. R s o.marks q) (sym e.1) (subst (λ ms. R s ms r) (sym e.0) holds)
 
 ports : HoldsOfEach Ports
-unfolding ends serves
+unfolding ends
 ports = record {
-  nothing = λ s formed. (formed, λ port. refl);
-  joined = joined;
+  interrupting = record {
+    nothing = λ s formed. (formed, λ port. refl);
+    joined = joined;
+    commanding = λ name command s. commanding s (body_step name command s).marks (body_step name command s).state (body_alters name command s);
+    pending = λ f s formed. (formed, λ port. refl);
+    ticking = λ s formed. (formed, λ port. refl);
+    switching = λ s. quietly Ports s (switches s) (on_schedule rescheduled s) (switches_quiet s)
+        (λ formed. (formed, λ port. refl));
+  };
   adding = λ t s less formed. (formed, λ port. refl);
   calling = λ t call s runs is. calling t call s (does t call s) (call_makes t call s);
   ending = λ t s runs formed. (formed, λ port. refl);
-  requesting = λ s formed. (formed, λ port. refl);
-  serving = λ s due formed. (formed, λ port. refl);
-  switching = λ s. quietly Ports s (switches s) (on_schedule rescheduled s) (switches_quiet s)
-      (λ formed. (formed, λ port. refl));
 }
 
 -- the blocks of a machine before its start

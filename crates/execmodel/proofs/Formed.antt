@@ -21,7 +21,8 @@ use Rattle.execmodel.specs.Lists.{with_nodes, unlinked, left_by}
 use Rattle.execmodel.specs.Ports.{with_action, with_port, appended, taken_off}
 use Rattle.execmodel.specs.Semaphores.{with_semaphore, left_by_task, entered, queued, dropped, handed_on, released_once}
 use Rattle.execmodel.proofs.Heaps.{rid}
-use Rattle.execmodel.proofs.Moves.{none_some, Moves, stays, places, frees, relists, unlinks, sets, fills, puts, gets, enters, queues, hands, opens, releases, drops}
+use Rattle.execmodel.proofs.Commands.{Touches, remains, fills, puts, gets, none_some}
+use Rattle.execmodel.proofs.Moves.{Moves, touches, places, frees, relists, unlinks, sets, enters, queues, hands, opens, releases, drops}
 
 -- where a block lies, and how long it is
 abbrev extent : ℕ × Block → ℕ × (ℕ × ℕ)
@@ -70,11 +71,20 @@ same_extents : (regions : List Region) (old new : Heap) → extents new ≡ exte
     → IsWellFormed regions (extents new)
 same_extents regions old new e formed = subst (λ bs. IsWellFormed regions bs) (sym e) formed
 
--- whatever a call does
+-- whatever a call does, also one in a body
+pub touched_formed : (regions : List Region) (old : Heap) (marks : List Mark) (new : Heap) → Touches old marks new
+    → IsWellFormed regions (extents old) → IsWellFormed regions (extents new)
+unfolding with_port appended taken_off
+touched_formed regions old marks new remains formed = formed
+touched_formed regions old marks new (fills message content is) formed = same_extents regions old new (extents_replaced message _ old) formed
+touched_formed regions old marks new (puts port message content is is_message loose) formed =
+    same_extents regions old new (extents_replaced port _ _ ∙ extents_replaced message _ old) formed
+touched_formed regions old marks new (gets port message is e) formed = same_extents regions old new (extents_replaced port _ old) formed
+
 pub moves_formed : (regions : List Region) (t : ℕ) (call : Call) (old : Heap) (marks : List Mark) (new : Heap) → Moves regions t call old marks new
     → IsWellFormed regions (extents old) → IsWellFormed regions (extents new)
-unfolding with_nodes unlinked with_action with_port appended taken_off with_semaphore entered queued dropped handed_on released_once
-moves_formed regions t call old marks new stays formed = formed
+unfolding with_nodes unlinked with_action with_port with_semaphore entered queued dropped handed_on released_once
+moves_formed regions t call old marks new (touches how) formed = touched_formed regions old marks new how formed
 moves_formed regions t call old marks new (places size reqs address object is fits) formed =
     subst (λ bs. IsWellFormed regions bs) (sym (extents_put address (round size) object old))
     (fitted_well_formed regions (extents old) size reqs 0 address formed fits)
@@ -84,10 +94,6 @@ moves_formed regions t call old marks new (relists list nodes is) formed =
     same_extents regions old new (extents_replaced list _ old) formed
 moves_formed regions t call old marks new (unlinks node) formed = same_extents regions old new (extents_remade (left_by node) old) formed
 moves_formed regions t call old marks new (sets act port is) formed = same_extents regions old new (extents_replaced port _ old) formed
-moves_formed regions t call old marks new (fills message content is) formed = same_extents regions old new (extents_replaced message _ old) formed
-moves_formed regions t call old marks new (puts port message content is is_message loose) formed =
-    same_extents regions old new (extents_replaced port _ _ ∙ extents_replaced message _ old) formed
-moves_formed regions t call old marks new (gets port message is e) formed = same_extents regions old new (extents_replaced port _ old) formed
 moves_formed regions t call old marks new (enters semaphore is e) formed = same_extents regions old new (extents_replaced semaphore _ old) formed
 moves_formed regions t call old marks new (queues semaphore is e) formed =
     same_extents regions old new (extents_replaced semaphore _ _ ∙ extents_remade (left_by_task t) old) formed

@@ -2,6 +2,7 @@ pub mod Agreement
 pub mod Bits
 pub mod BodyActions
 pub mod Chains
+pub mod Commands
 pub mod Keeping
 pub mod Fifo
 pub mod FifoLaw

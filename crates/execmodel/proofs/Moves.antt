@@ -1,7 +1,7 @@
 -- What a call makes of the blocks of memory and of what begins there: one of a few things, whatever the word. The laws of ports, of
 -- semaphores and of memory go by these.
 use Rattle.std.proofs.Common.{◌≡◌, ◌≢◌, ℕ, Bool, true, false, List, [], ◌∷◌, Option, None, Some, refl, sym, ap, ◌∙◌, subst}
-use Rattle.std.specs.Prelude.{◌-◌, negsuc, not, if◌then◌else◌, nat_eq, nat_lt, is_some, codes, ◌&&◌, ◌||◌}
+use Rattle.std.specs.Prelude.{◌-◌, negsuc, if◌then◌else◌, nat_eq, nat_lt, is_some, codes, ◌&&◌, ◌||◌}
 use Rattle.std.specs.Ordering.{nat_cmp}
 use Rattle.std.specs.FinMap.{put as put_entry}
 use Rattle.std.specs.Int.{cast_signed, w32}
@@ -13,12 +13,8 @@ use Rattle.execlist.specs.Order.{first}
 use Rattle.signals.specs.Signals.{grant}
 use Rattle.forbid.specs.Nesting.{Nesting, after_forbid, after_permit, after_disable, after_enable}
 use Rattle.scheduler.specs.Schedule.{Schedule, signals_of, nesting_of, come_for, after_wait, leaves}
-use Rattle.msgport.specs.Port.{acting, new_port}
-use Rattle.msgport.specs.Ports.{nt_message, nt_replymsg}
+use Rattle.msgport.specs.Port.{new_port}
 use Rattle.msgport.specs.declared.action.PortAction.{PortAction}
-use Rattle.msgport.specs.declared.action.Action.{Action}
-use Rattle.msgport.specs.declared.action.Action.TheVariants as action
-use Rattle.msgport.specs.declared.message.Message.{Message as Content}
 use Rattle.sigsem.specs.declared.semaphore.Obtained.TheVariants.{Owner, Waits}
 use Rattle.sigsem.specs.Semaphores.{free_sem}
 use Rattle.taskscript.specs.declared.word.Word.{Word}
@@ -39,8 +35,10 @@ use Rattle.taskscript.specs.declared.word.ports.PortWord.{PortWord}
 use Rattle.taskscript.specs.declared.word.ports.PortWord.TheVariants as ports
 use Rattle.taskscript.specs.declared.word.semaphores.SemaphoreWord.{SemaphoreWord}
 use Rattle.taskscript.specs.declared.word.semaphores.SemaphoreWord.TheVariants as semaphores
-use Rattle.execmodel.specs.State.{Call, Object, Plain, ListHead, Node, MsgPort, Message, Semaphore, Block, Heap, Memory, Mark, put, got, asked, passed, left, State, Outcome, leaving, on_schedule, on_memory, on_heap}
-use Rattle.execmodel.specs.Calls.{argument, name_argument, done, answered, waiting, silent, alerted, unless}
+use Rattle.taskscript.specs.declared.word.interrupts.InterruptWord.{InterruptWord}
+use Rattle.taskscript.specs.declared.word.interrupts.InterruptWord.TheVariants as interrupts
+use Rattle.execmodel.specs.State.{Call, Object, Plain, ListHead, Node, MsgPort, Message, Semaphore, Block, Heap, Memory, Mark, asked, passed, left, State, Outcome, on_schedule, on_memory, on_heap}
+use Rattle.execmodel.specs.Calls.{ByTask, argument, name_argument, done, answered, waiting, silent, alerted, unless}
 use Rattle.execmodel.specs.Plain.{does_plain, does_set, does_add, does_sub, does_and, does_or, jumps, does_jump, does_jump_zero, does_jump_not_zero, does_print}
 use Rattle.execmodel.specs.Signals.{mask_alert, free_signal_alert, signal_alert, waited, does_signals, does_alloc_signal, does_free_signal, does_set_signal, does_signal, does_wait}
 use Rattle.execmodel.specs.Nesting.{counted, does_nesting, does_forbid, does_permit, does_disable, does_enable}
@@ -48,10 +46,12 @@ use Rattle.execmodel.specs.Tasks.{live_task_alert, set_task_pri_alert, add_task_
 use Rattle.execmodel.specs.Objects.{object_at, is_kind, place_for_object, live}
 use Rattle.execmodel.specs.Memory.{extents, allocates, place_for, block_at, is_named, is_plain, alloc_alert, free_alert, avail_alert, does_memory, does_alloc_mem, does_free_mem, does_avail_mem}
 use Rattle.execmodel.specs.Lists.{is_list, list_size, is_node, node_size, is_list_at, is_node_at, with_nodes, unlinked, free_list_alert, new_node_alert, free_node_alert, link_alert, insert_alert, linked_alert, list_alert, find_alert, added_head, added_tail, enqueued, inserted, removed_head, removed_tail, does_lists, does_new_list, does_free_list, does_new_node, does_free_node, does_add_head, does_add_tail, does_enqueue, does_insert, does_remove, does_rem_head, does_rem_tail, does_first, does_last, does_succ, does_pred, does_find_name}
-use Rattle.execmodel.specs.Ports.{is_port, is_message, is_port_at, is_message_at, is_queued, port_size, message_size, port_created, port_alert, message_alert, messages_of, messages_of_object, content_of, port_of, loses, with_action, appended, with_content, with_word, typed, posted, taken_off, delete_alert, add_port_alert, rem_port_alert, reply_port_alert, loose_alert, put_alert, reply_alert, wait_alert, made_public, made_private, replied, delivered, performed, taken, looked, does_ports, does_create_msg_port, does_delete_msg_port, does_add_port, does_rem_port, does_find_port, does_port_signal, does_port_ignore, does_new_msg, does_free_msg, does_msg_word, does_set_msg_word, does_msg_type, does_put_msg, does_get_msg, does_wait_port, does_reply_msg}
+use Rattle.execmodel.specs.Ports.{is_port, is_message, is_port_at, is_message_at, port_size, message_size, port_created, port_alert, message_alert, messages_of, messages_of_object, loses, with_action, with_word, delete_alert, add_port_alert, rem_port_alert, reply_port_alert, loose_alert, wait_alert, made_public, made_private, looked, does_ports, does_create_msg_port, does_delete_msg_port, does_add_port, does_rem_port, does_find_port, does_port_signal, does_port_cause, does_port_ignore, does_new_msg, does_free_msg, does_msg_word, does_set_msg_word, does_msg_type, does_put_msg, does_get_msg, does_wait_port, does_reply_msg}
 use Rattle.execmodel.specs.Semaphores.{awaited_by, dropped, entered, queued, handed_on, released_once, obtained, attempted, released, is_open, is_last, is_owned, is_owner, is_semaphore_at, waiters_of, free_sem_alert, heir, is_semaphore, is_tried_again, leaving_queue, obtain_alert, obtains, passes, release_alert, sem_of, sem_of_object, semaphore_size, does_semaphores, does_new_sem, does_free_sem, does_obtain_semaphore, does_attempt_semaphore, does_release_semaphore}
+use Rattle.execmodel.specs.Causing.{does_interrupts, does_cause}
 use Rattle.execmodel.specs.Step.{does, does_word}
-use Rattle.execmodel.proofs.Heaps.{content_is, filled, rid, true_is_not_false}
+use Rattle.execmodel.proofs.Heaps.{rid, true_is_not_false}
+use Rattle.execmodel.proofs.Commands.{Touches, remains, IsAltered, none_some, passed_first, passed_other, is_port_there, is_message_there, is_loose_there, gives, put_alters, get_alters, reply_alters, cause_alters}
 
 -- a new object: an empty list or port, a semaphore that no task owns and none waits for, or what has no queue
 abbrev pub IsNew : Object → Type 0
@@ -85,19 +85,13 @@ pub record IsRelease (t : ℕ) (call : Call) (semaphore : ℕ) (heap : Heap) : T
 
 -- what a call of task t may make of the blocks, and the marks that it leaves
 pub data Moves (regions : List Region) (t : ℕ) (call : Call) : Heap → List Mark → Heap → Type 0 where
-  stays : {heap : Heap} → Moves regions t call heap [] heap
+  touches : {old new : Heap} {marks : List Mark} → Touches old marks new → Moves regions t call old marks new
   places : {heap : Heap} (size reqs address : ℕ) (object : Object) → IsNew object → fit regions (extents heap) size reqs ≡ Some address
       → Moves regions t call heap [] (put_entry nat_cmp address (record { size = round size; object = object }) heap)
   frees : {heap : Heap} (address : ℕ) → MayGo (object_at address heap) → Moves regions t call heap [] (rid address heap)
   relists : {heap : Heap} (list : ℕ) (nodes : List ℕ) → is_list_at list heap ≡ true → Moves regions t call heap [] (with_nodes list nodes heap)
   unlinks : {heap : Heap} (node : ℕ) → Moves regions t call heap [] (unlinked node heap)
   sets : {heap : Heap} (act : PortAction) (port : ℕ) → is_port_at port heap ≡ true → Moves regions t call heap [] (with_action act port heap)
-  fills : {heap : Heap} (message : ℕ) (content : Content) → is_message_at message heap ≡ true
-      → Moves regions t call heap [] (filled message content heap)
-  puts : {heap : Heap} (port message : ℕ) (content : Content) → is_port_at port heap ≡ true → is_message_at message heap ≡ true
-      → is_queued message heap ≡ false → Moves regions t call heap (put port message ∷ []) (appended port message (filled message content heap))
-  gets : {heap : Heap} (port message : ℕ) → is_port_at port heap ≡ true → first (messages_of port heap) ≡ Some message
-      → Moves regions t call heap (got port message ∷ []) (taken_off port heap)
   enters : {heap : Heap} (semaphore : ℕ) → is_semaphore_at semaphore heap ≡ true → is_open t (sem_of semaphore heap) ≡ true
       → Moves regions t call heap [] (entered t semaphore heap)
   queues : {heap : Heap} (semaphore : ℕ) → is_semaphore_at semaphore heap ≡ true → is_open t (sem_of semaphore heap) ≡ false
@@ -114,21 +108,15 @@ pub data Moves (regions : List Region) (t : ℕ) (call : Call) : Heap → List M
 abbrev pub Makes : ℕ → Call → State → Outcome → Type 0
 Makes t call s o = (o.state.memory.regions ≡ s.memory.regions) × Moves s.memory.regions t call s.memory.heap o.marks o.state.memory.heap
 
+-- nothing changes
+stays : {regions : List Region} {t : ℕ} {call : Call} {heap : Heap} → Moves regions t call heap [] heap
+stays = touches remains
+
+-- what any caller may make of the blocks
+any_makes : (t : ℕ) (call : Call) (s : State) (o : Outcome) → IsAltered s o → Makes t call s o
+any_makes t call s o alters = (alters.regions, touches alters.blocks)
+
 -- ---- tests that alerts rest on
-
-pub none_some : {A : Type 0} {x : A} {B : Type 0} → Some x ≡ None → B
-none_some e = let bad : true ≡ false = ap is_some e in true_is_not_false bad
-
--- an alert that does not come: its test is passed, and what follows does not come either
-pub passed_first : {A : Type 0} (test : Bool) (code : A) (rest : Option A) → (if not test then Some code else rest) ≡ None
-    → (test ≡ true) × (rest ≡ None)
-passed_first true code rest e = (refl, e)
-passed_first false code rest e = none_some e
-
-passed_other : {A : Type 0} (test : Bool) (code : A) (rest : Option A) → (if test then Some code else rest) ≡ None
-    → (test ≡ false) × (rest ≡ None)
-passed_other true code rest e = none_some e
-passed_other false code rest e = (refl, e)
 
 cases_bool : {A : Type 0} (b c : Bool) → (b || c) ≡ false → c ≡ true → A
 cases_bool true c e f = true_is_not_false e
@@ -376,78 +364,9 @@ message_goes (Some (MsgPort port messages)) is = true_is_not_false (sym is)
 message_goes (Some (Message content)) is = tt
 message_goes (Some (Semaphore sem waiters)) is = true_is_not_false (sym is)
 
--- what a port or a message is, where no alert comes
-is_port_there : (port : ℕ) (heap : Heap) → port_alert port heap ≡ None → is_port_at port heap ≡ true
-unfolding port_alert
-is_port_there port heap none = (passed_first (is_port_at port heap) _ _ none).0
-
-is_message_there : (message : ℕ) (heap : Heap) → message_alert message heap ≡ None → is_message_at message heap ≡ true
-unfolding message_alert
-is_message_there message heap none = (passed_first (is_message_at message heap) _ _ none).0
-
-is_loose_there : (message : ℕ) (heap : Heap) → loose_alert message heap ≡ None → (is_message_at message heap ≡ true) × (is_queued message heap ≡ false)
-unfolding loose_alert
-is_loose_there message heap none =
-    let first = passed_first (is_message_at message heap) _ _ none in (first.0, (passed_other (is_queued message heap) _ _ first.1).0)
-
 frees_message : (message : ℕ) (heap : Heap) → loose_alert message heap ≡ None → MayGo (object_at message heap)
 unfolding is_message_at
 frees_message message heap none = message_goes (object_at message heap) (is_loose_there message heap none).0
-
-can_put : (port message : ℕ) (heap : Heap) → put_alert port message heap ≡ None
-    → (is_port_at port heap ≡ true) × ((is_message_at message heap ≡ true) × (is_queued message heap ≡ false))
-unfolding put_alert
-can_put port message heap none =
-    let first = passed_first (is_port_at port heap) _ _ none in (first.0, is_loose_there message heap first.1)
-
-reply_port_there : (test : Bool) (port : ℕ) (heap : Heap) → test ≡ false → (if test then None else port_alert port heap) ≡ None → is_port_at port heap ≡ true
-reply_port_there true port heap is none = true_is_not_false is
-reply_port_there false port heap is none = is_port_there port heap none
-
-can_reply : (message : ℕ) (heap : Heap) → reply_alert message heap ≡ None
-    → (is_message_at message heap ≡ true) × ((is_queued message heap ≡ false)
-    × (nat_eq (content_of message heap).reply 0 ≡ false → is_port_at (content_of message heap).reply heap ≡ true))
-unfolding reply_alert reply_port_alert
-can_reply message heap none =
-    let first = passed_first (is_message_at message heap) _ _ none in
-    let second = passed_other (is_queued message heap) _ _ first.1 in
-    (first.0, (second.0, λ is. reply_port_there (nat_eq (content_of message heap).reply 0) (content_of message heap).reply heap is second.1))
-
--- a message gets another content, or is put with one
-gives : (t : ℕ) (call : Call) (regions : List Region) (message : ℕ) (content : Content) (heap : Heap) → is_message_at message heap ≡ true
-    → Moves regions t call heap [] (with_content message content heap)
-gives t call regions message content heap is =
-    subst (λ new. Moves regions t call heap [] new) (sym (content_is message content heap is)) (fills message content is)
-
-posts : (t : ℕ) (call : Call) (regions : List Region) (port message : ℕ) (content : Content) (heap : Heap) → is_port_at port heap ≡ true
-    → is_message_at message heap ≡ true → is_queued message heap ≡ false
-    → Moves regions t call heap (put port message ∷ []) (appended port message (with_content message content heap))
-posts t call regions port message content heap is also loose =
-    subst (λ new. Moves regions t call heap (put port message ∷ []) (appended port message new)) (sym (content_is message content heap also))
-    (puts port message content is also loose)
-
--- what is done for a message that has arrived changes no block
-delivers : (act : Action) (t : ℕ) (call : Call) (mark : Mark) (s r : State) → r.memory.regions ≡ s.memory.regions
-    → Moves s.memory.regions t call s.memory.heap (mark ∷ []) r.memory.heap → Makes t call s (leaving mark (done t call (performed act r)))
-unfolding done
-delivers (action.Signal task mask) t call mark s r same moves = (same, moves)
-delivers action.Nothing t call mark s r same moves = (same, moves)
-
-replied_makes : (reply t : ℕ) (call : Call) (message : ℕ) (s : State) → is_message_at message s.memory.heap ≡ true
-    → is_queued message s.memory.heap ≡ false → (nat_eq reply 0 ≡ false → is_port_at reply s.memory.heap ≡ true)
-    → Makes t call s (replied reply t call message s)
-unfolding done delivered typed posted
-replied_makes reply t call message s is loose there =
-    either_makes t call s (nat_eq reply 0) _ _ (λ none. (refl, gives t call s.memory.regions message _ s.memory.heap is))
-    (λ some. delivers (acting (port_of reply s.memory.heap)) t call (put reply message) s
-    (on_memory (on_heap (posted nt_replymsg reply message)) s) refl
-    (posts t call s.memory.regions reply message _ s.memory.heap (there some) is loose))
-
-taken_makes : (port : ℕ) (message : Option ℕ) (t : ℕ) (call : Call) (s : State) → is_port_at port s.memory.heap ≡ true
-    → first (messages_of port s.memory.heap) ≡ message → Makes t call s (taken port message t call s)
-unfolding answered
-taken_makes port None t call s is e = (refl, stays)
-taken_makes port (Some message) t call s is e = (refl, gets port message is e)
 
 looked_makes : (message : Option ℕ) (mask t : ℕ) (call : Call) (f : Schedule → Schedule) (s : State)
     → Makes t call s (looked message mask t call (on_schedule f s))
@@ -456,7 +375,7 @@ looked_makes None mask t call f s = (refl, stays)
 looked_makes (Some message) mask t call f s = (refl, stays)
 
 ports_make : (word : PortWord) (t : ℕ) (call : Call) (s : State) → Makes t call s (does_ports word t call s)
-unfolding does_create_msg_port does_delete_msg_port does_add_port does_rem_port does_find_port does_port_signal does_port_ignore does_new_msg does_free_msg does_msg_word does_set_msg_word does_msg_type does_put_msg does_get_msg does_wait_port does_reply_msg made_public made_private delivered typed posted with_word done answered
+unfolding does_create_msg_port does_delete_msg_port does_add_port does_rem_port does_find_port does_port_signal does_port_cause does_port_ignore does_new_msg does_free_msg does_msg_word does_set_msg_word does_msg_type does_put_msg does_get_msg does_wait_port does_reply_msg made_public made_private with_word done answered
 ports_make ports.CreateMsgPort t call s = port_created_makes t call (grant (negsuc 0) (signals_of s.schedule t)) s
 ports_make ports.DeleteMsgPort t call s =
     either_makes t call s (nat_eq (argument 0 call) 0) _ _ (λ is. (refl, stays))
@@ -467,6 +386,9 @@ ports_make ports.AddPort t call s =
 ports_make ports.RemPort t call s = unless_makes t call s (rem_port_alert (argument 0 call) s.memory) _ (λ none. (refl, stays))
 ports_make ports.FindPort t call s = (refl, stays)
 ports_make ports.PortSignal t call s =
+    unless_makes t call s (port_alert (argument 0 call) s.memory.heap) _
+    (λ none. (refl, sets _ (argument 0 call) (is_port_there (argument 0 call) s.memory.heap none)))
+ports_make ports.PortCause t call s =
     unless_makes t call s (port_alert (argument 0 call) s.memory.heap) _
     (λ none. (refl, sets _ (argument 0 call) (is_port_there (argument 0 call) s.memory.heap none)))
 ports_make ports.PortIgnore t call s =
@@ -481,25 +403,14 @@ ports_make ports.FreeMsg t call s =
 ports_make ports.MsgWord t call s = unless_makes t call s (message_alert (argument 0 call) s.memory.heap) _ (λ none. (refl, stays))
 ports_make ports.SetMsgWord t call s =
     unless_makes t call s (message_alert (argument 0 call) s.memory.heap) _
-    (λ none. (refl, gives t call s.memory.regions (argument 0 call) _ s.memory.heap (is_message_there (argument 0 call) s.memory.heap none)))
+    (λ none. (refl, touches (gives (argument 0 call) _ s.memory.heap (is_message_there (argument 0 call) s.memory.heap none))))
 ports_make ports.MsgType t call s = unless_makes t call s (message_alert (argument 0 call) s.memory.heap) _ (λ none. (refl, stays))
-ports_make ports.PutMsg t call s =
-    unless_makes t call s (put_alert (argument 0 call) (argument 1 call) s.memory.heap) _
-    (λ none. let can = can_put (argument 0 call) (argument 1 call) s.memory.heap none in
-    delivers (acting (port_of (argument 0 call) s.memory.heap)) t call (put (argument 0 call) (argument 1 call)) s
-    (on_memory (on_heap (posted nt_message (argument 0 call) (argument 1 call))) s) refl
-    (posts t call s.memory.regions (argument 0 call) (argument 1 call) _ s.memory.heap can.0 can.1.0 can.1.1))
-ports_make ports.GetMsg t call s =
-    unless_makes t call s (port_alert (argument 0 call) s.memory.heap) _
-    (λ none. taken_makes (argument 0 call) (first (messages_of (argument 0 call) s.memory.heap)) t call s
-    (is_port_there (argument 0 call) s.memory.heap none) refl)
+ports_make ports.PutMsg t call s = any_makes t call s (does_put_msg t call s) (put_alters (ByTask t) call s)
+ports_make ports.GetMsg t call s = any_makes t call s (does_get_msg t call s) (get_alters (ByTask t) call s)
 ports_make ports.WaitPort t call s =
     unless_makes t call s (wait_alert t (argument 0 call) s.memory.heap) _
     (λ none. looked_makes (first (messages_of (argument 0 call) s.memory.heap)) _ t call (loses t call.awaited) s)
-ports_make ports.ReplyMsg t call s =
-    unless_makes t call s (reply_alert (argument 0 call) s.memory.heap) _
-    (λ none. let can = can_reply (argument 0 call) s.memory.heap none in
-    replied_makes (content_of (argument 0 call) s.memory.heap).reply t call (argument 0 call) s can.0 can.1.0 can.1.1)
+ports_make ports.ReplyMsg t call s = any_makes t call s (does_reply_msg t call s) (reply_alters (ByTask t) call s)
 
 -- ---- semaphores
 
@@ -586,6 +497,12 @@ semaphores_make semaphores.ReleaseSemaphore t call s word =
     (record { word = word; names = refl; owns = is_owned_there t (argument 0 call) s.memory.heap none })
     (is_released_there t (argument 0 call) s.memory.heap none) refl)
 
+-- ---- interrupts
+
+interrupts_make : (word : InterruptWord) (t : ℕ) (call : Call) (s : State) → Makes t call s (does_interrupts word t call s)
+unfolding does_cause
+interrupts_make interrupts.Cause t call s = any_makes t call s (does_cause t call s) (cause_alters (ByTask t) call s)
+
 -- ---- any word
 
 word_makes : (word : Word) (t : ℕ) (call : Call) (s : State) → call.word ≡ word → Makes t call s (does_word word t call s)
@@ -597,6 +514,7 @@ word_makes (group.Lists word) t call s is = lists_make word t call s
 word_makes (group.Memory word) t call s is = memory_makes word t call s
 word_makes (group.Ports word) t call s is = ports_make word t call s
 word_makes (group.Semaphores word) t call s is = semaphores_make word t call s is
+word_makes (group.Interrupts word) t call s is = interrupts_make word t call s
 
 pub call_makes : (t : ℕ) (call : Call) (s : State) → Makes t call s (does t call s)
 unfolding does

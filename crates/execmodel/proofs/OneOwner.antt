@@ -7,17 +7,18 @@ use Rattle.memlist.proofs.Tiling.{tiled}
 use Rattle.memlist.proofs.Fitting.{disjoint}
 use Rattle.taskscript.specs.File.{MachineData}
 use Rattle.taskscript.specs.declared.event.Event.{Event}
-use Rattle.execmodel.specs.State.{Call, Object, Plain, ListHead, Node, MsgPort, Message, Semaphore, Block, State, Outcome, booted, andthen, on_schedule}
+use Rattle.execmodel.specs.State.{Call, Object, Plain, ListHead, Node, MsgPort, Message, Semaphore, Block, Mark, State, Outcome, booted, andthen, on_schedule}
 use Rattle.execmodel.specs.Calls.{argument, alerted, unless}
 use Rattle.execmodel.specs.Scheduling.{rescheduled}
-use Rattle.execmodel.specs.Interrupts.{serves}
+use Rattle.execmodel.specs.Bodies.{body_step}
 use Rattle.execmodel.specs.Memory.{extents, block_at, is_plain, is_named, does_free_mem}
 use Rattle.execmodel.specs.Step.{switches, ends, does, starts, run}
 use Rattle.execmodel.specs.Laws.{EachByteHasOneOwner, FreeMemRefusesObjects}
 use Rattle.execmodel.proofs.Heaps.{true_is_not_false}
 use Rattle.execmodel.proofs.Stretches.{Relation, HoldsOfEach, of_starts, of_events}
-use Rattle.execmodel.proofs.Moves.{none_some, Makes, call_makes}
-use Rattle.execmodel.proofs.Formed.{moves_formed}
+use Rattle.execmodel.proofs.Commands.{none_some, Alters, body_alters}
+use Rattle.execmodel.proofs.Moves.{Makes, call_makes}
+use Rattle.execmodel.proofs.Formed.{touched_formed, moves_formed}
 use Rattle.execmodel.proofs.FifoLaw.{FormedState, booted_formed, quietly, switches_quiet}
 
 -- the regions stay, and the blocks stay well formed
@@ -25,16 +26,20 @@ abbrev Memories : Relation
 Memories old marks new = FormedState old → FormedState new × (new.memory.regions ≡ old.memory.regions)
 
 memories : HoldsOfEach Memories
-unfolding ends serves
+unfolding ends
 memories = record {
-  nothing = λ s formed. (formed, refl);
-  joined = λ s some r more q first next formed. let mid = first formed in let end = next mid.0 in (end.0, end.1 ∙ mid.1);
+  interrupting = record {
+    nothing = λ s formed. (formed, refl);
+    joined = λ s some r more q first next formed. let mid = first formed in let end = next mid.0 in (end.0, end.1 ∙ mid.1);
+    commanding = λ name command s formed.
+        commanding s (body_step name command s).marks (body_step name command s).state (body_alters name command s) formed;
+    pending = λ f s formed. (formed, refl);
+    ticking = λ s formed. (formed, refl);
+    switching = λ s. quietly Memories s (switches s) (on_schedule rescheduled s) (switches_quiet s) (λ formed. (formed, refl));
+  };
   adding = λ t s less formed. (formed, refl);
   calling = λ t call s runs is formed. calling t call s (does t call s) (call_makes t call s) formed;
   ending = λ t s runs formed. (formed, refl);
-  requesting = λ s formed. (formed, refl);
-  serving = λ s due formed. (formed, refl);
-  switching = λ s. quietly Memories s (switches s) (on_schedule rescheduled s) (switches_quiet s) (λ formed. (formed, refl));
 }
   where
     calling : (t : ℕ) (call : Call) (s : State) (o : Outcome) → Makes t call s o → Memories s o.marks o.state
@@ -42,6 +47,13 @@ memories = record {
       subst (λ regions. IsWellFormed regions (extents o.state.memory.heap)) (sym makes.0)
           (moves_formed s.memory.regions t call s.memory.heap o.marks o.state.memory.heap makes.1 formed),
       makes.0,
+    )
+
+    commanding : (s : State) (marks : List Mark) (r : State) → Alters s marks r → Memories s marks r
+    commanding s marks r alters formed = (
+      subst (λ regions. IsWellFormed regions (extents r.memory.heap)) (sym alters.regions)
+          (touched_formed s.memory.regions s.memory.heap marks r.memory.heap alters.blocks formed),
+      alters.regions,
     )
 
 run_memories : (machine : MachineData) (list : List Event) → Memories (booted machine) (run machine list).marks (run machine list).state

@@ -17,7 +17,9 @@ use Rattle.execmodel.specs.Ports.{is_port, is_message, is_port_at, is_message_at
 use Rattle.execmodel.specs.Semaphores.{is_open, is_owned, sem_in, sem_of, sem_of_object, waiters_of, waiters_of_object, owned_next, with_semaphore, left_by_task, entered, queued, dropped, handed_on, released_once}
 use Rattle.execmodel.proofs.Heaps.{filled, instead, object_replaced, object_remade, object_placed_here, object_placed_there, object_rid_here, object_rid_there, true_is_not_false}
 use Rattle.execmodel.proofs.Formed.{placed_fresh}
-use Rattle.execmodel.proofs.Moves.{none_some, IsRelease, IsNew, MayGo, Moves, stays, places, frees, relists, unlinks, sets, fills, puts, gets, enters, queues, hands, opens, releases, drops}
+use Rattle.execmodel.proofs.Fifo.{port_stays}
+use Rattle.execmodel.proofs.Commands.{Touches, remains, fills, puts, gets, none_some}
+use Rattle.execmodel.proofs.Moves.{IsRelease, IsNew, MayGo, Moves, touches, places, frees, relists, unlinks, sets, enters, queues, hands, opens, releases, drops}
 
 -- nobody waits for what begins at an address, unless a task owns it
 abbrev pub Idle : Option Object → Type 0
@@ -80,10 +82,18 @@ next_idle : (waiters : List ℕ) → Idle (Some (Semaphore (owned_next (first wa
 next_idle [] = λ e. refl
 next_idle (t ∷ waiters) = λ e. none_some e
 
+pub touched_idle : (old : Heap) (marks : List Mark) (new : Heap) → Touches old marks new → AllIdle old → AllIdle new
+unfolding with_port appended taken_off sem_of waiters_of
+touched_idle old marks new remains idle = idle
+touched_idle old marks new (fills message content is) idle = idle_replaced message _ old (λ e. refl) idle
+touched_idle old marks new (puts port message content is also loose) idle =
+    idle_replaced port _ (filled message content old) (λ e. refl) (idle_replaced message _ old (λ e. refl) idle)
+touched_idle old marks new (gets port message is e) idle = idle_replaced port _ old (λ e. refl) idle
+
 pub moves_idle : (regions : List Region) (t : ℕ) (call : Call) (old : Heap) (marks : List Mark) (new : Heap) → Moves regions t call old marks new
     → AllIdle old → AllIdle new
-unfolding with_nodes unlinked with_action with_port appended taken_off with_semaphore entered queued dropped handed_on released_once sem_of waiters_of
-moves_idle regions t call old marks new stays idle = idle
+unfolding with_nodes unlinked with_action with_port with_semaphore entered queued dropped handed_on released_once sem_of waiters_of
+moves_idle regions t call old marks new (touches how) idle = touched_idle old marks new how idle
 moves_idle regions t call old marks new (places size reqs address object is fits) idle = λ a.
     cases_eq a address
     (λ same. subst (λ found. Idle found) (sym (ap (λ k. object_at k new) same ∙ object_placed_here address (round size) object old)) (new_idle object is))
@@ -95,10 +105,6 @@ moves_idle regions t call old marks new (frees address may) idle = λ a.
 moves_idle regions t call old marks new (relists list nodes is) idle = idle_replaced list (ListHead nodes) old (λ e. refl) idle
 moves_idle regions t call old marks new (unlinks node) idle = idle_remade (left_by node) (left_idle node) old idle
 moves_idle regions t call old marks new (sets act port is) idle = idle_replaced port _ old (λ e. refl) idle
-moves_idle regions t call old marks new (fills message content is) idle = idle_replaced message _ old (λ e. refl) idle
-moves_idle regions t call old marks new (puts port message content is also loose) idle =
-    idle_replaced port _ (filled message content old) (λ e. refl) (idle_replaced message _ old (λ e. refl) idle)
-moves_idle regions t call old marks new (gets port message is e) idle = idle_replaced port _ old (λ e. refl) idle
 moves_idle regions t call old marks new (enters semaphore is e) idle = idle_replaced semaphore _ old (λ none. none_some none) idle
 moves_idle regions t call old marks new (queues semaphore is e) idle =
     idle_replaced semaphore _ (dropped t old) (λ none. absurd (closed_owned t (sem_of semaphore old) e none))
@@ -240,10 +246,31 @@ open_owner t (Some o) e = cases_eq o t (λ same. inl (ap (λ k. Some k) (sym sam
 once_count : (count : ℕ) → (count == 1) ≡ true → count ≡ 1
 once_count count e = cases_eq count 1 (λ same. same) (λ apart. true_is_not_false (sym e ∙ nat_eq-other count 1 apart))
 
+-- an object without an owner in place of one of a kind that has none
+still_unowned : (kind : Object → Bool) → ((object : Object) → kind object ≡ true → (sem_in object).owner ≡ None) → (a address : ℕ)
+    (object : Object) (heap : Heap) → (sem_in object).owner ≡ None → is_kind kind (object_at address heap) ≡ true
+    → owner_in (object_at a (map (replaced address object) heap)) ≡ owner_in (object_at a heap)
+still_unowned kind none a address object heap free is =
+    cases_eq a address
+    (λ same. subst (λ k. owner_in (object_at k (map (replaced address object) heap)) ≡ owner_in (object_at k heap)) (sym same)
+    (same_owner address object heap (free ∙ sym (no_owner kind none (object_at address heap) is))))
+    (λ apart. ap (λ found. owner_in found) (elsewhere a address object heap apart))
+
+-- no call of a body changes an owner
+pub touched_own : (old : Heap) (marks : List Mark) (new : Heap) → Touches old marks new
+    → (a : ℕ) → owner_in (object_at a new) ≡ owner_in (object_at a old)
+unfolding with_port appended taken_off is_port_at is_message_at
+touched_own old marks new remains a = refl
+touched_own old marks new (fills message content is) a = still_unowned is_message message_free a message _ old refl is
+touched_own old marks new (puts port message content is also loose) a =
+    still_unowned is_port port_free a port _ (filled message content old) refl (port_stays port message content old is also)
+    ∙ still_unowned is_message message_free a message _ old refl also
+touched_own old marks new (gets port message is e) a = still_unowned is_port port_free a port _ old refl is
+
 pub moves_own : (regions : List Region) (t : ℕ) (call : Call) (old : Heap) (marks : List Mark) (new : Heap) → Moves regions t call old marks new
     → IsWellFormed regions (extents old) → (a : ℕ) → Owns t call a old new
-unfolding with_nodes unlinked with_action with_port appended taken_off with_semaphore entered queued dropped handed_on released_once sem_of is_list_at is_port_at is_message_at
-moves_own regions t call old marks new stays formed a = inl refl
+unfolding with_nodes unlinked with_action with_port with_semaphore entered queued dropped handed_on released_once sem_of is_list_at is_port_at
+moves_own regions t call old marks new (touches how) formed a = inl (touched_own old marks new how a)
 moves_own regions t call old marks new (places size reqs address object is fits) formed a =
     cases_eq a address
     (λ same. inr (inl (ap (λ found. owner_in found) (ap (λ k. object_at k old) same ∙ placed_fresh regions size reqs address old formed fits))))
@@ -255,14 +282,6 @@ moves_own regions t call old marks new (frees address may) formed a =
 moves_own regions t call old marks new (relists list nodes is) formed a = unowned t call is_list list_free a list _ old is
 moves_own regions t call old marks new (unlinks node) formed a = inl (remade_owner (left_by node) (left_owner node) a old)
 moves_own regions t call old marks new (sets act port is) formed a = unowned t call is_port port_free a port _ old is
-moves_own regions t call old marks new (fills message content is) formed a = unowned t call is_message message_free a message _ old is
-moves_own regions t call old marks new (puts port message content is also loose) formed a =
-    cases_eq a port
-    (λ same. inr (inl (no_owner is_port port_free (object_at a old) (subst (λ k. is_kind is_port (object_at k old) ≡ true) (sym same) is))))
-    (λ apart. cases_eq a message
-    (λ same. inr (inl (no_owner is_message message_free (object_at a old) (subst (λ k. is_kind is_message (object_at k old) ≡ true) (sym same) also))))
-    (λ other. inl (ap (λ found. owner_in found) (elsewhere a port _ (filled message content old) apart ∙ elsewhere a message _ old other))))
-moves_own regions t call old marks new (gets port message is e) formed a = unowned t call is_port port_free a port _ old is
 moves_own regions t call old marks new (enters semaphore is e) formed a =
     by_address t call a semaphore _ old
     (λ same. elim (open_owner t (sem_of semaphore old).owner e) [

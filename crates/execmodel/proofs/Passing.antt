@@ -24,7 +24,8 @@ use Rattle.msgport.specs.Port.{Port}
 use Rattle.msgport.specs.declared.message.Message.{Message as Content}
 use Rattle.sigsem.specs.declared.semaphore.Sem.{Sem}
 use Rattle.memlist.specs.Fit.{round}
-use Rattle.execmodel.proofs.Moves.{IsNew, MayGo, leaving_marks, Moves, stays, places, frees, relists, unlinks, sets, fills, puts, gets, enters, queues, hands, opens, releases, drops}
+use Rattle.execmodel.proofs.Commands.{Touches, remains, fills, puts, gets}
+use Rattle.execmodel.proofs.Moves.{IsNew, MayGo, leaving_marks, Moves, touches, places, frees, relists, unlinks, sets, enters, queues, hands, opens, releases, drops}
 
 -- ---- what has no messages
 
@@ -189,11 +190,20 @@ removed_pass (Some semaphore) t p heap one =
     (λ same. dropped_left t p heap)
     (λ apart. dropped_left t p heap ∙ without_away t (waiters_of p heap) (one p apart))
 
+pub touched_pass : (old : Heap) (marks : List Mark) (new : Heap) → Touches old marks new
+    → (p : ℕ) → Follows (waiters_of p old) (turns_at_semaphore p marks) (waiters_of p new)
+unfolding appended taken_off
+touched_pass old marks new remains p = refl
+touched_pass old marks new (fills message content is) p = content_still message content p old is
+touched_pass old marks new (puts port message content is also loose) p =
+    port_still port _ _ p (filled message content old) (port_stays port message _ old is also) ∙ content_still message _ p old also
+touched_pass old marks new (gets port message is e) p = port_still port _ _ p old is
+
 pub moves_pass : (regions : List Region) (t : ℕ) (call : Call) (old : Heap) (marks : List Mark) (new : Heap) → Moves regions t call old marks new
     → IsWellFormed regions (extents old) → AllIdle old → IsNowhere t old → ((other : ℕ) → WaitsAtOne other old (awaited_by other old))
     → (p : ℕ) → Follows (waiters_of p old) (turns_at_semaphore p marks) (waiters_of p new)
-unfolding with_nodes unlinked with_action appended taken_off entered queued handed_on released_once is_list_at
-moves_pass regions t call old marks new stays formed idle nowhere one p = refl
+unfolding with_nodes unlinked with_action entered queued handed_on released_once is_list_at
+moves_pass regions t call old marks new (touches how) formed idle nowhere one p = touched_pass old marks new how p
 moves_pass regions t call old marks new (places size reqs address object is fits) formed idle nowhere one p =
     unfold waiters_of in cases_eq p address
     (λ same. ap (λ found. waiters_of_object found) (ap (λ a. object_at a new) same ∙ object_placed_here address (round size) object old)
@@ -208,10 +218,6 @@ moves_pass regions t call old marks new (frees address may) formed idle nowhere 
 moves_pass regions t call old marks new (relists list nodes is) formed idle nowhere one p = still_none list (ListHead nodes) is_list p old refl list_none is
 moves_pass regions t call old marks new (unlinks node) formed idle nowhere one p = all_remade (left_by node) (left_same node) p old
 moves_pass regions t call old marks new (sets act port is) formed idle nowhere one p = port_still port _ _ p old is
-moves_pass regions t call old marks new (fills message content is) formed idle nowhere one p = content_still message content p old is
-moves_pass regions t call old marks new (puts port message content is also loose) formed idle nowhere one p =
-    port_still port _ _ p (filled message content old) (port_stays port message _ old is also) ∙ content_still message _ p old also
-moves_pass regions t call old marks new (gets port message is e) formed idle nowhere one p = port_still port _ _ p old is
 moves_pass regions t call old marks new (enters semaphore is e) formed idle nowhere one p =
     cases_eq p semaphore
     (λ same. ap (λ a. waiters_of a new) same ∙ semaphore_there semaphore _ (waiters_of semaphore old) old is ∙ sym (ap (λ a. waiters_of a old) same))

@@ -11,19 +11,22 @@ use Rattle.taskq.specs.declared.Why.TheVariants.{Signals, Sem}
 use Rattle.scheduler.specs.Schedule.{Schedule, status_of, signals_of, is_absent, is_at_semaphore, awaits, begins, renewed, is_switching_allowed, is_quantum_over, leaves as leaves_for_good, removed, ticked, ticked_for, waits_for, waits_at_semaphore, with_signals}
 use Rattle.scheduler.specs.declared.Switch.{Switch}
 use Rattle.scheduler.specs.declared.Switch.TheVariants.{To, Idle}
+use Rattle.softint.specs.declared.source.Source.TheVariants.{Vertb}
 use Rattle.taskscript.specs.File.{MachineData}
-use Rattle.execmodel.specs.State.{Call, State, Outcome, quiet, booted, andthen}
+use Rattle.execmodel.specs.State.{Call, Mark, State, Outcome, quiet, booted, andthen, on_schedule}
 use Rattle.execmodel.specs.Scheduling.{arrives, added, displaced, after_switch, rescheduled, switch_of, signalled}
 use Rattle.execmodel.specs.Calls.{next_call}
-use Rattle.execmodel.specs.Interrupts.{on_latch, serves, interrupts, is_due}
+use Rattle.execmodel.specs.Pending.{next_softint}
+use Rattle.execmodel.specs.Bodies.{body_step}
 use Rattle.execmodel.specs.Semaphores.{woken}
-use Rattle.execmodel.specs.Step.{switches, unless_stopped, settle, does, ends, call_step, task_step, acting, acts, step, tick, starts, run}
-use Rattle.execmodel.specs.Laws.{OneStep, OneTick, IsToCall, is_own_taking, WaitersHaveReceivedNone, ReceivedSignalsStay}
+use Rattle.execmodel.specs.Step.{switches, does, ends, call_step, task_step, softint_or_task_step, acting, acts, step, tick, starts, run}
+use Rattle.execmodel.specs.Laws.{OneStep, OneTick, OneRequest, IsToCall, is_own_taking, WaitersHaveReceivedNone, ReceivedSignalsStay}
 use Rattle.execmodel.proofs.Bits.{signal_joined}
 use Rattle.execmodel.proofs.Heaps.{true_is_not_false}
-use Rattle.execmodel.proofs.Stretches.{Relation, HoldsOfEach, of_starts, of_events}
-use Rattle.execmodel.proofs.FifoLaw.{switches_quiet}
-use Rattle.execmodel.proofs.Shifts.{Shifts, call_shifts, stays, rearrives, adds, posts, takes, sleeps, asks, wakes, leaves, removes}
+use Rattle.execmodel.proofs.Stretches.{Relation, HoldsOfInterrupts, HoldsOfEach, of_softint, of_settle, of_request, of_starts, of_events}
+use Rattle.execmodel.proofs.FifoLaw.{quietly, switches_quiet}
+use Rattle.execmodel.proofs.Commands.{Reaches, rests, posts, body_alters}
+use Rattle.execmodel.proofs.Shifts.{Shifts, call_shifts, reaches, rearrives, adds, takes, sleeps, asks, wakes, leaves, removes}
 use Rattle.execmodel.proofs.Agreement.{running_state, set_there, set_here, in_range, set_state, all_absent, got}
 use Rattle.execmodel.proofs.WaitingLaw.{IsSound, waits, booted_sound}
 
@@ -157,14 +160,17 @@ own_none t s r runs states others old k =
     (silent_state t r (ap (λ l. is_listening (state_at l t)) states ∙ ap is_listening runs)))
     (λ apart. kept k s r (ap (λ l. state_at l k) states) (others k apart) (old k))
 
+reached_none : (marks : List Mark) (s r : Schedule) → Reaches marks s r → AllHaveNone s → AllHaveNone r
+reached_none marks s r (rests calm same) old = alike s r same.states same.received old
+reached_none marks s r (posts k mask calm e) old = subst (λ q. AllHaveNone q) (sym e) (signalled_none k mask s old)
+
 shifts_none : (t : ℕ) (call : Call) (s : State) (o : Outcome) → Shifts t call s o → status_of s.schedule t ≡ Running → AllHaveNone s.schedule
     → AllHaveNone o.state.schedule
-shifts_none t call s o (stays calm same) runs old = alike s.schedule o.state.schedule same.states same.received old
+shifts_none t call s o (reaches how) runs old = reached_none o.marks s.schedule o.state.schedule how old
 shifts_none t call s o (rearrives k calm e same) runs old =
     unfold arrives is_listening in set_silent k Ready s.schedule o.state.schedule refl same.states (λ j apart. same.received j) old
 shifts_none t call s o (adds k calm range absent e) runs old =
     subst (λ r. AllHaveNone r) (sym e) (arrives_none k s.schedule old)
-shifts_none t call s o (posts k mask calm e) runs old = subst (λ r. AllHaveNone r) (sym e) (signalled_none k mask s.schedule old)
 shifts_none t call s o (takes calm taking own) runs old = own_none t s.schedule o.state.schedule runs own.states own.others old
 shifts_none t call s o (sleeps mask q calm taking own none e) runs old =
     subst (λ r. AllHaveNone r) (sym e) (sleeps_none t mask s.schedule q runs own.states own.others none old)
@@ -211,22 +217,28 @@ abbrev Sleeps : Relation
 Sleeps old marks new = IsSound old × AllHaveNone old.schedule → IsSound new × AllHaveNone new.schedule
 
 sleep : HoldsOfEach Sleeps
-unfolding ends serves
+unfolding ends
 sleep = record {
-  nothing = λ s h. h;
-  joined = λ s some r more q first next h. next (first h);
+  interrupting = record {
+    nothing = λ s h. h;
+    joined = λ s some r more q first next h. next (first h);
+    commanding = λ name command s h. (
+      (waits.interrupting.commanding name command s h.0).0,
+      reached_none (body_step name command s).marks s.schedule (body_step name command s).state.schedule (body_alters name command s).tasks h.1,
+    );
+    pending = λ f s h. ((waits.interrupting.pending f s h.0).0, h.1);
+    ticking = λ s h. ((waits.interrupting.ticking s h.0).0, ticked_none s.schedule h.1);
+    switching = λ s h. (
+      (waits.interrupting.switching s h.0).0,
+      subst (λ (r : State). AllHaveNone r.schedule) (sym (switches_quiet s).1) (rescheduled_none s.schedule h.1),
+    );
+  };
   adding = λ t s less h. ((waits.adding t s less h.0).0, added_none t s.schedule h.1);
   calling = λ t call s runs is h. (
     (waits.calling t call s runs is h.0).0,
     shifts_none t call s (does t call s) (call_shifts t call s).1 (running_state t s.schedule _ runs (h.0.agrees t)) h.1,
   );
   ending = λ t s runs h. ((waits.ending t s runs h.0).0, leaves_none t s.schedule h.1);
-  requesting = λ s h. ((waits.requesting s h.0).0, h.1);
-  serving = λ s due h. ((waits.serving s due h.0).0, ticked_none s.schedule h.1);
-  switching = λ s h. (
-    (waits.switching s h.0).0,
-    subst (λ (r : State). AllHaveNone r.schedule) (sym (switches_quiet s).1) (rescheduled_none s.schedule h.1),
-  );
 }
 
 booted_none : (machine : MachineData) → AllHaveNone (booted machine).schedule
@@ -293,14 +305,25 @@ rescheduled_keeps : (t n : ℕ) (s : Schedule) → Keeps t n s (rescheduled s)
 unfolding rescheduled
 rescheduled_keeps t n s = switched_keeps t n (switch_of s) s
 
+ticked_keeps : (t n : ℕ) (s : Schedule) → Keeps t n s (ticked s)
+unfolding ticked
+ticked_keeps t n s = by_running s.running
+  where
+    by_running : (o : Option ℕ) → Keeps t n s (ticked_for o s)
+    by_running None = λ h. h
+    by_running (Some r) = λ h. h
+
+reached_keeps : (t n : ℕ) (marks : List Mark) (s r : Schedule) → Reaches marks s r → Keeps t n s r
+reached_keeps t n marks s r (rests calm same) h = same_keeps t n s r (same.received t) h
+reached_keeps t n marks s r (posts k mask calm e) h = ap (λ q. has_signal (received t q) n) e ∙ signalled_keeps t n k mask s h
+
 -- what a call of task t does to what another has received, or to its own
 shifts_keep : (j n t : ℕ) (call : Call) (s : State) (o : Outcome) → Shifts t call s o → has_signal (received j s.schedule) n ≡ true
     → (has_signal (received j o.state.schedule) n ≡ true) ⊎ ((j ≡ t) × (is_own_taking call.word ≡ true))
 unfolding waits_for waits_at_semaphore leaves_for_good removed arrives
-shifts_keep j n t call s o (stays calm same) h = inl (same_keeps j n s.schedule o.state.schedule (same.received j) h)
+shifts_keep j n t call s o (reaches how) h = inl (reached_keeps j n o.marks s.schedule o.state.schedule how h)
 shifts_keep j n t call s o (rearrives k calm e same) h = inl (same_keeps j n s.schedule o.state.schedule (same.received j) h)
 shifts_keep j n t call s o (adds k calm range absent e) h = inl (ap (λ r. has_signal (received j r) n) e ∙ h)
-shifts_keep j n t call s o (posts k mask calm e) h = inl (ap (λ r. has_signal (received j r) n) e ∙ signalled_keeps j n k mask s.schedule h)
 shifts_keep j n t call s o (takes calm taking own) h =
     cases_eq j t (λ same. inr (same, taking)) (λ apart. inl (same_keeps j n s.schedule o.state.schedule (own.others j apart) h))
 shifts_keep j n t call s o (sleeps mask q calm taking own none e) h =
@@ -313,29 +336,20 @@ shifts_keep j n t call s o (removes other apart heap e) h = inl (ap (λ r. has_s
 
 -- ---- every action
 
-either_state : (test : Bool) (o p : Outcome) (P : State → Type 0) → P o.state → P p.state → P (if test then o else p).state
-either_state true o p P one other = one
-either_state false o p P one other = other
+-- no interrupt takes a signal, and no switch
+abbrev Still : ℕ → ℕ → Relation
+Still t n old marks new = Keeps t n old.schedule new.schedule
 
-interrupts_keep : (t n : ℕ) (s : State) → Keeps t n s.schedule (interrupts s).state.schedule
-unfolding serves ticked
-interrupts_keep t n s =
-    either_state (is_due s.latched s.schedule) (serves s) (quiet s) (λ r. Keeps t n s.schedule r.schedule) (by_running s.schedule.running) (λ h. h)
-  where
-    by_running : (o : Option ℕ) → Keeps t n s.schedule (ticked_for o s.schedule)
-    by_running None = λ h. h
-    by_running (Some r) = λ h. h
-
-switches_keep : (t n : ℕ) (s : State) → Keeps t n s.schedule (switches s).state.schedule
-switches_keep t n s = subst (λ (r : State). Keeps t n s.schedule r.schedule) (sym (switches_quiet s).1) (rescheduled_keeps t n s.schedule)
-
-settle_keeps : (t n : ℕ) (s : State) → Keeps t n s.schedule (settle s).state.schedule
-unfolding settle andthen
-settle_keeps t n s =
-    let served = (interrupts s).state in
-    either_state s.stopped (quiet s) (andthen interrupts (unless_stopped switches) s) (λ r. Keeps t n s.schedule r.schedule) (λ h. h)
-    (either_state served.stopped (quiet served) (switches served) (λ r. Keeps t n s.schedule r.schedule) (interrupts_keep t n s)
-    (λ h. switches_keep t n served (interrupts_keep t n s h)))
+still : (t n : ℕ) → HoldsOfInterrupts (Still t n)
+still t n = record {
+  nothing = λ s h. h;
+  joined = λ s some r more q first next h. next (first h);
+  commanding = λ name command s.
+      reached_keeps t n (body_step name command s).marks s.schedule (body_step name command s).state.schedule (body_alters name command s).tasks;
+  pending = λ f s h. h;
+  ticking = λ s. ticked_keeps t n s.schedule;
+  switching = λ s. quietly (Still t n) s (switches s) (on_schedule rescheduled s) (switches_quiet s) (rescheduled_keeps t n s.schedule);
+}
 
 -- signal n that a task had received is there, or the task makes a call that may take it
 abbrev KeepsOrTakes : ℕ → ℕ → State → State → Type 0
@@ -343,16 +357,17 @@ KeepsOrTakes t n s r =
     has_signal (received t s.schedule) n ≡ true
     → (has_signal (received t r.schedule) n ≡ true) ⊎ ((call : Call) × IsToCall t call s × (is_own_taking call.word ≡ true))
 
-called : (j : ℕ) (call : Option Call) (t n : ℕ) (s : State) → s.schedule.running ≡ Some j → next_call j s.scripts ≡ call
-    → KeepsOrTakes t n s (call_step j call s).state
+called : (j : ℕ) (call : Option Call) (t n : ℕ) (s : State) → next_softint s ≡ None → s.schedule.running ≡ Some j
+    → next_call j s.scripts ≡ call → KeepsOrTakes t n s (call_step j call s).state
 unfolding ends leaves_for_good
-called j None t n s runs is = λ h. inl h
-called j (Some call) t n s runs is = λ h.
+called j None t n s first runs is = λ h. inl h
+called j (Some call) t n s first runs is = λ h.
     elim (shifts_keep t n j call s (does j call s) (call_shifts j call s).1 h) [
       | inl keeps ↦ inl keeps
       | inr own ↦ inr (
         call,
         record {
+          first = first;
           runs = runs ∙ ap (λ k. Some k) (sym own.0);
           calls = ap (λ k. next_call k s.scripts) own.0 ∙ is;
         },
@@ -360,27 +375,27 @@ called j (Some call) t n s runs is = λ h.
       )
     ]
 
-tried : (running : Option ℕ) (t n : ℕ) (s : State) → s.schedule.running ≡ running → KeepsOrTakes t n s (task_step running s).state
-tried None t n s runs = λ h. inl h
-tried (Some j) t n s runs = called j (next_call j s.scripts) t n s runs refl
+tried : (running : Option ℕ) (t n : ℕ) (s : State) → next_softint s ≡ None → s.schedule.running ≡ running
+    → KeepsOrTakes t n s (task_step running s).state
+tried None t n s first runs = λ h. inl h
+tried (Some j) t n s first runs = called j (next_call j s.scripts) t n s first runs refl
 
-acted : (t n : ℕ) (s : State) → KeepsOrTakes t n s (acts s).state
-unfolding acts acting
-acted t n s =
-    either_state s.stopped (quiet s) (task_step s.schedule.running s) (λ r. KeepsOrTakes t n s r) (λ h. inl h)
-    (tried s.schedule.running t n s refl)
+chosen : (found : Option ℕ) (t n : ℕ) (s : State) → next_softint s ≡ found → KeepsOrTakes t n s (softint_or_task_step found s).state
+chosen None t n s first = tried s.schedule.running t n s first refl
+chosen (Some i) t n s first = λ h. inl (of_softint (Still t n) (still t n) i s h)
 
-ticked_keeps : (t n : ℕ) (s : State) → Keeps t n s.schedule (tick s).state.schedule
-unfolding tick
-ticked_keeps t n s =
-    either_state s.stopped (quiet s) (settle (on_latch true s)) (λ r. Keeps t n s.schedule r.schedule) (λ h. h) (settle_keeps t n (on_latch true s))
+acted : (test : Bool) (t n : ℕ) (s : State) → KeepsOrTakes t n s (if test then quiet s else acting s).state
+unfolding acting
+acted true t n s = λ h. inl h
+acted false t n s = chosen (next_softint s) t n s refl
 
 pub received_signals_stay : ReceivedSignalsStay
-unfolding step andthen
+unfolding step tick acts andthen
 received_signals_stay t n machine list OneStep is h =
     let s = (run machine list).state in
-    elim (acted t n s h) [
-      | inl keeps ↦ inl (settle_keeps t n (acts s).state keeps)
+    elim (acted s.stopped t n s h) [
+      | inl keeps ↦ inl (of_settle (Still t n) (still t n) (acts s).state keeps)
       | inr own ↦ inr (refl, own)
     ]
-received_signals_stay t n machine list OneTick is h = inl (ticked_keeps t n (run machine list).state h)
+received_signals_stay t n machine list OneTick is h = inl (of_request (Still t n) (still t n) Vertb (run machine list).state h)
+received_signals_stay t n machine list (OneRequest source) is h = inl (of_request (Still t n) (still t n) source (run machine list).state h)

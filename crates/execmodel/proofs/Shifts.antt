@@ -11,13 +11,8 @@ use Rattle.signals.specs.Signals.{SignalSets, initial_sets, grant, without, take
 use Rattle.forbid.specs.Nesting.{Nesting, after_forbid, after_permit, after_disable, after_enable}
 use Rattle.taskq.specs.Tasks.{is_live, is_ready}
 use Rattle.scheduler.specs.Schedule.{Schedule, status_of, signals_of, nesting_of, allocates as allocates_signal, frees as frees_signal, sets_signals, takes as takes_signals, waits_for, waits_at_semaphore, departs, is_absent, leaves as leaves_for_good, removed, with_priority, with_signals}
-use Rattle.msgport.specs.Port.{acting}
-use Rattle.msgport.specs.declared.action.Action.{Action}
-use Rattle.msgport.specs.declared.action.Action.TheVariants as action
 use Rattle.sigsem.specs.declared.semaphore.Obtained.{Obtained}
 use Rattle.sigsem.specs.declared.semaphore.Obtained.TheVariants.{Owner, Waits}
-use Rattle.taskscript.specs.declared.variable.Variable.{Variable}
-use Rattle.taskscript.specs.declared.variable.Variable.TheVariants.{Private, Shared}
 use Rattle.taskscript.specs.declared.word.Word.{Word}
 use Rattle.taskscript.specs.declared.word.Word.TheVariants as group
 use Rattle.taskscript.specs.declared.word.plain.PlainWord.{PlainWord}
@@ -36,37 +31,29 @@ use Rattle.taskscript.specs.declared.word.ports.PortWord.{PortWord}
 use Rattle.taskscript.specs.declared.word.ports.PortWord.TheVariants as ports
 use Rattle.taskscript.specs.declared.word.semaphores.SemaphoreWord.{SemaphoreWord}
 use Rattle.taskscript.specs.declared.word.semaphores.SemaphoreWord.TheVariants as semaphores
-use Rattle.execmodel.specs.State.{Call, Scripts, Object, Plain, Memory, Mark, put, asked, passed, State, Outcome, leaving, on_schedule, on_memory, on_heap}
-use Rattle.execmodel.specs.Scheduling.{arrives, added, reprioritized, signalled}
-use Rattle.execmodel.specs.Calls.{argument, done, answered, waiting, silent, alerted, unless, stored, goes_on, keeps}
+use Rattle.taskscript.specs.declared.word.interrupts.InterruptWord.{InterruptWord}
+use Rattle.taskscript.specs.declared.word.interrupts.InterruptWord.TheVariants as interrupts
+use Rattle.execmodel.specs.State.{Call, Scripts, Object, Plain, Memory, asked, passed, State, Outcome, on_schedule, on_memory, on_heap}
+use Rattle.execmodel.specs.Scheduling.{arrives, added, reprioritized}
+use Rattle.execmodel.specs.Calls.{ByTask, argument, done, answered, waiting, silent, alerted, unless, keeps}
 use Rattle.execmodel.specs.Plain.{does_plain, does_set, does_add, does_sub, does_and, does_or, jumps, does_jump, does_jump_zero, does_jump_not_zero, does_print}
-use Rattle.execmodel.specs.Signals.{is_task, mask_alert, free_signal_alert, signal_alert, waited, does_signals, does_alloc_signal, does_free_signal, does_set_signal, does_signal, does_wait}
+use Rattle.execmodel.specs.Signals.{is_task, mask_alert, free_signal_alert, waited, does_signals, does_alloc_signal, does_free_signal, does_set_signal, does_signal, does_wait}
 use Rattle.execmodel.specs.Nesting.{counted, does_nesting, does_forbid, does_permit, does_disable, does_enable}
 use Rattle.execmodel.specs.Tasks.{live_task_alert, set_task_pri_alert, add_task_alert, is_caller, does_tasks, does_set_task_pri, does_add_task, does_rem_task, does_find_task}
 use Rattle.execmodel.specs.Objects.{place_for_object}
 use Rattle.execmodel.specs.Memory.{allocates, place_for, alloc_alert, free_alert, avail_alert, does_memory, does_alloc_mem, does_free_mem, does_avail_mem}
 use Rattle.execmodel.specs.Lists.{free_list_alert, new_node_alert, free_node_alert, link_alert, insert_alert, linked_alert, list_alert, find_alert, does_lists, does_new_list, does_free_list, does_new_node, does_free_node, does_add_head, does_add_tail, does_enqueue, does_insert, does_remove, does_rem_head, does_rem_tail, does_first, does_last, does_succ, does_pred, does_find_name}
-use Rattle.execmodel.specs.Ports.{is_port, port_size, messages_of, content_of, port_of, performed, port_created, delete_alert, port_alert, reply_port_alert, loose_alert, message_alert, add_port_alert, rem_port_alert, put_alert, reply_alert, wait_alert, delivered, taken, looked, loses, made_public, made_private, does_ports, does_create_msg_port, does_delete_msg_port, does_add_port, does_rem_port, does_find_port, does_port_signal, does_port_ignore, does_new_msg, does_free_msg, does_msg_word, does_set_msg_word, does_msg_type, does_put_msg, does_get_msg, does_wait_port, does_reply_msg}
+use Rattle.execmodel.specs.Ports.{is_port, port_size, messages_of, port_of, port_created, delete_alert, port_alert, reply_port_alert, loose_alert, message_alert, add_port_alert, rem_port_alert, wait_alert, looked, loses, made_public, made_private, does_ports, does_create_msg_port, does_delete_msg_port, does_add_port, does_rem_port, does_find_port, does_port_signal, does_port_cause, does_port_ignore, does_new_msg, does_free_msg, does_msg_word, does_set_msg_word, does_msg_type, does_put_msg, does_get_msg, does_wait_port, does_reply_msg}
 use Rattle.execmodel.specs.Semaphores.{awaited_by, dropped, sem_of, free_sem_alert, obtain_alert, release_alert, outcome_for, obtains, passes, heir, is_tried_again, leaving_queue, woken, does_semaphores, does_new_sem, does_free_sem, does_obtain_semaphore, does_attempt_semaphore, does_release_semaphore}
+use Rattle.execmodel.specs.Causing.{does_interrupts, does_cause}
 use Rattle.execmodel.specs.Step.{does, does_word}
-use Rattle.execmodel.specs.Marks.{turns_at_semaphore}
 use Rattle.execmodel.specs.Laws.{is_own_taking}
 use Rattle.execmodel.proofs.Heaps.{true_is_not_false}
-use Rattle.execmodel.proofs.Moves.{passed_first, no_caller}
+use Rattle.execmodel.proofs.Commands.{IsCalm, IsAlike, same, Reaches, rests, IsAltered, passed_first, goes_count, answered_count, signal_alters, put_alters, get_alters, reply_alters, cause_alters}
+use Rattle.execmodel.proofs.Moves.{no_caller}
 use Rattle.execmodel.proofs.Bits.{nothing_left}
 
--- no mark at a semaphore
-abbrev pub IsCalm : List Mark → Type 0
-IsCalm marks = (semaphore : ℕ) → turns_at_semaphore semaphore marks ≡ []
-
--- the same states, ready tasks, running task and received signals
-pub record IsAlike (s r : Schedule) : Type 0 where
-  pub states : r.queue.states ≡ s.queue.states
-  pub ready : r.queue.ready ≡ s.queue.ready
-  pub running : r.running ≡ s.running
-  pub received : (k : ℕ) → (signals_of r k).received ≡ (signals_of s k).received
-
--- that too, but for what task t has received
+-- the same states, ready tasks, running task and received signals, but for what task t has received
 pub record IsOwn (t : ℕ) (s r : Schedule) : Type 0 where
   pub states : r.queue.states ≡ s.queue.states
   pub ready : r.queue.ready ≡ s.queue.ready
@@ -75,12 +62,11 @@ pub record IsOwn (t : ℕ) (s r : Schedule) : Type 0 where
 
 -- what a call of task t may make of the schedule, and the marks that it leaves at semaphores
 pub data Shifts (t : ℕ) (call : Call) (s : State) (o : Outcome) : Type 0 where
-  stays : IsCalm o.marks → IsAlike s.schedule o.state.schedule → Shifts t call s o
+  reaches : Reaches o.marks s.schedule o.state.schedule → Shifts t call s o
   rearrives : (k : ℕ) → IsCalm o.marks → is_ready (status_of s.schedule k) ≡ true → IsAlike (arrives k (departs k s.schedule)) o.state.schedule
       → Shifts t call s o
   adds : (k : ℕ) → IsCalm o.marks → k < length s.scripts.programs → is_absent (status_of s.schedule k) ≡ true
       → o.state.schedule ≡ arrives k s.schedule → Shifts t call s o
-  posts : (k mask : ℕ) → IsCalm o.marks → o.state.schedule ≡ signalled k mask s.schedule → Shifts t call s o
   takes : IsCalm o.marks → is_own_taking call.word ≡ true → IsOwn t s.schedule o.state.schedule → Shifts t call s o
   sleeps : (mask : ℕ) (q : Schedule) → IsCalm o.marks → is_own_taking call.word ≡ true → IsOwn t s.schedule q
       → bit_and (signals_of q t).received mask ≡ 0 → o.state.schedule ≡ waits_for t mask q → Shifts t call s o
@@ -94,10 +80,15 @@ pub data Shifts (t : ℕ) (call : Call) (s : State) (o : Outcome) : Type 0 where
 abbrev pub Shifted : ℕ → Call → State → Outcome → Type 0
 Shifted t call s o = (length o.state.scripts.programs ≡ length s.scripts.programs) × Shifts t call s o
 
--- ---- schedules that are alike
+-- nothing changes
+stays : {t : ℕ} {call : Call} {s : State} {o : Outcome} → IsCalm o.marks → IsAlike s.schedule o.state.schedule → Shifts t call s o
+stays calm alike = reaches (rests calm alike)
 
-pub same : (s : Schedule) → IsAlike s s
-same s = record { states = refl; ready = refl; running = refl; received = λ k. refl }
+-- what any caller may make of the schedule
+any_shifts : (t : ℕ) (call : Call) (s : State) (o : Outcome) → IsAltered s o → Shifted t call s o
+any_shifts t call s o alters = (alters.programs, reaches alters.tasks)
+
+-- ---- schedules that are alike
 
 own : (t : ℕ) (s : Schedule) → IsOwn t s s
 own t s = record { states = refl; ready = refl; running = refl; others = λ k apart. refl }
@@ -140,19 +131,6 @@ freed_alike t n s = either (is_live (status_of s t))
     either false = same s
 
 -- ---- how a call ends
-
-goes_count : (t next : ℕ) (scripts : Scripts) → length (goes_on t next scripts).programs ≡ length scripts.programs
-goes_count t next scripts = length-set scripts.programs t _
-
-stored_count : (t : ℕ) (target : Option Variable) (value : ℕ) (scripts : Scripts)
-    → length (stored t target value scripts).programs ≡ length scripts.programs
-stored_count t None value scripts = refl
-stored_count t (Some (Private k)) value scripts = length-set scripts.programs t _
-stored_count t (Some (Shared k)) value scripts = refl
-
-answered_count : (t next : ℕ) (target : Option Variable) (value : ℕ) (scripts : Scripts)
-    → length (goes_on t next (stored t target value scripts)).programs ≡ length scripts.programs
-answered_count t next target value scripts = goes_count t next (stored t target value scripts) ∙ stored_count t target value scripts
 
 kept_count : (t : ℕ) (call : Call) (scripts : Scripts) → length (keeps t call scripts).programs ≡ length scripts.programs
 kept_count t call scripts = length-set scripts.programs t _
@@ -226,9 +204,7 @@ signals_shift signals.FreeSignal t call s word =
 signals_shift signals.SetSignal t call s word =
     unless_shifts t call s (mask_alert (argument 1 call)) _
     (λ none. (answered_count t call.next call.target _ s.scripts, takes (λ p. refl) (ap is_own_taking word) (own_signals t _ s.schedule)))
-signals_shift signals.Signal t call s word =
-    unless_shifts t call s (signal_alert (argument 0 call) (argument 1 call) s.scripts) _
-    (λ none. (goes_count t call.next s.scripts, posts (argument 0 call - 1) (argument 1 call) (λ p. refl) refl))
+signals_shift signals.Signal t call s word = any_shifts t call s (does_signal t call s) (signal_alters (ByTask t) call s)
 signals_shift signals.Wait t call s word =
     unless_shifts t call s (mask_alert (argument 0 call)) _
     (λ none. waited_shifts t call (argument 0 call) (nat_eq (taken_signals (argument 0 call) (signals_of s.schedule t)) 0) s (ap is_own_taking word) refl)
@@ -362,19 +338,6 @@ created_shifts t call (Some bit) None s taking = (answered_count t call.next cal
 created_shifts t call (Some bit) (Some address) s taking =
     (answered_count t call.next call.target address s.scripts, takes (λ p. refl) taking (own_signals t _ s.schedule))
 
--- what is done for a message that has arrived
-delivers_shift : (act : Action) (t : ℕ) (call : Call) (port message : ℕ) (s : State) (memory : Memory)
-    → Shifted t call s (leaving (put port message) (done t call (performed act (record s { memory = memory }))))
-unfolding done
-delivers_shift (action.Signal task mask) t call port message s memory = (goes_count t call.next s.scripts, posts task mask (λ p. refl) refl)
-delivers_shift action.Nothing t call port message s memory = (goes_count t call.next s.scripts, stays (λ p. refl) (same s.schedule))
-
-taken_shifts : (port : ℕ) (message : Option ℕ) (t : ℕ) (call : Call) (s : State) → Shifted t call s (taken port message t call s)
-unfolding answered
-taken_shifts port None t call s = (answered_count t call.next call.target 0 s.scripts, stays (λ p. refl) (same s.schedule))
-taken_shifts port (Some message) t call s =
-    (answered_count t call.next call.target message s.scripts, stays (λ p. refl) (same s.schedule))
-
 -- of the signals that a task takes it has received none any more
 none_received : (t mask : ℕ) (all : List SignalSets) (sets : SignalSets) → sets.received ≡ without (slice_index_or all t initial_sets).received mask
     → bit_and (slice_index_or (slice_set all t sets) t initial_sets).received mask ≡ 0
@@ -398,7 +361,7 @@ looked_shifts (Some message) mask t call s taking =
     (answered_count t call.next call.target message s.scripts, takes (λ p. refl) taking (own_signals t _ s.schedule))
 
 ports_shift : (word : PortWord) (t : ℕ) (call : Call) (s : State) → call.word ≡ group.Ports word → Shifted t call s (does_ports word t call s)
-unfolding does_create_msg_port does_delete_msg_port does_add_port does_rem_port does_find_port does_port_signal does_port_ignore does_new_msg does_free_msg does_msg_word does_set_msg_word does_msg_type does_put_msg does_get_msg does_wait_port does_reply_msg made_public made_private delivered done
+unfolding does_create_msg_port does_delete_msg_port does_add_port does_rem_port does_find_port does_port_signal does_port_cause does_port_ignore does_new_msg does_free_msg does_msg_word does_set_msg_word does_msg_type does_put_msg does_get_msg does_wait_port does_reply_msg made_public made_private done
 ports_shift ports.CreateMsgPort t call s word =
     created_shifts t call (grant (negsuc 0) (signals_of s.schedule t)) (place_for_object is_port port_size s.memory) s (ap is_own_taking word)
 ports_shift ports.DeleteMsgPort t call s word =
@@ -416,6 +379,8 @@ ports_shift ports.RemPort t call s word =
 ports_shift ports.FindPort t call s word = answered_stays t call _ s s.memory
 ports_shift ports.PortSignal t call s word =
     unless_shifts t call s (port_alert (argument 0 call) s.memory.heap) _ (λ none. done_stays t call s _)
+ports_shift ports.PortCause t call s word =
+    unless_shifts t call s (port_alert (argument 0 call) s.memory.heap) _ (λ none. done_stays t call s _)
 ports_shift ports.PortIgnore t call s word =
     unless_shifts t call s (port_alert (argument 0 call) s.memory.heap) _ (λ none. done_stays t call s _)
 ports_shift ports.NewMsg t call s word =
@@ -428,20 +393,12 @@ ports_shift ports.SetMsgWord t call s word =
     unless_shifts t call s (message_alert (argument 0 call) s.memory.heap) _ (λ none. done_stays t call s _)
 ports_shift ports.MsgType t call s word =
     unless_shifts t call s (message_alert (argument 0 call) s.memory.heap) _ (λ none. answered_stays t call _ s s.memory)
-ports_shift ports.PutMsg t call s word =
-    unless_shifts t call s (put_alert (argument 0 call) (argument 1 call) s.memory.heap) _
-    (λ none. delivers_shift (acting (port_of (argument 0 call) s.memory.heap)) t call (argument 0 call) (argument 1 call) s _)
-ports_shift ports.GetMsg t call s word =
-    unless_shifts t call s (port_alert (argument 0 call) s.memory.heap) _
-    (λ none. taken_shifts (argument 0 call) (first (messages_of (argument 0 call) s.memory.heap)) t call s)
+ports_shift ports.PutMsg t call s word = any_shifts t call s (does_put_msg t call s) (put_alters (ByTask t) call s)
+ports_shift ports.GetMsg t call s word = any_shifts t call s (does_get_msg t call s) (get_alters (ByTask t) call s)
 ports_shift ports.WaitPort t call s word =
     unless_shifts t call s (wait_alert t (argument 0 call) s.memory.heap) _
     (λ none. looked_shifts (first (messages_of (argument 0 call) s.memory.heap)) _ t call s (ap is_own_taking word))
-ports_shift ports.ReplyMsg t call s word =
-    unless_shifts t call s (reply_alert (argument 0 call) s.memory.heap) _
-    (λ none. either_shifts t call s (nat_eq (content_of (argument 0 call) s.memory.heap).reply 0) _ _ (λ is. done_stays t call s _)
-    (λ is. delivers_shift (acting (port_of (content_of (argument 0 call) s.memory.heap).reply s.memory.heap)) t call
-    (content_of (argument 0 call) s.memory.heap).reply (argument 0 call) s _))
+ports_shift ports.ReplyMsg t call s word = any_shifts t call s (does_reply_msg t call s) (reply_alters (ByTask t) call s)
 
 -- ---- semaphores
 
@@ -472,6 +429,12 @@ semaphores_shift semaphores.ReleaseSemaphore t call s =
     unless_shifts t call s (release_alert t (argument 0 call) s.memory.heap) _
     (λ none. passes_shift (heir (argument 0 call) s.memory.heap) (argument 0 call) t call s _)
 
+-- ---- interrupts
+
+interrupts_shift : (word : InterruptWord) (t : ℕ) (call : Call) (s : State) → Shifted t call s (does_interrupts word t call s)
+unfolding does_cause
+interrupts_shift interrupts.Cause t call s = any_shifts t call s (does_cause t call s) (cause_alters (ByTask t) call s)
+
 -- ---- any word
 
 word_shifts : (word : Word) (t : ℕ) (call : Call) (s : State) → call.word ≡ word → Shifted t call s (does_word word t call s)
@@ -483,6 +446,7 @@ word_shifts (group.Lists word) t call s is = lists_shift word t call s
 word_shifts (group.Memory word) t call s is = memory_shifts word t call s
 word_shifts (group.Ports word) t call s is = ports_shift word t call s is
 word_shifts (group.Semaphores word) t call s is = semaphores_shift word t call s
+word_shifts (group.Interrupts word) t call s is = interrupts_shift word t call s
 
 pub call_shifts : (t : ℕ) (call : Call) (s : State) → Shifted t call s (does t call s)
 unfolding does

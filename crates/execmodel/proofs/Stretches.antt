@@ -1,13 +1,20 @@
 -- What holds over every stretch of every run: proved once from what holds of each thing that a machine does.
 use Rattle.std.proofs.Common.{◌≡◌, ℕ, zero, suc, ◌<◌, ◌≤◌, Bool, true, false, List, [], ◌∷◌, ◌++◌, Option, None, Some, refl, arith}
 use Rattle.std.specs.Prelude.{length, if◌then◌else◌}
+use Rattle.exectrace.specs.Trace.{Serve, Server, Softint, TraceLine}
+use Rattle.taskscript.specs.Commands.{CommandData}
 use Rattle.taskscript.specs.declared.event.Event.{Event}
-use Rattle.taskscript.specs.declared.event.Event.TheVariants.{Run, Tick}
-use Rattle.execmodel.specs.State.{Call, State, Mark, Outcome, quiet, andthen, on_schedule}
+use Rattle.taskscript.specs.declared.event.Event.TheVariants.{Run, Tick, Irq}
+use Rattle.scheduler.specs.Schedule.{ticked}
+use Rattle.softint.specs.declared.source.Source.{Source}
+use Rattle.softint.specs.declared.source.Source.TheVariants as source
+use Rattle.execmodel.specs.State.{Call, Pending, State, Mark, Outcome, quiet, says, andthen, unless_stopped, on_schedule, on_pending}
 use Rattle.execmodel.specs.Scheduling.{added}
 use Rattle.execmodel.specs.Calls.{next_call}
-use Rattle.execmodel.specs.Interrupts.{on_latch, serves, interrupts, is_due}
-use Rattle.execmodel.specs.Step.{switches, unless_stopped, settle, does, ends, task_step, call_step, acting, acts, step, steps, tick, ticks, all_added, starts, event, events}
+use Rattle.execmodel.specs.Pending.{source_named, taken_off, with_latch_of, next_softint, next_source}
+use Rattle.execmodel.specs.Bodies.{body_step, runs_body}
+use Rattle.execmodel.specs.Interrupts.{softint_at, runs_softint, server_at, chain_of, runs_server, runs_chain, text_of_source, counted, serves, servings, interrupts}
+use Rattle.execmodel.specs.Step.{switches, settle, does, ends, task_step, call_step, softint_or_task_step, acting, acts, step, steps, request, tick, ticks, all_added, starts, event, events}
 
 -- a relation of the state before, the marks that are left, and the state after
 abbrev pub Relation : Type 1
@@ -17,28 +24,128 @@ Relation = State → List Mark → State → Type 0
 abbrev pub HoldsOf : Relation → (State → Outcome) → Type 0
 HoldsOf R next = (s : State) → R s (next s).marks (next s).state
 
--- What holds of each thing that a machine does: the running task's call, or its end; a request, its serving, and a switch; and that a task
--- is added at the start. It holds where nothing is done, and of one thing after another.
-pub record HoldsOfEach (R : Relation) : Type 0 where
+-- What holds of each thing that is done beside a task's commands: one command of the body of a software interrupt or a server; other
+-- interrupts are pending; the quantum loses one serving; and a switch. It holds where nothing is done, and of one thing after another.
+pub record HoldsOfInterrupts (R : Relation) : Type 0 where
   pub nothing : (s : State) → R s [] s
   pub joined : (s : State) (some : List Mark) (r : State) (more : List Mark) (q : State) → R s some r → R r more q → R s (some ++ more) q
+  pub commanding : (name : List ℕ) (command : CommandData) → HoldsOf R (body_step name command)
+  pub pending : (f : Pending → Pending) (s : State) → R s [] (on_pending f s)
+  pub ticking : (s : State) → R s [] (on_schedule ticked s)
+  pub switching : HoldsOf R switches
+
+-- What holds of each thing that a machine does: that, and of the running task's call, or its end; and that a task is added at the start.
+pub record HoldsOfEach (R : Relation) : Type 0 where
+  pub interrupting : HoldsOfInterrupts R
   pub adding : (t : ℕ) (s : State) → t < length s.scripts.programs → R s [] (on_schedule (added t) s)
   pub calling : (t : ℕ) (call : Call) (s : State) → s.schedule.running ≡ Some t → next_call t s.scripts ≡ Some call
       → R s (does t call s).marks (does t call s).state
   pub ending : (t : ℕ) (s : State) → s.schedule.running ≡ Some t → R s (ends t s).marks (ends t s).state
-  pub requesting : (s : State) → R s [] (on_latch true s)
-  pub serving : (s : State) → is_due s.latched s.schedule ≡ true → R s (serves s).marks (serves s).state
-  pub switching : HoldsOf R switches
 
-module _ (R : Relation) (each : HoldsOfEach R) where
+-- ---- interrupts
+
+-- the source that is found is served, and then what comes next
+abbrev serves_found : (State → Outcome) → Option Source → State → Outcome
+serves_found next found s =
+    elim found as (λ (x : Option Source). Outcome) [ None ↦ quiet s | Some asks ↦ andthen (serves asks) (unless_stopped next) s ]
+
+module _ (R : Relation) (each : HoldsOfInterrupts R) where
   both : (first next : State → Outcome) → HoldsOf R first → HoldsOf R next → HoldsOf R (andthen first next)
   unfolding andthen
   both first next f n s = each.joined s (first s).marks (first s).state _ _ (f s) (n (first s).state)
 
-  either : (test : Bool) (o p : Outcome) (s : State) → (test ≡ true → R s o.marks o.state) → (test ≡ false → R s p.marks p.state)
-      → R s (if test then o else p).marks (if test then o else p).state
-  either true o p s one other = one refl
-  either false o p s one other = other refl
+  unless : (next : State → Outcome) → HoldsOf R next → HoldsOf R (unless_stopped next)
+  unless next holds s = by_test s.stopped
+    where
+      by_test : (test : Bool) → R s (if test then quiet s else next s).marks (if test then quiet s else next s).state
+      by_test true = each.nothing s
+      by_test false = holds s
+
+  of_saying : (line : TraceLine) → HoldsOf R (says line)
+  of_saying line s = each.nothing s
+
+  of_body : (name : List ℕ) (code : List CommandData) → HoldsOf R (runs_body name code)
+  unfolding runs_body
+  of_body name [] s = each.nothing s
+  of_body name (command ∷ others) s =
+      both (unless_stopped (body_step name command)) (runs_body name others)
+      (unless (body_step name command) (each.commanding name command)) (of_body name others) s
+
+  pub of_softint : (i : ℕ) → HoldsOf R (runs_softint i)
+  unfolding runs_softint
+  of_softint i s =
+      let softint = softint_at i s.bodies in
+      each.joined s [] (on_pending (taken_off i) s) _ _ (each.pending (taken_off i) s)
+      (both (says (Softint softint.name)) (runs_body softint.name softint.code) (of_saying (Softint softint.name))
+      (of_body softint.name softint.code) (on_pending (taken_off i) s))
+
+  of_server : (k : ℕ) → HoldsOf R (runs_server k)
+  unfolding runs_server
+  of_server k s =
+      let server = server_at k s.bodies in
+      both (says (Server server.name)) (runs_body server.name server.code) (of_saying (Server server.name)) (of_body server.name server.code) s
+
+  unless_claimed : (claim : Bool) (next : State → Outcome) → HoldsOf R next → HoldsOf R (if claim then quiet else next)
+  unless_claimed true next holds s = each.nothing s
+  unless_claimed false next holds s = holds s
+
+  of_chain : (chain : List ℕ) → HoldsOf R (runs_chain chain)
+  unfolding runs_chain
+  of_chain [] s = each.nothing s
+  of_chain (k ∷ others) s =
+      let claim = (server_at k s.bodies).claim in
+      both (runs_server k) (unless_stopped (if claim then quiet else runs_chain others)) (of_server k)
+      (unless (if claim then quiet else runs_chain others) (unless_claimed claim (runs_chain others) (of_chain others))) s
+
+  of_counting : (asks : Source) (s : State) → R s [] (on_schedule (counted asks) s)
+  of_counting source.Ports s = each.nothing s
+  of_counting source.Vertb s = each.ticking s
+  of_counting source.Exter s = each.nothing s
+
+  of_serves : (asks : Source) → HoldsOf R (serves asks)
+  unfolding serves
+  of_serves asks s =
+      let cleared = on_pending (with_latch_of asks false) s in
+      let begun = on_schedule (counted asks) cleared in
+      each.joined s [] begun _ _
+      (each.joined s [] cleared [] begun (each.pending (with_latch_of asks false) s) (of_counting asks cleared))
+      (both (says (Serve (text_of_source asks))) (runs_chain (chain_of asks s.bodies.servers)) (of_saying (Serve (text_of_source asks)))
+      (of_chain (chain_of asks s.bodies.servers)) begun)
+
+  serving : (next : State → Outcome) → HoldsOf R next → (found : Option Source) → HoldsOf R (serves_found next found)
+  serving next holds None s = each.nothing s
+  serving next holds (Some asks) s = both (serves asks) (unless_stopped next) (of_serves asks) (unless next holds) s
+
+  of_servings : (n : ℕ) → HoldsOf R (servings n)
+  unfolding servings
+  of_servings zero s = each.nothing s
+  of_servings (suc n) s = serving (servings n) (of_servings n) (next_source s) s
+
+  pub of_interrupts : HoldsOf R interrupts
+  unfolding interrupts
+  of_interrupts s = of_servings 3 s
+
+  pub of_settle : HoldsOf R settle
+  unfolding settle
+  of_settle s =
+      unless (andthen interrupts (unless_stopped switches))
+      (both interrupts (unless_stopped switches) of_interrupts (unless switches each.switching)) s
+
+  pub of_request : (asks : Source) → HoldsOf R (request asks)
+  unfolding request
+  of_request asks s =
+      unless (λ s. settle (on_pending (with_latch_of asks true) s))
+      (λ s. each.joined s [] (on_pending (with_latch_of asks true) s) _ _ (each.pending (with_latch_of asks true) s)
+      (of_settle (on_pending (with_latch_of asks true) s))) s
+
+-- ---- whole runs
+
+module _ (R : Relation) (each : HoldsOfEach R) where
+  joins : (first next : State → Outcome) → HoldsOf R first → HoldsOf R next → HoldsOf R (andthen first next)
+  joins first next f n s = both R each.interrupting first next f n s
+
+  nothing : HoldsOf R quiet
+  nothing s = each.interrupting.nothing s
 
   calls : (t : ℕ) (call : Option Call) (s : State) → s.schedule.running ≡ Some t → next_call t s.scripts ≡ call
       → R s (call_step t call s).marks (call_step t call s).state
@@ -46,69 +153,65 @@ module _ (R : Relation) (each : HoldsOfEach R) where
   calls t (Some call) s runs is = each.calling t call s runs is
 
   tasks : (running : Option ℕ) (s : State) → s.schedule.running ≡ running → R s (task_step running s).marks (task_step running s).state
-  tasks None s runs = each.nothing s
+  tasks None s runs = nothing s
   tasks (Some t) s runs = calls t (next_call t s.scripts) s runs refl
 
+  either : (found : Option ℕ) (s : State) → R s (softint_or_task_step found s).marks (softint_or_task_step found s).state
+  either None s = tasks s.schedule.running s refl
+  either (Some i) s = of_softint R each.interrupting i s
+
+  of_acting : HoldsOf R acting
+  unfolding acting
+  of_acting s = either (next_softint s) s
+
   of_acts : HoldsOf R acts
-  unfolding acts acting
-  of_acts s = either s.stopped (quiet s) (task_step s.schedule.running s) s (λ is. each.nothing s) (λ is. tasks s.schedule.running s refl)
-
-  of_interrupts : HoldsOf R interrupts
-  of_interrupts s = either (is_due s.latched s.schedule) (serves s) (quiet s) s (each.serving s) (λ is. each.nothing s)
-
-  of_switches : HoldsOf R (unless_stopped switches)
-  of_switches s = either s.stopped (quiet s) (switches s) s (λ is. each.nothing s) (λ is. each.switching s)
-
-  of_settle : HoldsOf R settle
-  unfolding settle
-  of_settle s =
-      either s.stopped (quiet s) (andthen interrupts (unless_stopped switches) s) s (λ is. each.nothing s)
-      (λ is. both interrupts (unless_stopped switches) of_interrupts of_switches s)
+  unfolding acts
+  of_acts s = unless R each.interrupting acting of_acting s
 
   of_step : HoldsOf R step
   unfolding step
-  of_step s = both acts settle of_acts of_settle s
+  of_step s = joins acts settle of_acts (of_settle R each.interrupting) s
 
   of_steps : (n : ℕ) → HoldsOf R (steps n)
   unfolding steps
-  of_steps zero s = each.nothing s
-  of_steps (suc n) s = both (steps n) step (of_steps n) of_step s
+  of_steps zero s = nothing s
+  of_steps (suc n) s = joins (steps n) step (of_steps n) of_step s
 
   of_tick : HoldsOf R tick
   unfolding tick
-  of_tick s =
-      either s.stopped (quiet s) (settle (on_latch true s)) s (λ is. each.nothing s)
-      (λ is. each.joined s [] (on_latch true s) _ _ (each.requesting s) (of_settle (on_latch true s)))
+  of_tick s = of_request R each.interrupting source.Vertb s
 
   of_ticks : (n : ℕ) → HoldsOf R (ticks n)
   unfolding ticks
-  of_ticks zero s = each.nothing s
-  of_ticks (suc n) s = both (ticks n) tick (of_ticks n) of_tick s
+  of_ticks zero s = nothing s
+  of_ticks (suc n) s = joins (ticks n) tick (of_ticks n) of_tick s
 
   of_event : (e : Event) → HoldsOf R (event e)
   unfolding event
   of_event (Run n) s = of_steps n s
   of_event (Tick n) s = of_ticks n s
+  of_event (Irq name) s = of_request R each.interrupting (source_named name) s
 
   -- what holds of each thing that is done holds over every stretch
   pub of_events : (list : List Event) → HoldsOf R (events list)
   unfolding events
-  of_events [] s = each.nothing s
-  of_events (e ∷ rest) s = both (event e) (events rest) (of_event e) (of_events rest) s
+  of_events [] s = nothing s
+  of_events (e ∷ rest) s = joins (event e) (events rest) (of_event e) (of_events rest) s
 
   starting : (b : Bool) (t : ℕ) (s : State) → t < length s.scripts.programs → R s [] (on_schedule (λ r. if b then added t r else r) s)
   starting true t s less = each.adding t s less
-  starting false t s less = each.nothing s
+  starting false t s less = nothing s
 
   of_adding : (n : ℕ) (s : State) → n ≤ length s.scripts.programs → R s [] (on_schedule (all_added s.scripts n) s)
   unfolding all_added
-  of_adding zero s most = each.nothing s
+  of_adding zero s most = nothing s
   of_adding (suc n) s most =
-      each.joined s [] (on_schedule (all_added s.scripts n) s) [] _ (of_adding n s (omega (arith, most)))
+      each.interrupting.joined s [] (on_schedule (all_added s.scripts n) s) [] _ (of_adding n s (omega (arith, most)))
       (starting _ n (on_schedule (all_added s.scripts n) s) most)
 
   pub of_starts : HoldsOf R starts
   unfolding starts
   of_starts s =
-      each.joined s [] (on_schedule (all_added s.scripts (length s.scripts.programs)) s) _ _ (of_adding (length s.scripts.programs) s (omega arith))
-      (of_settle (on_schedule (all_added s.scripts (length s.scripts.programs)) s))
+      each.interrupting.joined s [] (on_schedule (all_added s.scripts (length s.scripts.programs)) s) _ _
+      (of_adding (length s.scripts.programs) s (omega arith))
+      (of_settle R each.interrupting (on_schedule (all_added s.scripts (length s.scripts.programs)) s))

@@ -17,7 +17,7 @@ use Rattle.execmodel.specs.Memory.{extents, block_at}
 use Rattle.execmodel.specs.Semaphores.{waiters_in, waiters_of, waiters_of_object, has_waiter, awaited_by}
 use Rattle.execmodel.specs.Agreement.{times, Agrees}
 use Rattle.execmodel.proofs.Heaps.{true_is_not_false}
-use Rattle.execmodel.proofs.Moves.{none_some}
+use Rattle.execmodel.proofs.Commands.{none_some}
 use Rattle.execmodel.proofs.Fifo.{both_false}
 use Rattle.execmodel.proofs.Agreement.{never_away, first_stands, later_stands, only_there, waits_at, running_state}
 use Rattle.execmodel.proofs.Passing.{IsNowhere, WaitsAtOne}

@@ -17,7 +17,7 @@ use Rattle.taskscript.specs.Machines.{IsMachine}
 use Rattle.taskscript.specs.declared.event.Event.{Event}
 use Rattle.execmodel.specs.State.{Call, Mark, State, Outcome, on_schedule, begun, booted, andthen}
 use Rattle.execmodel.specs.Scheduling.{arrives, added, displaced, after_switch, rescheduled, switch_of, signalled}
-use Rattle.execmodel.specs.Interrupts.{serves}
+use Rattle.execmodel.specs.Bodies.{body_step}
 use Rattle.execmodel.specs.Memory.{extents}
 use Rattle.execmodel.specs.Semaphores.{waiters_of, woken}
 use Rattle.execmodel.specs.Step.{switches, does, ends, starts, events, run}
@@ -26,12 +26,13 @@ use Rattle.execmodel.specs.Agreement.{times}
 use Rattle.execmodel.specs.Laws.{QueuesAgreeWithTheSchedule, SemaphoresPassInOrder}
 use Rattle.execmodel.proofs.Queues.{Follows, IsOnce, follows_more, follows_once, in_order}
 use Rattle.execmodel.proofs.Stretches.{Relation, HoldsOfEach, of_starts, of_events}
+use Rattle.execmodel.proofs.Commands.{IsCalm, Reaches, rests, posts, Alters, body_alters}
 use Rattle.execmodel.proofs.Moves.{Makes, call_makes}
-use Rattle.execmodel.proofs.Formed.{moves_formed}
+use Rattle.execmodel.proofs.Formed.{touched_formed, moves_formed}
 use Rattle.execmodel.proofs.FifoLaw.{FormedState, quietly, switches_quiet, booted_formed}
-use Rattle.execmodel.proofs.Owners.{AllIdle, moves_idle}
-use Rattle.execmodel.proofs.Passing.{dropped_left, moves_pass}
-use Rattle.execmodel.proofs.Shifts.{Shifted, Shifts, IsCalm, call_shifts, stays, rearrives, adds, posts, takes, sleeps, asks, wakes, leaves, removes}
+use Rattle.execmodel.proofs.Owners.{AllIdle, touched_idle, moves_idle}
+use Rattle.execmodel.proofs.Passing.{dropped_left, touched_pass, moves_pass}
+use Rattle.execmodel.proofs.Shifts.{Shifted, Shifts, call_shifts, reaches, rearrives, adds, takes, sleeps, asks, wakes, leaves, removes}
 use Rattle.execmodel.proofs.Agreement.{AllAgree, all_absent, absent_agrees, alike_agrees, rearrives_agrees, added_agrees, signalled_agrees, stops_agrees, asks_agrees, wakes_agrees, removed_agrees, rescheduled_agrees, waits_at, running_state}
 use Rattle.execmodel.proofs.Waiting.{waits_at_one, runs_nowhere}
 
@@ -90,13 +91,16 @@ ticked_running (Some r) s = refl
 abbrev states_of : Schedule → List TaskState
 states_of s = s.queue.states
 
+reached_count : (marks : List Mark) (s r : Schedule) → Reaches marks s r → length r.queue.states ≡ length s.queue.states
+reached_count marks s r (rests calm alike) = ap (λ l. length l) alike.states
+reached_count marks s r (posts k mask calm e) = ap (λ q. length (states_of q)) e ∙ signalled_count k mask s
+
 shifts_count : (t : ℕ) (call : Call) (s : State) (o : Outcome) → Shifts t call s o
     → length o.state.schedule.queue.states ≡ length s.schedule.queue.states
 unfolding waits_for waits_at_semaphore leaves_for_good removed
-shifts_count t call s o (stays calm alike) = ap (λ l. length l) alike.states
+shifts_count t call s o (reaches how) = reached_count o.marks s.schedule o.state.schedule how
 shifts_count t call s o (rearrives k calm e alike) = ap (λ l. length l) alike.states ∙ arrives_count k (departs k s.schedule)
 shifts_count t call s o (adds k calm range absent e) = ap (λ r. length (states_of r)) e ∙ arrives_count k s.schedule
-shifts_count t call s o (posts k mask calm e) = ap (λ r. length (states_of r)) e ∙ signalled_count k mask s.schedule
 shifts_count t call s o (takes calm taking own) = ap (λ l. length l) own.states
 shifts_count t call s o (sleeps mask q calm taking own none e) =
     ap (λ r. length (states_of r)) e ∙ length-set q.queue.states t _ ∙ ap (λ l. length l) own.states
@@ -125,14 +129,21 @@ added_there : (k : ℕ) (s : Schedule) → is_absent (status_of s k) ≡ true �
 unfolding added
 added_there k s absent = ap (λ b. if b then arrives k s else s) absent
 
+reached_agrees : (marks : List Mark) (s r : Schedule) (q p : ℕ → List ℕ) → Reaches marks s r
+    → ((a : ℕ) → Follows (q a) (turns_at_semaphore a marks) (p a)) → AllAgree s q → AllAgree r p
+reached_agrees marks s r q p (rests calm alike) follows old =
+    alike_agrees s r q p alike.states alike.ready alike.running (λ a. calmly marks a (q a) (p a) calm (follows a)) old
+reached_agrees marks s r q p (posts k mask calm e) follows old =
+    subst (λ x. AllAgree x p) (sym e)
+    (same_queues (signalled k mask s) q p (λ a. calmly marks a (q a) (p a) calm (follows a)) (signalled_agrees k mask s q old))
+
 shifts_agree : (t : ℕ) (call : Call) (s : State) (o : Outcome) → Shifts t call s o → s.schedule.running ≡ Some t
     → length s.scripts.programs ≡ length s.schedule.queue.states
     → ((a : ℕ) → Follows (waiters_of a s.memory.heap) (turns_at_semaphore a o.marks) (waiters_of a o.state.memory.heap))
     → StateAgrees s → StateAgrees o.state
 unfolding waits_for leaves_for_good
-shifts_agree t call s o (stays calm alike) runs count follows old =
-    alike_agrees s.schedule o.state.schedule (queues_of s) (queues_of o.state) alike.states alike.ready alike.running
-    (λ a. calmly o.marks a (queues_of s a) (queues_of o.state a) calm (follows a)) old
+shifts_agree t call s o (reaches how) runs count follows old =
+    reached_agrees o.marks s.schedule o.state.schedule (queues_of s) (queues_of o.state) how follows old
 shifts_agree t call s o (rearrives k calm e alike) runs count follows old =
     alike_agrees (arrives k (departs k s.schedule)) o.state.schedule (queues_of s) (queues_of o.state) alike.states alike.ready alike.running
     (λ a. calmly o.marks a (queues_of s a) (queues_of o.state a) calm (follows a)) (rearrives_agrees k s.schedule (queues_of s) e old)
@@ -141,10 +152,6 @@ shifts_agree t call s o (adds k calm range absent e) runs count follows old =
     (same_queues (added k s.schedule) (queues_of s) (queues_of o.state)
     (λ a. calmly o.marks a (queues_of s a) (queues_of o.state a) calm (follows a))
     (added_agrees k s.schedule (queues_of s) (subst (λ n. k < n) count range) old))
-shifts_agree t call s o (posts k mask calm e) runs count follows old =
-    subst (λ r. AllAgree r (queues_of o.state)) (sym e)
-    (same_queues (signalled k mask s.schedule) (queues_of s) (queues_of o.state)
-    (λ a. calmly o.marks a (queues_of s a) (queues_of o.state a) calm (follows a)) (signalled_agrees k mask s.schedule (queues_of s) old))
 shifts_agree t call s o (takes calm taking own) runs count follows old =
     alike_agrees s.schedule o.state.schedule (queues_of s) (queues_of o.state) own.states own.ready own.running
     (λ a. calmly o.marks a (queues_of s a) (queues_of o.state a) calm (follows a)) old
@@ -225,6 +232,19 @@ called t call s o runs makes shifts sound =
       follows,
     )
 
+commanded : (s : State) (marks : List Mark) (r : State) → Alters s marks r → Waits s marks r
+commanded s marks r alters sound =
+    let follows = touched_pass s.memory.heap marks r.memory.heap alters.blocks in (
+      record {
+        formed = subst (λ regions. IsWellFormed regions (extents r.memory.heap)) (sym alters.regions)
+            (touched_formed s.memory.regions s.memory.heap marks r.memory.heap alters.blocks sound.formed);
+        idle = touched_idle s.memory.heap marks r.memory.heap alters.blocks sound.idle;
+        counted = alters.programs ∙ sound.counted ∙ sym (reached_count marks s.schedule r.schedule alters.tasks);
+        agrees = reached_agrees marks s.schedule r.schedule (queues_of s) (queues_of r) alters.tasks follows sound.agrees;
+      },
+      follows,
+    )
+
 -- a task ends whose commands are used up
 ended_agrees : (t : ℕ) (s : State) → s.schedule.running ≡ Some t → IsSound s → AllAgree (leaves_for_good t s.schedule) (λ a. waiters_of a s.memory.heap)
 unfolding leaves_for_good
@@ -250,29 +270,24 @@ unfolding ticked
 ticked_count s = ap (λ (queue : Tasks). length queue.states) (ticked_running s.running s)
 
 pub waits : HoldsOfEach Waits
-unfolding ends serves
+unfolding ends
 waits = record {
-  nothing = λ s sound. (sound, λ a. refl);
-  joined = joined;
+  interrupting = record {
+    nothing = λ s sound. (sound, λ a. refl);
+    joined = joined;
+    commanding = λ name command s. commanded s (body_step name command s).marks (body_step name command s).state (body_alters name command s);
+    pending = λ f s sound. (
+      record { formed = sound.formed; idle = sound.idle; counted = sound.counted; agrees = sound.agrees },
+      λ a. refl,
+    );
+    ticking = λ s. rescheduling s ticked (ticked_count s.schedule) (λ sound. ticked_agrees s.schedule (queues_of s) sound.agrees);
+    switching = λ s. quietly Waits s (switches s) (on_schedule rescheduled s) (switches_quiet s)
+        (rescheduling s rescheduled (rescheduled_count s.schedule) (λ sound. rescheduled_agrees s.schedule (queues_of s) sound.agrees));
+  };
   adding = λ t s less sound. rescheduling s (added t) (added_count t s.schedule)
       (λ sound. added_agrees t s.schedule (queues_of s) (subst (λ n. t < n) sound.counted less) sound.agrees) sound;
   calling = λ t call s runs is. called t call s (does t call s) runs (call_makes t call s) (call_shifts t call s);
   ending = λ t s runs. rescheduling s (leaves_for_good t) (ended_count t s.schedule) (ended_agrees t s runs);
-  requesting = λ s sound. (
-    record { formed = sound.formed; idle = sound.idle; counted = sound.counted; agrees = sound.agrees },
-    λ a. refl,
-  );
-  serving = λ s due sound. (
-    record {
-      formed = sound.formed;
-      idle = sound.idle;
-      counted = sound.counted ∙ sym (ticked_count s.schedule);
-      agrees = ticked_agrees s.schedule (queues_of s) sound.agrees;
-    },
-    λ a. refl,
-  );
-  switching = λ s. quietly Waits s (switches s) (on_schedule rescheduled s) (switches_quiet s)
-      (rescheduling s rescheduled (rescheduled_count s.schedule) (λ sound. rescheduled_agrees s.schedule (queues_of s) sound.agrees));
 }
 
 -- ---- every run

@@ -1,0 +1,333 @@
+-- What a command that a body may have makes of the state, whether a body or a task makes the call: of the blocks of memory, of the tasks'
+-- states and of the received signals one of a few things, whatever the word.
+use Rattle.std.proofs.Common.{◌≡◌, ℕ, Bool, true, false, List, [], ◌∷◌, Option, None, Some, length, refl, sym, ap, ◌∙◌, subst}
+use Rattle.std.specs.Prelude.{◌-◌, not, if◌then◌else◌, nat_eq, is_some}
+use Rattle.std.proofs.lemmas.List.{length-set}
+use Rattle.execlist.specs.Order.{first}
+use Rattle.scheduler.specs.Schedule.{Schedule, signals_of}
+use Rattle.msgport.specs.Port.{acting}
+use Rattle.msgport.specs.Ports.{nt_message, nt_replymsg}
+use Rattle.msgport.specs.declared.action.Action.{Action}
+use Rattle.msgport.specs.declared.action.Action.TheVariants as action
+use Rattle.msgport.specs.declared.message.Message.{Message as Content}
+use Rattle.taskscript.specs.Commands.{CommandData}
+use Rattle.taskscript.specs.declared.variable.Variable.{Variable}
+use Rattle.taskscript.specs.declared.variable.Variable.TheVariants.{Private, Shared}
+use Rattle.taskscript.specs.declared.word.Word.{Word}
+use Rattle.taskscript.specs.declared.word.Word.TheVariants as group
+use Rattle.taskscript.specs.declared.word.plain.PlainWord.{PlainWord}
+use Rattle.taskscript.specs.declared.word.plain.PlainWord.TheVariants as plain
+use Rattle.taskscript.specs.declared.word.task_signals.SignalWord.{SignalWord}
+use Rattle.taskscript.specs.declared.word.task_signals.SignalWord.TheVariants as signals
+use Rattle.taskscript.specs.declared.word.ports.PortWord.{PortWord}
+use Rattle.taskscript.specs.declared.word.ports.PortWord.TheVariants as ports
+use Rattle.taskscript.specs.declared.word.interrupts.InterruptWord.{InterruptWord}
+use Rattle.taskscript.specs.declared.word.interrupts.InterruptWord.TheVariants as interrupts
+use Rattle.execmodel.specs.State.{Call, Scripts, Heap, Memory, Mark, put, got, State, Outcome, leaving}
+use Rattle.execmodel.specs.Scheduling.{signalled}
+use Rattle.execmodel.specs.Calls.{Caller, ByTask, ByBody, argument, call_in_body, stored, stored_shared, goes_on, done, answered, silent, alerted, done_by, answered_by, silent_by, unless_by}
+use Rattle.execmodel.specs.Signals.{signal_alert, does_signal_by}
+use Rattle.execmodel.specs.Pending.{causes}
+use Rattle.execmodel.specs.Causing.{does_cause_by}
+use Rattle.execmodel.specs.Ports.{is_port_at, is_message_at, is_queued, port_alert, message_alert, messages_of, content_of, port_of, appended, with_content, typed, posted, taken_off, reply_port_alert, loose_alert, put_alert, reply_alert, replied_by, delivered, performed, taken_by, does_put_msg_by, does_get_msg_by, does_reply_msg_by}
+use Rattle.execmodel.specs.Bodies.{does_plain_by, does_signals_by, does_ports_by, does_interrupts_by, does_word_by, does_in_body, body_step}
+use Rattle.execmodel.specs.Marks.{turns_at_semaphore}
+use Rattle.execmodel.proofs.Heaps.{content_is, filled, true_is_not_false}
+
+-- what a call may make of the blocks, and the marks that it leaves: nothing, or a message changes, is put at a port or is taken there
+pub data Touches : Heap → List Mark → Heap → Type 0 where
+  remains : {heap : Heap} → Touches heap [] heap
+  fills : {heap : Heap} (message : ℕ) (content : Content) → is_message_at message heap ≡ true → Touches heap [] (filled message content heap)
+  puts : {heap : Heap} (port message : ℕ) (content : Content) → is_port_at port heap ≡ true → is_message_at message heap ≡ true
+      → is_queued message heap ≡ false → Touches heap (put port message ∷ []) (appended port message (filled message content heap))
+  gets : {heap : Heap} (port message : ℕ) → is_port_at port heap ≡ true → first (messages_of port heap) ≡ Some message
+      → Touches heap (got port message ∷ []) (taken_off port heap)
+
+-- no mark at a semaphore
+abbrev pub IsCalm : List Mark → Type 0
+IsCalm marks = (semaphore : ℕ) → turns_at_semaphore semaphore marks ≡ []
+
+-- the same states, ready tasks, running task and received signals
+pub record IsAlike (s r : Schedule) : Type 0 where
+  pub states : r.queue.states ≡ s.queue.states
+  pub ready : r.queue.ready ≡ s.queue.ready
+  pub running : r.running ≡ s.running
+  pub received : (k : ℕ) → (signals_of r k).received ≡ (signals_of s k).received
+
+pub same : (s : Schedule) → IsAlike s s
+same s = record { states = refl; ready = refl; running = refl; received = λ k. refl }
+
+-- what a call may make of the schedule, where it leaves no mark at a semaphore: nothing, or a task gets signals
+pub data Reaches (marks : List Mark) (s r : Schedule) : Type 0 where
+  rests : IsCalm marks → IsAlike s r → Reaches marks s r
+  posts : (k mask : ℕ) → IsCalm marks → r ≡ signalled k mask s → Reaches marks s r
+
+-- That is what a call makes of a state; and the regions, and how many programs there are, stay.
+pub record Alters (s : State) (marks : List Mark) (r : State) : Type 0 where
+  pub regions : r.memory.regions ≡ s.memory.regions
+  pub blocks : Touches s.memory.heap marks r.memory.heap
+  pub programs : length r.scripts.programs ≡ length s.scripts.programs
+  pub tasks : Reaches marks s.schedule r.schedule
+
+-- an outcome is such a one
+abbrev pub IsAltered : State → Outcome → Type 0
+IsAltered s o = Alters s o.marks o.state
+
+-- ---- tests that alerts rest on
+
+pub none_some : {A : Type 0} {x : A} {B : Type 0} → Some x ≡ None → B
+none_some e = let bad : true ≡ false = ap is_some e in true_is_not_false bad
+
+-- an alert that does not come: its test is passed, and what follows does not come either
+pub passed_first : {A : Type 0} (test : Bool) (code : A) (rest : Option A) → (if not test then Some code else rest) ≡ None
+    → (test ≡ true) × (rest ≡ None)
+passed_first true code rest e = (refl, e)
+passed_first false code rest e = none_some e
+
+pub passed_other : {A : Type 0} (test : Bool) (code : A) (rest : Option A) → (if test then Some code else rest) ≡ None
+    → (test ≡ false) × (rest ≡ None)
+passed_other true code rest e = none_some e
+passed_other false code rest e = (refl, e)
+
+-- what a port or a message is, where no alert comes
+pub is_port_there : (port : ℕ) (heap : Heap) → port_alert port heap ≡ None → is_port_at port heap ≡ true
+unfolding port_alert
+is_port_there port heap none = (passed_first (is_port_at port heap) _ _ none).0
+
+pub is_message_there : (message : ℕ) (heap : Heap) → message_alert message heap ≡ None → is_message_at message heap ≡ true
+unfolding message_alert
+is_message_there message heap none = (passed_first (is_message_at message heap) _ _ none).0
+
+pub is_loose_there : (message : ℕ) (heap : Heap) → loose_alert message heap ≡ None → (is_message_at message heap ≡ true) × (is_queued message heap ≡ false)
+unfolding loose_alert
+is_loose_there message heap none =
+    let first = passed_first (is_message_at message heap) _ _ none in (first.0, (passed_other (is_queued message heap) _ _ first.1).0)
+
+can_put : (port message : ℕ) (heap : Heap) → put_alert port message heap ≡ None
+    → (is_port_at port heap ≡ true) × ((is_message_at message heap ≡ true) × (is_queued message heap ≡ false))
+unfolding put_alert
+can_put port message heap none =
+    let first = passed_first (is_port_at port heap) _ _ none in (first.0, is_loose_there message heap first.1)
+
+reply_port_there : (test : Bool) (port : ℕ) (heap : Heap) → test ≡ false → (if test then None else port_alert port heap) ≡ None → is_port_at port heap ≡ true
+reply_port_there true port heap is none = true_is_not_false is
+reply_port_there false port heap is none = is_port_there port heap none
+
+can_reply : (message : ℕ) (heap : Heap) → reply_alert message heap ≡ None
+    → (is_message_at message heap ≡ true) × ((is_queued message heap ≡ false)
+    × (nat_eq (content_of message heap).reply 0 ≡ false → is_port_at (content_of message heap).reply heap ≡ true))
+unfolding reply_alert reply_port_alert
+can_reply message heap none =
+    let first = passed_first (is_message_at message heap) _ _ none in
+    let second = passed_other (is_queued message heap) _ _ first.1 in
+    (first.0, (second.0, λ is. reply_port_there (nat_eq (content_of message heap).reply 0) (content_of message heap).reply heap is second.1))
+
+-- ---- there are as many programs
+
+pub goes_count : (t next : ℕ) (scripts : Scripts) → length (goes_on t next scripts).programs ≡ length scripts.programs
+goes_count t next scripts = length-set scripts.programs t _
+
+stored_count : (t : ℕ) (target : Option Variable) (value : ℕ) (scripts : Scripts)
+    → length (stored t target value scripts).programs ≡ length scripts.programs
+stored_count t None value scripts = refl
+stored_count t (Some (Private k)) value scripts = length-set scripts.programs t _
+stored_count t (Some (Shared k)) value scripts = refl
+
+pub answered_count : (t next : ℕ) (target : Option Variable) (value : ℕ) (scripts : Scripts)
+    → length (goes_on t next (stored t target value scripts)).programs ≡ length scripts.programs
+answered_count t next target value scripts = goes_count t next (stored t target value scripts) ∙ stored_count t target value scripts
+
+shared_count : (target : Option Variable) (value : ℕ) (scripts : Scripts)
+    → length (stored_shared target value scripts).programs ≡ length scripts.programs
+shared_count None value scripts = refl
+shared_count (Some (Private k)) value scripts = refl
+shared_count (Some (Shared k)) value scripts = refl
+
+-- ---- how a call ends
+
+pub rested : (s : State) → Alters s [] s
+rested s = record { regions = refl; blocks = remains; programs = refl; tasks = rests (λ p. refl) (same s.schedule) }
+
+-- the call of a caller ends after its effect; where it leaves a mark, that comes first
+done_alters : (c : Caller) (call : Call) (s r : State) → Alters s [] r → IsAltered s (done_by c call r)
+unfolding done
+done_alters (ByTask t) call s r a =
+    record { regions = a.regions; blocks = a.blocks; programs = goes_count t call.next r.scripts ∙ a.programs; tasks = a.tasks }
+done_alters (ByBody name) call s r a = a
+
+done_marked : (c : Caller) (call : Call) (mark : Mark) (s r : State) → Alters s (mark ∷ []) r → IsAltered s (leaving mark (done_by c call r))
+unfolding done
+done_marked (ByTask t) call mark s r a =
+    record { regions = a.regions; blocks = a.blocks; programs = goes_count t call.next r.scripts ∙ a.programs; tasks = a.tasks }
+done_marked (ByBody name) call mark s r a = a
+
+answered_alters : (c : Caller) (call : Call) (value : ℕ) (s r : State) → Alters s [] r → IsAltered s (answered_by c call value r)
+unfolding answered
+answered_alters (ByTask t) call value s r a = record {
+  regions = a.regions;
+  blocks = a.blocks;
+  programs = answered_count t call.next call.target value r.scripts ∙ a.programs;
+  tasks = a.tasks;
+}
+answered_alters (ByBody name) call value s r a = record {
+  regions = a.regions;
+  blocks = a.blocks;
+  programs = shared_count call.target value r.scripts ∙ a.programs;
+  tasks = a.tasks;
+}
+
+answered_marked : (c : Caller) (call : Call) (value : ℕ) (mark : Mark) (s r : State) → Alters s (mark ∷ []) r
+    → IsAltered s (leaving mark (answered_by c call value r))
+unfolding answered
+answered_marked (ByTask t) call value mark s r a = record {
+  regions = a.regions;
+  blocks = a.blocks;
+  programs = answered_count t call.next call.target value r.scripts ∙ a.programs;
+  tasks = a.tasks;
+}
+answered_marked (ByBody name) call value mark s r a = record {
+  regions = a.regions;
+  blocks = a.blocks;
+  programs = shared_count call.target value r.scripts ∙ a.programs;
+  tasks = a.tasks;
+}
+
+silent_alters : (c : Caller) (call : Call) (value : ℕ) (s : State) → IsAltered s (silent_by c call value s)
+unfolding silent
+silent_alters (ByTask t) call value s = record {
+  regions = refl;
+  blocks = remains;
+  programs = answered_count t call.next call.target value s.scripts;
+  tasks = rests (λ p. refl) (same s.schedule);
+}
+silent_alters (ByBody name) call value s = record {
+  regions = refl;
+  blocks = remains;
+  programs = shared_count call.target value s.scripts;
+  tasks = rests (λ p. refl) (same s.schedule);
+}
+
+either_alters : (s : State) (test : Bool) (o p : Outcome) → (test ≡ true → IsAltered s o) → (test ≡ false → IsAltered s p)
+    → IsAltered s (if test then o else p)
+either_alters s true o p one other = one refl
+either_alters s false o p one other = other refl
+
+unless_alters : (c : Caller) (call : Call) (s : State) (alert : Option (List ℕ)) (effect : State → Outcome)
+    → (alert ≡ None → IsAltered s (effect s)) → IsAltered s (unless_by alert c call effect s)
+unfolding alerted
+unless_alters c call s None effect alters = alters refl
+unless_alters (ByTask t) call s (Some code) effect alters =
+    record { regions = refl; blocks = remains; programs = refl; tasks = rests (λ p. refl) (same s.schedule) }
+unless_alters (ByBody name) call s (Some code) effect alters =
+    record { regions = refl; blocks = remains; programs = refl; tasks = rests (λ p. refl) (same s.schedule) }
+
+-- ---- the words of a body
+
+pub signal_alters : (c : Caller) (call : Call) (s : State) → IsAltered s (does_signal_by c call s)
+signal_alters c call s =
+    unless_alters c call s (signal_alert (argument 0 call) (argument 1 call) s.scripts) _
+    (λ none. done_alters c call s _
+    (record { regions = refl; blocks = remains; programs = refl; tasks = posts (argument 0 call - 1) (argument 1 call) (λ p. refl) refl }))
+
+-- what is done for a message that has arrived
+performed_alters : (act : Action) (s : State) (marks : List Mark) (memory : Memory) → memory.regions ≡ s.memory.regions
+    → Touches s.memory.heap marks memory.heap → IsCalm marks → Alters s marks (performed act (record s { memory = memory }))
+unfolding causes
+performed_alters (action.Signal task mask) s marks memory regions blocks calm =
+    record { regions = regions; blocks = blocks; programs = refl; tasks = posts task mask calm refl }
+performed_alters (action.Cause i) s marks memory regions blocks calm =
+    record { regions = regions; blocks = blocks; programs = refl; tasks = rests calm (same s.schedule) }
+performed_alters action.Nothing s marks memory regions blocks calm =
+    record { regions = regions; blocks = blocks; programs = refl; tasks = rests calm (same s.schedule) }
+
+pub gives : (message : ℕ) (content : Content) (heap : Heap) → is_message_at message heap ≡ true
+    → Touches heap [] (with_content message content heap)
+gives message content heap is = subst (λ new. Touches heap [] new) (sym (content_is message content heap is)) (fills message content is)
+
+lands : (port message : ℕ) (content : Content) (heap : Heap) → is_port_at port heap ≡ true → is_message_at message heap ≡ true
+    → is_queued message heap ≡ false → Touches heap (put port message ∷ []) (appended port message (with_content message content heap))
+lands port message content heap is also loose =
+    subst (λ new. Touches heap (put port message ∷ []) (appended port message new)) (sym (content_is message content heap also))
+    (puts port message content is also loose)
+
+delivered_alters : (kind port message : ℕ) (s : State) → is_port_at port s.memory.heap ≡ true → is_message_at message s.memory.heap ≡ true
+    → is_queued message s.memory.heap ≡ false → Alters s (put port message ∷ []) (delivered kind port message s)
+unfolding delivered posted typed
+delivered_alters kind port message s is also loose =
+    performed_alters (acting (port_of port s.memory.heap)) s (put port message ∷ []) _ refl (lands port message _ s.memory.heap is also loose)
+    (λ p. refl)
+
+pub put_alters : (c : Caller) (call : Call) (s : State) → IsAltered s (does_put_msg_by c call s)
+put_alters c call s =
+    unless_alters c call s (put_alert (argument 0 call) (argument 1 call) s.memory.heap) _
+    (λ none. let can = can_put (argument 0 call) (argument 1 call) s.memory.heap none in
+    done_marked c call (put (argument 0 call) (argument 1 call)) s _
+    (delivered_alters nt_message (argument 0 call) (argument 1 call) s can.0 can.1.0 can.1.1))
+
+replied_alters : (reply : ℕ) (c : Caller) (call : Call) (message : ℕ) (s : State) → is_message_at message s.memory.heap ≡ true
+    → is_queued message s.memory.heap ≡ false → (nat_eq reply 0 ≡ false → is_port_at reply s.memory.heap ≡ true)
+    → IsAltered s (replied_by reply c call message s)
+unfolding typed
+replied_alters reply c call message s is loose there =
+    either_alters s (nat_eq reply 0) _ _
+    (λ none. done_alters c call s _
+    (record { regions = refl; blocks = gives message _ s.memory.heap is; programs = refl; tasks = rests (λ p. refl) (same s.schedule) }))
+    (λ some. done_marked c call (put reply message) s _ (delivered_alters nt_replymsg reply message s (there some) is loose))
+
+pub reply_alters : (c : Caller) (call : Call) (s : State) → IsAltered s (does_reply_msg_by c call s)
+reply_alters c call s =
+    unless_alters c call s (reply_alert (argument 0 call) s.memory.heap) _
+    (λ none. let can = can_reply (argument 0 call) s.memory.heap none in
+    replied_alters (content_of (argument 0 call) s.memory.heap).reply c call (argument 0 call) s can.0 can.1.0 can.1.1)
+
+taken_alters : (port : ℕ) (message : Option ℕ) (c : Caller) (call : Call) (s : State) → is_port_at port s.memory.heap ≡ true
+    → first (messages_of port s.memory.heap) ≡ message → IsAltered s (taken_by port message c call s)
+taken_alters port None c call s is e = answered_alters c call 0 s s (rested s)
+taken_alters port (Some message) c call s is e =
+    answered_marked c call message (got port message) s _
+    (record { regions = refl; blocks = gets port message is e; programs = refl; tasks = rests (λ p. refl) (same s.schedule) })
+
+pub get_alters : (c : Caller) (call : Call) (s : State) → IsAltered s (does_get_msg_by c call s)
+get_alters c call s =
+    unless_alters c call s (port_alert (argument 0 call) s.memory.heap) _
+    (λ none. taken_alters (argument 0 call) (first (messages_of (argument 0 call) s.memory.heap)) c call s
+    (is_port_there (argument 0 call) s.memory.heap none) refl)
+
+pub cause_alters : (c : Caller) (call : Call) (s : State) → IsAltered s (does_cause_by c call s)
+unfolding causes
+cause_alters c call s =
+    done_alters c call s _ (record { regions = refl; blocks = remains; programs = refl; tasks = rests (λ p. refl) (same s.schedule) })
+
+plain_alters : (word : PlainWord) (c : Caller) (call : Call) (s : State) → IsAltered s (does_plain_by word c call s)
+plain_alters plain.Set c call s = silent_alters c call _ s
+plain_alters plain.Add c call s = silent_alters c call _ s
+plain_alters plain.Sub c call s = silent_alters c call _ s
+plain_alters plain.And c call s = silent_alters c call _ s
+plain_alters plain.Or c call s = silent_alters c call _ s
+plain_alters plain.Print c call s = done_alters c call s s (rested s)
+plain_alters _ c call s = rested s
+
+signals_alter : (word : SignalWord) (c : Caller) (call : Call) (s : State) → IsAltered s (does_signals_by word c call s)
+signals_alter signals.Signal c call s = signal_alters c call s
+signals_alter _ c call s = rested s
+
+ports_alter : (word : PortWord) (c : Caller) (call : Call) (s : State) → IsAltered s (does_ports_by word c call s)
+ports_alter ports.PutMsg c call s = put_alters c call s
+ports_alter ports.GetMsg c call s = get_alters c call s
+ports_alter ports.ReplyMsg c call s = reply_alters c call s
+ports_alter _ c call s = rested s
+
+interrupts_alter : (word : InterruptWord) (c : Caller) (call : Call) (s : State) → IsAltered s (does_interrupts_by word c call s)
+interrupts_alter interrupts.Cause c call s = cause_alters c call s
+
+word_alters : (word : Word) (c : Caller) (call : Call) (s : State) → IsAltered s (does_word_by word c call s)
+word_alters (group.Plain word) c call s = plain_alters word c call s
+word_alters (group.Signals word) c call s = signals_alter word c call s
+word_alters (group.Ports word) c call s = ports_alter word c call s
+word_alters (group.Interrupts word) c call s = interrupts_alter word c call s
+word_alters _ c call s = rested s
+
+-- one command of a body
+pub body_alters : (name : List ℕ) (command : CommandData) (s : State) → IsAltered s (body_step name command s)
+unfolding body_step does_in_body
+body_alters name command s = word_alters command.word (ByBody name) (call_in_body command s.scripts) s
