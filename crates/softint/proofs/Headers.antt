@@ -3,7 +3,7 @@ use Rattle.std.proofs.Common.{◌≡◌, ◌≢◌, ℕ, zero, suc, ◌+◌, ◌
 use Rattle.std.specs.Prelude.{◌⊎◌, ℤ, int_lt, is_none, is_some, IsSome}
 use Rattle.std.proofs.lemmas.Bool.{cond-true, cond-false, eq-eqb, ne_eqb, cases_eq}
 use Rattle.std.proofs.lemmas.Int.{ints}
-use Rattle.std.proofs.lemmas.List.{get_or-set_other, get_or-set_same}
+use Rattle.std.proofs.lemmas.List.{get_or-set_other, get_or-set_same, length-set}
 use Rattle.execlist.specs.Order.{enqueue, first, without, is_lower}
 use Rattle.execlist.specs.Lists.{sequence, home, times, is_at}
 use Rattle.softint.specs.declared.interrupt.Soft.{Soft}
@@ -68,6 +68,14 @@ module _ (key : ℕ → ℤ) (x : ℕ) where
   arrives (xs ∷ rest) (suc h) within high low =
       ap (λ l. xs ++ l) (arrives rest h (omega (arith, within)) (λ k t at here. high (suc k) t (omega (arith, at)) here) (λ k t at here. low (suc k) t (omega (arith, at)) here))
       ∙ sym (passed xs (joined rest) (λ t here. high 0 t (omega arith) here))
+
+-- where one arrives, there is a first
+pub first_arrived : (key : ℕ → ℤ) (xs : List ℕ) (x : ℕ) → is_some (first (enqueue key xs x)) ≡ true
+first_arrived key [] x = refl
+first_arrived key (y ∷ ys) x = by_case (is_lower key y x) where
+  by_case : (b : Bool) → is_some (first (cond b (x ∷ y ∷ ys) (y ∷ enqueue key ys x))) ≡ true
+  by_case true = refl
+  by_case false = refl
 
 -- ---- a departure
 
@@ -196,6 +204,18 @@ arrival all homes softs i h held stands few same =
 
     pri_of : (k t : ℕ) → 1 ≤ times t (sequence all k) → pri_at pris t ≡ header_pri k
     pri_of k t here = held.stands t k (at_home (home homes t) k _ (stands k t) here)
+
+-- what is said of the headers holds of those in which one more stands
+pub arrival_held : (all new : List (List ℕ)) (homes placed : List (Option ℕ)) (softs : List Soft) (i h : ℕ) → IsHeld (length all) homes softs
+    → i < length homes → pri_at (map (λ (s : Soft). s.pri) softs) i ≡ header_pri h
+    → new ≡ slice_set all h (sequence all h ++ i ∷ []) → placed ≡ slice_set homes i (Some h) → IsHeld (length new) placed softs
+arrival_held all new homes placed softs i h held within same is put = record {
+  five = ap length is ∙ length-set all h (sequence all h ++ i ∷ []) ∙ held.five;
+  each_soft = ap length put ∙ length-set homes i (Some h) ∙ held.each_soft;
+  priorities = held.priorities;
+  stands = λ t k e. said_of (λ t k. pri_at (map (λ (s : Soft). s.pri) softs) t ≡ header_pri k) homes i (Some h) within held.stands
+      (λ k at. same ∙ ap header_pri (some_is at)) t k (sym (ap (λ o. home o t) put) ∙ e);
+}
 
 pub departure : (all new : List (List ℕ)) (homes : List (Option ℕ)) (i : ℕ) → Stands all homes → IsSome (home homes i)
     → IfSome (home homes i) (λ h. new ≡ slice_set all h (without i (sequence all h))) → joined new ≡ without i (joined all)

@@ -1,5 +1,5 @@
 //! The interrupts of a machine.
-ghost use Rattle.std.specs.Prelude.{◌≡◌, ◌<◌, ◌≤◌, length, slice_get, All, Some, IfOk, IfSome};
+ghost use Rattle.std.specs.Prelude.{◌≡◌, ◌<◌, ◌≤◌, length, slice_get, All, Some, is_some, IfOk, IfSome};
 ghost use Rattle.execlist.specs.Order.{first};
 ghost use Rattle.softint.specs.Sources.{highest};
 ghost use Rattle.softint.specs.Interrupts.{IsPriority, quiet, causes, taken_off, raised, served, chain, header_pri, pri_at};
@@ -21,6 +21,7 @@ use std::marker::Model;
 pub struct Ints<S: ListSpace> {
     softs: Vec<Soft>,
     caused: S,
+    some_caused: bool,
     latches: Latches,
     servers: Vec<Server>,
     ports: Vec<ServerId>,
@@ -29,7 +30,8 @@ pub struct Ints<S: ListSpace> {
 }
 
 impl<S: ListSpace> Model for Ints<S> {
-    ghost use Rattle.std.specs.Prelude.{length, map};
+    ghost use Rattle.std.specs.Prelude.{◌≡◌, is_some, length, map};
+    ghost use Rattle.execlist.specs.Order.{first};
     ghost use Rattle.softint.specs.Interrupts.{Interrupts, IsHeld, IsChained, joined};
 
     ghost Value = { Interrupts };
@@ -42,7 +44,8 @@ impl<S: ListSpace> Model for Ints<S> {
     } };
 
     ghost invariant = { λ q. IsHeld (length (S.sequences q.caused)) (S.homes q.caused) q.softs.items
-        × IsChained q.ports.items q.vertb.items q.exter.items q.servers.items };
+        × IsChained q.ports.items q.vertb.items q.exter.items q.servers.items
+        × (q.some_caused ≡ is_some (first (joined (S.sequences q.caused)))) };
 }
 
 impl<S: ListSpace> Ints<S> {
@@ -65,6 +68,7 @@ impl<S: ListSpace> Ints<S> {
         Ok(Ints {
             softs: own_softs,
             caused,
+            some_caused: false,
             latches: Latches::new(),
             servers: own_servers,
             ports,
@@ -84,7 +88,15 @@ impl<S: ListSpace> Ints<S> {
         if self.caused.home(i).is_none() {
             let h = self.header(i);
             self.caused.add_tail(h, i);
+            self.some_caused = true;
         }
+    }
+
+    /// Answers whether a software interrupt is caused. It looks at none of them. Own choice: Exec tells it by the interrupt that it asks for.
+    pub fn any_caused(&self) -> bool
+        ensures { result ≡ is_some (first self.now.caused) }
+    {
+        self.some_caused
     }
 
     /// Takes off the caused software interrupt that is to run next and answers it, or answers none where none is caused: the one that
@@ -94,8 +106,12 @@ impl<S: ListSpace> Ints<S> {
         ensures next { self.new ≡ taken_off (first self.old.caused) self.old }
         ensures known { IfSome result (λ i. i < length self.new.priorities) }
     {
+        if !self.some_caused {
+            return None;
+        }
         let i = first_caused(&self.caused)?;
         self.caused.remove(i);
+        self.some_caused = first_caused(&self.caused).is_some();
         Some(i)
     }
 

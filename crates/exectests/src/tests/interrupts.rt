@@ -27,6 +27,8 @@ enum Step {
     Causes(IntId),
     /// The software interrupt that is taken off.
     Next(Option<IntId>),
+    /// Whether a software interrupt is caused.
+    Any(bool),
     /// The latch of a source is set.
     Raises(Source),
     /// The source that is served.
@@ -71,10 +73,13 @@ static SERVERS: [Server; 5] = [
 ];
 
 /// The greatest priority goes first, then the one caused first; the highest level is served first; equal servers run in the order given.
-static STEPS: [Step; 33] = [
+static STEPS: [Step; 38] = [
     Next(None),
+    Any(false),
     Causes(4),
+    Any(true),
     Next(Some(4)),
+    Any(false),
     Causes(1),
     Causes(2),
     Causes(0),
@@ -85,7 +90,9 @@ static STEPS: [Step; 33] = [
     Causes(2),
     Next(Some(3)),
     Next(Some(2)),
+    Any(true),
     Next(Some(1)),
+    Any(false),
     Next(None),
     Serves(None),
     Raises(Source::Ports),
@@ -127,6 +134,7 @@ fn take(rt: &impl Abort, d: &mut Driver, number: usize, step: Step) {
     match step {
         Causes(i) => d.cause(i),
         Next(wanted) => same(rt, "interrupts", number, d.ints.next(), wanted),
+        Any(wanted) => same(rt, "interrupts", number, d.ints.any_caused(), wanted),
         Raises(source) => d.ints.raise(source),
         Serves(wanted) => same(rt, "interrupts", number, d.ints.serve(), wanted),
         Server(source, k, wanted) => {

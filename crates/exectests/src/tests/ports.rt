@@ -84,6 +84,8 @@ struct Case {
 
 const SIGNALS: Result<Action, PortFault> = Ok(Action::Signal(7, 0x8000_0000));
 
+const CAUSES: Result<Action, PortFault> = Ok(Action::Cause(5));
+
 const NOTHING: Result<Action, PortFault> = Ok(Action::Nothing);
 
 const UNKNOWN: PortFault = PortFault::Unknown;
@@ -98,7 +100,7 @@ static ONE: [Step; 3] = [
 ];
 
 /// What is shown on three ports and two messages, after the steps of `ONE`.
-static CASES: [Case; 11] = [
+static CASES: [Case; 12] = [
     Case {
         name: "a new port signals its task",
         steps: &[
@@ -109,6 +111,17 @@ static CASES: [Case; 11] = [
             Sets(SetAction(2, PortAction::Ignore)),
             WaitsFor(2, 7, None),
             Delivers(Put(2, 0), NOTHING),
+        ],
+    },
+    Case {
+        name: "a port that causes a software interrupt tells no task",
+        steps: &[
+            Sets(SetAction(2, PortAction::Cause(5))),
+            WaitsFor(2, 7, None),
+            Delivers(Put(2, 1), CAUSES),
+            Delivers(Reply(2, 0), CAUSES),
+            Sets(SetAction(2, PortAction::Signal)),
+            WaitsFor(2, 7, Some(31)),
         ],
     },
     Case {
