@@ -1,5 +1,5 @@
 -- Actions that follow one another, and the actions of one layer.
-use Rattle.std.proofs.Common.{◌≡◌, ◌≢◌, ◌⊎◌, inl, inr, refl, Bool, ap, sym, ◌∙◌, subst, append-nil}
+use Rattle.std.proofs.Common.{◌≡◌, ◌≢◌, ◌⊎◌, inl, inr, refl, Bool, true, false, ap, sym, ◌∙◌, subst, append-nil}
 use Rattle.std.proofs.lemmas.Grind.{flat_map-append}
 use Rattle.exectrace.specs.Sink.{Tape, Puts}
 use Rattle.exectrace.specs.declared.sinks.SinkState.{SinkState}
@@ -7,9 +7,8 @@ use Rattle.exectrace.specs.declared.sinks.SinkState.TheVariants.{Good, Empty, Fa
 use Rattle.exectrace.specs.Trace.{TraceLine, printed_line, printed}
 use Rattle.exectrace.proofs.Pieces.{puts_none, puts_nothing, puts_then, put_same}
 use Rattle.scheduler.specs.Schedule.{Schedule}
-use Rattle.execmodel.specs.State.{State, Scripts, Memory, Outcome, Mark, leaving, quiet, says, andthen, on_schedule, on_scripts, on_memory}
-use Rattle.execmodel.specs.Interrupts.{on_latch}
-use Rattle.execsim.specs.Agreement.{Seen, Agrees, Follows, FollowsWhileGood, Moves, in_order, ports_in_order}
+use Rattle.execmodel.specs.State.{State, Bodies, Scripts, Memory, Pending, Outcome, Mark, leaving, quiet, says, andthen, unless_stopped, on_schedule, on_scripts, on_memory, on_pending}
+use Rattle.execsim.specs.Agreement.{Seen, Agrees, Follows, FollowsWhileGood, Moves, in_order, ports_in_order, caused_in_order}
 
 -- What the state that is agreed with holds, by what the machine shows.
 
@@ -27,8 +26,8 @@ module _ {m : Seen} {X : Type 0} where
       → (s : State) → Agrees m s → read s.memory ≡ x
   reads_memory read blind is s a = sym (blind s.memory) ∙ ap read (sym a.memory) ∙ is
 
-pub reads_latch : {m : Seen} {b : Bool} → m.latched ≡ b → (s : State) → Agrees m s → s.latched ≡ b
-reads_latch is s a = sym a.latched ∙ is
+pub reads_bodies : {m : Seen} {X : Type 0} (read : Bodies → X) {x : X} → read m.bodies ≡ x → (s : State) → Agrees m s → read s.bodies ≡ x
+reads_bodies read is s a = ap read (sym a.bodies) ∙ is
 
 pub reads_stopped : {m : Seen} {b : Bool} → m.stopped ≡ b → (s : State) → Agrees m s → s.stopped ≡ b
 reads_stopped is s a = sym a.stopped ∙ is
@@ -43,7 +42,8 @@ moves_schedule_seen next seen commutes is = record {
     schedule = ap (λ (x : Seen). x.schedule) is ∙ ap seen a.schedule ∙ commutes s.schedule a.schedule;
     scripts = ap (λ (x : Seen). x.scripts) is ∙ a.scripts;
     memory = ap (λ (x : Seen). x.memory) is ∙ a.memory;
-    latched = ap (λ (x : Seen). x.latched) is ∙ a.latched;
+    bodies = ap (λ (x : Seen). x.bodies) is ∙ a.bodies;
+    pending = ap (λ (x : Seen). x.pending) is ∙ a.pending;
     stopped = ap (λ (x : Seen). x.stopped) is ∙ a.stopped;
   };
 }
@@ -59,7 +59,8 @@ moves_scripts next is = record {
     schedule = ap (λ (x : Seen). x.schedule) is ∙ a.schedule;
     scripts = ap (λ (x : Seen). x.scripts) is ∙ ap next a.scripts;
     memory = ap (λ (x : Seen). x.memory) is ∙ a.memory;
-    latched = ap (λ (x : Seen). x.latched) is ∙ a.latched;
+    bodies = ap (λ (x : Seen). x.bodies) is ∙ a.bodies;
+    pending = ap (λ (x : Seen). x.pending) is ∙ a.pending;
     stopped = ap (λ (x : Seen). x.stopped) is ∙ a.stopped;
   };
 }
@@ -72,7 +73,8 @@ moves_memory next seen commutes is = record {
     schedule = ap (λ (x : Seen). x.schedule) is ∙ a.schedule;
     scripts = ap (λ (x : Seen). x.scripts) is ∙ a.scripts;
     memory = ap (λ (x : Seen). x.memory) is ∙ ap seen a.memory ∙ commutes s.memory;
-    latched = ap (λ (x : Seen). x.latched) is ∙ a.latched;
+    bodies = ap (λ (x : Seen). x.bodies) is ∙ a.bodies;
+    pending = ap (λ (x : Seen). x.pending) is ∙ a.pending;
     stopped = ap (λ (x : Seen). x.stopped) is ∙ a.stopped;
   };
 }
@@ -83,18 +85,24 @@ moves_stopped stopped is = record {
     schedule = ap (λ (x : Seen). x.schedule) is ∙ a.schedule;
     scripts = ap (λ (x : Seen). x.scripts) is ∙ a.scripts;
     memory = ap (λ (x : Seen). x.memory) is ∙ a.memory;
-    latched = ap (λ (x : Seen). x.latched) is ∙ a.latched;
+    bodies = ap (λ (x : Seen). x.bodies) is ∙ a.bodies;
+    pending = ap (λ (x : Seen). x.pending) is ∙ a.pending;
     stopped = ap (λ (x : Seen). x.stopped) is;
   };
 }
 
-pub moves_latch : {m n : Seen} (latched : Bool) → n ≡ record m { latched = latched } → Moves (on_latch latched) m n
-moves_latch latched is = record {
+-- a change of the pending interrupts that goes the same way for the software interrupts that the machine shows
+pub moves_pending : {m n : Seen} (next : Bodies → Pending → Pending) (seen : Pending → Pending)
+    → ((y : Pending) → seen (caused_in_order m.bodies.softints y) ≡ caused_in_order m.bodies.softints (next m.bodies y))
+    → n ≡ record m { pending = seen m.pending } → Moves (λ s. on_pending (next s.bodies) s) m n
+moves_pending {m} next seen commutes is = record {
   agrees = λ s a. record {
     schedule = ap (λ (x : Seen). x.schedule) is ∙ a.schedule;
     scripts = ap (λ (x : Seen). x.scripts) is ∙ a.scripts;
     memory = ap (λ (x : Seen). x.memory) is ∙ a.memory;
-    latched = ap (λ (x : Seen). x.latched) is;
+    bodies = ap (λ (x : Seen). x.bodies) is ∙ a.bodies;
+    pending = ap (λ (x : Seen). x.pending) is ∙ ap seen (a.pending ∙ ap (λ (b : Bodies). caused_in_order b.softints s.pending) (sym a.bodies))
+        ∙ commutes s.pending ∙ ap (λ (b : Bodies). caused_in_order b.softints (next b s.pending)) a.bodies;
     stopped = ap (λ (x : Seen). x.stopped) is ∙ a.stopped;
   };
 }
@@ -115,6 +123,10 @@ follows_as is follows = record {
   agrees = λ s e. rw (is s e) (follows.agrees s e);
   prints = λ s e. rw (is s e) (follows.prints s e);
 }
+
+-- what is agreed with may be looked at first
+pub follows_known : {f : State → Outcome} {m n : Seen} {a b : Tape} → ((s : State) → Agrees m s → Follows f m n a b) → Follows f m n a b
+follows_known follows = record { agrees = λ s e. (follows s e).agrees s e; prints = λ s e. (follows s e).prints s e }
 
 -- nothing is printed
 pub follows_quietly : {f : State → State} {m n : Seen} (t : Tape) → Moves f m n → Follows (λ s. quiet (f s)) m n t t
@@ -149,6 +161,15 @@ follows_then {f} {g} p q = record {
   agrees = λ s e. q.agrees (f s).state (p.agrees s e);
   prints = λ s e. puts_then _ (p.prints s e) (q.prints (f s).state (p.agrees s e)) (flat_map-append printed_line (f s).lines (g (f s).state).lines);
 }
+
+-- an action, unless an alert has stopped the machine
+pub guarded_stopped : {m : Seen} {next : State → Outcome} (t : Tape) → m.stopped ≡ true → Follows (unless_stopped next) m m t t
+guarded_stopped {m} t stopped = follows_as {g = quiet}
+    (λ s e. let same : s.stopped ≡ true = reads_stopped stopped s e in rw same refl) (follows_nothing m t)
+
+pub guarded_going : {m n : Seen} {a b : Tape} {next : State → Outcome} → m.stopped ≡ false → Follows next m n a b → Follows (unless_stopped next) m n a b
+guarded_going {next = next} going follows = follows_as {g = next}
+    (λ s e. let same : s.stopped ≡ false = reads_stopped going s e in rw same refl) follows
 
 -- Actions while the sink is good.
 

@@ -40,14 +40,6 @@ announces_idle {m} puts = follows_saying Idle (λ s e. refl) puts (moves_nowhere
 pub announces_none : (m : Seen) (t : Tape) → Follows (announced None) m m t t
 announces_none m t = follows_nothing m t
 
-pub guarded_stopped : {m : Seen} {next : State → Outcome} (t : Tape) → m.stopped ≡ true → Follows (unless_stopped next) m m t t
-guarded_stopped {m} t stopped = follows_as {g = quiet}
-    (λ s e. let same : s.stopped ≡ true = reads_stopped stopped s e in rw same refl) (follows_nothing m t)
-
-pub guarded_going : {m n : Seen} {a b : Tape} {next : State → Outcome} → m.stopped ≡ false → Follows next m n a b → Follows (unless_stopped next) m n a b
-guarded_going {next = next} going follows = follows_as {g = next}
-    (λ s e. let same : s.stopped ≡ false = reads_stopped going s e in rw same refl) follows
-
 pub settle_stopped : {m : Seen} (t : Tape) → m.stopped ≡ true → Follows settle m m t t
 unfolding settle
 settle_stopped {m} t stopped = follows_as {g = quiet}

@@ -1,28 +1,53 @@
--- What is done for a message that has arrived, or for the new owner of a semaphore, with the ready tasks in the order in which they are to
--- run; and how a call on a port or a semaphore ends that has more to do than its change of memory.
-use Rattle.std.specs.Prelude.{ℕ, if◌then◌else◌, Option, Result, Ok, Err}
+-- What is done for a message that has arrived, or for the new owner of a semaphore, with the ready tasks and the caused software interrupts in
+-- the order in which they are to run; how a call on a port or a semaphore ends that has more to do than its change of memory; and which
+-- interrupt runs next.
+use Rattle.std.specs.Prelude.{ℕ, false, not, ◌&&◌, if◌then◌else◌, nat_lt, length, List, Option, None, Some, Result, Ok, Err}
+use Rattle.exectrace.specs.Trace.{Serve, Softint}
+use Rattle.execlist.specs.Order.{enqueue, first}
 use Rattle.scheduler.specs.Schedule.{Schedule, frees, is_at_semaphore, status_of}
 use Rattle.scheduler.specs.Dispatch.{arrives, signalled}
 use Rattle.msgport.specs.declared.action.Action.{Action}
 use Rattle.msgport.specs.declared.action.Action.TheVariants as action
-use Rattle.execmodel.specs.State.{Call, State, Outcome, on_schedule}
-use Rattle.execmodel.specs.Calls.{done, alerted}
+use Rattle.taskscript.specs.File.{SoftintData}
+use Rattle.softint.specs.Sources.{highest}
+use Rattle.softint.specs.declared.source.Source.{Source}
+use Rattle.taskscript.specs.Commands.{CommandData}
+use Rattle.execmodel.specs.State.{Call, Pending, State, Outcome, quiet, says, andthen, unless_stopped, on_schedule}
+use Rattle.execmodel.specs.Bodies.{body_step, runs_body}
+use Rattle.execmodel.specs.Calls.{Caller, ByTask, done, done_by, alerted, alerted_by}
+use Rattle.execmodel.specs.Interrupts.{chain_of, counted, runs_chain, softint_at, text_of_source}
+use Rattle.execmodel.specs.Pending.{allows_interrupts, is_caused, softint_pri, taken_off, with_latch_of}
 use Rattle.execmodel.specs.Ports as model
 use Rattle.execmodel.specs.Semaphores.{obtains, passes}
+use Rattle.execmodel.specs.Step.{task_step}
 use Rattle.sigsem.specs.declared.semaphore.Obtained.{Obtained}
 use Rattle.execsim.specs.Agreement.{Seen}
 use Rattle.execheap.specs.declared.refusal.Refusal.{Refusal}
 use Rattle.execheap.specs.Refusals.{code_of}
 
+-- software interrupt i is to run behind the caused ones of its priority, unless it is caused already; a number that none has does nothing
+abbrev pub with_caused : ℕ → List SoftintData → Pending → Pending
+with_caused i softints pending =
+    if nat_lt i (length softints) && not (is_caused i pending)
+    then record pending { caused = enqueue (softint_pri softints) pending.caused i } else pending
+
+-- a software interrupt is caused
+abbrev pub caused : ℕ → Seen → Seen
+caused i s = record s { pending = with_caused i s.bodies.softints s.pending }
+
 -- what is to be done for a message is done
 abbrev pub performed : Action → Seen → Seen
 performed (action.Signal task mask) s = record s { schedule = signalled task mask s.schedule }
+performed (action.Cause i) s = caused i s
 performed action.Nothing s = s
 
 -- a call that puts a message, for which something is to be done: it is done, or stops the machine by its alert
+abbrev pub performed_or_alerted_by : Result Action Refusal → Caller → Call → State → Outcome
+performed_or_alerted_by (Ok act) c call s = done_by c call (model.performed act s)
+performed_or_alerted_by (Err why) c call s = alerted_by (code_of why) c call s
+
 abbrev pub performed_or_alerted : Result Action Refusal → ℕ → Call → State → Outcome
-performed_or_alerted (Ok act) t call s = done t call (model.performed act s)
-performed_or_alerted (Err why) t call s = alerted (code_of why) t call s
+performed_or_alerted tried t call s = performed_or_alerted_by tried (ByTask t) call s
 
 -- a call that frees a port of a task and with a signal: the signal is given back, or the machine stops by the call's alert
 abbrev pub given_back_or_alerted : Result (ℕ × ℕ) Refusal → ℕ → Call → State → Outcome
@@ -42,3 +67,43 @@ obtains_or_alerted (Err why) semaphore t call s = alerted (code_of why) t call s
 abbrev pub passes_or_alerted : Result (Option ℕ) Refusal → ℕ → ℕ → Call → State → Outcome
 passes_or_alerted (Ok owner) semaphore t call s = passes owner semaphore t call s
 passes_or_alerted (Err why) semaphore t call s = alerted (code_of why) t call s
+
+-- ---- interrupts
+
+-- the software interrupt that runs next, by what the machine shows
+abbrev pub softint_seen : Seen → Option ℕ
+softint_seen s = if allows_interrupts s.schedule then first s.pending.caused else None
+
+-- a software interrupt, or none, is not caused any more
+abbrev pub without_softint : Option ℕ → Pending → Pending
+without_softint None pending = pending
+without_softint (Some i) pending = taken_off i pending
+
+-- a software interrupt, which is not caused any more, runs its whole body
+abbrev pub softint_body : ℕ → State → Outcome
+softint_body i s =
+    let softint = softint_at i s.bodies in
+    andthen (says (Softint softint.name)) (runs_body softint.name softint.code) s
+
+-- the source that is served next, by what the machine shows
+abbrev pub source_seen : Seen → Option Source
+source_seen s = if allows_interrupts s.schedule then highest s.pending.latches else None
+
+-- a source, or none, asks no more to be served
+abbrev pub without_request : Option Source → Pending → Pending
+without_request None pending = pending
+without_request (Some asks) pending = with_latch_of asks false pending
+
+-- a source is served, whose latch is cleared
+abbrev pub served : Source → State → Outcome
+served asks s =
+    andthen (says (Serve (text_of_source asks))) (runs_chain (chain_of asks s.bodies.servers)) (on_schedule (counted asks) s)
+
+-- a command of the body of that name is done, where there is one, unless an alert has stopped the machine
+abbrev pub does_at_place : List ℕ → Option CommandData → State → Outcome
+does_at_place name None s = quiet s
+does_at_place name (Some command) s = unless_stopped (body_step name command) s
+
+-- the running task does one command; where none runs, the step is used up
+abbrev pub running_task_step : State → Outcome
+running_task_step s = task_step s.schedule.running s

@@ -1,15 +1,18 @@
 -- How the machine agrees with the abstract machine, and how a part of it follows an action. The abstract state keeps its ready
--- tasks and its public ports in order of arrival; the machine keeps both in order of priority. All else is equal.
-use Rattle.std.specs.Prelude.{◌≡◌, ◌≢◌, ℕ, Bool}
+-- tasks, its public ports and its caused software interrupts in order of arrival; the machine keeps each in order of priority. All else is
+-- equal.
+use Rattle.std.specs.Prelude.{◌≡◌, ◌≢◌, ℕ, Bool, List}
 use Rattle.exectrace.specs.Sink.{Tape, Puts}
 use Rattle.exectrace.specs.declared.sinks.SinkState.TheVariants.{Good}
 use Rattle.exectrace.specs.Trace.{printed}
 use Rattle.exectrace.specs.Trace as trace
 use Rattle.taskscript.specs.Words.{word_text}
+use Rattle.taskscript.specs.File.{SoftintData}
 use Rattle.execlist.specs.Order.{order}
 use Rattle.taskq.specs.Tasks.{pri_at}
 use Rattle.scheduler.specs.Schedule.{Schedule, name_of}
-use Rattle.execmodel.specs.State.{Call, Memory, State, Scripts, Outcome}
+use Rattle.execmodel.specs.State.{Bodies, Call, Memory, Pending, State, Scripts, Outcome}
+use Rattle.execmodel.specs.Pending.{softint_pri}
 use Rattle.execmodel.specs.Ports.{priority_of_public}
 
 -- what the layers of the machine show, a field for each
@@ -17,7 +20,8 @@ pub record Seen : Type 0 where
   pub schedule : Schedule
   pub scripts : Scripts
   pub memory : Memory
-  pub latched : Bool
+  pub bodies : Bodies
+  pub pending : Pending
   pub stopped : Bool
 
 -- the schedule with its ready tasks in the order in which they are to run
@@ -28,12 +32,17 @@ in_order s = record s { queue = record s.queue { ready = order (pri_at s.queue.p
 abbrev pub ports_in_order : Memory → Memory
 ports_in_order memory = record memory { public = order priority_of_public memory.public }
 
+-- the pending interrupts with the caused ones in the order in which they are to run
+abbrev pub caused_in_order : List SoftintData → Pending → Pending
+caused_in_order softints pending = record pending { caused = order (softint_pri softints) pending.caused }
+
 -- the machine shows this state
 pub record Agrees (seen : Seen) (s : State) : Type 0 where
   pub schedule : seen.schedule ≡ in_order s.schedule
   pub scripts : seen.scripts ≡ s.scripts
   pub memory : seen.memory ≡ ports_in_order s.memory
-  pub latched : seen.latched ≡ s.latched
+  pub bodies : seen.bodies ≡ s.bodies
+  pub pending : seen.pending ≡ caused_in_order s.bodies.softints s.pending
   pub stopped : seen.stopped ≡ s.stopped
 
 -- the line of a call of task t, by what the machine shows

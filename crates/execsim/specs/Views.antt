@@ -1,17 +1,31 @@
--- What the commands and the calls of the machine show.
-use Rattle.std.specs.Prelude.{◌≡◌, ℕ, List, [], ◌∷◌, length, map, take}
+-- What the commands, the calls and the bodies of the machine show.
+use Rattle.std.specs.Prelude.{◌≡◌, ◌<◌, ℕ, All, List, [], ◌∷◌, length, map, take}
 use Rattle.std.specs.Option.{option_map}
 use Rattle.exectrace.specs.Short.{short_argument}
 use Rattle.taskscript.specs.declared.variable.Variable.{Variable}
 use Rattle.taskscript.specs.declared.variable.Variable.TheVariants as variable
-use Rattle.taskscript.specs.Commands.{ArgumentData, number, variable, quoted, place, CommandData}
+use Rattle.taskscript.specs.Commands.{ArgumentData, number, variable, quoted, place, CommandData, CommandFits}
+use Rattle.taskscript.specs.File.{SoftintData, ServerData}
+use Rattle.taskscript.specs.Machines.{QuotesOnce}
+use Rattle.softint.specs.declared.interrupt.Server.{Server as Interrupting}
+use Rattle.softint.specs.Interrupts.{Interrupts}
 use Rattle.execmodel.specs.State as model
+use Rattle.execmodel.specs.Calls.{ByTask, ByBody}
+use Rattle.execmodel.specs.Calls as calls
+use Rattle.execmodel.specs.Interrupts.{softint_at, server_at}
+use Rattle.execmodel.specs.Pending.{source_named}
+use Rattle.execsim.specs.declared.bodies.Softint.{Softint}
+use Rattle.execsim.specs.declared.bodies.Server.{Server}
+use Rattle.execsim.specs.declared.bodies.Body.{Body}
+use Rattle.execsim.specs.declared.bodies.Body.TheVariants as body
 use Rattle.execsim.specs.declared.command.Operand.{Operand}
 use Rattle.execsim.specs.declared.command.Operand.TheVariants as operand
 use Rattle.execsim.specs.declared.command.Slot.{Slot}
 use Rattle.execsim.specs.declared.command.Slot.TheVariants as slot
 use Rattle.execsim.specs.declared.command.SmallCommand.{SmallCommand}
 use Rattle.execsim.specs.declared.command.Call.{Call}
+use Rattle.execsim.specs.declared.command.Caller.{Caller}
+use Rattle.execsim.specs.declared.command.Caller.TheVariants as caller
 
 abbrev pub slot_view : Slot → Variable
 slot_view (slot.Private k) = variable.Private k
@@ -29,6 +43,11 @@ operand_view name (operand.Place k) = place k
 -- as many arguments as its count says
 abbrev pub small_view : SmallCommand → CommandData
 small_view c = record { word = c.word; target = option_map slot_view c.target; arguments = map (operand_view c.name.bytes) (take c.count c.operands) }
+
+-- commands that can be made small: their variables are within the limits, and at most one argument of each is a name
+pub record CanBeSmall (code : List CommandData) : Type 0 where
+  pub fit : All CommandFits code
+  pub once : All QuotesOnce code
 
 -- an argument is this name, if it is a name
 abbrev pub IsNamed : List ℕ → ArgumentData → Type 0
@@ -60,3 +79,40 @@ call_view c = record {
   next = c.next;
   awaited = c.awaited;
 }
+
+-- ---- callers
+
+abbrev pub caller_view : Caller → calls.Caller
+caller_view (caller.Task t) = ByTask t
+caller_view (caller.Body name) = ByBody name.bytes
+
+-- a body, or one of so many tasks
+abbrev pub IsCaller : ℕ → Caller → Type 0
+IsCaller tasks (caller.Task t) = t < tasks
+IsCaller tasks (caller.Body name) = Unit {0}
+
+-- ---- bodies of interrupts
+
+abbrev pub softint_view : Softint → SoftintData
+softint_view s = record { name = s.name.bytes; pri = s.pri; code = map small_view s.code.items }
+
+abbrev pub server_view : Server → ServerData
+server_view s = record { name = s.name.bytes; source = s.source; pri = s.pri; claim = s.claim; code = map small_view s.code.items }
+
+-- a server as calls on interrupts see it: by its source and its priority
+abbrev pub interrupting : ServerData → Interrupting
+interrupting s = record { source = source_named s.source; pri = s.pri }
+
+-- the interrupts are those of the bodies
+pub record IsFor (bodies : model.Bodies) (ints : Interrupts) : Type 0 where
+  pub priorities : ints.priorities ≡ map (λ (s : SoftintData). s.pri) bodies.softints
+  pub servers : ints.servers ≡ map interrupting bodies.servers
+
+-- the name of a body, and its commands
+abbrev pub name_of_body : Body → model.Bodies → List ℕ
+name_of_body (body.Softint i) bodies = (softint_at i bodies).name
+name_of_body (body.Server k) bodies = (server_at k bodies).name
+
+abbrev pub code_of_body : Body → model.Bodies → List CommandData
+code_of_body (body.Softint i) bodies = (softint_at i bodies).code
+code_of_body (body.Server k) bodies = (server_at k bodies).code

@@ -1,14 +1,17 @@
-//! How a call ends: done, answered, waiting, or refused by an alert. Whatever else the call does has been done before.
+//! How a call of a task ends: done, answered, waiting, or refused by an alert; and how one ends whoever makes it. Whatever else the call does
+//! has been done before.
 ghost use Rattle.std.specs.Prelude.{◌≡◌, ◌<◌, length};
 ghost use Rattle.exectrace.specs.Sink.{Puts, Tape};
 ghost use Rattle.exectrace.specs.Shown.{shown_outcome};
 ghost use Rattle.exectrace.specs.Trace.{printed_line};
-ghost use Rattle.execmodel.specs.Calls.{done, answered, waiting, silent, alerted};
+ghost use Rattle.execmodel.specs.Calls.{done, done_by, answered, answered_by, waiting, silent, silent_by, alerted, alerted_by};
 ghost use Rattle.execsim.specs.Agreement.{Follows, line_seen};
-ghost use Rattle.execsim.specs.Views.{call_view};
+ghost use Rattle.execsim.specs.Views.{IsCaller, call_view, caller_view};
+ghost use Rattle.execheap.specs.Refusals.{code_of};
 
-use crate::command::Call;
+use crate::command::{Call, Caller};
 use crate::kernel::Kernel;
+use execheap::Refusal;
 use execlist::space::ListSpace;
 use exectrace::Sink;
 use exectrace::lines::CallOutcome;
@@ -71,5 +74,77 @@ impl<S: ListSpace> Kernel<S> {
         let name = self.name(t);
         put_alert(code, &name, call.word.text(), out);
         self.stop();
+    }
+
+    // ---- whoever makes the call
+
+    /// The call of a task or of a body answers nothing.
+    pub(crate) fn done_by<W: Sink>(&mut self, caller: &Caller, call: &Call, out: &mut W)
+        requires { IsCaller (length self.old.scripts.programs) caller.now }
+        ensures { Follows (done_by (caller_view caller.now) (call_view call.now)) self.old self.new (W.tape out.old) (W.tape out.new) }
+    {
+        match caller {
+            Caller::Task(t) => self.done(*t, call, out),
+            Caller::Body(name) => self.done_in_body(name, call, out),
+        }
+    }
+
+    /// The call of a task or of a body answers, into its target if it has one.
+    pub(crate) fn answered_by<W: Sink>(
+        &mut self,
+        caller: &Caller,
+        call: &Call,
+        value: u32,
+        out: &mut W,
+    )
+        requires { IsCaller (length self.old.scripts.programs) caller.now }
+        ensures { Follows (answered_by (caller_view caller.now) (call_view call.now) value) self.old self.new (W.tape out.old) (W.tape out.new) }
+    {
+        match caller {
+            Caller::Task(t) => self.answered(*t, call, value, out),
+            Caller::Body(name) => self.answered_in_body(name, call, value, out),
+        }
+    }
+
+    /// A word that is no call of Exec answers, and prints nothing, in a task or in a body.
+    pub(crate) fn silent_by(&mut self, caller: &Caller, call: &Call, value: u32)
+        requires { IsCaller (length self.old.scripts.programs) caller.now }
+        ensures { (tape : Tape) → Follows (silent_by (caller_view caller.now) (call_view call.now) value) self.old self.new tape tape }
+    {
+        match caller {
+            Caller::Task(t) => self.silent(*t, call, value),
+            Caller::Body(_) => self.silent_in_body(call, value),
+        }
+    }
+
+    /// The call of a task or of a body is refused: it changes nothing, and the machine stops for good.
+    pub(crate) fn alerted_by<W: Sink>(
+        &mut self,
+        code: &str,
+        caller: &Caller,
+        call: &Call,
+        out: &mut W,
+    )
+        requires { IsCaller (length self.old.scripts.programs) caller.now }
+        ensures { Follows (alerted_by code.now (caller_view caller.now) (call_view call.now)) self.old self.new (W.tape out.old) (W.tape out.new) }
+    {
+        match caller {
+            Caller::Task(t) => self.alerted(code, *t, call, out),
+            Caller::Body(name) => self.alerted_in_body(code, name, call, out),
+        }
+    }
+
+    /// A refused call stops the machine by the alert of its refusal.
+    pub(crate) fn refused_by<W: Sink>(
+        &mut self,
+        why: Refusal,
+        caller: &Caller,
+        call: &Call,
+        out: &mut W,
+    )
+        requires { IsCaller (length self.old.scripts.programs) caller.now }
+        ensures { Follows (alerted_by (code_of why) (caller_view caller.now) (call_view call.now)) self.old self.new (W.tape out.old) (W.tape out.new) }
+    {
+        self.alerted_by(why.code(), caller, call, out);
     }
 }

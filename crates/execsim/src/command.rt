@@ -1,8 +1,9 @@
 //! The commands of a task and the calls that it makes of them, in small types: since at most one argument of a command is a name, the name
-//! stands beside the arguments.
+//! stands beside the arguments. And who makes a call.
 ghost use Rattle.std.specs.Prelude.{◌≤◌};
 
 use exectrace::{Name, ShortArg};
+use taskq::TaskId;
 use taskscript::Word;
 
 /// A variable, by its number: 32 private ones a task, and 64 shared ones.
@@ -55,4 +56,13 @@ pub struct Call {
     /// The signals that the task waits for, where it waits in the call at a port; else 0.
     pub awaited: u32,
     ghost few: { count ≤ 4 },
+}
+
+/// Who makes a call.
+#[derive(Clone, Copy)]
+pub enum Caller {
+    /// A task.
+    Task(TaskId),
+    /// The body of a software interrupt or of a server, by its name.
+    Body(Name),
 }

@@ -1,58 +1,176 @@
-//! Interrupts: what is requested, and its serving.
-ghost use Rattle.std.specs.Prelude.{◌≡◌, false, true};
-ghost use Rattle.scheduler.specs.Schedule.{ticked};
-ghost use Rattle.execmodel.specs.Interrupts.{is_due, serves, interrupts};
+//! Interrupts: how they are caused and requested, and how they run, software interrupts one a step, the servers of a source where it is
+//! served (RKM Libraries, Exec Interrupts).
+ghost use Rattle.std.specs.Prelude.{◌≡◌, true, slice_get};
+ghost use Rattle.execmodel.specs.Interrupts.{chain_of, counted, interrupts, runs_chain, runs_server, text_of_source};
+ghost use Rattle.execmodel.specs.Pending.{softint_named, source_named, with_latch_of};
+ghost use Rattle.execsim.specs.Actions.{caused, served, softint_body, softint_seen, source_seen, without_request, without_softint};
 ghost use Rattle.execsim.specs.Agreement.{Follows};
 
+use crate::bodies::Body;
 use crate::kernel::Kernel;
 use execlist::space::ListSpace;
-use exectrace::Sink;
-use exectrace::printing::put_serve;
+use exectrace::printing::{put_serve, put_server, put_softint};
+use exectrace::{Name, Sink};
+use softint::caused::IntId;
+use softint::chain::ServerId;
+use softint::source::Source;
+use taskscript::Source as NamedSource;
+
+/// The source of a name of the texts.
+pub fn source_named(name: NamedSource) -> Source
+    ensures { result ≡ source_named name }
+{
+    match name {
+        NamedSource::Ports => Source::Ports,
+        NamedSource::Vertb => Source::Vertb,
+        NamedSource::Exter => Source::Exter,
+    }
+}
+
+/// The text of a source, as the trace prints it.
+fn text_of_source(source: Source) -> &'static str
+    ensures { result.now ≡ text_of_source source }
+{
+    match source {
+        Source::Ports => NamedSource::Ports.text(),
+        Source::Vertb => NamedSource::Vertb.text(),
+        Source::Exter => NamedSource::Exter.text(),
+    }
+}
 
 impl<S: ListSpace> Kernel<S> {
-    /// Requests VERTB.
-    pub(crate) fn latch(&mut self)
-        ensures { self.new ≡ record self.old { latched = true } }
+    // ---- causing and requesting
+
+    /// A software interrupt is caused: it is to run behind the caused ones of its priority, unless it is caused already. A number that none
+    /// has does nothing.
+    pub(crate) fn cause(&mut self, i: IntId)
+        ensures { self.new ≡ caused i self.old }
     {
-        self.latched = true;
+        if i < self.bodies.softint_count() {
+            self.ints.cause(i);
+        }
     }
 
-    /// Whether an interrupt was requested and may be served.
-    fn is_due(&self) -> bool
-        ensures { result ≡ is_due self.now.latched self.now.schedule }
+    /// The number of the software interrupt of a name; where none has it, the number of all of them.
+    pub(crate) fn softint_named(&self, name: Name) -> IntId
+        ensures { result ≡ softint_named name.bytes self.now.bodies.softints }
     {
-        self.latched && self.sched.may_interrupt()
+        self.bodies.softint_named(name)
     }
 
-    /// The latch is cleared.
-    fn unlatch(&mut self)
-        ensures { self.new ≡ record self.old { latched = false } }
+    /// A source asks to be served.
+    pub(crate) fn latch(&mut self, source: Source)
+        ensures { self.new ≡ record self.old { pending = with_latch_of source true self.old.pending } }
     {
-        self.latched = false;
+        self.ints.raise(source);
     }
 
-    /// The quantum of the running task loses one serving.
-    fn count_serving(&mut self)
-        ensures { self.new ≡ record self.old { schedule = ticked self.old.schedule } }
+    // ---- software interrupts
+
+    /// The software interrupt that runs next, where interrupts are allowed and one is caused. It is not caused any more.
+    pub(crate) fn take_softint(&mut self) -> Option<IntId>
+        ensures answer { result ≡ softint_seen self.old }
+        ensures next { self.new ≡ record self.old { pending = without_softint result self.old.pending } }
     {
-        self.sched.quantum_tick();
+        if self.sched.may_interrupt() {
+            self.ints.next()
+        } else {
+            None
+        }
     }
 
-    /// VERTB is served.
-    fn serve<W: Sink>(&mut self, out: &mut W)
-        ensures { Follows serves self.old self.new (W.tape out.old) (W.tape out.new) }
+    /// A software interrupt, which is not caused any more, runs its whole body.
+    pub(crate) fn run_softint<W: Sink>(&mut self, i: IntId, out: &mut W)
+        ensures { Follows (softint_body i) self.old self.new (W.tape out.old) (W.tape out.new) }
     {
-        self.unlatch();
-        self.count_serving();
-        put_serve("VERTB", out);
+        let body = Body::Softint(i);
+        put_softint(&self.bodies.name(body), out);
+        self.run_body(body, out);
     }
 
-    /// What is requested is served, where interrupts are allowed.
+    // ---- servers
+
+    /// Server k runs its whole body.
+    fn run_server<W: Sink>(&mut self, k: ServerId, out: &mut W)
+        ensures { Follows (runs_server k) self.old self.new (W.tape out.old) (W.tape out.new) }
+    {
+        let body = Body::Server(k);
+        put_server(&self.bodies.name(body), out);
+        self.run_body(body, out);
+    }
+
+    /// The server at a place of the chain of a source, from 0, or none where the chain is shorter.
+    fn server_at(&self, source: Source, place: usize) -> Option<ServerId>
+        ensures { result ≡ slice_get (chain_of source self.now.bodies.servers) place }
+    {
+        self.ints.server(source, place)
+    }
+
+    /// The servers of a source run one after another, until one claims the interrupt, or an alert stops the machine.
+    fn run_chain<W: Sink>(&mut self, source: Source, out: &mut W)
+        ensures { Follows (runs_chain (chain_of source self.old.bodies.servers)) self.old self.new (W.tape out.old) (W.tape out.new) }
+    {
+        for place in 0..self.bodies.server_count() {
+            match self.server_at(source, place) {
+                None => return,
+                Some(k) => {
+                    let last = self.bodies.claims(k);
+                    self.run_server(k, out);
+                    if last || self.stopped {
+                        return;
+                    }
+                }
+            }
+        }
+    }
+
+    // ---- serving
+
+    /// The source that is served next: the latched one of highest level, where interrupts are allowed. Its latch is cleared.
+    fn take_request(&mut self) -> Option<Source>
+        ensures answer { result ≡ source_seen self.old }
+        ensures next { self.new ≡ record self.old { pending = without_request result self.old.pending } }
+    {
+        if self.sched.may_interrupt() {
+            self.ints.serve()
+        } else {
+            None
+        }
+    }
+
+    /// For VERTB the quantum of the running task loses one serving.
+    fn count_serving(&mut self, source: Source)
+        ensures { self.new ≡ record self.old { schedule = counted source self.old.schedule } }
+    {
+        match source {
+            Source::Vertb => self.sched.quantum_tick(),
+            Source::Ports | Source::Exter => {}
+        }
+    }
+
+    /// A source is served, whose latch is cleared.
+    fn serve<W: Sink>(&mut self, source: Source, out: &mut W)
+        ensures { Follows (served source) self.old self.new (W.tape out.old) (W.tape out.new) }
+    {
+        self.count_serving(source);
+        put_serve(text_of_source(source), out);
+        self.run_chain(source, out);
+    }
+
+    /// All that asks is served, where interrupts are allowed: there are three sources, and no serving sets a latch.
     pub(crate) fn interrupt<W: Sink>(&mut self, out: &mut W)
         ensures { Follows interrupts self.old self.new (W.tape out.old) (W.tape out.new) }
     {
-        if self.is_due() {
-            self.serve(out);
+        for _turn in 0..3 {
+            match self.take_request() {
+                None => return,
+                Some(source) => {
+                    self.serve(source, out);
+                    if self.stopped {
+                        return;
+                    }
+                }
+            }
         }
     }
 }

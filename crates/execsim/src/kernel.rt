@@ -1,39 +1,44 @@
 //! The machine without its failure to write. The methods here touch its fields, and have one equation each.
-ghost use Rattle.std.specs.Prelude.{◌≡◌, ◌<◌, ◌≤◌, ℕ, List, length, true, false, Some, None, slice_set, map, replicate};
+ghost use Rattle.std.specs.Prelude.{◌≡◌, ◌<◌, ◌≤◌, ℕ, List, length, true, false, Some, None, slice_index_or, slice_set, map, replicate};
 ghost use Rattle.std.specs.Option.{option_map};
 ghost use Rattle.exectrace.specs.Short.{short_argument};
 ghost use Rattle.scheduler.specs.Schedule.{name_of, task_count};
 ghost use Rattle.execmodel.specs.State.{program_of, shared_variables};
 ghost use Rattle.execmodel.specs.Calls.{content, evaluated, stored, goes_on, keeps, call_of, next_call};
 ghost use Rattle.execmodel.specs.Signals.{is_task};
-ghost use Rattle.execsim.specs.Views.{call_view, operand_view, slot_view, small_view};
+ghost use Rattle.execsim.specs.Views.{IsFor, call_view, operand_view, slot_view, small_view};
 
+use crate::bodies::Bodies;
 use crate::command::{Call, Operand, Slot, SmallCommand};
 use crate::program::Program;
 use execheap::Heap;
 use execlist::space::ListSpace;
 use exectrace::{Name, ShortArg};
 use scheduler::Sched;
+use softint::ints::Ints;
 use std::marker::Model;
 use taskq::TaskId;
 
-/// How many variables all tasks share.
+/// How many variables all bodies share.
 const SHARED_VARIABLES: usize = 64;
 
-/// The tasks, what they execute, the memory with its objects, whether VERTB is requested, and whether an alert has stopped them.
+/// The tasks, what they execute, the memory with its objects, what interrupts execute, which of them are pending, and whether an alert has
+/// stopped the machine.
 #[derive(Drop)]
 pub struct Kernel<S: ListSpace> {
     pub(crate) sched: Sched<S>,
     pub(crate) programs: Vec<Program>,
     pub(crate) shared: [u32; SHARED_VARIABLES],
     pub(crate) memory: Heap<S>,
-    pub(crate) latched: bool,
+    pub(crate) bodies: Bodies,
+    pub(crate) ints: Ints<S>,
     pub(crate) stopped: bool,
 }
 
 impl<S: ListSpace> Model for Kernel<S> {
     ghost use Rattle.std.specs.Prelude.{◌≡◌, ◌≤◌, length};
     ghost use Rattle.execsim.specs.Agreement.{Seen};
+    ghost use Rattle.execsim.specs.Views.{IsFor};
 
     ghost Value = { Seen };
 
@@ -41,23 +46,32 @@ impl<S: ListSpace> Model for Kernel<S> {
       schedule = k.sched;
       scripts = record { programs = k.programs.items; shared = k.shared };
       memory = k.memory;
-      latched = k.latched;
+      bodies = k.bodies;
+      pending = record { caused = k.ints.caused; latches = k.ints.latches };
       stopped = k.stopped;
     } };
 
-    ghost invariant = { λ k. (length k.programs.items ≡ length k.sched.queue.states) × (length k.programs.items ≤ 4096) };
+    ghost invariant = { λ k. (length k.programs.items ≡ length k.sched.queue.states) × (length k.programs.items ≤ 4096) × IsFor k.bodies k.ints };
 }
 
 impl<S: ListSpace> Kernel<S> {
-    /// The machine of these tasks and this memory, with every shared variable 0.
-    pub(crate) fn new(sched: Sched<S>, programs: Vec<Program>, memory: Heap<S>) -> Self
+    /// The machine of these tasks, this memory and these interrupts, with every shared variable 0.
+    pub(crate) fn new(
+        sched: Sched<S>,
+        programs: Vec<Program>,
+        memory: Heap<S>,
+        bodies: Bodies,
+        ints: Ints<S>,
+    ) -> Self
         requires each { length programs.items ≡ task_count sched }
         requires few { length programs.items ≤ 4096 }
+        requires interrupts { IsFor bodies ints }
         ensures { result ≡ record {
           schedule = sched;
           scripts = record { programs = programs.items; shared = replicate shared_variables 0 };
           memory = memory;
-          latched = false;
+          bodies = bodies;
+          pending = record { caused = ints.caused; latches = ints.latches };
           stopped = false;
         } }
     {
@@ -66,7 +80,8 @@ impl<S: ListSpace> Kernel<S> {
             programs,
             shared: [0; SHARED_VARIABLES],
             memory,
-            latched: false,
+            bodies,
+            ints,
             stopped: false,
         }
     }
@@ -94,8 +109,15 @@ impl<S: ListSpace> Kernel<S> {
     {
         match variable {
             Slot::Private(k) => self.programs[t].variable(k as usize),
-            Slot::Shared(k) => self.shared.get(k as usize).copied().unwrap_or(0),
+            Slot::Shared(k) => self.shared_content(k as usize),
         }
+    }
+
+    /// What a shared variable holds; 0 where there is no such variable.
+    pub(crate) fn shared_content(&self, k: usize) -> u32
+        ensures { result ≡ slice_index_or self.now.scripts.shared k 0 }
+    {
+        self.shared.get(k).copied().unwrap_or(0)
     }
 
     /// The value of an argument for task t.
@@ -169,7 +191,8 @@ impl<S: ListSpace> Kernel<S> {
         }
     }
 
-    fn store_shared(&mut self, k: usize, value: u32)
+    /// Gives a shared variable a value; nothing changes where there is no such variable.
+    pub(crate) fn store_shared(&mut self, k: usize, value: u32)
         ensures { self.new ≡ record self.old { scripts = record self.old.scripts { shared = slice_set self.old.scripts.shared k value } } }
     {
         if k < SHARED_VARIABLES {

@@ -3,6 +3,8 @@
 //! write; each word group has a module of its own.
 #![tactic(auto)]
 
+mod bodies;
+mod body_calls;
 mod calls;
 mod command;
 mod interrupts;

@@ -1,15 +1,20 @@
 //! The machine as its callers see it: made from a machine file, started once, and given one event after another.
-ghost use Rattle.std.specs.Prelude.{◌≡◌, ◌≤◌, true, false, All, length, map, IfOk};
+ghost use Rattle.std.specs.Prelude.{◌≡◌, ◌≤◌, [], true, false, All, length, map, IfOk};
 ghost use Rattle.exectrace.specs.Sink.{Writes};
 ghost use Rattle.exectrace.specs.Trace.{printed};
 ghost use Rattle.exectrace.specs.declared.sinks.SinkState.{SinkState};
-ghost use Rattle.taskscript.specs.Machines.{IsTask};
-ghost use Rattle.taskscript.specs.Records.{task_view};
+ghost use Rattle.taskscript.specs.Commands.{command_view};
+ghost use Rattle.taskscript.specs.Records.{server_view, softint_view, task_view};
+ghost use Rattle.softint.specs.Interrupts.{IsPriority};
+ghost use Rattle.softint.specs.Sources.{no_latches};
 ghost use Rattle.execmodel.specs.State.{State, booted, begun, andthen};
 ghost use Rattle.execmodel.specs.Step.{starts, event, events};
 ghost use Rattle.execsim.specs.Agreement.{Agrees};
 ghost use Rattle.execsim.specs.Headline.{Acts, StaysFailed, Finishes, flow_of};
+ghost use Rattle.execsim.specs.Views.{CanBeSmall, interrupting};
 
+use crate::bodies::Bodies;
+use crate::interrupts::source_named;
 use crate::kernel::Kernel;
 use crate::program::Program;
 use crate::small::small_code;
@@ -18,10 +23,12 @@ use execlist::space::ListSpace;
 use exectrace::sinks::written;
 use exectrace::{Sink, WriteFault};
 use scheduler::Sched;
+use softint::interrupt::{Server, Soft};
+use softint::ints::Ints;
 use std::alloc::{AllocError, Global};
 use std::marker::Model;
 use taskq::TaskInit;
-use taskscript::{Event, MachineFile, TaskRecord};
+use taskscript::{Event, MachineFile, ServerRecord, SoftintRecord, TaskRecord};
 
 /// Whether a machine goes on.
 #[derive(Clone, Copy, Debug, PartialEq, Eq)]
@@ -65,7 +72,7 @@ fn inits_of(alloc: Global, tasks: &[TaskRecord]) -> Result<Vec<TaskInit>, AllocE
 
 /// The program of a task at its first command.
 fn program_of(alloc: Global, task: &TaskRecord) -> Result<Program, AllocError>
-    requires { IsTask (task_view task.now) }
+    requires { CanBeSmall (map command_view task.now.code.items) }
     ensures { IfOk result (λ p. p ≡ begun (task_view task.now)) }
 {
     let code = small_code(alloc, &task.code)?;
@@ -74,7 +81,7 @@ fn program_of(alloc: Global, task: &TaskRecord) -> Result<Program, AllocError>
 
 /// The programs of the tasks, in the order of the file.
 fn programs_of(alloc: Global, tasks: &[TaskRecord]) -> Result<Vec<Program>, AllocError>
-    requires { All IsTask (map task_view tasks.now) }
+    requires { All (λ t. CanBeSmall t.code) (map task_view tasks.now) }
     ensures { IfOk result (λ v. v.items ≡ map begun (map task_view tasks.now)) }
 {
     let mut programs = Vec::new(alloc);
@@ -82,6 +89,54 @@ fn programs_of(alloc: Global, tasks: &[TaskRecord]) -> Result<Vec<Program>, Allo
         programs.push(program_of(alloc, task)?)?;
     }
     Ok(programs)
+}
+
+/// The priorities of the software interrupts, in the order of the file.
+fn softs_of(alloc: Global, softints: &[SoftintRecord]) -> Result<Vec<Soft>, AllocError>
+    ensures pris { IfOk result (λ v. map (λ s. s.pri) v.items ≡ map (λ s. s.pri) softints.now) }
+    ensures count { IfOk result (λ v. length v.items ≡ length softints.now) }
+{
+    let mut softs = Vec::new(alloc);
+    for softint in softints {
+        softs.push(Soft { pri: softint.pri })?;
+    }
+    Ok(softs)
+}
+
+/// The sources and priorities of the servers, in the order of the file.
+fn sources_of(alloc: Global, servers: &[ServerRecord]) -> Result<Vec<Server>, AllocError>
+    ensures servers { IfOk result (λ v. v.items ≡ map interrupting (map server_view servers.now)) }
+    ensures count { IfOk result (λ v. length v.items ≡ length servers.now) }
+{
+    let mut sources = Vec::new(alloc);
+    for server in servers {
+        sources.push(Server {
+            source: source_named(server.source),
+            pri: server.pri,
+        })?;
+    }
+    Ok(sources)
+}
+
+/// The interrupts of a file: none is pending.
+fn ints_of<S: ListSpace>(
+    alloc: Global,
+    softints: &[SoftintRecord],
+    servers: &[ServerRecord],
+) -> Result<Ints<S>, AllocError>
+    requires few_softints { length softints.now ≤ 32 }
+    requires few_servers { length servers.now ≤ 32 }
+    requires priorities { All (λ s. IsPriority s.pri) (map softint_view softints.now) }
+    ensures { IfOk result (λ ints. ints ≡ record {
+      priorities = map (λ s. s.pri) (map softint_view softints.now);
+      caused = [];
+      latches = no_latches;
+      servers = map interrupting (map server_view servers.now);
+    }) }
+{
+    let softs = softs_of(alloc, softints)?;
+    let sources = sources_of(alloc, servers)?;
+    Ints::new(alloc, &softs, &sources)
 }
 
 impl<S: ListSpace> Machine<S> {
@@ -101,8 +156,10 @@ impl<S: ListSpace> Machine<S> {
         let sched = Sched::new(alloc, &inits, file.quantum())?;
         let programs = programs_of(alloc, tasks)?;
         let memory = Heap::new(alloc, file.regions(), file.pool())?;
+        let bodies = Bodies::new(alloc, file.softints(), file.servers())?;
+        let ints = ints_of(alloc, file.softints(), file.servers())?;
         Ok(Machine {
-            kernel: Kernel::new(sched, programs, memory),
+            kernel: Kernel::new(sched, programs, memory, bodies, ints),
             failed: false,
         })
     }
@@ -153,7 +210,7 @@ impl<S: ListSpace> Machine<S> {
         self.finish(out)
     }
 
-    /// Does one event: so many steps or ticks, each followed by a settle. After an alert nothing happens, and the answer is `Alerted`.
+    /// Does one event: so many steps or ticks, each followed by a settle, or a request of an interrupt, followed by one. After an alert nothing happens, and the answer is `Alerted`.
     ///
     /// The lines that the event prints are written to `out`, which is good unless the machine has failed.
     ///

@@ -3,7 +3,7 @@ ghost use Rattle.std.specs.Prelude.{◌≡◌, ◌≤◌, ℕ, List, All, IfOk, 
 ghost use Rattle.std.specs.Option.{option_map};
 ghost use Rattle.taskscript.specs.Commands.{ArgumentFits, CommandFits, VariableFits, argument_view, command_view};
 ghost use Rattle.taskscript.specs.Machines.{QuotesOnce};
-ghost use Rattle.execsim.specs.Views.{IsNamed, first_name, name_or, operand_view, small_view, slot_view};
+ghost use Rattle.execsim.specs.Views.{CanBeSmall, IsNamed, first_name, name_or, operand_view, small_view, slot_view};
 
 use crate::command::{Operand, Slot, SmallCommand};
 use exectrace::Name;
@@ -93,10 +93,9 @@ fn small(command: &Command) -> SmallCommand
     }
 }
 
-/// The commands of a task, made small.
+/// The commands of a body, made small.
 pub fn small_code(alloc: Global, code: &[Command]) -> Result<Vec<SmallCommand>, AllocError>
-    requires fit { All CommandFits (map command_view code.now) }
-    requires once { All QuotesOnce (map command_view code.now) }
+    requires { CanBeSmall (map command_view code.now) }
     ensures { IfOk result (λ v. map small_view v.items ≡ map command_view code.now) }
 {
     let mut made = Vec::with_capacity(alloc, code.len())?;

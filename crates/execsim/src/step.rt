@@ -4,13 +4,15 @@ ghost use Rattle.exectrace.specs.Sink.{Puts};
 ghost use Rattle.exectrace.specs.Trace.{printed_line};
 ghost use Rattle.scheduler.specs.Dispatch as dispatch;
 ghost use Rattle.scheduler.specs.Schedule.{IsToOneOf};
-ghost use Rattle.execmodel.specs.State.{andthen, on_schedule, program_of};
-ghost use Rattle.execmodel.specs.Step.{announced, unless_stopped, switches, settle, does, ends, acts, acting, step, steps, tick, ticks, starts, all_added, event, events};
+ghost use Rattle.execmodel.specs.State.{andthen, on_schedule, program_of, unless_stopped};
+ghost use Rattle.execmodel.specs.Step.{announced, switches, settle, does, ends, acts, acting, step, steps, request, tick, ticks, starts, all_added, event, events};
 ghost use Rattle.execmodel.specs.Interrupts.{interrupts};
+ghost use Rattle.execsim.specs.Actions.{running_task_step};
 ghost use Rattle.execsim.specs.Agreement.{Follows, FollowsWhileGood, Moves};
 ghost use Rattle.execsim.specs.Views.{call_view};
 
 use crate::command::Call;
+use crate::interrupts::source_named;
 use crate::kernel::Kernel;
 use execlist::space::ListSpace;
 use exectrace::lines::CallOutcome;
@@ -18,6 +20,7 @@ use exectrace::printing::{put_call, put_idle, put_switch};
 use exectrace::sinks::written;
 use exectrace::{Arg, Sink};
 use scheduler::Switch;
+use softint::source::Source;
 use taskq::TaskId;
 use taskscript::{Event, Word};
 
@@ -95,6 +98,7 @@ impl<S: ListSpace> Kernel<S> {
             Word::Memory(word) => self.does_memory(word, t, call, out),
             Word::Ports(word) => self.does_ports(word, t, call, out),
             Word::Semaphores(word) => self.does_semaphores(word, t, call, out),
+            Word::Interrupts(word) => self.does_interrupts(word, t, call, out),
         }
     }
 
@@ -111,7 +115,7 @@ impl<S: ListSpace> Kernel<S> {
 
     /// The running task does one command; where none runs, the step is used up.
     fn run_task<W: Sink>(&mut self, out: &mut W)
-        ensures { Follows acting self.old self.new (W.tape out.old) (W.tape out.new) }
+        ensures { Follows running_task_step self.old self.new (W.tape out.old) (W.tape out.new) }
     {
         match self.running() {
             None => {}
@@ -119,6 +123,16 @@ impl<S: ListSpace> Kernel<S> {
                 None => self.end(t, out),
                 Some(call) => self.does(t, &call, out),
             },
+        }
+    }
+
+    /// A software interrupt that may run does so, or else the running task does one command.
+    fn run_one<W: Sink>(&mut self, out: &mut W)
+        ensures { Follows acting self.old self.new (W.tape out.old) (W.tape out.new) }
+    {
+        match self.take_softint() {
+            Some(i) => self.run_softint(i, out),
+            None => self.run_task(out),
         }
     }
 
@@ -134,7 +148,7 @@ impl<S: ListSpace> Kernel<S> {
         ensures { Follows acts self.old self.new (W.tape out.old) (W.tape out.new) }
     {
         if !self.stopped {
-            self.run_task(out);
+            self.run_one(out);
         }
     }
 
@@ -167,14 +181,32 @@ impl<S: ListSpace> Kernel<S> {
 
     // ---- run
 
-    /// One tick of the vertical blank; a stopped machine does nothing.
+    /// An interrupt is requested, and the machine settles; a stopped machine does nothing.
+    fn request<W: Sink>(&mut self, source: Source, out: &mut W)
+        ensures { Follows (request source) self.old self.new (W.tape out.old) (W.tape out.new) }
+    {
+        if !self.stopped {
+            self.latch(source);
+            self.settle(out);
+        }
+    }
+
+    /// An interrupt is requested, as long as the sink is good.
+    fn request_while_good<W: Sink>(&mut self, source: Source, out: &mut W)
+        ensures { FollowsWhileGood (request source) self.old self.new (W.tape out.old) (W.tape out.new) }
+    {
+        match written(out) {
+            Ok(()) => self.request(source, out),
+            Err(_) => {}
+        }
+    }
+
+    /// One tick of the vertical blank requests VERTB.
+    #[tactic(auto, unfolding(execmodel::specs::Step::tick))]
     fn tick<W: Sink>(&mut self, out: &mut W)
         ensures { Follows tick self.old self.new (W.tape out.old) (W.tape out.new) }
     {
-        if !self.stopped {
-            self.latch();
-            self.settle(out);
-        }
+        self.request(Source::Vertb, out);
     }
 
     /// One tick, as long as the sink is good.
@@ -234,6 +266,7 @@ impl<S: ListSpace> Kernel<S> {
         match one {
             Event::Run(n) => self.steps(n, out),
             Event::Tick(n) => self.ticks(n, out),
+            Event::Irq(name) => self.request_while_good(source_named(name), out),
         }
     }
 

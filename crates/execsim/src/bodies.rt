@@ -1,0 +1,254 @@
+//! What the software interrupts and the servers execute. Nothing changes it once the machine is made.
+ghost use Rattle.std.specs.Prelude.{◌≡◌, ◌≢◌, All, IfOk, length, map, slice_index_or};
+ghost use Rattle.std.specs.List.{AllPairs};
+ghost use Rattle.taskscript.specs.Commands.{command_view};
+ghost use Rattle.taskscript.specs.Machines.{softint_names};
+ghost use Rattle.taskscript.specs.Numbering.{texts};
+ghost use Rattle.taskscript.specs.Records as records;
+ghost use Rattle.execmodel.specs.Interrupts.{no_server, no_softint, server_at};
+ghost use Rattle.execmodel.specs.Pending.{softint_named};
+ghost use Rattle.execsim.specs.Views.{CanBeSmall, code_of_body, name_of_body, server_view, small_view, softint_view};
+
+use crate::command::SmallCommand;
+use crate::small::small_code;
+use exectrace::Name;
+use indexmap::IndexSet;
+use std::alloc::{AllocError, Global};
+use std::marker::Model;
+use taskscript::{ServerRecord, SoftintRecord, Source};
+
+/// A software interrupt.
+#[derive(Drop)]
+pub struct Softint {
+    pub name: Name,
+    pub pri: i8,
+    pub code: Vec<SmallCommand>,
+}
+
+/// A server.
+#[derive(Drop)]
+pub struct Server {
+    pub name: Name,
+    /// The source that it serves.
+    pub source: Source,
+    pub pri: i8,
+    /// Whether it ends the chain of its source.
+    pub claim: bool,
+    pub code: Vec<SmallCommand>,
+}
+
+/// A body, by the number of its software interrupt or server, from 0 in the order of the file.
+#[derive(Clone, Copy)]
+pub enum Body {
+    Softint(usize),
+    Server(usize),
+}
+
+/// The software interrupts and the servers of all sources, both in the order of the file.
+#[derive(Drop)]
+pub struct Bodies {
+    softints: Vec<Softint>,
+    servers: Vec<Server>,
+    // the names of the software interrupts, in the same order
+    names: IndexSet<Name>,
+}
+
+impl Model for Bodies {
+    ghost use Rattle.std.specs.Prelude.{◌≡◌, map};
+    ghost use Rattle.taskscript.specs.Machines.{softint_names};
+    ghost use Rattle.taskscript.specs.Numbering.{texts};
+    ghost use Rattle.execmodel.specs.State as model;
+    ghost use Rattle.execsim.specs.Views.{server_view, softint_view};
+
+    ghost Value = { model.Bodies };
+
+    ghost view = { λ b. record { softints = map softint_view b.softints.items; servers = map server_view b.servers.items } };
+
+    ghost invariant = { λ b. texts b.names.keys ≡ softint_names (map softint_view b.softints.items) };
+}
+
+/// A software interrupt of a file.
+fn softint_of(alloc: Global, softint: &SoftintRecord) -> Result<Softint, AllocError>
+    requires { CanBeSmall (map command_view softint.now.code.items) }
+    ensures { IfOk result (λ s. softint_view s ≡ records.softint_view softint.now) }
+{
+    let code = small_code(alloc, &softint.code)?;
+    Ok(Softint {
+        name: softint.name,
+        pri: softint.pri,
+        code,
+    })
+}
+
+/// The software interrupts of a file, in its order.
+fn softints_of(alloc: Global, softints: &[SoftintRecord]) -> Result<Vec<Softint>, AllocError>
+    requires { All (λ s. CanBeSmall s.code) (map records.softint_view softints.now) }
+    ensures { IfOk result (λ v. map softint_view v.items ≡ map records.softint_view softints.now) }
+{
+    let mut made = Vec::new(alloc);
+    for softint in softints {
+        made.push(softint_of(alloc, softint)?)?;
+    }
+    Ok(made)
+}
+
+/// A server of a file.
+fn server_of(alloc: Global, server: &ServerRecord) -> Result<Server, AllocError>
+    requires { CanBeSmall (map command_view server.now.code.items) }
+    ensures { IfOk result (λ s. server_view s ≡ records.server_view server.now) }
+{
+    let code = small_code(alloc, &server.code)?;
+    Ok(Server {
+        name: server.name,
+        source: server.source,
+        pri: server.pri,
+        claim: server.claim,
+        code,
+    })
+}
+
+/// The servers of a file, in its order.
+fn servers_of(alloc: Global, servers: &[ServerRecord]) -> Result<Vec<Server>, AllocError>
+    requires { All (λ s. CanBeSmall s.code) (map records.server_view servers.now) }
+    ensures { IfOk result (λ v. map server_view v.items ≡ map records.server_view servers.now) }
+{
+    let mut made = Vec::new(alloc);
+    for server in servers {
+        made.push(server_of(alloc, server)?)?;
+    }
+    Ok(made)
+}
+
+/// The names of the software interrupts of a file, in its order: they differ.
+fn names_of(alloc: Global, softints: &[SoftintRecord]) -> Result<IndexSet<Name>, AllocError>
+    requires { AllPairs (λ s t. s ≢ t) (softint_names (map records.softint_view softints.now)) }
+    ensures { IfOk result (λ names. texts names.keys ≡ softint_names (map records.softint_view softints.now)) }
+{
+    let mut names = IndexSet::with_capacity(alloc, softints.len())?;
+    for softint in softints {
+        names.insert(softint.name)?;
+    }
+    Ok(names)
+}
+
+fn softint_name(softints: &[Softint], i: usize) -> Name
+    ensures { result.bytes ≡ (slice_index_or (map softint_view softints.now) i no_softint).name }
+{
+    match softints.get(i) {
+        Some(softint) => softint.name,
+        None => Name::new(),
+    }
+}
+
+fn softint_code(softints: &[Softint], i: usize) -> &[SmallCommand]
+    ensures { map small_view result.now ≡ (slice_index_or (map softint_view softints.now) i no_softint).code }
+{
+    match softints.get(i) {
+        Some(softint) => &softint.code,
+        None => &[],
+    }
+}
+
+fn server_name(servers: &[Server], k: usize) -> Name
+    ensures { result.bytes ≡ (slice_index_or (map server_view servers.now) k no_server).name }
+{
+    match servers.get(k) {
+        Some(server) => server.name,
+        None => Name::new(),
+    }
+}
+
+fn server_code(servers: &[Server], k: usize) -> &[SmallCommand]
+    ensures { map small_view result.now ≡ (slice_index_or (map server_view servers.now) k no_server).code }
+{
+    match servers.get(k) {
+        Some(server) => &server.code,
+        None => &[],
+    }
+}
+
+fn server_claims(servers: &[Server], k: usize) -> bool
+    ensures { result ≡ (slice_index_or (map server_view servers.now) k no_server).claim }
+{
+    match servers.get(k) {
+        Some(server) => server.claim,
+        None => false,
+    }
+}
+
+impl Bodies {
+    /// The software interrupts and the servers of a file.
+    pub fn new(
+        alloc: Global,
+        softints: &[SoftintRecord],
+        servers: &[ServerRecord],
+    ) -> Result<Bodies, AllocError>
+        requires softints { All (λ s. CanBeSmall s.code) (map records.softint_view softints.now) }
+        requires servers { All (λ s. CanBeSmall s.code) (map records.server_view servers.now) }
+        requires names { AllPairs (λ s t. s ≢ t) (softint_names (map records.softint_view softints.now)) }
+        ensures { IfOk result (λ b. b ≡ record {
+          softints = map records.softint_view softints.now;
+          servers = map records.server_view servers.now;
+        }) }
+    {
+        let names = names_of(alloc, softints)?;
+        let softints = softints_of(alloc, softints)?;
+        let servers = servers_of(alloc, servers)?;
+        Ok(Bodies {
+            softints,
+            servers,
+            names,
+        })
+    }
+
+    /// The number of the software interrupt of a name; where none has it, the number of all of them.
+    pub fn softint_named(&self, name: Name) -> usize
+        ensures { result ≡ softint_named name.bytes self.now.softints }
+    {
+        match self.names.get_index_of(&name) {
+            Some(index) => index,
+            None => self.names.len(),
+        }
+    }
+
+    /// How many software interrupts there are.
+    pub fn softint_count(&self) -> usize
+        ensures { result ≡ length self.now.softints }
+    {
+        self.softints.len()
+    }
+
+    /// How many servers there are.
+    pub fn server_count(&self) -> usize
+        ensures { result ≡ length self.now.servers }
+    {
+        self.servers.len()
+    }
+
+    /// Whether server k ends the chain of its source.
+    pub fn claims(&self, k: usize) -> bool
+        ensures { result ≡ (server_at k self.now).claim }
+    {
+        server_claims(&self.servers, k)
+    }
+
+    /// The name of a body; an empty one where there is none of that number.
+    pub fn name(&self, body: Body) -> Name
+        ensures { result.bytes ≡ name_of_body body self.now }
+    {
+        match body {
+            Body::Softint(i) => softint_name(&self.softints, i),
+            Body::Server(k) => server_name(&self.servers, k),
+        }
+    }
+
+    /// The commands of a body; none where there is none of that number.
+    pub fn code(&self, body: Body) -> &[SmallCommand]
+        ensures { map small_view result.now ≡ code_of_body body self.now }
+    {
+        match body {
+            Body::Softint(i) => softint_code(&self.softints, i),
+            Body::Server(k) => server_code(&self.servers, k),
+        }
+    }
+}
