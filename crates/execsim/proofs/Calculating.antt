@@ -3,32 +3,28 @@ use Rattle.std.proofs.Common.{◌≡◌, ℕ, ◌+◌, ◌-◌, ◌%◌, ◌^◌
 use Rattle.std.specs.Prelude.{if◌then◌else◌, nat_eq, bit_and, bit_or}
 use Rattle.exectrace.specs.Sink.{Tape}
 use Rattle.execmodel.specs.State.{Call}
-use Rattle.execmodel.specs.Calls.{argument, silent, goes_on}
-use Rattle.execmodel.specs.Plain.{does_set, does_add, does_sub, does_and, does_or, jumps, does_jump, does_jump_zero, does_jump_not_zero}
+use Rattle.execmodel.specs.Calls.{Caller, argument, silent_by, goes_on}
+use Rattle.execmodel.specs.Plain.{does_set_by, does_add_by, does_sub_by, does_and_by, does_or_by, jumps, does_jump, does_jump_zero, does_jump_not_zero}
 use Rattle.execsim.specs.Agreement.{Seen, Follows}
 use Rattle.execsim.proofs.Following.{moves_scripts, follows_quietly}
 
+module _ {m n : Seen} {tape : Tape} (c : Caller) (call : Call) where
+  pub follows_set : (value : ℕ) → value ≡ argument 0 call → Follows (silent_by c call value) m n tape tape → Follows (does_set_by c call) m n tape tape
+  follows_set value is follows = subst (λ v. Follows (silent_by c call v) m n tape tape) is follows
+
+  pub follows_add : (value : ℕ) → value ≡ (argument 0 call + argument 1 call) % 2 ^ 32 → Follows (silent_by c call value) m n tape tape → Follows (does_add_by c call) m n tape tape
+  follows_add value is follows = subst (λ v. Follows (silent_by c call v) m n tape tape) is follows
+
+  pub follows_sub : (value : ℕ) → value ≡ (argument 0 call + (2 ^ 32 - argument 1 call)) % 2 ^ 32 → Follows (silent_by c call value) m n tape tape → Follows (does_sub_by c call) m n tape tape
+  follows_sub value is follows = subst (λ v. Follows (silent_by c call v) m n tape tape) is follows
+
+  pub follows_and : (value : ℕ) → value ≡ bit_and (argument 0 call) (argument 1 call) → Follows (silent_by c call value) m n tape tape → Follows (does_and_by c call) m n tape tape
+  follows_and value is follows = subst (λ v. Follows (silent_by c call v) m n tape tape) is follows
+
+  pub follows_or : (value : ℕ) → value ≡ bit_or (argument 0 call) (argument 1 call) → Follows (silent_by c call value) m n tape tape → Follows (does_or_by c call) m n tape tape
+  follows_or value is follows = subst (λ v. Follows (silent_by c call v) m n tape tape) is follows
+
 module _ {m n : Seen} {tape : Tape} (t : ℕ) (call : Call) where
-  pub follows_set : (value : ℕ) → value ≡ argument 0 call → Follows (silent t call value) m n tape tape → Follows (does_set t call) m n tape tape
-  unfolding does_set
-  follows_set value is follows = subst (λ v. Follows (silent t call v) m n tape tape) is follows
-
-  pub follows_add : (value : ℕ) → value ≡ (argument 0 call + argument 1 call) % 2 ^ 32 → Follows (silent t call value) m n tape tape → Follows (does_add t call) m n tape tape
-  unfolding does_add
-  follows_add value is follows = subst (λ v. Follows (silent t call v) m n tape tape) is follows
-
-  pub follows_sub : (value : ℕ) → value ≡ (argument 0 call + (2 ^ 32 - argument 1 call)) % 2 ^ 32 → Follows (silent t call value) m n tape tape → Follows (does_sub t call) m n tape tape
-  unfolding does_sub
-  follows_sub value is follows = subst (λ v. Follows (silent t call v) m n tape tape) is follows
-
-  pub follows_and : (value : ℕ) → value ≡ bit_and (argument 0 call) (argument 1 call) → Follows (silent t call value) m n tape tape → Follows (does_and t call) m n tape tape
-  unfolding does_and
-  follows_and value is follows = subst (λ v. Follows (silent t call v) m n tape tape) is follows
-
-  pub follows_or : (value : ℕ) → value ≡ bit_or (argument 0 call) (argument 1 call) → Follows (silent t call value) m n tape tape → Follows (does_or t call) m n tape tape
-  unfolding does_or
-  follows_or value is follows = subst (λ v. Follows (silent t call v) m n tape tape) is follows
-
   pub follows_jump : (place : ℕ) → place ≡ argument 0 call → Follows (jumps t place) m n tape tape → Follows (does_jump t call) m n tape tape
   unfolding does_jump
   follows_jump place is follows = subst (λ p. Follows (jumps t p) m n tape tape) is follows

@@ -5,7 +5,7 @@ use Rattle.std.specs.Int.{cast_signed, w32}
 use Rattle.std.specs.Option.{unwrap_or}
 use Rattle.exectrace.specs.Sink.{Tape}
 use Rattle.execmodel.specs.State.{Call, Heap, ListHead, Memory, Node, Object, State, Outcome, on_memory}
-use Rattle.execmodel.specs.Calls.{unless, argument, name_argument, done, answered, alerted}
+use Rattle.execmodel.specs.Calls.{Caller, ByTask, unless, unless_by, argument, name_argument, done, answered, alerted, alerted_by}
 use Rattle.execmodel.specs.Memory.{allocates, placed}
 use Rattle.execmodel.specs.Objects.{place_for_object}
 use Rattle.execmodel.specs.Lists.{does_new_list, does_new_node, is_list, is_node, list_size, node_size}
@@ -19,22 +19,31 @@ use Rattle.execsim.proofs.Following.{reads_memory, moves_memory, follows_as, fol
 
 -- ---- calls that may be refused
 
-module _ {m o : Seen} {a b : Tape} (t : ℕ) (call : Call) (alert : Memory → Option (List ℕ)) (blind : (y : Memory) → alert (ports_in_order y) ≡ alert y) where
-  -- a refused call ends in its alert
-  pub follows_refused : (effect : State → Outcome) (why : Refusal) → Some (code_of why) ≡ alert m.memory
-      → Follows (alerted (code_of why) t call) m o a b → Follows (λ s. unless (alert s.memory) t call effect s) m o a b
-  follows_refused effect why says follows = follows_as
-      {g = alerted (code_of why) t call}
+module _ {m o : Seen} {a b : Tape} (c : Caller) (call : Call) (alert : Memory → Option (List ℕ)) (blind : (y : Memory) → alert (ports_in_order y) ≡ alert y) where
+  -- a refused call ends in its alert, whoever makes it
+  pub follows_refused_by : (effect : State → Outcome) (why : Refusal) → Some (code_of why) ≡ alert m.memory
+      → Follows (alerted_by (code_of why) c call) m o a b → Follows (λ s. unless_by (alert s.memory) c call effect s) m o a b
+  follows_refused_by effect why says follows = follows_as
+      {g = alerted_by (code_of why) c call}
       (λ s e. let same : alert s.memory ≡ Some (code_of why) = reads_memory alert blind (sym says) s e in rw same refl)
       follows
 
   -- a call that is not refused has its effect
-  pub follows_allowed : (effect : State → Outcome) → None ≡ alert m.memory → Follows effect m o a b
-      → Follows (λ s. unless (alert s.memory) t call effect s) m o a b
-  follows_allowed effect says follows = follows_as
+  pub follows_allowed_by : (effect : State → Outcome) → None ≡ alert m.memory → Follows effect m o a b
+      → Follows (λ s. unless_by (alert s.memory) c call effect s) m o a b
+  follows_allowed_by effect says follows = follows_as
       {g = effect}
       (λ s e. let same : alert s.memory ≡ None = reads_memory alert blind (sym says) s e in rw same refl)
       follows
+
+module _ {m o : Seen} {a b : Tape} (t : ℕ) (call : Call) (alert : Memory → Option (List ℕ)) (blind : (y : Memory) → alert (ports_in_order y) ≡ alert y) where
+  pub follows_refused : (effect : State → Outcome) (why : Refusal) → Some (code_of why) ≡ alert m.memory
+      → Follows (alerted (code_of why) t call) m o a b → Follows (λ s. unless (alert s.memory) t call effect s) m o a b
+  follows_refused = follows_refused_by (ByTask t) call alert blind
+
+  pub follows_allowed : (effect : State → Outcome) → None ≡ alert m.memory → Follows effect m o a b
+      → Follows (λ s. unless (alert s.memory) t call effect s) m o a b
+  follows_allowed = follows_allowed_by (ByTask t) call alert blind
 
   -- a call that answers nothing changes the memory, or is refused
   pub follows_changed : (next seen : Memory → Memory) → ((y : Memory) → seen (ports_in_order y) ≡ ports_in_order (next y)) → (x : Memory)

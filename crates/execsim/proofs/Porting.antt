@@ -9,26 +9,28 @@ use Rattle.signals.specs.Signals.{grant}
 use Rattle.scheduler.specs.Schedule.{Schedule, signals_of, allocates, clears_and_waits, frees, sets_signals, takes, waits_for}
 use Rattle.msgport.specs.declared.action.Action.{Action}
 use Rattle.msgport.specs.declared.action.Action.TheVariants as action
+use Rattle.msgport.specs.declared.action.PortAction.TheVariants.{Cause}
 use Rattle.msgport.specs.Port.{acting, new_port}
 use Rattle.msgport.specs.Ports.{new_message, nt_freemsg, nt_message, nt_replymsg}
 use Rattle.execmodel.specs.State.{Call, Message, MsgPort, Memory, State, Outcome, put, got, leaving, on_schedule, on_memory, on_heap}
-use Rattle.execmodel.specs.Calls.{unless, argument, name_argument, done, answered, waiting, alerted}
+use Rattle.execmodel.specs.Calls.{Caller, unless, argument, name_argument, done, done_by, answered, answered_by, waiting, alerted}
 use Rattle.execmodel.specs.Memory.{freed, placed}
 use Rattle.execmodel.specs.Objects.{place_for_object}
 use Rattle.execmodel.specs.Lists.{or_none}
+use Rattle.execmodel.specs.Pending.{softint_named}
 use Rattle.execmodel.specs.Tasks.{is_priority}
 use Rattle.execmodel.specs.Ports as model
 use Rattle.execmodel.specs.Ports.{content_of, is_called, is_message, is_port, is_port_at, messages_of, message_size, port_of, port_or_none, port_size, posted, taken_off, typed}
 use Rattle.execheap.specs.declared.refusal.Refusal.{Refusal}
 use Rattle.execheap.specs.Listing.{listed, replied_by, replying}
 use Rattle.execheap.specs.Refusals.{alert_of, code_of}
-use Rattle.execsim.specs.Actions.{given_back_or_alerted, performed, performed_or_alerted}
+use Rattle.execsim.specs.Actions.{given_back_or_alerted, performed, performed_or_alerted_by}
 use Rattle.execsim.specs.Agreement.{Seen, Follows, Moves, in_order}
 use Rattle.scheduler.specs.Dispatch.{signalled}
 use Rattle.execmodel.specs.Scheduling.{signalled as model_signalled}
-use Rattle.execsim.specs.Endings.{answered_or_alerted, done_or_alerted}
-use Rattle.execsim.proofs.Following.{reads_schedule, reads_memory, moves_schedule, moves_nowhere, moves_memory, follows_as, follows_change, follows_leaving}
-use Rattle.execsim.proofs.Listing.{follows_allowed, follows_made, follows_refused, room-in_order}
+use Rattle.execsim.specs.Endings.{answered_or_alerted_by, done_or_alerted}
+use Rattle.execsim.proofs.Following.{reads_schedule, reads_memory, reads_bodies, moves_schedule, moves_caused, moves_nowhere, moves_memory, follows_as, follows_change, follows_leaving}
+use Rattle.execsim.proofs.Listing.{follows_allowed, follows_allowed_by, follows_made, follows_refused, follows_refused_by, heap_changed, room-in_order}
 use Rattle.execsim.proofs.Ordering.{signalled-in_order}
 use Rattle.execsim.proofs.PortOrder.{add_port_alert-in_order, delete_alert-in_order, found-in_order, listed-in_order}
 use Rattle.execsim.proofs.Signalling.{allocates-in_order, frees-in_order, sets_signals-in_order}
@@ -178,6 +180,23 @@ module _ {m n : Seen} {a b : Tape} (t : ℕ) (call : Call) where
       ∙ ap (λ (y : Memory). port_or_none (find (is_called (unwrap_or (name_argument 0 call) [])) y.public)) (sym e.memory)
       ∙ sym is)) follows
 
+-- ---- the action of a port
+
+-- a port has the action that causes software interrupt i
+abbrev set_to : ℕ → Call → ℕ → State → Outcome
+set_to t call i s = unless (model.port_alert (argument 0 call) s.memory.heap) t call
+    (λ s. done t call (on_memory (on_heap (model.with_action (Cause i) (argument 0 call))) s)) s
+
+pub cause_set : {m o : Seen} {a b : Tape} (t : ℕ) (call : Call) (i : ℕ) (x : Memory) (result : Result (Unit {0}) Refusal)
+    → i ≡ softint_named (unwrap_or (name_argument 1 call) []) m.bodies.softints → alert_of result ≡ model.port_alert (argument 0 call) m.memory.heap
+    → OnOk result (x ≡ on_heap (model.with_action (Cause i) (argument 0 call)) m.memory) → OnErr result (x ≡ m.memory)
+    → Follows (done_or_alerted result t call) (record m { memory = x }) o a b → Follows (model.does_port_cause t call) m o a b
+unfolding model.does_port_cause
+cause_set t call i x result named says changed kept follows = follows_as
+    {g = set_to t call i}
+    (λ s e. ap (λ k. set_to t call k s) (reads_bodies (λ bodies. softint_named (unwrap_or (name_argument 1 call) []) bodies.softints) (sym named) s e))
+    (heap_changed t call (model.port_alert (argument 0 call)) (on_heap (model.with_action (Cause i) (argument 0 call))) (λ y. refl) x result says changed kept follows)
+
 -- ---- messages made
 
 module _ {m o : Seen} {a b : Tape} (t : ℕ) (call : Call) where
@@ -201,21 +220,22 @@ module _ {m o : Seen} {a b : Tape} (t : ℕ) (call : Call) where
 
 performed_moves : {m n : Seen} (act : Action) → n ≡ performed act m → Moves (model.performed act) m n
 performed_moves (action.Signal task mask) is = moves_schedule (model_signalled task mask) (signalled task mask) (signalled-in_order task mask) is
+performed_moves (action.Cause i) is = moves_caused i is
 performed_moves {m} action.Nothing is = rw is (moves_nowhere m)
 
 -- what is to be done for a message is done, and then the call
-pub performed_done : {m n o : Seen} {a b : Tape} (t : ℕ) (call : Call) (act : Action) → n ≡ performed act m
-    → Follows (done t call) n o a b → Follows (performed_or_alerted (Ok act) t call) m o a b
-performed_done t call act is follows = follows_change (performed_moves act is) follows
+pub performed_done : {m n o : Seen} {a b : Tape} (c : Caller) (call : Call) (act : Action) → n ≡ performed act m
+    → Follows (done_by c call) n o a b → Follows (performed_or_alerted_by (Ok act) c call) m o a b
+performed_done c call act is follows = follows_change (performed_moves act is) follows
 
-module _ {m o : Seen} {a b : Tape} (t : ℕ) (call : Call) where
+module _ {m o : Seen} {a b : Tape} (c : Caller) (call : Call) where
   -- a message is put at a port, and what is to be done is done
   delivers : (kind port message : ℕ) (x : Memory) (act : Action) → act ≡ acting (port_of port m.memory.heap)
-      → x ≡ on_heap (posted kind port message) m.memory → Follows (performed_or_alerted (Ok act) t call) (record m { memory = x }) o a b
-      → Follows (λ s. done t call (model.delivered kind port message s)) m o a b
+      → x ≡ on_heap (posted kind port message) m.memory → Follows (performed_or_alerted_by (Ok act) c call) (record m { memory = x }) o a b
+      → Follows (λ s. done_by c call (model.delivered kind port message s)) m o a b
   unfolding model.delivered
   delivers kind port message x act acts changed follows = follows_as
-      {g = λ s. done t call (model.performed act (on_memory (on_heap (posted kind port message)) s))}
+      {g = λ s. done_by c call (model.performed act (on_memory (on_heap (posted kind port message)) s))}
       (λ s e.
       let same : acting (port_of port s.memory.heap) ≡ act = reads_memory (λ memory. acting (port_of port memory.heap)) (λ y. refl) (sym acts) s e in
       rw same refl)
@@ -225,54 +245,53 @@ module _ {m o : Seen} {a b : Tape} (t : ℕ) (call : Call) where
   pub put_tried : (x : Memory) (result : Result Action Refusal) → alert_of result ≡ model.put_alert (argument 0 call) (argument 1 call) m.memory.heap
       → IfOk result (λ act. act ≡ acting (port_of (argument 0 call) m.memory.heap))
       → OnOk result (x ≡ on_heap (posted nt_message (argument 0 call) (argument 1 call)) m.memory) → OnErr result (x ≡ m.memory)
-      → Follows (performed_or_alerted result t call) (record m { memory = x }) o a b → Follows (model.does_put_msg t call) m o a b
-  unfolding model.does_put_msg
+      → Follows (performed_or_alerted_by result c call) (record m { memory = x }) o a b → Follows (model.does_put_msg_by c call) m o a b
   put_tried x (Ok act) says acts changed kept follows =
-      follows_allowed t call (λ memory. model.put_alert (argument 0 call) (argument 1 call) memory.heap) (λ y. refl) _ says
-      (follows_leaving {f = λ s. done t call (model.delivered nt_message (argument 0 call) (argument 1 call) s)}
+      follows_allowed_by c call (λ memory. model.put_alert (argument 0 call) (argument 1 call) memory.heap) (λ y. refl) _ says
+      (follows_leaving {f = λ s. done_by c call (model.delivered nt_message (argument 0 call) (argument 1 call) s)}
       (λ s. put (argument 0 call) (argument 1 call))
       (delivers nt_message (argument 0 call) (argument 1 call) x act acts changed follows))
   put_tried x (Err why) says acts changed kept follows =
-      follows_refused t call (λ memory. model.put_alert (argument 0 call) (argument 1 call) memory.heap) (λ y. refl) _ why says (rw kept at follows)
+      follows_refused_by c call (λ memory. model.put_alert (argument 0 call) (argument 1 call) memory.heap) (λ y. refl) _ why says (rw kept at follows)
 
   -- a message with that reply port, or with none, is replied
   replies : (reply message : ℕ) (x : Memory) (act : Action) (none : Bool) → nat_eq reply 0 ≡ none
       → act ≡ cond none action.Nothing (acting (port_of reply m.memory.heap))
       → x ≡ record m.memory { heap = cond none (typed nt_freemsg message m.memory.heap) (posted nt_replymsg reply message m.memory.heap) }
-      → Follows (performed_or_alerted (Ok act) t call) (record m { memory = x }) o a b → Follows (model.replied reply t call message) m o a b
+      → Follows (performed_or_alerted_by (Ok act) c call) (record m { memory = x }) o a b → Follows (model.replied_by reply c call message) m o a b
   replies reply message x act true none acts changed follows = follows_as
-      {g = λ s. done t call (on_memory (on_heap (typed nt_freemsg message)) s)} (λ s e. rw none refl)
+      {g = λ s. done_by c call (on_memory (on_heap (typed nt_freemsg message)) s)} (λ s e. rw none refl)
       (follows_change (moves_memory (on_heap (typed nt_freemsg message)) (on_heap (typed nt_freemsg message)) (λ y. refl)
       (ap (λ y. record m { memory = y }) changed)) (rw acts at follows))
   replies reply message x act false some acts changed follows = follows_as
-      {g = λ s. leaving (put reply message) (done t call (model.delivered nt_replymsg reply message s))} (λ s e. rw some refl)
-      (follows_leaving {f = λ s. done t call (model.delivered nt_replymsg reply message s)} (λ s. put reply message)
+      {g = λ s. leaving (put reply message) (done_by c call (model.delivered nt_replymsg reply message s))} (λ s e. rw some refl)
+      (follows_leaving {f = λ s. done_by c call (model.delivered nt_replymsg reply message s)} (λ s. put reply message)
       (delivers nt_replymsg reply message x act acts changed follows))
 
   pub reply_tried : (x : Memory) (result : Result Action Refusal) → alert_of result ≡ model.reply_alert (argument 0 call) m.memory.heap
       → IfOk result (λ act. act ≡ replying (argument 0 call) m.memory.heap)
       → OnOk result (x ≡ on_heap (replied_by (argument 0 call)) m.memory) → OnErr result (x ≡ m.memory)
-      → Follows (performed_or_alerted result t call) (record m { memory = x }) o a b → Follows (model.does_reply_msg t call) m o a b
-  unfolding model.does_reply_msg replying replied_by
+      → Follows (performed_or_alerted_by result c call) (record m { memory = x }) o a b → Follows (model.does_reply_msg_by c call) m o a b
+  unfolding replying replied_by
   reply_tried x (Ok act) says acts changed kept follows =
       let reply = (content_of (argument 0 call) m.memory.heap).reply in
-      follows_allowed t call (λ memory. model.reply_alert (argument 0 call) memory.heap) (λ y. refl) _ says (follows_as
-      {g = model.replied reply t call (argument 0 call)}
-      (λ s e. ap (λ (r : ℕ). model.replied r t call (argument 0 call) s)
+      follows_allowed_by c call (λ memory. model.reply_alert (argument 0 call) memory.heap) (λ y. refl) _ says (follows_as
+      {g = model.replied_by reply c call (argument 0 call)}
+      (λ s e. ap (λ (r : ℕ). model.replied_by r c call (argument 0 call) s)
       (reads_memory (λ memory. (content_of (argument 0 call) memory.heap).reply) (λ y. refl) refl s e))
       (replies reply (argument 0 call) x act (nat_eq reply 0) refl acts changed follows))
   reply_tried x (Err why) says acts changed kept follows =
-      follows_refused t call (λ memory. model.reply_alert (argument 0 call) memory.heap) (λ y. refl) _ why says (rw kept at follows)
+      follows_refused_by c call (λ memory. model.reply_alert (argument 0 call) memory.heap) (λ y. refl) _ why says (rw kept at follows)
 
 -- ---- taking
 
-module _ {m o : Seen} {a b : Tape} (t : ℕ) (call : Call) where
+module _ {m o : Seen} {a b : Tape} (c : Caller) (call : Call) where
   takes_first : (port : ℕ) (x : Memory) (value : ℕ) (message : Option ℕ) → value ≡ or_none message → (message ≡ None → x ≡ m.memory)
-      → x ≡ on_heap (taken_off port) m.memory → Follows (answered t call value) (record m { memory = x }) o a b
-      → Follows (model.taken port message t call) m o a b
+      → x ≡ on_heap (taken_off port) m.memory → Follows (answered_by c call value) (record m { memory = x }) o a b
+      → Follows (model.taken_by port message c call) m o a b
   takes_first port x value None is empty changed follows = rw (is, empty refl) at follows
   takes_first port x value (Some message) is empty changed follows =
-      follows_leaving {f = λ s. answered t call message (on_memory (on_heap (taken_off port)) s)} (λ s. got port message)
+      follows_leaving {f = λ s. answered_by c call message (on_memory (on_heap (taken_off port)) s)} (λ s. got port message)
       (follows_change (moves_memory (on_heap (taken_off port)) (on_heap (taken_off port)) (λ y. refl)
       (ap (λ y. record m { memory = y }) changed)) (rw is at follows))
 
@@ -280,17 +299,16 @@ module _ {m o : Seen} {a b : Tape} (t : ℕ) (call : Call) where
       → IfOk result (λ value. value ≡ or_none (first (messages_of (argument 0 call) m.memory.heap)))
       → OnOk result (first (messages_of (argument 0 call) m.memory.heap) ≡ None → x ≡ m.memory)
       → OnOk result (x ≡ on_heap (taken_off (argument 0 call)) m.memory) → OnErr result (x ≡ m.memory)
-      → Follows (answered_or_alerted result t call) (record m { memory = x }) o a b → Follows (model.does_get_msg t call) m o a b
-  unfolding model.does_get_msg
+      → Follows (answered_or_alerted_by result c call) (record m { memory = x }) o a b → Follows (model.does_get_msg_by c call) m o a b
   get_tried x (Ok value) says answers empty changed kept follows =
       let message = first (messages_of (argument 0 call) m.memory.heap) in
-      follows_allowed t call (λ memory. model.port_alert (argument 0 call) memory.heap) (λ y. refl) _ says (follows_as
-      {g = model.taken (argument 0 call) message t call}
-      (λ s e. ap (λ (r : Option ℕ). model.taken (argument 0 call) r t call s)
+      follows_allowed_by c call (λ memory. model.port_alert (argument 0 call) memory.heap) (λ y. refl) _ says (follows_as
+      {g = model.taken_by (argument 0 call) message c call}
+      (λ s e. ap (λ (r : Option ℕ). model.taken_by (argument 0 call) r c call s)
       (reads_memory (λ memory. first (messages_of (argument 0 call) memory.heap)) (λ y. refl) refl s e))
       (takes_first (argument 0 call) x value message answers empty changed follows))
   get_tried x (Err why) says answers empty changed kept follows =
-      follows_refused t call (λ memory. model.port_alert (argument 0 call) memory.heap) (λ y. refl) _ why says (rw kept at follows)
+      follows_refused_by c call (λ memory. model.port_alert (argument 0 call) memory.heap) (λ y. refl) _ why says (rw kept at follows)
 
 -- ---- waiting
 

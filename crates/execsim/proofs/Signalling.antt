@@ -9,8 +9,8 @@ use Rattle.scheduler.specs.Schedule.{Schedule, signals_of, come_for, after_wait,
 use Rattle.scheduler.specs.Dispatch as dispatch
 use Rattle.execmodel.specs.State.{Call, on_schedule}
 use Rattle.execmodel.specs.Scheduling.{signalled}
-use Rattle.execmodel.specs.Calls.{argument, done, answered, alerted}
-use Rattle.execmodel.specs.Signals.{is_task, is_mask, does_alloc_signal, does_free_signal, does_set_signal, does_signal, waited, does_wait}
+use Rattle.execmodel.specs.Calls.{Caller, argument, done, done_by, answered, alerted, alerted_by}
+use Rattle.execmodel.specs.Signals.{is_task, is_mask, does_alloc_signal, does_free_signal, does_set_signal, does_signal_by, waited, does_wait}
 use Rattle.execsim.specs.Agreement.{Seen, Follows, in_order}
 use Rattle.execsim.proofs.Following.{reads_schedule, reads_scripts, moves_schedule, follows_as, follows_change}
 use Rattle.execsim.proofs.Ordering.{by_test, signalled-in_order}
@@ -72,29 +72,27 @@ module _ {m n : Seen} {a b : Tape} (t : ℕ) (call : Call) where
       (follows_change (moves_schedule change change (sets_signals-in_order t (argument 0 call) (argument 1 call)) is) follows)
 
 module _ {m n : Seen} {a b : Tape} (t : ℕ) (call : Call) where
-  pub signal_unknown : is_task (argument 0 call) m.scripts ≡ false → Follows (alerted (codes "HANDLE") t call) m n a b → Follows (does_signal t call) m n a b
-  unfolding does_signal
+  pub wait_unmasked : is_mask (argument 0 call) ≡ false → Follows (alerted (codes "MASK") t call) m n a b → Follows (does_wait t call) m n a b
+  unfolding does_wait
+  wait_unmasked unmasked follows = follows_as (λ s e. rw unmasked refl) follows
+
+module _ {m n : Seen} {a b : Tape} (c : Caller) (call : Call) where
+  pub signal_unknown : is_task (argument 0 call) m.scripts ≡ false → Follows (alerted_by (codes "HANDLE") c call) m n a b → Follows (does_signal_by c call) m n a b
   signal_unknown unknown follows = follows_as
       (λ s e. let same : is_task (argument 0 call) s.scripts ≡ false = reads_scripts (is_task (argument 0 call)) unknown s e in rw same refl) follows
 
   pub signal_unmasked : is_task (argument 0 call) m.scripts ≡ true → is_mask (argument 1 call) ≡ false
-      → Follows (alerted (codes "MASK") t call) m n a b → Follows (does_signal t call) m n a b
-  unfolding does_signal
+      → Follows (alerted_by (codes "MASK") c call) m n a b → Follows (does_signal_by c call) m n a b
   signal_unmasked known unmasked follows = follows_as
       (λ s e. let same : is_task (argument 0 call) s.scripts ≡ true = reads_scripts (is_task (argument 0 call)) known s e in rw (same, unmasked) refl) follows
 
   pub signal_sent : {o : Seen} → is_task (argument 0 call) m.scripts ≡ true → is_mask (argument 1 call) ≡ true
       → n ≡ record m { schedule = dispatch.signalled (argument 0 call - 1) (argument 1 call) m.schedule }
-      → Follows (done t call) n o a b → Follows (does_signal t call) m o a b
-  unfolding does_signal
+      → Follows (done_by c call) n o a b → Follows (does_signal_by c call) m o a b
   signal_sent known masked is follows = follows_as
-      {g = λ s. done t call (on_schedule (signalled (argument 0 call - 1) (argument 1 call)) s)}
+      {g = λ s. done_by c call (on_schedule (signalled (argument 0 call - 1) (argument 1 call)) s)}
       (λ s e. let same : is_task (argument 0 call) s.scripts ≡ true = reads_scripts (is_task (argument 0 call)) known s e in rw (same, masked) refl)
       (follows_change (moves_schedule (signalled (argument 0 call - 1) (argument 1 call)) (dispatch.signalled (argument 0 call - 1) (argument 1 call)) (signalled-in_order (argument 0 call - 1) (argument 1 call)) is) follows)
-
-  pub wait_unmasked : is_mask (argument 0 call) ≡ false → Follows (alerted (codes "MASK") t call) m n a b → Follows (does_wait t call) m n a b
-  unfolding does_wait
-  wait_unmasked unmasked follows = follows_as (λ s e. rw unmasked refl) follows
 
 after_wait-in_order : (t mask : ℕ) (y : Schedule) → after_wait t mask (in_order y) ≡ in_order (after_wait t mask y)
 unfolding waits_for takes

@@ -6,6 +6,7 @@
 mod bodies;
 mod body_calls;
 mod calls;
+mod causing;
 mod command;
 mod interrupts;
 mod kernel;

@@ -13,10 +13,10 @@ ghost use Rattle.execmodel.specs.Lists.{does_new_list, does_free_list, does_new_
 ghost use Rattle.execmodel.specs.Lists.{does_remove, does_rem_head, does_rem_tail, does_first, does_last, does_succ, does_pred, does_find_name};
 ghost use Rattle.execheap.specs.Refusals.{alert_of, code_of};
 ghost use Rattle.execsim.specs.Agreement.{Follows};
-ghost use Rattle.execsim.specs.Endings.{answered_or_alerted, done_or_alerted};
-ghost use Rattle.execsim.specs.Views.{call_view};
+ghost use Rattle.execsim.specs.Endings.{answered_or_alerted, answered_or_alerted_by, done_or_alerted};
+ghost use Rattle.execsim.specs.Views.{IsCaller, call_view, caller_view};
 
-use crate::command::Call;
+use crate::command::{Call, Caller};
 use crate::kernel::Kernel;
 use crate::tasks::is_priority;
 use execheap::Refusal;
@@ -67,6 +67,23 @@ impl<S: ListSpace> Kernel<S> {
         match tried {
             Ok(value) => self.answered(t, call, value, out),
             Err(why) => self.refused(why, t, call, out),
+        }
+    }
+
+    /// A call that answers, of a task or of a body: it does, or is refused by its alert.
+    pub(crate) fn concluded_by<W: Sink>(
+        &mut self,
+        tried: Result<u32, Refusal>,
+        caller: &Caller,
+        call: &Call,
+        out: &mut W,
+    )
+        requires { IsCaller (length self.old.scripts.programs) caller.now }
+        ensures { Follows (answered_or_alerted_by tried (caller_view caller.now) (call_view call.now)) self.old self.new (W.tape out.old) (W.tape out.new) }
+    {
+        match tried {
+            Ok(value) => self.answered_by(caller, call, value, out),
+            Err(why) => self.refused_by(why, caller, call, out),
         }
     }
 

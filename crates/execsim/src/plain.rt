@@ -1,11 +1,11 @@
 //! Plain words: they set variables, calculate, jump and print, and ask nothing of Exec.
 ghost use Rattle.std.specs.Prelude.{◌≡◌, ◌<◌, length, if◌then◌else◌};
 ghost use Rattle.exectrace.specs.Sink.{Tape};
-ghost use Rattle.execmodel.specs.Plain.{does_set, does_add, does_sub, does_and, does_or, jumps, does_jump, does_jump_zero, does_jump_not_zero, does_print, does_plain};
+ghost use Rattle.execmodel.specs.Plain.{does_set_by, does_add_by, does_sub_by, does_and_by, does_or_by, jumps, does_jump, does_jump_zero, does_jump_not_zero, does_print, does_plain};
 ghost use Rattle.execsim.specs.Agreement.{Follows};
-ghost use Rattle.execsim.specs.Views.{call_view};
+ghost use Rattle.execsim.specs.Views.{IsCaller, call_view, caller_view};
 
-use crate::command::Call;
+use crate::command::{Call, Caller};
 use crate::kernel::Kernel;
 use execlist::space::ListSpace;
 use exectrace::Sink;
@@ -21,43 +21,43 @@ fn place_if(test: bool, there: usize, here: usize) -> usize
 
 impl<S: ListSpace> Kernel<S> {
     /// Set a: answers a.
-    fn set(&mut self, t: TaskId, call: &Call)
-        requires { t < length self.old.scripts.programs }
-        ensures { (tape : Tape) → Follows (does_set t (call_view call.now)) self.old self.new tape tape }
+    pub(crate) fn set(&mut self, caller: &Caller, call: &Call)
+        requires { IsCaller (length self.old.scripts.programs) caller.now }
+        ensures { (tape : Tape) → Follows (does_set_by (caller_view caller.now) (call_view call.now)) self.old self.new tape tape }
     {
-        self.silent(t, call, call.number(0));
+        self.silent_by(caller, call, call.number(0));
     }
 
     /// Add a b: answers the sum.
-    fn add_words(&mut self, t: TaskId, call: &Call)
-        requires { t < length self.old.scripts.programs }
-        ensures { (tape : Tape) → Follows (does_add t (call_view call.now)) self.old self.new tape tape }
+    pub(crate) fn add_words(&mut self, caller: &Caller, call: &Call)
+        requires { IsCaller (length self.old.scripts.programs) caller.now }
+        ensures { (tape : Tape) → Follows (does_add_by (caller_view caller.now) (call_view call.now)) self.old self.new tape tape }
     {
-        self.silent(t, call, call.number(0).wrapping_add(call.number(1)));
+        self.silent_by(caller, call, call.number(0).wrapping_add(call.number(1)));
     }
 
     /// Sub a b: answers the difference.
-    fn sub_words(&mut self, t: TaskId, call: &Call)
-        requires { t < length self.old.scripts.programs }
-        ensures { (tape : Tape) → Follows (does_sub t (call_view call.now)) self.old self.new tape tape }
+    pub(crate) fn sub_words(&mut self, caller: &Caller, call: &Call)
+        requires { IsCaller (length self.old.scripts.programs) caller.now }
+        ensures { (tape : Tape) → Follows (does_sub_by (caller_view caller.now) (call_view call.now)) self.old self.new tape tape }
     {
-        self.silent(t, call, call.number(0).wrapping_sub(call.number(1)));
+        self.silent_by(caller, call, call.number(0).wrapping_sub(call.number(1)));
     }
 
     /// And a b: answers the bits that both have.
-    fn and_words(&mut self, t: TaskId, call: &Call)
-        requires { t < length self.old.scripts.programs }
-        ensures { (tape : Tape) → Follows (does_and t (call_view call.now)) self.old self.new tape tape }
+    pub(crate) fn and_words(&mut self, caller: &Caller, call: &Call)
+        requires { IsCaller (length self.old.scripts.programs) caller.now }
+        ensures { (tape : Tape) → Follows (does_and_by (caller_view caller.now) (call_view call.now)) self.old self.new tape tape }
     {
-        self.silent(t, call, call.number(0) & call.number(1));
+        self.silent_by(caller, call, call.number(0) & call.number(1));
     }
 
     /// Or a b: answers the bits that either has.
-    fn or_words(&mut self, t: TaskId, call: &Call)
-        requires { t < length self.old.scripts.programs }
-        ensures { (tape : Tape) → Follows (does_or t (call_view call.now)) self.old self.new tape tape }
+    pub(crate) fn or_words(&mut self, caller: &Caller, call: &Call)
+        requires { IsCaller (length self.old.scripts.programs) caller.now }
+        ensures { (tape : Tape) → Follows (does_or_by (caller_view caller.now) (call_view call.now)) self.old self.new tape tape }
     {
-        self.silent(t, call, call.number(0) | call.number(1));
+        self.silent_by(caller, call, call.number(0) | call.number(1));
     }
 
     /// Task t goes on at that place.
@@ -115,11 +115,11 @@ impl<S: ListSpace> Kernel<S> {
         ensures { Follows (does_plain word t (call_view call.now)) self.old self.new (W.tape out.old) (W.tape out.new) }
     {
         match word {
-            PlainWord::Set => self.set(t, call),
-            PlainWord::Add => self.add_words(t, call),
-            PlainWord::Sub => self.sub_words(t, call),
-            PlainWord::And => self.and_words(t, call),
-            PlainWord::Or => self.or_words(t, call),
+            PlainWord::Set => self.set(&Caller::Task(t), call),
+            PlainWord::Add => self.add_words(&Caller::Task(t), call),
+            PlainWord::Sub => self.sub_words(&Caller::Task(t), call),
+            PlainWord::And => self.and_words(&Caller::Task(t), call),
+            PlainWord::Or => self.or_words(&Caller::Task(t), call),
             PlainWord::Jump => self.jump(t, call),
             PlainWord::JumpZ => self.jump_zero(t, call),
             PlainWord::JumpNZ => self.jump_not_zero(t, call),

@@ -12,15 +12,15 @@ ghost use Rattle.execmodel.specs.Memory.{placed};
 ghost use Rattle.execmodel.specs.Objects.{place_for_object};
 ghost use Rattle.execmodel.specs.Tasks.{is_priority};
 ghost use Rattle.execmodel.specs.Ports.{add_port_alert, content_of, is_called, is_port, looked, loses, message_alert, port_or_none, port_size, does_ports};
-ghost use Rattle.execmodel.specs.Ports.{does_create_msg_port, does_delete_msg_port, does_add_port, does_rem_port, does_find_port, does_port_signal, does_port_ignore};
-ghost use Rattle.execmodel.specs.Ports.{does_new_msg, does_free_msg, does_msg_word, does_set_msg_word, does_msg_type, does_put_msg, does_get_msg, does_wait_port, does_reply_msg};
+ghost use Rattle.execmodel.specs.Ports.{does_create_msg_port, does_delete_msg_port, does_add_port, does_rem_port, does_find_port, does_port_signal, does_port_cause, does_port_ignore};
+ghost use Rattle.execmodel.specs.Ports.{does_new_msg, does_free_msg, does_msg_word, does_set_msg_word, does_msg_type, does_put_msg_by, does_get_msg_by, does_wait_port, does_reply_msg_by};
 ghost use Rattle.execheap.specs.Listing.{listed};
 ghost use Rattle.execheap.specs.Refusals.{alert_of};
-ghost use Rattle.execsim.specs.Actions.{given_back_or_alerted, performed, performed_or_alerted};
+ghost use Rattle.execsim.specs.Actions.{given_back_or_alerted, performed, performed_or_alerted_by};
 ghost use Rattle.execsim.specs.Agreement.{Follows};
-ghost use Rattle.execsim.specs.Views.{call_view};
+ghost use Rattle.execsim.specs.Views.{IsCaller, call_view, caller_view};
 
-use crate::command::Call;
+use crate::command::{Call, Caller};
 use crate::kernel::Kernel;
 use crate::tasks::is_priority;
 use execheap::Refusal;
@@ -34,7 +34,7 @@ use taskscript::PortWord;
 const ANY_SIGNAL: u32 = 0xffff_ffff;
 
 /// A name, or the empty one where none is given.
-fn name_or_empty(name: Option<Name>) -> Name
+pub(crate) fn name_or_empty(name: Option<Name>) -> Name
     ensures { result.bytes ≡ unwrap_or (option_map (λ n. n.bytes) name) [] }
 {
     match name {
@@ -208,6 +208,18 @@ impl<S: ListSpace> Kernel<S> {
         self.concluded(tried, t, call, out);
     }
 
+    /// PortCause port name: the port causes the software interrupt of that name. HANDLE where no port begins there (RKM Libraries, Exec
+    /// Messages and Ports: mp_Flags, PA_SOFTINT; that there is a call for it: own choice).
+    fn port_cause<W: Sink>(&mut self, t: TaskId, call: &Call, out: &mut W)
+        requires { t < length self.old.scripts.programs }
+        ensures { Follows (does_port_cause t (call_view call.now)) self.old self.new (W.tape out.old) (W.tape out.new) }
+    {
+        let port = call.number(0);
+        let i = self.softint_named(name_or_empty(call.name(1)));
+        let tried = self.memory.set_action(port, PortAction::Cause(i));
+        self.concluded(tried, t, call, out);
+    }
+
     /// PortIgnore port: the port does nothing where a message arrives. HANDLE where no port begins there (RKM Libraries, Exec Messages and
     /// Ports: mp_Flags, PA_IGNORE; that there is a call for it: own choice).
     fn port_ignore<W: Sink>(&mut self, t: TaskId, call: &Call, out: &mut W)
@@ -307,65 +319,66 @@ impl<S: ListSpace> Kernel<S> {
     {
         match action {
             Action::Signal(task, mask) => self.signal_any(task, mask),
+            Action::Cause(i) => self.cause(i),
             Action::Nothing => {}
         }
     }
 
-    /// A call that puts a message: what is to be done for it is done, or the call is refused by its alert.
+    /// A call that puts a message, of a task or of a body: what is to be done for it is done, or the call is refused by its alert.
     fn performed<W: Sink>(
         &mut self,
         tried: Result<Action, Refusal>,
-        t: TaskId,
+        caller: &Caller,
         call: &Call,
         out: &mut W,
     )
-        requires { t < length self.old.scripts.programs }
-        ensures { Follows (performed_or_alerted tried t (call_view call.now)) self.old self.new (W.tape out.old) (W.tape out.new) }
+        requires { IsCaller (length self.old.scripts.programs) caller.now }
+        ensures { Follows (performed_or_alerted_by tried (caller_view caller.now) (call_view call.now)) self.old self.new (W.tape out.old) (W.tape out.new) }
     {
         match tried {
             Ok(action) => {
                 self.perform(action);
-                self.done(t, call, out);
+                self.done_by(caller, call, out);
             }
-            Err(why) => self.refused(why, t, call, out),
+            Err(why) => self.refused_by(why, caller, call, out),
         }
     }
 
     /// PutMsg port message: puts a message at a port, behind those that it has. HANDLE where either is none, LINK where a port has the
     /// message (autodoc exec.library/PutMsg; the alerts: own choice).
-    fn put_msg<W: Sink>(&mut self, t: TaskId, call: &Call, out: &mut W)
-        requires { t < length self.old.scripts.programs }
-        ensures { Follows (does_put_msg t (call_view call.now)) self.old self.new (W.tape out.old) (W.tape out.new) }
+    pub(crate) fn put_msg<W: Sink>(&mut self, caller: &Caller, call: &Call, out: &mut W)
+        requires { IsCaller (length self.old.scripts.programs) caller.now }
+        ensures { Follows (does_put_msg_by (caller_view caller.now) (call_view call.now)) self.old self.new (W.tape out.old) (W.tape out.new) }
     {
         let port = call.number(0);
         let message = call.number(1);
         let tried = self.memory.put_message(port, message);
-        self.performed(tried, t, call, out);
+        self.performed(tried, caller, call, out);
     }
 
     /// ReplyMsg message: puts a message at its reply port; one without gets the type NT_FREEMSG. HANDLE where no message begins there,
     /// LINK where a port has it, HANDLE where no port begins at its reply port's address (autodoc exec.library/ReplyMsg; the alerts: own
     /// choice).
-    fn reply_msg<W: Sink>(&mut self, t: TaskId, call: &Call, out: &mut W)
-        requires { t < length self.old.scripts.programs }
-        ensures { Follows (does_reply_msg t (call_view call.now)) self.old self.new (W.tape out.old) (W.tape out.new) }
+    pub(crate) fn reply_msg<W: Sink>(&mut self, caller: &Caller, call: &Call, out: &mut W)
+        requires { IsCaller (length self.old.scripts.programs) caller.now }
+        ensures { Follows (does_reply_msg_by (caller_view caller.now) (call_view call.now)) self.old self.new (W.tape out.old) (W.tape out.new) }
     {
         let message = call.number(0);
         let tried = self.memory.reply_message(message);
-        self.performed(tried, t, call, out);
+        self.performed(tried, caller, call, out);
     }
 
     // ---- taking and waiting
 
     /// GetMsg port: answers the first message, which leaves the port, or 0. HANDLE where no port begins there (autodoc
     /// exec.library/GetMsg; the alert: own choice).
-    fn get_msg<W: Sink>(&mut self, t: TaskId, call: &Call, out: &mut W)
-        requires { t < length self.old.scripts.programs }
-        ensures { Follows (does_get_msg t (call_view call.now)) self.old self.new (W.tape out.old) (W.tape out.new) }
+    pub(crate) fn get_msg<W: Sink>(&mut self, caller: &Caller, call: &Call, out: &mut W)
+        requires { IsCaller (length self.old.scripts.programs) caller.now }
+        ensures { Follows (does_get_msg_by (caller_view caller.now) (call_view call.now)) self.old self.new (W.tape out.old) (W.tape out.new) }
     {
         let port = call.number(0);
         let tried = self.memory.take_message(port);
-        self.concluded_with(tried, t, call, out);
+        self.concluded_by(tried, caller, call, out);
     }
 
     /// The running task clears its signals of the mask, and waits for new ones.
@@ -427,6 +440,7 @@ impl<S: ListSpace> Kernel<S> {
     }
 
     /// A call of task t on ports and messages, by its word.
+    #[tactic(auto, unfolding(execmodel::specs::Ports::does_put_msg, execmodel::specs::Ports::does_get_msg, execmodel::specs::Ports::does_reply_msg))]
     pub(crate) fn does_ports<W: Sink>(
         &mut self,
         word: PortWord,
@@ -445,16 +459,17 @@ impl<S: ListSpace> Kernel<S> {
             PortWord::RemPort => self.rem_port(t, call, out),
             PortWord::FindPort => self.find_port(t, call, out),
             PortWord::PortSignal => self.port_signal(t, call, out),
+            PortWord::PortCause => self.port_cause(t, call, out),
             PortWord::PortIgnore => self.port_ignore(t, call, out),
             PortWord::NewMsg => self.new_msg(t, call, out),
             PortWord::FreeMsg => self.free_msg(t, call, out),
             PortWord::MsgWord => self.msg_word(t, call, out),
             PortWord::SetMsgWord => self.set_msg_word(t, call, out),
             PortWord::MsgType => self.msg_type(t, call, out),
-            PortWord::PutMsg => self.put_msg(t, call, out),
-            PortWord::GetMsg => self.get_msg(t, call, out),
+            PortWord::PutMsg => self.put_msg(&Caller::Task(t), call, out),
+            PortWord::GetMsg => self.get_msg(&Caller::Task(t), call, out),
             PortWord::WaitPort => self.wait_port(t, call, out),
-            PortWord::ReplyMsg => self.reply_msg(t, call, out),
+            PortWord::ReplyMsg => self.reply_msg(&Caller::Task(t), call, out),
         }
     }
 }

@@ -4,11 +4,11 @@ ghost use Rattle.std.specs.Int.{cast_signed, cast_unsigned, w32};
 ghost use Rattle.scheduler.specs.Dispatch.{signalled as signalled_in_order};
 ghost use Rattle.scheduler.specs.Schedule.{signals_of, come_for, after_wait, allocates, frees, sets_signals};
 ghost use Rattle.signals.specs.Signals.{grant, grant_number, is_own_signal};
-ghost use Rattle.execmodel.specs.Signals.{is_mask, does_alloc_signal, does_free_signal, does_set_signal, does_signal, does_wait, does_signals};
+ghost use Rattle.execmodel.specs.Signals.{is_mask, does_alloc_signal, does_free_signal, does_set_signal, does_signal_by, does_wait, does_signals};
 ghost use Rattle.execsim.specs.Agreement.{Follows};
-ghost use Rattle.execsim.specs.Views.{call_view};
+ghost use Rattle.execsim.specs.Views.{IsCaller, call_view, caller_view};
 
-use crate::command::Call;
+use crate::command::{Call, Caller};
 use crate::kernel::Kernel;
 use execlist::space::ListSpace;
 use exectrace::Sink;
@@ -123,20 +123,21 @@ impl<S: ListSpace> Kernel<S> {
         self.sched.wait(mask)
     }
 
-    /// Signal t mask (autodoc exec.library/Signal).
-    fn signal<W: Sink>(&mut self, t: TaskId, call: &Call, out: &mut W)
-        requires { t < length self.old.scripts.programs }
-        ensures { Follows (does_signal t (call_view call.now)) self.old self.new (W.tape out.old) (W.tape out.new) }
+    /// Signal t mask: the task of that number receives the signals of the mask. HANDLE where there is no such task, MASK where the mask
+    /// holds a signal that scripts may not name (autodoc exec.library/Signal; the alerts: own choice).
+    pub(crate) fn signal<W: Sink>(&mut self, caller: &Caller, call: &Call, out: &mut W)
+        requires { IsCaller (length self.old.scripts.programs) caller.now }
+        ensures { Follows (does_signal_by (caller_view caller.now) (call_view call.now)) self.old self.new (W.tape out.old) (W.tape out.new) }
     {
         let other = call.number(0);
         let mask = call.number(1);
         if !self.is_task(other) {
-            self.alerted("HANDLE", t, call, out);
+            self.alerted_by("HANDLE", caller, call, out);
         } else if !is_mask(mask) {
-            self.alerted("MASK", t, call, out);
+            self.alerted_by("MASK", caller, call, out);
         } else {
             self.signal_task(other as usize - 1, mask);
-            self.done(t, call, out);
+            self.done_by(caller, call, out);
         }
     }
 
@@ -158,6 +159,7 @@ impl<S: ListSpace> Kernel<S> {
     }
 
     /// A call of task t on signals, by its word.
+    #[tactic(auto, unfolding(execmodel::specs::Signals::does_signal))]
     pub(crate) fn does_signals<W: Sink>(
         &mut self,
         word: SignalWord,
@@ -173,7 +175,7 @@ impl<S: ListSpace> Kernel<S> {
             SignalWord::AllocSignal => self.alloc_signal(t, call, out),
             SignalWord::FreeSignal => self.free_signal(t, call, out),
             SignalWord::SetSignal => self.set_signal(t, call, out),
-            SignalWord::Signal => self.signal(t, call, out),
+            SignalWord::Signal => self.signal(&Caller::Task(t), call, out),
             SignalWord::Wait => self.wait(t, call, out),
         }
     }
