@@ -1,5 +1,5 @@
 -- Actions that follow one another, and the actions of one layer.
-use Rattle.std.proofs.Common.{◌≡◌, ◌≢◌, ◌⊎◌, inl, inr, refl, Bool, true, false, ap, sym, ◌∙◌, subst, append-nil}
+use Rattle.std.proofs.Common.{◌≡◌, ◌≢◌, ℕ, length, ◌⊎◌, inl, inr, refl, Bool, true, false, ap, sym, ◌∙◌, subst, append-nil}
 use Rattle.std.proofs.lemmas.Grind.{flat_map-append}
 use Rattle.exectrace.specs.Sink.{Tape, Puts}
 use Rattle.exectrace.specs.declared.sinks.SinkState.{SinkState}
@@ -8,7 +8,11 @@ use Rattle.exectrace.specs.Trace.{TraceLine, printed_line, printed}
 use Rattle.exectrace.proofs.Pieces.{puts_none, puts_nothing, puts_then, put_same}
 use Rattle.scheduler.specs.Schedule.{Schedule}
 use Rattle.execmodel.specs.State.{State, Bodies, Scripts, Memory, Pending, Outcome, Mark, leaving, quiet, says, andthen, unless_stopped, on_schedule, on_scripts, on_memory, on_pending}
+use Rattle.execmodel.specs.Pending.{causes, taken_off, with_caused, with_latch_of}
+use Rattle.softint.specs.declared.source.Source.{Source}
+use Rattle.execsim.specs.Actions.{caused, with_caused as seen_with_caused}
 use Rattle.execsim.specs.Agreement.{Seen, Agrees, Follows, FollowsWhileGood, Moves, in_order, ports_in_order, caused_in_order}
+use Rattle.execsim.proofs.Ordering.{caused-in_order, taken_off-in_order}
 
 -- What the state that is agreed with holds, by what the machine shows.
 
@@ -107,6 +111,16 @@ moves_pending {m} next seen commutes is = record {
   };
 }
 
+pub moves_caused : {m n : Seen} (i : ℕ) → n ≡ caused i m → Moves (causes i) m n
+unfolding causes
+moves_caused {m} i is = moves_pending (λ b. with_caused i (length b.softints)) (seen_with_caused i m.bodies.softints) (caused-in_order i m.bodies.softints) is
+
+pub moves_taken_off : {m n : Seen} (i : ℕ) → n ≡ record m { pending = taken_off i m.pending } → Moves (on_pending (taken_off i)) m n
+moves_taken_off {m} i is = moves_pending (λ b. taken_off i) (taken_off i) (taken_off-in_order i m.bodies.softints) is
+
+pub moves_latch : {m n : Seen} (asks : Source) (set : Bool) → n ≡ record m { pending = with_latch_of asks set m.pending } → Moves (on_pending (with_latch_of asks set)) m n
+moves_latch asks set is = moves_pending (λ b. with_latch_of asks set) (with_latch_of asks set) (λ y. refl) is
+
 pub moves_nowhere : (m : Seen) → Moves (λ s. s) m m
 moves_nowhere m = record { agrees = λ s a. a }
 
@@ -142,6 +156,10 @@ follows_saying {a = a} {b = b} said same puts moves = record {
   agrees = moves.agrees;
   prints = λ s e. put_same _ (subst (λ l. Puts a b (printed_line l)) (sym (same s e)) puts) (append-nil _);
 }
+
+-- one line is printed, and nothing else is done
+pub follows_says : {m : Seen} {a b : Tape} (line : TraceLine) → Puts a b (printed_line line) → Follows (says line) m m a b
+follows_says {m} line puts = follows_saying line (λ s e. refl) puts (moves_nowhere m)
 
 -- a change of the state, and then an action
 pub follows_change : {f : State → State} {g : State → Outcome} {m n o : Seen} {a b : Tape} → Moves f m n → Follows g n o a b → Follows (λ s. g (f s)) m o a b

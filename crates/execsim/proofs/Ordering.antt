@@ -1,7 +1,8 @@
--- The scheduler keeps its ready tasks in the order in which they are to run, the abstract machine in order of arrival: each change
--- of a schedule goes the same way in both.
-use Rattle.std.proofs.Common.{◌≡◌, ◌≢◌, ℕ, zero, suc, ◌+◌, ◌<◌, ℤ, List, [], ◌∷◌, length, get_or, slice_set, Bool, true, false, cond, Option, None, Some, refl, ap, sym, ◌∙◌, subst, arith}
+-- The scheduler keeps its ready tasks in the order in which they are to run, and so are the caused software interrupts kept; the abstract
+-- machine has both in order of arrival: each change of a schedule or of the pending interrupts goes the same way in both.
+use Rattle.std.proofs.Common.{◌≡◌, ◌≢◌, ℕ, zero, suc, ◌+◌, ◌<◌, ℤ, List, [], ◌∷◌, length, get_or, slice_set, Bool, true, false, ◌&&◌, ◌||◌, nat_lt, cond, Option, None, Some, refl, ap, sym, ◌∙◌, subst, arith}
 use Rattle.std.specs.Prelude.{pos, not, if◌then◌else◌, ◌==◌, fold}
+use Rattle.std.specs.List.{list_any}
 use Rattle.std.proofs.lemmas.Bool.{cond-true, eq-eqb}
 use Rattle.std.proofs.lemmas.List.{get_or-set_other}
 use Rattle.execlist.specs.Lists.{times}
@@ -13,8 +14,16 @@ use Rattle.scheduler.specs.Schedule.{Schedule, status_of, signals_of, with_prior
 use Rattle.scheduler.specs.Dispatch as dispatch
 use Rattle.scheduler.specs.declared.Switch.{Switch}
 use Rattle.scheduler.specs.declared.Switch.TheVariants.{To, Idle}
+use Rattle.taskscript.specs.File.{SoftintData}
+use Rattle.softint.specs.declared.source.Source.{Source}
+use Rattle.softint.specs.declared.source.Source.TheVariants as source
+use Rattle.execmodel.specs.State.{Pending}
 use Rattle.execmodel.specs.Scheduling as model
-use Rattle.execsim.specs.Agreement.{in_order}
+use Rattle.execmodel.specs.Interrupts.{counted}
+use Rattle.execmodel.specs.Pending as pending
+use Rattle.execmodel.specs.Pending.{is_caused, softint_pri}
+use Rattle.execsim.specs.Actions.{with_caused}
+use Rattle.execsim.specs.Agreement.{caused_in_order, in_order}
 
 -- a schedule with other ready tasks
 abbrev with_ready : List ℕ → Schedule → Schedule
@@ -157,3 +166,57 @@ ticked_for-in_order (Some r) y = refl
 pub ticked-in_order : (y : Schedule) → ticked (in_order y) ≡ in_order (ticked y)
 unfolding ticked
 ticked-in_order y = ticked_for-in_order y.running y
+
+pub counted-in_order : (asks : Source) (y : Schedule) → counted asks (in_order y) ≡ in_order (counted asks y)
+counted-in_order source.Ports y = refl
+counted-in_order source.Vertb y = ticked-in_order y
+counted-in_order source.Exter y = refl
+
+-- Pending interrupts.
+
+any_put : (key : ℕ → ℤ) (test : ℕ → Bool) (ys : List ℕ) (x : ℕ) → list_any test (enqueue key ys x) ≡ (test x || list_any test ys)
+any_put key test [] x = refl
+any_put key test (y ∷ ys) x = split (any_put key test ys x) (is_lower key y x) where
+  swap : (a b c : Bool) → (a || (b || c)) ≡ (b || (a || c))
+  swap true true c = refl
+  swap true false c = refl
+  swap false b c = refl
+
+  split : list_any test (enqueue key ys x) ≡ (test x || list_any test ys) → (lower : Bool)
+      → list_any test (cond lower (x ∷ y ∷ ys) (y ∷ enqueue key ys x)) ≡ (test x || (test y || list_any test ys))
+  split before true = refl
+  split before false = ap (λ (b : Bool). test y || b) before ∙ swap (test y) (test x) (list_any test ys)
+
+any_all_put : (key : ℕ → ℤ) (test : ℕ → Bool) (s xs : List ℕ) → list_any test (fold (enqueue key) s xs) ≡ (list_any test s || list_any test xs)
+any_all_put key test s [] = or_false (list_any test s) where
+  or_false : (b : Bool) → b ≡ (b || false)
+  or_false true = refl
+  or_false false = refl
+any_all_put key test s (x ∷ xs) =
+    any_all_put key test (enqueue key s x) xs ∙ ap (λ (b : Bool). b || list_any test xs) (any_put key test s x) ∙ moved (test x) (list_any test s) (list_any test xs)
+  where
+    moved : (a b c : Bool) → ((a || b) || c) ≡ (b || (a || c))
+    moved true true c = refl
+    moved true false c = refl
+    moved false b c = refl
+
+any_in_order : (key : ℕ → ℤ) (test : ℕ → Bool) (xs : List ℕ) → list_any test (order key xs) ≡ list_any test xs
+unfolding order
+any_in_order key test xs = any_all_put key test [] xs
+
+pub caused-in_order : (i : ℕ) (softints : List SoftintData) (y : Pending)
+    → with_caused i softints (caused_in_order softints y) ≡ caused_in_order softints (pending.with_caused i (length softints) y)
+caused-in_order i softints y =
+    ap (λ (b : Bool). put (nat_lt i (length softints) && not b)) (any_in_order (softint_pri softints) (λ other. other == i) y.caused)
+    ∙ by_case (nat_lt i (length softints) && not (is_caused i y))
+  where
+    put : Bool → Pending
+    put b = cond b (record y { caused = enqueue (softint_pri softints) (order (softint_pri softints) y.caused) i }) (caused_in_order softints y)
+
+    by_case : (b : Bool) → put b ≡ caused_in_order softints (cond b (pending.arrived i y) y)
+    by_case true = ap (λ caused. record y { caused = caused }) (sym (order_takes ℕ (softint_pri softints) y.caused i))
+    by_case false = refl
+
+pub taken_off-in_order : (i : ℕ) (softints : List SoftintData) (y : Pending)
+    → pending.taken_off i (caused_in_order softints y) ≡ caused_in_order softints (pending.taken_off i y)
+taken_off-in_order i softints y = ap (λ caused. record y { caused = caused }) (sym (order_leaves_out ℕ (softint_pri softints) (λ x. not (x == i)) y.caused))

@@ -1,31 +1,220 @@
--- How the machine follows the serving of interrupts.
-use Rattle.std.proofs.Common.{◌≡◌, ◌&&◌, true, false, refl, ap, sym, ◌∙◌}
-use Rattle.std.specs.Prelude.{codes}
+-- How the machine follows the causing, the requests and the serving of interrupts.
+use Rattle.std.proofs.Common.{◌≡◌, ℕ, zero, suc, ◌+◌, ◌-◌, ◌<◌, ◌≤◌, Bool, true, false, cond, not, ◌&&◌, ◌||◌, ◌==◌, nat_lt, List, [], ◌∷◌, length, map, drop, Option, None, Some, refl, ap, sym, ◌∙◌, arith}
+use Rattle.std.specs.Prelude.{ℤ, if◌then◌else◌, slice_get}
+use Rattle.std.specs.List.{list_any}
 use Rattle.exectrace.specs.Sink.{Tape, Puts}
 use Rattle.exectrace.specs.Trace.{printed_line, Serve}
-use Rattle.scheduler.specs.Schedule.{ticked, is_interrupting_allowed}
-use Rattle.execmodel.specs.State.{State, quiet, on_schedule}
-use Rattle.execmodel.specs.Interrupts.{on_latch, is_due, serves, interrupts}
+use Rattle.execlist.specs.Lists.{times}
+use Rattle.execlist.specs.Order.{chosen, enqueue, first, without}
+use Rattle.execlist.proofs.OrderLaws.{first_of_order}
+use Rattle.taskscript.specs.File.{ServerData}
+use Rattle.scheduler.specs.Schedule.{Schedule}
+use Rattle.softint.specs.declared.source.Source.{Source}
+use Rattle.softint.specs.Sources.{highest}
+use Rattle.softint.specs.Interrupts as ints
+use Rattle.softint.specs.Interrupts.{Interrupts, pri_at}
+use Rattle.execmodel.specs.State.{Bodies, Pending, State, Outcome, quiet, says, andthen, unless_stopped, on_pending, on_schedule}
+use Rattle.execmodel.specs.Interrupts.{by_choice, chain_of, counted, interrupts, runs_chain, runs_server, server_at, server_pri, servers_of, serves, servings, text_of_source}
+use Rattle.execmodel.specs.Pending.{allows_interrupts, is_caused, next_softint, next_source, softint_pri, taken_off, with_latch_of}
+use Rattle.execsim.specs.Actions.{served, softint_seen, source_seen, with_caused}
 use Rattle.execsim.specs.Agreement.{Seen, Agrees, Follows}
-use Rattle.execsim.proofs.Following.{reads_schedule, moves_schedule, moves_latch, moves_then, follows_as, follows_nothing, follows_saying}
-use Rattle.execsim.proofs.Ordering.{allowed-in_order, ticked-in_order}
+use Rattle.execsim.specs.Views.{IsFor, interrupting}
+use Rattle.execsim.proofs.Following.{follows_as, follows_change, follows_known, follows_nothing, follows_says, follows_then, guarded_going, guarded_stopped, moves_latch, moves_schedule}
+use Rattle.execsim.proofs.Keeping.{server_keeps}
+use Rattle.execsim.proofs.Ordering.{allowed-in_order, counted-in_order}
 
-pub serves_as : {m n o : Seen} {a b : Tape} → n ≡ record m { latched = false } → o ≡ record n { schedule = ticked n.schedule }
-    → Puts a b (printed_line (Serve (codes "VERTB"))) → Follows serves m o a b
-unfolding serves
-serves_as cleared counted puts = follows_saying (Serve (codes "VERTB")) (λ s e. refl) puts
-    (moves_then {f = on_latch false} {g = on_schedule ticked} (moves_latch false cleared) (moves_schedule ticked ticked ticked-in_order counted))
+-- ---- causing
 
--- the same interrupts are due
-due_same : {m : Seen} (s : State) → Agrees m s → is_due s.latched s.schedule ≡ is_due m.latched m.schedule
-due_same {m} s e =
-    ap (λ l. l && is_interrupting_allowed s.schedule.running s.schedule) (sym e.latched)
-    ∙ reads_schedule (λ y. m.latched && is_interrupting_allowed y.running y) (λ y. ap (λ b. m.latched && b) (allowed-in_order y.running y)) refl s e
+any_stands : (i : ℕ) (xs : List ℕ) → not (times i xs == 0) ≡ list_any (λ other. other == i) xs
+any_stands i [] = refl
+any_stands i (x ∷ xs) = by_case (x == i) (any_stands i xs) where
+  by_case : (b : Bool) → not (times i xs == 0) ≡ list_any (λ other. other == i) xs
+      → not (cond b (suc (times i xs)) (times i xs) == 0) ≡ (b || list_any (λ other. other == i) xs)
+  by_case true ih = refl
+  by_case false ih = ih
 
-pub interrupts_due : {m n : Seen} {a b : Tape} → is_due m.latched m.schedule ≡ true → Follows serves m n a b → Follows interrupts m n a b
-interrupts_due due follows = follows_as {g = serves}
-    (λ s e. let same : is_due s.latched s.schedule ≡ true = due_same s e ∙ due in rw same refl) follows
+-- what calls on interrupts see of those that are pending
+abbrev pub pending_of : Interrupts → Pending
+pending_of m = record { caused = m.caused; latches = m.latches }
 
-pub interrupts_none : {m : Seen} (t : Tape) → is_due m.latched m.schedule ≡ false → Follows interrupts m m t t
-interrupts_none {m} t none = follows_as {g = quiet}
-    (λ s e. let same : is_due s.latched s.schedule ≡ false = due_same s e ∙ none in rw same refl) (follows_nothing m t)
+pub causes_known : (i : ℕ) (m : Interrupts) (bodies : Bodies) → IsFor bodies m → nat_lt i (length bodies.softints) ≡ true
+    → pending_of (ints.causes i m) ≡ with_caused i bodies.softints (pending_of m)
+causes_known i m bodies of known =
+    by_case (ints.is_caused i m)
+    ∙ ap put (ap (λ (b : Bool). b && not (ints.is_caused i m)) (sym known) ∙ ap (λ (b : Bool). nat_lt i (length bodies.softints) && not b) (any_stands i m.caused))
+  where
+    put : Bool → Pending
+    put b = cond b (record { caused = enqueue (softint_pri bodies.softints) m.caused i; latches = m.latches }) (pending_of m)
+
+    by_case : (b : Bool) → pending_of (cond b m (record m { caused = enqueue (pri_at m.priorities) m.caused i })) ≡ put (true && not b)
+    by_case true = refl
+    by_case false = ap (λ pris. record { caused = enqueue (pri_at pris) m.caused i; latches = m.latches }) of.priorities
+
+pub causes_unknown : (i : ℕ) (m : Seen) → nat_lt i (length m.bodies.softints) ≡ false → m.pending ≡ with_caused i m.bodies.softints m.pending
+causes_unknown i m unknown = ap (λ (b : Bool). cond (b && not (is_caused i m.pending)) (record m.pending { caused = enqueue (softint_pri m.bodies.softints) m.pending.caused i }) m.pending) (sym unknown)
+
+-- ---- which one is next
+
+module _ {m : Seen} (s : State) (a : Agrees m s) where
+  allowed_same : allows_interrupts m.schedule ≡ allows_interrupts s.schedule
+  allowed_same = ap (λ (y : Schedule). allows_interrupts y) a.schedule ∙ allowed-in_order s.schedule.running s.schedule
+
+  pub softint_same : next_softint s ≡ softint_seen m
+  unfolding next_softint
+  softint_same = sym (
+      ap (λ (b : Bool). if b then first m.pending.caused else None) allowed_same
+      ∙ ap (λ (p : Pending). if allows_interrupts s.schedule then first p.caused else None) a.pending
+      ∙ ap (λ (c : Option ℕ). if allows_interrupts s.schedule then c else None) (first_of_order ℕ (softint_pri s.bodies.softints) s.pending.caused))
+
+  pub source_same : next_source s ≡ source_seen m
+  unfolding next_source
+  source_same = sym (
+      ap (λ (b : Bool). if b then highest m.pending.latches else None) allowed_same
+      ∙ ap (λ (p : Pending). if allows_interrupts s.schedule then highest p.latches else None) a.pending)
+
+-- ---- the servers of a source
+
+unclaimed : Bool → List ℕ → State → Outcome
+unclaimed last others = if last then quiet else runs_chain others
+
+-- where a chain goes on: with the server at a place, or not at all
+drop_none : (xs : List ℕ) (place : ℕ) → slice_get xs place ≡ None → drop place xs ≡ []
+drop_none [] zero e = refl
+drop_none [] (suc n) e = refl
+drop_none (x ∷ xs) zero e = absurd cc
+drop_none (x ∷ xs) (suc n) e = drop_none xs n e
+
+drop_some : (xs : List ℕ) (place k : ℕ) → slice_get xs place ≡ Some k → drop place xs ≡ k ∷ drop (suc place) xs
+drop_some [] place k e = absurd cc
+drop_some (x ∷ xs) zero k e = let same : x ≡ k = cc in ap (λ y. y ∷ xs) same
+drop_some (x ∷ xs) (suc n) k e = drop_some xs n k e
+
+chain_within : (n : ℕ) (key : ℕ → ℤ) (left : List ℕ) → length (by_choice n key left) ≤ n
+unfolding by_choice
+chain_within zero key left = omega arith
+chain_within (suc n) key left = by_case (chosen key left) where
+  by_case : (k : Option ℕ) → length (elim k as (λ (x : Option ℕ). List ℕ) [ None ↦ [] | Some k ↦ k ∷ by_choice n key (without k left) ]) ≤ suc n
+  by_case None = omega arith
+  by_case (Some k) = let rest = chain_within n key (without k left) in omega (arith, rest)
+
+drop_all : (xs : List ℕ) (n : ℕ) → length xs ≤ n → drop n xs ≡ []
+drop_all [] zero e = refl
+drop_all [] (suc n) e = refl
+drop_all (x ∷ xs) zero e = absurd (omega (arith, e))
+drop_all (x ∷ xs) (suc n) e = drop_all xs n (omega (arith, e))
+
+pub chain_ends : (asks : Source) (servers : List ServerData) (n : ℕ) → length servers ≤ n → drop n (chain_of asks servers) ≡ []
+unfolding chain_of
+chain_ends asks servers n all =
+    let within = chain_within (length servers) (server_pri servers) (servers_of asks servers) in
+    drop_all (chain_of asks servers) n (omega (arith, all, within))
+
+-- What the machine of a chain does from a place on.
+
+-- the servers of a source from a place of their chain on, by what the machine shows
+abbrev pub rest_of_chain : Source → ℕ → Seen → State → Outcome
+rest_of_chain asks place m = runs_chain (drop place (chain_of asks m.bodies.servers))
+
+pub chain_over : {m : Seen} (asks : Source) (place : ℕ) (t : Tape) → None ≡ slice_get (chain_of asks m.bodies.servers) place
+    → Follows (rest_of_chain asks place m) m m t t
+unfolding runs_chain
+chain_over {m} asks place t over = follows_as {g = quiet}
+    (λ s e. ap (λ (l : List ℕ). runs_chain l s) (drop_none (chain_of asks m.bodies.servers) place (sym over))) (follows_nothing m t)
+
+pub chain_at_end : {m : Seen} (asks : Source) (place : ℕ) (t : Tape) → length m.bodies.servers ≤ place → Follows (rest_of_chain asks place m) m m t t
+unfolding runs_chain
+chain_at_end {m} asks place t all = follows_as {g = quiet}
+    (λ s e. ap (λ (l : List ℕ). runs_chain l s) (chain_ends asks m.bodies.servers place all)) (follows_nothing m t)
+
+-- a server of the chain runs, and what follows
+chain_runs : {m n o : Seen} {a b c : Tape} (asks : Source) (place k : ℕ) → Some k ≡ slice_get (chain_of asks m.bodies.servers) place
+    → Follows (runs_server k) m n a b
+    → Follows (unless_stopped (unclaimed (server_at k m.bodies).claim (drop (suc place) (chain_of asks m.bodies.servers)))) n o b c
+    → Follows (rest_of_chain asks place m) m o a c
+unfolding runs_chain
+chain_runs {m} asks place k here runs rest =
+    let chain = chain_of asks m.bodies.servers in
+    let next = drop (suc place) chain in
+    follows_as {g = andthen (runs_server k) (unless_stopped (unclaimed (server_at k m.bodies).claim next))}
+    (λ s e. ap (λ (l : List ℕ). runs_chain l s) (drop_some chain place k (sym here))
+    ∙ ap (λ (b : Bodies). andthen (runs_server k) (unless_stopped (unclaimed (server_at k b).claim next)) s) (sym e.bodies))
+    (follows_then runs rest)
+
+-- it was the last one: it claims the interrupt, or an alert has stopped the machine
+pub chain_stops : {m n : Seen} {a b : Tape} (asks : Source) (place k : ℕ) → Some k ≡ slice_get (chain_of asks m.bodies.servers) place
+    → Follows (runs_server k) m n a b → ((server_at k m.bodies).claim || n.stopped) ≡ true → Follows (rest_of_chain asks place m) m n a b
+chain_stops {m} {n} {a} {b} asks place k here runs last =
+    chain_runs asks place k here runs (by_stopped n.stopped refl (server_at k m.bodies).claim last)
+  where
+    next : List ℕ
+    next = drop (suc place) (chain_of asks m.bodies.servers)
+
+    by_stopped : (stopped : Bool) → n.stopped ≡ stopped → (claim : Bool) → (claim || stopped) ≡ true → Follows (unless_stopped (unclaimed claim next)) n n b b
+    by_stopped true is claim last = guarded_stopped b is
+    by_stopped false is true last = guarded_going is (follows_nothing n b)
+    by_stopped false is false last = absurd cc
+
+-- it was not the last one
+pub chain_goes_on : {m n o : Seen} {a b c : Tape} (asks : Source) (place k : ℕ) → Some k ≡ slice_get (chain_of asks m.bodies.servers) place
+    → Follows (runs_server k) m n a b → ((server_at k m.bodies).claim || n.stopped) ≡ false
+    → Follows (rest_of_chain asks (place + 1) n) n o b c → Follows (rest_of_chain asks place m) m o a c
+chain_goes_on {m} {n} {o} {b = b} {c = c} asks place k here runs goes_on rest =
+    follows_known (λ s e. chain_runs asks place k here runs (by_claim (server_at k m.bodies).claim (neither (server_at k m.bodies).claim n.stopped goes_on)
+    (same_bodies s e)))
+  where
+    neither : (claim stopped : Bool) → (claim || stopped) ≡ false → (claim ≡ false) × (stopped ≡ false)
+    neither true stopped e = absurd cc
+    neither false stopped e = (refl, e)
+
+    -- no server changes the bodies
+    same_bodies : (s : State) → Agrees m s → n.bodies ≡ m.bodies
+    same_bodies s e = (runs.agrees s e).bodies ∙ server_keeps k s ∙ sym e.bodies
+
+    by_claim : (claim : Bool) → (claim ≡ false) × (n.stopped ≡ false) → n.bodies ≡ m.bodies
+        → Follows (unless_stopped (unclaimed claim (drop (suc place) (chain_of asks m.bodies.servers)))) n o b c
+    by_claim true none same = absurd cc
+    by_claim false none same = guarded_going none.1 (follows_as {g = rest_of_chain asks (place + 1) n}
+        (λ s e. ap (λ (x : Bodies). runs_chain (drop (suc place) (chain_of asks x.servers)) s) (sym same)
+        ∙ ap (λ (k : ℕ). runs_chain (drop k (chain_of asks n.bodies.servers)) s) (omega arith)) rest)
+
+-- ---- serving
+
+pub serves_with : {m n o : Seen} {a b c : Tape} (asks : Source) → n ≡ record m { schedule = counted asks m.schedule }
+    → Puts a b (printed_line (Serve (text_of_source asks))) → Follows (runs_chain (chain_of asks n.bodies.servers)) n o b c → Follows (served asks) m o a c
+serves_with {m} {n} asks is puts follows = follows_as
+    {g = λ s. andthen (says (Serve (text_of_source asks))) (runs_chain (chain_of asks n.bodies.servers)) (on_schedule (counted asks) s)}
+    (λ s e. ap (λ (b : Bodies). andthen (says (Serve (text_of_source asks))) (runs_chain (chain_of asks b.servers)) (on_schedule (counted asks) s))
+    (sym e.bodies ∙ sym (ap (λ (x : Seen). x.bodies) is)))
+    (follows_change (moves_schedule (counted asks) (counted asks) (counted-in_order asks) is) (follows_then (follows_says _ puts) follows))
+
+-- so many servings, by the source that is served next
+serving_of : ℕ → Option Source → State → Outcome
+serving_of left None s = quiet s
+serving_of left (Some asks) s = andthen (serves asks) (unless_stopped (servings left)) s
+
+suc_servings : (left : ℕ) (s : State) (asks : Option Source) → next_source s ≡ asks → servings (suc left) s ≡ serving_of left asks s
+unfolding servings
+suc_servings left s None is = rw is refl
+suc_servings left s (Some asks) is = rw is refl
+
+pub all_served : {m n : Seen} {a b : Tape} → Follows (servings 3) m n a b → Follows interrupts m n a b
+unfolding interrupts
+all_served follows = follows
+
+pub no_serving_left : (m : Seen) (t : Tape) → Follows (servings 0) m m t t
+unfolding servings
+no_serving_left m t = follows_nothing m t
+
+module _ {m n : Seen} (left : ℕ) where
+  -- nothing may be served
+  pub nothing_served : (t : Tape) → None ≡ source_seen m → n ≡ record m { pending = m.pending } → Follows (servings (suc left)) m n t t
+  nothing_served t none is = rw is (follows_as {g = quiet}
+      (λ s e. suc_servings left s None (source_same s e ∙ sym none)) (follows_nothing m t))
+
+  -- a source is served, and then others
+  pub source_served : {o p : Seen} {a b c : Tape} (asks : Source) → Some asks ≡ source_seen m → n ≡ record m { pending = with_latch_of asks false m.pending }
+      → Follows (served asks) n o a b → Follows (unless_stopped (servings left)) o p b c → Follows (servings (suc left)) m p a c
+  unfolding serves
+  source_served asks is next serves others = follows_as {g = andthen (λ s. served asks (on_pending (with_latch_of asks false) s)) (unless_stopped (servings left))}
+      (λ s e. suc_servings left s (Some asks) (source_same s e ∙ sym is))
+      (follows_then (follows_change (moves_latch asks false next) serves) others)
