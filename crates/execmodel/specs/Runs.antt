@@ -2,21 +2,24 @@
 use Rattle.std.specs.Prelude.{◌≡◌, ℕ, ℤ, true, false, pos, negsuc, List, [], ◌∷◌, None, Some, codes}
 use Rattle.exectrace.specs.Trace.{printed}
 use Rattle.taskscript.specs.declared.word.Word.{Word}
-use Rattle.taskscript.specs.declared.word.Word.TheVariants.{Plain, Signals, Nesting, Tasks, Memory, Lists, Ports, Semaphores}
+use Rattle.taskscript.specs.declared.word.Word.TheVariants.{Plain, Signals, Nesting, Tasks, Memory, Lists, Ports, Semaphores, Interrupts}
 use Rattle.taskscript.specs.declared.word.plain.PlainWord.TheVariants.{Set, Add, Sub, And, JumpZ, Print}
 use Rattle.taskscript.specs.declared.word.task_signals.SignalWord.TheVariants.{Signal, Wait, SetSignal}
 use Rattle.taskscript.specs.declared.word.nesting.NestingWord.TheVariants.{Forbid, Permit, Disable, Enable}
 use Rattle.taskscript.specs.declared.word.tasks.TaskWord.TheVariants.{SetTaskPri, AddTask, RemTask, FindTask}
 use Rattle.taskscript.specs.declared.variable.Variable.TheVariants.{Private, Shared}
 use Rattle.taskscript.specs.declared.event.Event.{Event}
-use Rattle.taskscript.specs.declared.event.Event.TheVariants.{Run, Tick}
+use Rattle.taskscript.specs.declared.event.Event.TheVariants.{Run, Tick, Irq}
 use Rattle.taskscript.specs.Commands.{ArgumentData, number, variable, place, CommandData, quoted}
-use Rattle.taskscript.specs.File.{MachineData, TaskData}
+use Rattle.taskscript.specs.File.{MachineData, SoftintData, ServerData, TaskData}
+use Rattle.taskscript.specs.declared.source.Source.{Source}
+use Rattle.taskscript.specs.declared.source.Source.TheVariants as source
+use Rattle.taskscript.specs.declared.word.interrupts.InterruptWord.TheVariants.{Cause}
 use Rattle.memlist.specs.declared.region.Region.{Region}
 use Rattle.execmodel.specs.Step.{run}
 use Rattle.taskscript.specs.declared.word.memory.MemoryWord.TheVariants.{AllocMem, AvailMem}
 use Rattle.taskscript.specs.declared.word.lists.ListWord.TheVariants.{NewList, FreeList, NewNode, AddHead, Enqueue, First, Last, Succ}
-use Rattle.taskscript.specs.declared.word.ports.PortWord.TheVariants.{CreateMsgPort, DeleteMsgPort, AddPort, RemPort, FindPort, NewMsg, MsgType, PutMsg, GetMsg, WaitPort, ReplyMsg}
+use Rattle.taskscript.specs.declared.word.ports.PortWord.TheVariants.{CreateMsgPort, DeleteMsgPort, AddPort, RemPort, FindPort, PortCause, NewMsg, MsgType, PutMsg, GetMsg, WaitPort, ReplyMsg}
 use Rattle.taskscript.specs.declared.word.semaphores.SemaphoreWord.{SemaphoreWord}
 use Rattle.taskscript.specs.declared.word.semaphores.SemaphoreWord.TheVariants.{NewSem, FreeSem, ObtainSemaphore, AttemptSemaphore, ReleaseSemaphore}
 use Rattle.execmodel.specs.State.{Mark, put, got, asked, passed, left}
@@ -35,6 +38,13 @@ into_shared k word arguments = record { word = word; target = Some (Shared k); a
 
 abbrev pub task : List ℕ → ℤ → List CommandData → TaskData
 task name pri code = record { name = name; pri = pri; start = true; code = code }
+
+abbrev pub softint : List ℕ → ℤ → List CommandData → SoftintData
+softint name pri code = record { name = name; pri = pri; code = code }
+
+-- a server that claims nothing
+abbrev pub server : List ℕ → Source → ℤ → List CommandData → ServerData
+server name from pri code = record { name = name; source = from; pri = pri; claim = false; code = code }
 
 -- one task, or three of one priority
 abbrev pub alone : List CommandData → List TaskData
@@ -75,6 +85,20 @@ makes = into_shared 0 (Semaphores NewSem) []
 -- a word with the semaphore whose address stands in the first shared variable
 abbrev pub its : SemaphoreWord → CommandData
 its word = command (Semaphores word) (variable (Shared 0) ∷ [])
+
+-- the software interrupt of that name is caused
+abbrev pub causing : List ℕ → CommandData
+causing name = command (Interrupts Cause) (quoted name ∷ [])
+
+abbrev pub prints : ℕ → CommandData
+prints value = command (Plain Print) (number value ∷ [])
+
+-- the task of that number gets a signal, or waits for it
+abbrev pub wakes : ℕ → CommandData
+wakes other = command (Signals Signal) (number other ∷ number 0x1000 ∷ [])
+
+abbrev pub waits : CommandData
+waits = command (Signals Wait) (number 0x1000 ∷ [])
 
 -- the first task gets a priority below that of the others
 abbrev pub steps_back : CommandData
@@ -266,6 +290,63 @@ removes_a_waiter = three_equals
 abbrev pub releases_to_nobody : List CommandData
 releases_to_nobody = makes ∷ its ObtainSemaphore ∷ its ReleaseSemaphore ∷ its FreeSem ∷ []
 
+-- a software interrupt is caused under Forbid, and again under Disable
+abbrev pub holds_interrupts_back : List CommandData
+holds_interrupts_back =
+    command (Nesting Forbid) []
+    ∷ causing (codes "x")
+    ∷ command (Nesting Permit) []
+    ∷ command (Nesting Disable) []
+    ∷ causing (codes "x")
+    ∷ prints 1
+    ∷ command (Nesting Enable) []
+    ∷ prints 2 ∷ []
+
+abbrev pub causes_once : List TaskData
+causes_once = alone (causing (codes "go") ∷ prints 1 ∷ [])
+
+-- five software interrupts, the last of which causes the others, and one of them twice
+abbrev pub five_softints : List SoftintData
+five_softints =
+    softint (codes "x") (pos 32) []
+    ∷ softint (codes "u") (negsuc 31) []
+    ∷ softint (codes "y") (pos 0) []
+    ∷ softint (codes "z") (pos 0) []
+    ∷ softint (codes "go") (pos 16)
+    (causing (codes "u") ∷ causing (codes "y") ∷ causing (codes "x") ∷ causing (codes "z") ∷ causing (codes "y") ∷ []) ∷ []
+
+-- three servers of one source, the second of which claims the interrupt
+abbrev pub three_servers : List ServerData
+three_servers =
+    server (codes "lo") source.Ports (negsuc 0) []
+    ∷ record (server (codes "mid") source.Ports (pos 0) (wakes 1 ∷ [])) { claim = true }
+    ∷ server (codes "hi") source.Ports (pos 5)
+    (into_shared 0 (Plain Add) (variable (Shared 0) ∷ number 1 ∷ []) ∷ command (Plain Print) (variable (Shared 0) ∷ []) ∷ []) ∷ []
+
+-- two servers, the first of which signals a task, and then one that is none
+abbrev pub signals_nobody_in_a_server : List ServerData
+signals_nobody_in_a_server =
+    server (codes "s") source.Ports (pos 0) (wakes 1 ∷ wakes 9 ∷ prints 1 ∷ []) ∷ server (codes "t") source.Ports (pos 0) [] ∷ []
+
+abbrev pub stops_in_a_server : List ServerData
+stops_in_a_server = server (codes "s") source.Ports (pos 0) (wakes 9 ∷ []) ∷ []
+
+-- a message that is put at a port which causes a software interrupt
+abbrev pub puts_where_a_softint_is_caused : List CommandData
+puts_where_a_softint_is_caused =
+    into_shared 0 (Ports CreateMsgPort) []
+    ∷ command (Ports PortCause) (variable (Shared 0) ∷ quoted (codes "x") ∷ [])
+    ∷ into 0 (Ports NewMsg) (number 0 ∷ number 1 ∷ [])
+    ∷ command (Ports PutMsg) (variable (Shared 0) ∷ variable (Private 0) ∷ [])
+    ∷ command (Plain Print) (variable (Shared 1) ∷ []) ∷ []
+
+abbrev pub takes_messages : MachineData
+takes_messages = record bare {
+  regions = room 64;
+  softints = softint (codes "x") (pos 0) (into_shared 1 (Ports GetMsg) (variable (Shared 0) ∷ []) ∷ []) ∷ [];
+  tasks = alone puts_where_a_softint_is_caused;
+}
+
 -- ---- statements
 
 abbrev pub PrintsOnce : Type 0
@@ -363,3 +444,55 @@ MarksTellWhoAskedAndWhoLeft = marks (record bare { regions = room 48; tasks = re
 
 abbrev pub WhereNoTaskWaitsThereIsNoMark : Type 0
 WhereNoTaskWaitsThereIsNoMark = marks (record bare { regions = room 48; tasks = alone releases_to_nobody }) (Run 4 ∷ []) ≡ []
+
+abbrev pub ASoftintRunsBeforeTheNextCommand : Type 0
+ASoftintRunsBeforeTheNextCommand =
+    trace (record bare { softints = softint (codes "x") (pos 0) (prints 9 ∷ []) ∷ []; tasks = alone holds_interrupts_back }) (Run 10 ∷ [])
+    ≡ codes "switch a\na Forbid\na Cause \"x\"\nsoftint x\nx Print $00000009\na Permit\na Disable\na Cause \"x\"\na Print $00000001\na Enable\nsoftint x\nx Print $00000009\na Print $00000002\n"
+
+abbrev pub ASoftintMayCauseItselfAgain : Type 0
+ASoftintMayCauseItselfAgain =
+    trace (record bare { softints = softint (codes "go") (pos 0) (causing (codes "go") ∷ []) ∷ []; tasks = causes_once }) (Run 3 ∷ [])
+    ≡ codes "switch a\na Cause \"go\"\nsoftint go\ngo Cause \"go\"\nsoftint go\ngo Cause \"go\"\n"
+
+abbrev pub SoftintsRunOneAStepByPriority : Type 0
+SoftintsRunOneAStepByPriority = trace (record bare { softints = five_softints; tasks = causes_once }) (Run 7 ∷ [])
+    ≡ codes "switch a\na Cause \"go\"\nsoftint go\ngo Cause \"u\"\ngo Cause \"y\"\ngo Cause \"x\"\ngo Cause \"z\"\ngo Cause \"y\"\nsoftint x\nsoftint y\nsoftint z\nsoftint u\na Print $00000001\n"
+
+abbrev pub ASoftintRunsWhereNoTaskRuns : Type 0
+ASoftintRunsWhereNoTaskRuns =
+    trace
+    (record bare {
+      softints = softint (codes "x") (pos 0) (wakes 1 ∷ []) ∷ [];
+      servers = server (codes "s") source.Exter (pos 0) (causing (codes "x") ∷ []) ∷ [];
+      tasks = alone (waits ∷ prints 1 ∷ []);
+    }) (Run 1 ∷ Irq source.Exter ∷ Run 3 ∷ [])
+    ≡ codes "switch a\na Wait $00001000 waits\nidle\nserve EXTER\nserver s\ns Cause \"x\"\nsoftint x\nx Signal $00000001 $00001000\nswitch a\na Wait $00001000 -> $00001000\na Print $00000001\n"
+
+abbrev pub ServersRunByPriorityUntilOneClaims : Type 0
+ServersRunByPriorityUntilOneClaims =
+    trace (record bare { servers = three_servers; tasks = disables })
+    (Run 1 ∷ Irq source.Ports ∷ Tick 1 ∷ Irq source.Exter ∷ Irq source.Ports ∷ Run 1 ∷ [])
+    ≡ codes "switch a\na Disable\na Enable\nserve EXTER\nserve VERTB\nserve PORTS\nserver hi\nhi Print $00000001\nserver mid\nmid Signal $00000001 $00001000\n"
+
+abbrev pub NoSwitchFollowsAnAlertInABody : Type 0
+NoSwitchFollowsAnAlertInABody =
+    trace (record bare { servers = signals_nobody_in_a_server; tasks = alone (waits ∷ prints 2 ∷ []) }) (Run 1 ∷ Irq source.Ports ∷ Run 2 ∷ [])
+    ≡ codes "switch a\na Wait $00001000 waits\nidle\nserve PORTS\nserver s\ns Signal $00000001 $00001000\nalert HANDLE s Signal\n"
+
+abbrev pub NoIdleFollowsAnAlertInABody : Type 0
+NoIdleFollowsAnAlertInABody =
+    trace (record bare { servers = stops_in_a_server; tasks = alone (command (Nesting Disable) [] ∷ waits ∷ []) }) (Run 1 ∷ Tick 1 ∷ Irq source.Ports ∷ Run 1 ∷ [])
+    ≡ codes "switch a\na Disable\na Wait $00001000 waits\nserve VERTB\nserve PORTS\nserver s\nalert HANDLE s Signal\n"
+
+abbrev pub NoCommandFollowsAnAlertInASoftint : Type 0
+NoCommandFollowsAnAlertInASoftint =
+    trace (record bare { softints = softint (codes "go") (pos 0) (wakes 9 ∷ prints 2 ∷ []) ∷ []; tasks = causes_once }) (Run 3 ∷ [])
+    ≡ codes "switch a\na Cause \"go\"\nsoftint go\nalert HANDLE go Signal\n"
+
+abbrev pub APortMayCauseASoftint : Type 0
+APortMayCauseASoftint = trace takes_messages (Run 6 ∷ [])
+    ≡ codes "switch a\na CreateMsgPort -> $00001000\na PortCause $00001000 \"x\"\na NewMsg $00000000 $00000001 -> $00001028\na PutMsg $00001000 $00001028\nsoftint x\nx GetMsg $00001000 -> $00001028\na Print $00001028\n"
+
+abbrev pub MarksTellWhatASoftintTook : Type 0
+MarksTellWhatASoftintTook = marks takes_messages (Run 6 ∷ []) ≡ put 4096 4136 ∷ got 4096 4136 ∷ []

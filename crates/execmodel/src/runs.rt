@@ -1,6 +1,6 @@
 //! Whole traces of small machines, and the marks that they leave, as the definitions compute them.
 
-ghost use Rattle.execmodel.specs.Runs.{PrintsOnce, NothingFollowsAnAlert, SignalWakesAHigherTask, EqualPriorityDoesNotPreempt, APreemptedTaskArrivesAnew, AWaitKeepsItsMask, CalculatesAndJumps, ForbidKeepsOthersOff, AnEndedQuantumLetsAnEqualRun, TicksUnderDisableAreServedOnce, ALiveTaskIsFoundByItsName, SizesRoundUp, SuitableRegionsAreTriedByPriority, EqualsStandInOrderOfArrival, AListInUseIsNotFreed, EachKindHasItsPool, MessagesAreTakenInOrderOfArrival, MarksTellWhatCameAndWhatWasTaken, ThePublicPortOfGreatestPriorityIsFound, AReplyGoesToTheReplyPort, ASemaphoreIsHandedToTheFirstThatAsked, MarksTellWhoAskedAndWhoGotIt, ARemovedTaskLeavesTheQueue, MarksTellWhoAskedAndWhoLeft, WhereNoTaskWaitsThereIsNoMark};
+ghost use Rattle.execmodel.specs.Runs.{PrintsOnce, NothingFollowsAnAlert, SignalWakesAHigherTask, EqualPriorityDoesNotPreempt, APreemptedTaskArrivesAnew, AWaitKeepsItsMask, CalculatesAndJumps, ForbidKeepsOthersOff, AnEndedQuantumLetsAnEqualRun, TicksUnderDisableAreServedOnce, ALiveTaskIsFoundByItsName, SizesRoundUp, SuitableRegionsAreTriedByPriority, EqualsStandInOrderOfArrival, AListInUseIsNotFreed, EachKindHasItsPool, MessagesAreTakenInOrderOfArrival, MarksTellWhatCameAndWhatWasTaken, ThePublicPortOfGreatestPriorityIsFound, AReplyGoesToTheReplyPort, ASemaphoreIsHandedToTheFirstThatAsked, MarksTellWhoAskedAndWhoGotIt, ARemovedTaskLeavesTheQueue, MarksTellWhoAskedAndWhoLeft, WhereNoTaskWaitsThereIsNoMark, ASoftintRunsBeforeTheNextCommand, ASoftintMayCauseItselfAgain, SoftintsRunOneAStepByPriority, ASoftintRunsWhereNoTaskRuns, ServersRunByPriorityUntilOneClaims, NoSwitchFollowsAnAlertInABody, NoIdleFollowsAnAlertInABody, NoCommandFollowsAnAlertInASoftint, APortMayCauseASoftint, MarksTellWhatASoftintTook};
 
 /// A task that prints once ends at its next step, and the machine is idle.
 pub fn a_task_prints_once_and_ends()
@@ -117,4 +117,45 @@ pub fn a_removed_task_leaves_the_queue()
 /// A semaphore that is obtained and released where no task waits leaves no mark.
 pub fn where_no_task_waits_there_is_no_mark()
     ensures { WhereNoTaskWaitsThereIsNoMark }
+{}
+
+/// A software interrupt that is caused runs before the next command of any task, and prints under its own name. Forbid does not hold it
+/// back; Disable does, until it is taken back.
+pub fn a_softint_runs_before_the_next_command()
+    ensures { ASoftintRunsBeforeTheNextCommand }
+{}
+
+/// A software interrupt is not caused any more when its body begins, so the body may cause it again.
+pub fn a_softint_may_cause_itself_again()
+    ensures { ASoftintMayCauseItselfAgain }
+{}
+
+/// Software interrupts run one a step, the earliest caused among those of greatest priority first; causing one that is caused already does
+/// nothing.
+pub fn softints_run_one_a_step_by_priority()
+    ensures { SoftintsRunOneAStepByPriority }
+{}
+
+/// A software interrupt runs also where no task runs, and a task that it wakes runs after it.
+pub fn a_softint_runs_where_no_task_runs()
+    ensures { ASoftintRunsWhereNoTaskRuns }
+{}
+
+/// What is requested under Disable is served when interrupts are allowed again, each source once and that of highest level first; its
+/// servers run by priority, until one claims the interrupt.
+pub fn servers_run_by_priority_until_one_claims()
+    ensures { ServersRunByPriorityUntilOneClaims }
+{}
+
+/// An alert in the midst of a body stops the machine at once: no later command of the body, server or switch follows, nor does idle.
+pub fn an_alert_in_a_body_stops_all()
+    ensures switch { NoSwitchFollowsAnAlertInABody }
+    ensures idle { NoIdleFollowsAnAlertInABody }
+    ensures command { NoCommandFollowsAnAlertInASoftint }
+{}
+
+/// A port may cause a software interrupt where a message arrives, and its body takes the message; the marks tell it.
+pub fn a_port_may_cause_a_softint()
+    ensures trace { APortMayCauseASoftint }
+    ensures marks { MarksTellWhatASoftintTook }
 {}

@@ -1,0 +1,15 @@
+use Rattle.std.proofs.Common.{refl}
+use Rattle.execmodel.proofs.OnLiterals.{runs_on_literals}
+use Rattle.execmodel.proofs.runs.an_alert_in_a_body_stops_all.Goals as goal
+
+pub returns-clause-switch : goal.returns-clause-switch
+unfolding runs_on_literals
+returns-clause-switch c = refl
+
+pub returns-clause-idle : goal.returns-clause-idle
+unfolding runs_on_literals
+returns-clause-idle c = refl
+
+pub returns-clause-command : goal.returns-clause-command
+unfolding runs_on_literals
+returns-clause-command c = refl
