@@ -3,7 +3,7 @@ pub mod Allocating
 pub mod Booting
 pub mod Calculating
 pub mod Calling
-pub mod Causing
+pub mod Caused
 pub mod Endings
 pub mod Following
 pub mod Forbidding

@@ -1,4 +1,4 @@
-use Rattle.execsim.proofs.Causing.{caused_done}
+use Rattle.execsim.proofs.Caused.{caused_done}
 use Rattle.execsim.proofs.kernel.Kernel.cause_named.Goals as goal
 
 pub returns : goal.returns
