@@ -82,6 +82,7 @@ next_idle : (waiters : List ℕ) → Idle (Some (Semaphore (owned_next (first wa
 next_idle [] = λ e. refl
 next_idle (t ∷ waiters) = λ e. none_some e
 
+-- whatever a call does, also one in a body
 pub touched_idle : (old : Heap) (marks : List Mark) (new : Heap) → Touches old marks new → AllIdle old → AllIdle new
 unfolding with_port appended taken_off sem_of waiters_of
 touched_idle old marks new remains idle = idle

@@ -190,6 +190,7 @@ removed_pass (Some semaphore) t p heap one =
     (λ same. dropped_left t p heap)
     (λ apart. dropped_left t p heap ∙ without_away t (waiters_of p heap) (one p apart))
 
+-- a call that a body may make leaves each queue as it is
 pub touched_pass : (old : Heap) (marks : List Mark) (new : Heap) → Touches old marks new
     → (p : ℕ) → Follows (waiters_of p old) (turns_at_semaphore p marks) (waiters_of p new)
 unfolding appended taken_off
