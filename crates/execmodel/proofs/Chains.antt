@@ -4,7 +4,7 @@ use Rattle.std.specs.Prelude.{ℤ, filter, fold, slice_index_or}
 use Rattle.std.specs.List.{range_with_len}
 use Rattle.std.proofs.lemmas.Bool.{cond-true, cond-false, eq-eqb, ne_eqb}
 use Rattle.std.proofs.lemmas.List.FromFn.{length-range_with_len}
-use Rattle.execlist.specs.Order.{enqueue, order, first, chosen, without, is_lower}
+use Rattle.execlist.specs.Order.{enqueue, order, first, without, is_lower}
 use Rattle.execlist.proofs.OrderLaws.{first_of_order, order_leaves_out}
 use Rattle.softint.specs.Sources.{is_source}
 use Rattle.softint.specs.declared.source.Source.{Source}

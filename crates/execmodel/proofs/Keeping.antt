@@ -24,7 +24,7 @@ use Rattle.msgport.specs.declared.action.Action.TheVariants as action
 use Rattle.sigsem.specs.declared.semaphore.Obtained.TheVariants.{Owner, Waits}
 use Rattle.execmodel.specs.State.{Call, Object, Plain, ListHead, Pending, Program, Scripts, State, Outcome, no_program, on_schedule, on_scripts}
 use Rattle.execmodel.specs.Pending.{arrived, is_caused, causes, softint_named}
-use Rattle.execmodel.specs.Causing.{does_interrupts, does_cause}
+use Rattle.execmodel.specs.Causing.{does_cause}
 use Rattle.execmodel.specs.Scheduling.{arrives, added, reprioritized, signalled}
 use Rattle.execmodel.specs.Calls.{argument, name_argument, stored, goes_on, done, answered, waiting, silent, alerted, unless}
 use Rattle.execmodel.specs.Plain.{does_set, does_add, does_sub, does_and, does_or, jumps, does_jump, does_jump_zero, does_jump_not_zero, does_print}

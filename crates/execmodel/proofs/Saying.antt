@@ -1,7 +1,7 @@
 -- No word says the line of a switch, nor does a task that ends, a software interrupt, or what is served.
 use Rattle.std.proofs.Common.{◌≡◌, ℕ, Bool, true, false, List, Option, None, Some, refl}
 use Rattle.std.specs.Prelude.{◌-◌, negsuc, if◌then◌else◌, nat_eq}
-use Rattle.execmodel.specs.State.{Call, State, Outcome, quiet}
+use Rattle.execmodel.specs.State.{Call, State, Outcome}
 use Rattle.execmodel.specs.Calls.{argument, done, answered, waiting, silent, alerted, unless}
 use Rattle.execmodel.specs.Interrupts.{runs_softint, interrupts}
 use Rattle.execmodel.specs.Causing.{does_interrupts, does_cause}

@@ -14,11 +14,11 @@ use Rattle.scheduler.specs.declared.Switch.TheVariants as switch
 use Rattle.execmodel.specs.State.{State, Outcome, quiet, andthen, unless_stopped, on_schedule, on_pending}
 use Rattle.execmodel.specs.Scheduling.{switch_of, rescheduled}
 use Rattle.execmodel.specs.Pending.{allows_interrupts, with_latch_of, next_source}
-use Rattle.execmodel.specs.Interrupts.{counted, text_of_source, chain_of, runs_softint, runs_chain, serves, servings, interrupts}
+use Rattle.execmodel.specs.Interrupts.{counted, text_of_source, chain_of, runs_chain, serves, servings, interrupts}
 use Rattle.execmodel.specs.Step.{announced, switches, settle}
 use Rattle.execmodel.specs.Laws.{says_switch, is_serving, InterruptsKeepNestings, ThreeServingsAtMost}
 use Rattle.execmodel.proofs.Heaps.{true_is_not_false}
-use Rattle.execmodel.proofs.BodyActions.{standing, steady, IsOfBody, AreOfBodies, Bodily, softint_bodily, chain_bodily}
+use Rattle.execmodel.proofs.BodyActions.{standing, steady, IsOfBody, AreOfBodies, softint_bodily, chain_bodily}
 
 -- ---- lines
 

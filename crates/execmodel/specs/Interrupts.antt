@@ -1,5 +1,5 @@
 -- How interrupts run (RKM Libraries, Exec Interrupts): software interrupts one a step, the servers of a source where it is served.
-use Rattle.std.specs.Prelude.{ℕ, ℤ, zero, suc, pos, Bool, false, if◌then◌else◌, List, [], ◌∷◌, Option, None, Some, length, map, filter, slice_index_or}
+use Rattle.std.specs.Prelude.{ℕ, ℤ, zero, suc, pos, false, if◌then◌else◌, List, [], ◌∷◌, Option, None, Some, length, map, filter, slice_index_or}
 use Rattle.std.specs.List.{range_with_len}
 use Rattle.exectrace.specs.Trace.{Serve, Server, Softint}
 use Rattle.execlist.specs.Order.{chosen, without}
@@ -7,7 +7,6 @@ use Rattle.softint.specs.Interrupts.{pri_at}
 use Rattle.softint.specs.Sources.{is_source}
 use Rattle.softint.specs.declared.source.Source.{Source}
 use Rattle.softint.specs.declared.source.Source.TheVariants as source
-use Rattle.taskscript.specs.Commands.{CommandData}
 use Rattle.taskscript.specs.File.{SoftintData, ServerData}
 use Rattle.taskscript.specs.Sources.{source_text}
 use Rattle.taskscript.specs.declared.source.Source.TheVariants as named

@@ -1,7 +1,7 @@
 -- Pending interrupts (RKM Libraries, Exec Interrupts). The software interrupts that are caused stand in order of arrival, which is never sorted:
 -- the one that runs next is the earliest among those of greatest priority. A source asks to be served by a latch: further requests before the
 -- serving are the same one.
-use Rattle.std.specs.Prelude.{ℕ, ℤ, Bool, true, false, not, ◌&&◌, ◌==◌, if◌then◌else◌, nat_lt, bytes_eq, length, map, List, [], ◌∷◌, ◌++◌, Option, None, Some}
+use Rattle.std.specs.Prelude.{ℕ, ℤ, Bool, not, ◌&&◌, ◌==◌, if◌then◌else◌, nat_lt, bytes_eq, length, map, List, [], ◌∷◌, ◌++◌, Option, None}
 use Rattle.std.specs.List.{list_any, position_or_len}
 use Rattle.execlist.specs.Order.{chosen, without}
 use Rattle.softint.specs.Interrupts.{pri_at}
