@@ -7,7 +7,8 @@ use Rattle.taskscript.specs.Records.{task_view}
 use Rattle.taskscript.specs.declared.file.TaskRecord.{TaskRecord}
 use Rattle.scheduler.specs.Schedule.{unstarted}
 use Rattle.execmodel.specs.State.{booted}
-use Rattle.execsim.specs.Agreement.{Seen, Agrees, in_order, ports_in_order}
+use Rattle.softint.specs.Sources.{no_latches}
+use Rattle.execsim.specs.Agreement.{Seen, Agrees, caused_in_order, in_order, ports_in_order}
 use Rattle.execsim.proofs.Calling.{map-map_as}
 
 booted-in_order : (machine : MachineData) → in_order (booted machine).schedule ≡ (booted machine).schedule
@@ -24,9 +25,13 @@ booted-going : (machine : MachineData) → false ≡ (booted machine).stopped
 unfolding booted
 booted-going machine = refl
 
-booted-unlatched : (machine : MachineData) → false ≡ (booted machine).latched
+booted-bodies : (machine : MachineData) → record { softints = machine.softints; servers = machine.servers } ≡ (booted machine).bodies
 unfolding booted
-booted-unlatched machine = refl
+booted-bodies machine = refl
+
+booted-pending : (machine : MachineData) → record { caused = []; latches = no_latches } ≡ caused_in_order (booted machine).bodies.softints (booted machine).pending
+unfolding booted order
+booted-pending machine = refl
 
 booted-memory : (machine : MachineData) → record { regions = machine.regions; pool = machine.pool; heap = []; public = [] } ≡ ports_in_order (booted machine).memory
 unfolding booted order
@@ -37,12 +42,14 @@ pub boots : {seen : Seen} (machine : MachineData) (tasks : List TaskRecord) → 
     → seen.schedule ≡ unstarted (length tasks) (map (λ (t : TaskRecord). t.pri) tasks) (map (λ (t : TaskRecord). t.name.bytes) tasks) machine.quantum
     → seen.scripts ≡ (booted (record machine { tasks = map task_view tasks })).scripts
     → seen.memory ≡ record { regions = machine.regions; pool = machine.pool; heap = []; public = [] }
-    → seen.latched ≡ false → seen.stopped ≡ false → Agrees seen (booted machine)
-boots {seen} machine tasks states schedule scripts memory unlatched going =
+    → seen.bodies ≡ record { softints = machine.softints; servers = machine.servers } → seen.pending ≡ record { caused = []; latches = no_latches }
+    → seen.stopped ≡ false → Agrees seen (booted machine)
+boots {seen} machine tasks states schedule scripts memory bodies pending going =
     subst (λ (ts : List TaskData). Agrees seen (booted (record machine { tasks = ts }))) states (record {
       schedule = schedule ∙ sym (booted-schedule machine tasks) ∙ sym (booted-in_order (record machine { tasks = map task_view tasks }));
       scripts = scripts;
       memory = memory ∙ booted-memory (record machine { tasks = map task_view tasks });
-      latched = unlatched ∙ booted-unlatched (record machine { tasks = map task_view tasks });
+      bodies = bodies ∙ booted-bodies (record machine { tasks = map task_view tasks });
+      pending = pending ∙ booted-pending (record machine { tasks = map task_view tasks });
       stopped = going ∙ booted-going (record machine { tasks = map task_view tasks });
     })

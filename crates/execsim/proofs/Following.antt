@@ -1,5 +1,5 @@
 -- Actions that follow one another, and the actions of one layer.
-use Rattle.std.proofs.Common.{◌≡◌, ◌≢◌, ℕ, length, ◌⊎◌, inl, inr, refl, Bool, true, false, ap, sym, ◌∙◌, subst, append-nil}
+use Rattle.std.proofs.Common.{◌≡◌, ◌≢◌, ℕ, List, [], ◌++◌, append_assoc, length, ◌⊎◌, inl, inr, refl, Bool, true, false, ap, sym, ◌∙◌, subst, append-nil}
 use Rattle.std.proofs.lemmas.Grind.{flat_map-append}
 use Rattle.exectrace.specs.Sink.{Tape, Puts}
 use Rattle.exectrace.specs.declared.sinks.SinkState.{SinkState}
@@ -179,6 +179,32 @@ follows_then {f} {g} p q = record {
   agrees = λ s e. q.agrees (f s).state (p.agrees s e);
   prints = λ s e. puts_then _ (p.prints s e) (q.prints (f s).state (p.agrees s e)) (flat_map-append printed_line (f s).lines (g (f s).state).lines);
 }
+
+pub andthen-assoc : (f g h : State → Outcome) (s : State) → andthen f (andthen g h) s ≡ andthen (andthen f g) h s
+unfolding andthen
+andthen-assoc f g h s =
+    ap (λ (lines : List TraceLine). record {
+      state = (h (g (f s).state).state).state;
+      lines = lines;
+      marks = (f s).marks ++ ((g (f s).state).marks ++ (h (g (f s).state).state).marks);
+    })
+    (sym (append_assoc (f s).lines (g (f s).state).lines (h (g (f s).state).state).lines))
+    ∙ ap (λ (marks : List Mark). record {
+      state = (h (g (f s).state).state).state;
+      lines = ((f s).lines ++ (g (f s).state).lines) ++ (h (g (f s).state).state).lines;
+      marks = marks;
+    })
+    (sym (append_assoc (f s).marks (g (f s).state).marks (h (g (f s).state).state).marks))
+
+pub andthen-second : (f g h : State → Outcome) (s : State) → ((t : State) → g t ≡ h t) → andthen f g s ≡ andthen f h s
+unfolding andthen
+andthen-second f g h s same =
+    ap (λ (o : Outcome). record { state = o.state; lines = (f s).lines ++ o.lines; marks = (f s).marks ++ o.marks }) (same (f s).state)
+
+pub andthen-quiet : (o : Outcome) → record { state = o.state; lines = o.lines ++ []; marks = o.marks ++ [] } ≡ o
+andthen-quiet o =
+    ap (λ (lines : List TraceLine). record { state = o.state; lines = lines; marks = o.marks ++ [] }) (append-nil o.lines)
+    ∙ ap (λ (marks : List Mark). record { state = o.state; lines = o.lines; marks = marks }) (append-nil o.marks)
 
 -- an action, unless an alert has stopped the machine
 pub guarded_stopped : {m : Seen} {next : State → Outcome} (t : Tape) → m.stopped ≡ true → Follows (unless_stopped next) m m t t

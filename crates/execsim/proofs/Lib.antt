@@ -1,5 +1,6 @@
 pub mod Acting
 pub mod Allocating
+pub mod BodyCalls
 pub mod Booting
 pub mod Calculating
 pub mod Calling
@@ -7,6 +8,7 @@ pub mod Caused
 pub mod Endings
 pub mod Following
 pub mod Forbidding
+pub mod Keeping
 pub mod Listing
 pub mod Naming
 pub mod Obtaining

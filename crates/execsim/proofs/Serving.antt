@@ -2,6 +2,7 @@
 use Rattle.std.proofs.Common.{◌≡◌, ℕ, zero, suc, ◌+◌, ◌-◌, ◌<◌, ◌≤◌, Bool, true, false, cond, not, ◌&&◌, ◌||◌, ◌==◌, nat_lt, List, [], ◌∷◌, length, map, drop, Option, None, Some, refl, ap, sym, ◌∙◌, arith}
 use Rattle.std.specs.Prelude.{ℤ, if◌then◌else◌, slice_get}
 use Rattle.std.specs.List.{list_any}
+use Rattle.std.proofs.lemmas.Bool.{ne_eqb}
 use Rattle.exectrace.specs.Sink.{Tape, Puts}
 use Rattle.exectrace.specs.Trace.{printed_line, Serve}
 use Rattle.execlist.specs.Lists.{times}
@@ -30,7 +31,7 @@ any_stands i [] = refl
 any_stands i (x ∷ xs) = by_case (x == i) (any_stands i xs) where
   by_case : (b : Bool) → not (times i xs == 0) ≡ list_any (λ other. other == i) xs
       → not (cond b (suc (times i xs)) (times i xs) == 0) ≡ (b || list_any (λ other. other == i) xs)
-  by_case true ih = refl
+  by_case true ih = ap not (ne_eqb (suc (times i xs)) 0 (λ e. cc))
   by_case false ih = ih
 
 -- what calls on interrupts see of those that are pending
@@ -74,7 +75,8 @@ module _ {m : Seen} (s : State) (a : Agrees m s) where
 
 -- ---- the servers of a source
 
-unclaimed : Bool → List ℕ → State → Outcome
+-- after a server, by whether it claims the interrupt
+abbrev unclaimed : Bool → List ℕ → State → Outcome
 unclaimed last others = if last then quiet else runs_chain others
 
 -- where a chain goes on: with the server at a place, or not at all
@@ -92,10 +94,11 @@ drop_some (x ∷ xs) (suc n) k e = drop_some xs n k e
 chain_within : (n : ℕ) (key : ℕ → ℤ) (left : List ℕ) → length (by_choice n key left) ≤ n
 unfolding by_choice
 chain_within zero key left = omega arith
-chain_within (suc n) key left = by_case (chosen key left) where
-  by_case : (k : Option ℕ) → length (elim k as (λ (x : Option ℕ). List ℕ) [ None ↦ [] | Some k ↦ k ∷ by_choice n key (without k left) ]) ≤ suc n
-  by_case None = omega arith
-  by_case (Some k) = let rest = chain_within n key (without k left) in omega (arith, rest)
+chain_within (suc n) key left = by_case (λ k. chain_within n key (without k left)) (chosen key left) where
+  by_case : ((k : ℕ) → length (by_choice n key (without k left)) ≤ n) → (k : Option ℕ)
+      → length (elim k as (λ (x : Option ℕ). List ℕ) [ None ↦ [] | Some k ↦ k ∷ by_choice n key (without k left) ]) ≤ suc n
+  by_case ih None = omega arith
+  by_case ih (Some k) = let rest = ih k in omega (arith, rest)
 
 drop_all : (xs : List ℕ) (n : ℕ) → length xs ≤ n → drop n xs ≡ []
 drop_all [] zero e = refl
@@ -173,9 +176,11 @@ chain_goes_on {m} {n} {o} {b = b} {c = c} asks place k here runs goes_on rest =
     by_claim : (claim : Bool) → (claim ≡ false) × (n.stopped ≡ false) → n.bodies ≡ m.bodies
         → Follows (unless_stopped (unclaimed claim (drop (suc place) (chain_of asks m.bodies.servers)))) n o b c
     by_claim true none same = absurd cc
-    by_claim false none same = guarded_going none.1 (follows_as {g = rest_of_chain asks (place + 1) n}
+    by_claim false none same =
+        let next_place : suc place ≡ place + 1 = omega arith in
+        guarded_going none.1 (follows_as {g = rest_of_chain asks (place + 1) n}
         (λ s e. ap (λ (x : Bodies). runs_chain (drop (suc place) (chain_of asks x.servers)) s) (sym same)
-        ∙ ap (λ (k : ℕ). runs_chain (drop k (chain_of asks n.bodies.servers)) s) (omega arith)) rest)
+        ∙ ap (λ (k : ℕ). runs_chain (drop k (chain_of asks n.bodies.servers)) s) next_place) rest)
 
 -- ---- serving
 
@@ -188,14 +193,12 @@ serves_with {m} {n} asks is puts follows = follows_as
     (follows_change (moves_schedule (counted asks) (counted asks) (counted-in_order asks) is) (follows_then (follows_says _ puts) follows))
 
 -- so many servings, by the source that is served next
-serving_of : ℕ → Option Source → State → Outcome
-serving_of left None s = quiet s
-serving_of left (Some asks) s = andthen (serves asks) (unless_stopped (servings left)) s
+abbrev serving_of : ℕ → Option Source → State → Outcome
+serving_of left next s = elim next as (λ (x : Option Source). Outcome) [ None ↦ quiet s | Some asks ↦ andthen (serves asks) (unless_stopped (servings left)) s ]
 
-suc_servings : (left : ℕ) (s : State) (asks : Option Source) → next_source s ≡ asks → servings (suc left) s ≡ serving_of left asks s
+suc_servings : (left : ℕ) (s : State) (next : Option Source) → next_source s ≡ next → servings (suc left) s ≡ serving_of left next s
 unfolding servings
-suc_servings left s None is = rw is refl
-suc_servings left s (Some asks) is = rw is refl
+suc_servings left s next is = ap (λ (x : Option Source). serving_of left x s) is
 
 pub all_served : {m n : Seen} {a b : Tape} → Follows (servings 3) m n a b → Follows interrupts m n a b
 unfolding interrupts

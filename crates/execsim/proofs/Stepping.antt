@@ -1,23 +1,27 @@
 -- How the machine follows settling, steps and events.
-use Rattle.std.proofs.Common.{◌≡◌, ℕ, suc, ◌+◌, ◌<◌, List, [], ◌∷◌, ◌++◌, length, take, get_or, true, false, Option, None, Some, refl, ap, sym, ◌∙◌, append-nil, append_assoc, add-one}
+use Rattle.std.proofs.Common.{◌≡◌, ℕ, suc, ◌+◌, ◌<◌, List, [], ◌∷◌, ◌++◌, length, take, get_or, true, false, Option, None, Some, refl, ap, sym, ◌∙◌, subst, add-one}
 use Rattle.std.proofs.lemmas.List.{take_more}
 use Rattle.std.specs.Prelude.{codes, if◌then◌else◌}
 use Rattle.exectrace.specs.Sink.{Tape, Puts}
-use Rattle.exectrace.specs.Trace.{TraceLine, printed_line, Switch, Idle, Value, Done}
+use Rattle.exectrace.specs.Trace.{printed_line, Switch, Idle, Value, Done}
 use Rattle.exectrace.specs.Trace as trace
 use Rattle.taskscript.specs.declared.event.Event.{Event}
 use Rattle.scheduler.specs.Schedule.{name_of, leaves}
 use Rattle.scheduler.specs.Dispatch as dispatch
 use Rattle.scheduler.specs.declared.Switch.{Switch as Choice}
 use Rattle.scheduler.specs.declared.Switch.TheVariants as switch
-use Rattle.execmodel.specs.State.{Call, Scripts, State, Outcome, Mark, quiet, andthen, program_of, on_schedule}
+use Rattle.softint.specs.declared.source.Source.{Source}
+use Rattle.execmodel.specs.State.{Call, Scripts, State, Outcome, quiet, andthen, program_of, on_schedule, on_pending, unless_stopped}
 use Rattle.execmodel.specs.Scheduling.{rescheduled, added}
 use Rattle.execmodel.specs.Calls.{next_call}
-use Rattle.execmodel.specs.Interrupts.{on_latch, interrupts}
-use Rattle.execmodel.specs.Step.{announced, unless_stopped, switches, settle, ends, call_step, task_step, acting, acts, step, steps, tick, ticks, started, all_added, starts, event, events}
+use Rattle.execmodel.specs.Interrupts.{interrupts, runs_softint}
+use Rattle.execmodel.specs.Pending.{taken_off, with_latch_of}
+use Rattle.execmodel.specs.Step.{announced, switches, settle, ends, call_step, task_step, softint_or_task_step, acting, acts, step, steps, request, tick, ticks, started, all_added, starts, event, events}
+use Rattle.execsim.specs.Actions.{running_task_step, softint_body, softint_seen}
 use Rattle.execsim.specs.Agreement.{Seen, Follows, FollowsWhileGood, Moves}
-use Rattle.execsim.proofs.Following.{reads_schedule, reads_scripts, reads_stopped, moves_schedule, moves_latch, moves_nowhere, moves_then, follows_as, follows_nothing, follows_saying, follows_change, follows_then, follows_nothing_yet, while_good_as, while_good_then}
+use Rattle.execsim.proofs.Following.{andthen-assoc, andthen-quiet, andthen-second, reads_schedule, reads_scripts, reads_stopped, moves_schedule, moves_latch, moves_taken_off, moves_nowhere, moves_then, follows_as, follows_nothing, follows_saying, follows_change, follows_then, follows_nothing_yet, while_good_as, while_good_then}
 use Rattle.execsim.proofs.Ordering.{by_test, switch_of-in_order, rescheduled-in_order, added-in_order, leaves-in_order}
+use Rattle.execsim.proofs.Serving.{softint_same}
 
 -- Settle
 
@@ -60,9 +64,8 @@ ends_as {m} t is puts = follows_saying _
     (moves_schedule (leaves t) (leaves t) (leaves-in_order t) is)
 
 -- what runs does its next call
-pub acting_as : {m n : Seen} {a b : Tape} (running : Option ℕ) → m.schedule.running ≡ running → Follows (task_step running) m n a b → Follows acting m n a b
-unfolding acting
-acting_as running runs follows = follows_as {g = task_step running}
+pub running_as : {m n : Seen} {a b : Tape} (running : Option ℕ) → m.schedule.running ≡ running → Follows (task_step running) m n a b → Follows running_task_step m n a b
+running_as running runs follows = follows_as {g = task_step running}
     (λ s e. ap (λ r. task_step r s) (reads_schedule (λ y. y.running) (λ y. refl) runs s e)) follows
 
 pub task_step_as : {m n : Seen} {a b : Tape} (t : ℕ) (call : Option Call) → next_call t m.scripts ≡ call
@@ -70,8 +73,23 @@ pub task_step_as : {m n : Seen} {a b : Tape} (t : ℕ) (call : Option Call) → 
 task_step_as t call is follows = follows_as {g = call_step t call}
     (λ s e. ap (λ c. call_step t c s) (reads_scripts (next_call t) is s e)) follows
 
-pub acting_none : {m : Seen} (t : Tape) → m.schedule.running ≡ None → Follows acting m m t t
-acting_none {m} t none = acting_as None none (follows_nothing m t)
+pub running_none : {m : Seen} (t : Tape) → m.schedule.running ≡ None → Follows running_task_step m m t t
+running_none {m} t none = running_as None none (follows_nothing m t)
+
+-- a software interrupt runs, or else what runs does its next call
+pub acting_softint : {m n o : Seen} {a b : Tape} (i : ℕ) → Some i ≡ softint_seen m → n ≡ record m { pending = taken_off i m.pending }
+    → Follows (softint_body i) n o a b → Follows acting m o a b
+unfolding acting runs_softint
+acting_softint i is next follows = follows_as {g = λ s. softint_body i (on_pending (taken_off i) s)}
+    (λ s e. ap (λ (x : Option ℕ). softint_or_task_step x s) (softint_same s e ∙ sym is)) (follows_change (moves_taken_off i next) follows)
+
+pub acting_task : {m n o : Seen} {a b : Tape} → None ≡ softint_seen m → n ≡ record m { pending = m.pending }
+    → Follows running_task_step n o a b → Follows acting m o a b
+unfolding acting
+acting_task {m} {n} {o} {a} {b} none next follows =
+    let here : Follows running_task_step m o a b = subst (λ (x : Seen). Follows running_task_step x o a b) next follows in
+    follows_as {g = running_task_step}
+    (λ s e. ap (λ (x : Option ℕ). softint_or_task_step x s) (softint_same s e ∙ sym none)) here
 
 pub acts_stopped : {m : Seen} (t : Tape) → m.stopped ≡ true → Follows acts m m t t
 unfolding acts
@@ -100,15 +118,17 @@ more_steps i before last = rw add-one (suc_steps i before last)
 
 -- Run
 
-pub tick_stopped : {m : Seen} (t : Tape) → m.stopped ≡ true → Follows tick m m t t
-unfolding tick
-tick_stopped {m} t stopped = follows_as {g = quiet}
-    (λ s e. let same : s.stopped ≡ true = reads_stopped stopped s e in rw same refl) (follows_nothing m t)
+module _ {m : Seen} (asks : Source) where
+  pub request_stopped : (t : Tape) → m.stopped ≡ true → Follows (request asks) m m t t
+  unfolding request
+  request_stopped t stopped = follows_as {g = quiet}
+      (λ s e. let same : s.stopped ≡ true = reads_stopped stopped s e in rw same refl) (follows_nothing m t)
 
-pub tick_going : {m n o : Seen} {a b : Tape} → m.stopped ≡ false → n ≡ record m { latched = true } → Follows settle n o a b → Follows tick m o a b
-unfolding tick
-tick_going going is follows = follows_as {g = λ s. settle (on_latch true s)}
-    (λ s e. let same : s.stopped ≡ false = reads_stopped going s e in rw same refl) (follows_change (moves_latch true is) follows)
+  pub request_going : {n o : Seen} {a b : Tape} → m.stopped ≡ false → n ≡ record m { pending = with_latch_of asks true m.pending }
+      → Follows settle n o a b → Follows (request asks) m o a b
+  unfolding request
+  request_going going is follows = follows_as {g = λ s. settle (on_pending (with_latch_of asks true) s)}
+      (λ s e. let same : s.stopped ≡ false = reads_stopped going s e in rw same refl) (follows_change (moves_latch asks true is) follows)
 
 pub no_ticks : (m : Seen) (t : Tape) → FollowsWhileGood (ticks 0) m m t t
 unfolding ticks
@@ -144,32 +164,6 @@ starts_as {m} moves follows = follows_as
     {g = λ s. settle (on_schedule (all_added m.scripts (length m.scripts.programs)) s)}
     (λ s e. ap (λ (scripts : Scripts). settle (on_schedule (all_added scripts (length scripts.programs)) s)) (sym e.scripts))
     (follows_change moves follows)
-
-andthen-assoc : (f g h : State → Outcome) (s : State) → andthen f (andthen g h) s ≡ andthen (andthen f g) h s
-unfolding andthen
-andthen-assoc f g h s =
-    ap (λ (lines : List TraceLine). record {
-      state = (h (g (f s).state).state).state;
-      lines = lines;
-      marks = (f s).marks ++ ((g (f s).state).marks ++ (h (g (f s).state).state).marks);
-    })
-    (sym (append_assoc (f s).lines (g (f s).state).lines (h (g (f s).state).state).lines))
-    ∙ ap (λ (marks : List Mark). record {
-      state = (h (g (f s).state).state).state;
-      lines = ((f s).lines ++ (g (f s).state).lines) ++ (h (g (f s).state).state).lines;
-      marks = marks;
-    })
-    (sym (append_assoc (f s).marks (g (f s).state).marks (h (g (f s).state).state).marks))
-
-andthen-second : (f g h : State → Outcome) (s : State) → ((t : State) → g t ≡ h t) → andthen f g s ≡ andthen f h s
-unfolding andthen
-andthen-second f g h s same =
-    ap (λ (o : Outcome). record { state = o.state; lines = (f s).lines ++ o.lines; marks = (f s).marks ++ o.marks }) (same (f s).state)
-
-andthen-quiet : (o : Outcome) → record { state = o.state; lines = o.lines ++ []; marks = o.marks ++ [] } ≡ o
-andthen-quiet o =
-    ap (λ (lines : List TraceLine). record { state = o.state; lines = lines; marks = o.marks ++ [] }) (append-nil o.lines)
-    ∙ ap (λ (marks : List Mark). record { state = o.state; lines = o.lines; marks = marks }) (append-nil o.marks)
 
 -- one event more at the end
 events-more : (list : List Event) (e : Event) (s : State) → events (list ++ e ∷ []) s ≡ andthen (events list) (event e) s

@@ -1,0 +1,94 @@
+-- How the machine follows the body of a software interrupt or of a server.
+use Rattle.std.proofs.Common.{◌≡◌, ℕ, zero, suc, ◌+◌, ◌<◌, true, false, List, [], ◌∷◌, length, take, Option, None, Some, refl, ap, sym, ◌∙◌, subst, add-one}
+use Rattle.std.specs.Prelude.{slice_get}
+use Rattle.exectrace.specs.Sink.{Tape, Puts}
+use Rattle.exectrace.specs.Trace.{printed_line, Server, Softint}
+use Rattle.taskscript.specs.Commands.{CommandData}
+use Rattle.execmodel.specs.State.{Bodies, State, Outcome, quiet, says, andthen, unless_stopped}
+use Rattle.execmodel.specs.Bodies.{body_step, runs_body}
+use Rattle.execmodel.specs.Calls.{call_in_body}
+use Rattle.execmodel.specs.State.{Call, Scripts}
+use Rattle.execmodel.specs.Bodies.{does_in_body}
+use Rattle.execmodel.specs.Interrupts.{runs_server, server_at, softint_at}
+use Rattle.execsim.specs.declared.bodies.Body.{Body}
+use Rattle.execsim.specs.declared.bodies.Body.TheVariants as body
+use Rattle.execsim.specs.Actions.{does_at_place, softint_body}
+use Rattle.execsim.specs.Agreement.{Seen, Agrees, Follows}
+use Rattle.execsim.specs.Views.{code_of_body, name_of_body}
+use Rattle.execsim.proofs.Following.{andthen-assoc, andthen-quiet, andthen-second, follows_as, follows_known, follows_nothing, follows_says, follows_then, guarded_going, guarded_stopped, reads_scripts}
+use Rattle.execsim.proofs.Keeping.{body_keeps}
+
+-- ---- one command
+
+pub step_as : {m n : Seen} {a b : Tape} (name : List ℕ) (command : CommandData) (call : Call) → call ≡ call_in_body command m.scripts
+    → Follows (does_in_body name call) m n a b → Follows (body_step name command) m n a b
+unfolding body_step
+step_as name command call is follows = follows_as {g = does_in_body name call}
+    (λ s e. ap (λ (c : Call). does_in_body name c s) (reads_scripts (call_in_body command) (sym is) s e)) follows
+
+module _ {m : Seen} (name : List ℕ) (here : Option CommandData) where
+  pub place_stopped : (t : Tape) → m.stopped ≡ true → Follows (does_at_place name here) m m t t
+  place_stopped t stopped = by_case here where
+    by_case : (command : Option CommandData) → Follows (does_at_place name command) m m t t
+    by_case None = follows_nothing m t
+    by_case (Some command) = guarded_stopped t stopped
+
+  pub place_empty : (t : Tape) → None ≡ here → Follows (does_at_place name here) m m t t
+  place_empty t none = subst (λ command. Follows (does_at_place name command) m m t t) none (follows_nothing m t)
+
+  pub place_done : {n : Seen} {a b : Tape} (command : CommandData) → m.stopped ≡ false → Some command ≡ here
+      → Follows (body_step name command) m n a b → Follows (does_at_place name here) m n a b
+  place_done {n} {a} {b} command going some follows =
+      subst (λ command. Follows (does_at_place name command) m n a b) some (guarded_going going follows)
+
+-- ---- a whole body
+
+-- a body up to a place, and the command there
+body-more : (name : List ℕ) (code : List CommandData) (place : ℕ) (s : State)
+    → runs_body name (take (suc place) code) s ≡ andthen (runs_body name (take place code)) (does_at_place name (slice_get code place)) s
+unfolding runs_body andthen
+body-more name [] zero s = refl
+body-more name [] (suc place) s = refl
+body-more name (command ∷ others) zero s = andthen-quiet (unless_stopped (body_step name command) s)
+body-more name (command ∷ others) (suc place) s =
+    andthen-second (unless_stopped (body_step name command)) (runs_body name (take (suc place) others))
+    (andthen (runs_body name (take place others)) (does_at_place name (slice_get others place))) s (body-more name others place)
+    ∙ andthen-assoc (unless_stopped (body_step name command)) (runs_body name (take place others)) (does_at_place name (slice_get others place)) s
+
+pub no_command : (m : Seen) (name : List ℕ) (code : List CommandData) (t : Tape) → Follows (runs_body name (take 0 code)) m m t t
+unfolding runs_body
+no_command m name code t = follows_nothing m t
+
+pub more_commands : {m n o : Seen} {a b c : Tape} (body : Body) (name : List ℕ) (code : List CommandData) (place : ℕ) → code ≡ code_of_body body m.bodies
+    → Follows (runs_body name (take place code)) m n a b
+    → Follows (does_at_place name (slice_get (code_of_body body n.bodies) place)) n o b c
+    → Follows (runs_body name (take (place + 1) code)) m o a c
+more_commands {m} {n} {o} {a} {b} {c} body name code place is before last = rw add-one (follows_known (λ s e. follows_as
+    {g = andthen (runs_body name (take place code)) (does_at_place name (slice_get code place))}
+    (λ s e. body-more name code place s)
+    (follows_then before (subst (λ (l : List CommandData). Follows (does_at_place name (slice_get l place)) n o b c) (same_code s e) last))))
+  where
+    -- no command changes the bodies
+    same_bodies : (s : State) → Agrees m s → n.bodies ≡ m.bodies
+    same_bodies s e = (before.agrees s e).bodies ∙ body_keeps name (take place code) s ∙ sym e.bodies
+
+    same_code : (s : State) → Agrees m s → code_of_body body n.bodies ≡ code
+    same_code s e = ap (code_of_body body) (same_bodies s e) ∙ sym is
+
+-- ---- a software interrupt, and a server
+
+module _ {m n : Seen} {a b c : Tape} where
+  pub softint_as : (i : ℕ) → Puts a b (printed_line (Softint (softint_at i m.bodies).name))
+      → Follows (runs_body (softint_at i m.bodies).name (softint_at i m.bodies).code) m n b c → Follows (softint_body i) m n a c
+  softint_as i puts follows = follows_as
+      {g = andthen (says (Softint (softint_at i m.bodies).name)) (runs_body (softint_at i m.bodies).name (softint_at i m.bodies).code)}
+      (λ s e. ap (λ (x : Bodies). andthen (says (Softint (softint_at i x).name)) (runs_body (softint_at i x).name (softint_at i x).code) s) (sym e.bodies))
+      (follows_then (follows_says _ puts) follows)
+
+  pub server_as : (k : ℕ) → Puts a b (printed_line (Server (server_at k m.bodies).name))
+      → Follows (runs_body (server_at k m.bodies).name (server_at k m.bodies).code) m n b c → Follows (runs_server k) m n a c
+  unfolding runs_server
+  server_as k puts follows = follows_as
+      {g = andthen (says (Server (server_at k m.bodies).name)) (runs_body (server_at k m.bodies).name (server_at k m.bodies).code)}
+      (λ s e. ap (λ (x : Bodies). andthen (says (Server (server_at k x).name)) (runs_body (server_at k x).name (server_at k x).code) s) (sym e.bodies))
+      (follows_then (follows_says _ puts) follows)

@@ -1,0 +1,5 @@
+use Rattle.execsim.proofs.Following.{follows_says}
+use Rattle.execsim.proofs.kernel.Kernel.done_in_body.Goals as goal
+
+pub returns : goal.returns
+returns g c = follows_says _ c.say_in_body.ensures

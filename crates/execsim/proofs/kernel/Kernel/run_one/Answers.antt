@@ -1,0 +1,8 @@
+use Rattle.execsim.proofs.Stepping.{acting_softint, acting_task}
+use Rattle.execsim.proofs.kernel.Kernel.run_one.Goals as goal
+
+pub returns-in-Some : goal.returns-in-Some
+returns-in-Some g c = acting_softint _ (rw c.in-Some.is at c.take_softint.ensures.answer) (rw c.in-Some.is at c.take_softint.ensures.next) c.run_softint.ensures
+
+pub returns-in-None : goal.returns-in-None
+returns-in-None g c = acting_task (rw c.in-None.is at c.take_softint.ensures.answer) (rw c.in-None.is at c.take_softint.ensures.next) c.run_task.ensures
