@@ -11,10 +11,11 @@ use Rattle.toml.specs.declared.value.Value.{Value}
 use Rattle.toml.proofs.Views.{items_view-drop}
 use Rattle.taskscript.specs.declared.command.Command.{Command}
 use Rattle.taskscript.specs.declared.fault.FileFault.{FileFault}
-use Rattle.taskscript.specs.declared.fault.FileFault.TheVariants.{BadCommand, BadLabel, TooMany}
+use Rattle.taskscript.specs.declared.fault.FileFault.TheVariants.{BadCommand, NotInInterrupt, BadLabel, TooMany}
 use Rattle.taskscript.specs.Commands as numbered
 use Rattle.taskscript.specs.Commands.{ArgumentData, CommandData, command_view}
 use Rattle.taskscript.specs.Faults.{first, check, Judges}
+use Rattle.taskscript.specs.Interrupting.{Setting, may_stand, names_softints}
 use Rattle.taskscript.specs.Labels.{Mark, place_in, place_at, are_marked, jump_faults_in}
 use Rattle.taskscript.specs.Lines.{NamedVariableData, NamedArgumentData, number, variable, label, quoted, NamedCommandData, LineData, label_line, command_line}
 use Rattle.taskscript.specs.Numbering.{Names, names_after, variable_in, is_within, argument_in, command_in, variables_of, labels_of_arguments, have_room}
@@ -47,28 +48,29 @@ marked (m ∷ marks) n = either (bytes_eq n m.name) m.place (place_in marks n) (
 
 -- ---- faults
 
-faults_step : (r : Reading) (whole : Names) (others : List (List ℕ)) (o : Option LineData)
-    → ((q : Reading) → names_after q.names (variables_left others) ≡ whole → faults_after q others ≡ lines_faults whole (mark_names q.marks) others)
+faults_step : (s : Setting) (r : Reading) (whole : Names) (others : List (List ℕ)) (o : Option LineData)
+    → ((q : Reading) → names_after q.names (variables_left others) ≡ whole → faults_after s q others ≡ lines_faults s whole (mark_names q.marks) others)
     → names_after r.names (flat_map variables_of (cons_option (command_said o) (commands_of others))) ≡ whole
-    → said_faults r o ++ faults_after (reading_with r o) others
-    ≡ line_faults whole (mark_names r.marks) o ++ lines_faults whole (mark_names r.marks ++ cons_option (label_said o) []) others
-faults_step r whole others None rest h =
-    ap (λ (fs : List FileFault). BadCommand ∷ fs) (rest r h ∙ ap (λ (ns : List (List ℕ)). lines_faults whole ns others) (sym (append-nil (mark_names r.marks))))
-faults_step r whole others (Some (label_line n)) rest h =
-    ap (λ (b : Bool). check (not b) BadLabel ++ faults_after (reading_with r (Some (label_line n))) others) (marked r.marks n)
-    ∙ ap (λ (fs : List FileFault). check (not (list_any (bytes_eq n) (mark_names r.marks))) BadLabel ++ fs)
-    (rest (reading_with r (Some (label_line n))) h ∙ ap (λ (ns : List (List ℕ)). lines_faults whole ns others) (map_push (λ (m : Mark). m.name) r.marks (mark n (length r.commands))))
-faults_step r whole others (Some (command_line c)) rest h =
+    → said_faults s r o ++ faults_after s (reading_with r o) others
+    ≡ line_faults s whole (mark_names r.marks) o ++ lines_faults s whole (mark_names r.marks ++ cons_option (label_said o) []) others
+faults_step s r whole others None rest h =
+    ap (λ (fs : List FileFault). BadCommand ∷ fs) (rest r h ∙ ap (λ (ns : List (List ℕ)). lines_faults s whole ns others) (sym (append-nil (mark_names r.marks))))
+faults_step s r whole others (Some (label_line n)) rest h =
+    let here = check (not s.of_interrupt) NotInInterrupt in
+    ap (λ (b : Bool). (here ++ check (not b) BadLabel) ++ faults_after s (reading_with r (Some (label_line n))) others) (marked r.marks n)
+    ∙ ap (λ (fs : List FileFault). (here ++ check (not (list_any (bytes_eq n) (mark_names r.marks))) BadLabel) ++ fs)
+    (rest (reading_with r (Some (label_line n))) h ∙ ap (λ (ns : List (List ℕ)). lines_faults s whole ns others) (map_push (λ (m : Mark). m.name) r.marks (mark n (length r.commands))))
+faults_step s r whole others (Some (command_line c)) rest h =
     let room : have_room r.names (variables_of c) ≡ list_all (λ v. is_within (variable_in whole v)) (variables_of c) =
     room_whole r.names (variables_of c) (variables_left others) ∙ ap (λ (n : Names). list_all (λ v. is_within (variable_in n v)) (variables_of c)) h in
     let q = reading_with r (Some (command_line c)) in
-    ap (λ (b : Bool). check b TooMany ++ faults_after q others) room
-    ∙ ap (λ (fs : List FileFault). line_faults whole (mark_names r.marks) (Some (command_line c)) ++ fs)
-    (rest q (sym (names_after-append r.names (variables_of c) (variables_left others)) ∙ h) ∙ ap (λ (ns : List (List ℕ)). lines_faults whole ns others) (sym (append-nil (mark_names r.marks))))
+    ap (λ (b : Bool). (check (names_softints s c) BadCommand ++ (check (may_stand s c) NotInInterrupt ++ check b TooMany)) ++ faults_after s q others) room
+    ∙ ap (λ (fs : List FileFault). line_faults s whole (mark_names r.marks) (Some (command_line c)) ++ fs)
+    (rest q (sym (names_after-append r.names (variables_of c) (variables_left others)) ∙ h) ∙ ap (λ (ns : List (List ℕ)). lines_faults s whole ns others) (sym (append-nil (mark_names r.marks))))
 
-pub faults_whole : (r : Reading) (whole : Names) (lines : List (List ℕ)) → names_after r.names (variables_left lines) ≡ whole → faults_after r lines ≡ lines_faults whole (mark_names r.marks) lines
-faults_whole r whole [] h = refl
-faults_whole r whole (line ∷ others) h = faults_step r whole others (says line) (λ q k. faults_whole q whole others k) h
+pub faults_whole : (s : Setting) (r : Reading) (whole : Names) (lines : List (List ℕ)) → names_after r.names (variables_left lines) ≡ whole → faults_after s r lines ≡ lines_faults s whole (mark_names r.marks) lines
+faults_whole s r whole [] h = refl
+faults_whole s r whole (line ∷ others) h = faults_step s r whole others (says line) (λ q k. faults_whole s q whole others k) h
 
 -- ---- what was read
 
@@ -204,25 +206,25 @@ lines_counted (v ∷ items) = ap suc (lines_counted items)
 short_enough : (n : ℕ) → n ≤ 1024 → first (check (nat_le n 1024) TooMany) ≡ None
 short_enough n h = let e : nat_le n 1024 ≡ true = grind (arith, nat_tests) in ap (λ (b : Bool). first (check b TooMany)) e
 
-pub too_long : (shared lines : List (List ℕ)) → 1024 < length lines → first (body_faults shared lines) ≡ Some TooMany
+pub too_long : (s : Setting) (shared lines : List (List ℕ)) → 1024 < length lines → first (body_faults s shared lines) ≡ Some TooMany
 unfolding body_faults
-too_long shared lines h = let e : nat_le (length lines) 1024 ≡ false = grind (arith, nat_tests) in first_some (check (nat_le (length lines) 1024) TooMany) _ TooMany (ap (λ (b : Bool). first (check b TooMany)) e)
+too_long s shared lines h = let e : nat_le (length lines) 1024 ≡ false = grind (arith, nat_tests) in first_some (check (nat_le (length lines) 1024) TooMany) _ TooMany (ap (λ (b : Bool). first (check b TooMany)) e)
 
-lines_judged : (shared lines : List (List ℕ)) → faults_after (nothing_read shared) lines ≡ lines_faults (names_of shared lines) [] lines
-lines_judged shared lines = faults_whole (nothing_read shared) (names_of shared lines) lines refl
+lines_judged : (s : Setting) (shared lines : List (List ℕ)) → faults_after s (nothing_read shared) lines ≡ lines_faults s (names_of shared lines) [] lines
+lines_judged s shared lines = faults_whole s (nothing_read shared) (names_of shared lines) lines refl
 
-pub line_decides : (shared lines : List (List ℕ)) (f : FileFault) → length lines ≤ 1024 → first (faults_after (nothing_read shared) lines) ≡ Some f → first (body_faults shared lines) ≡ Some f
+pub line_decides : (s : Setting) (shared lines : List (List ℕ)) (f : FileFault) → length lines ≤ 1024 → first (faults_after s (nothing_read shared) lines) ≡ Some f → first (body_faults s shared lines) ≡ Some f
 unfolding body_faults
-line_decides shared lines f few h =
+line_decides s shared lines f few h =
     first_none (check (nat_le (length lines) 1024) TooMany) _ (short_enough (length lines) few)
-    ∙ first_some (lines_faults (names_of shared lines) [] lines) _ f (ap first (sym (lines_judged shared lines)) ∙ h)
+    ∙ first_some (lines_faults s (names_of shared lines) [] lines) _ f (ap first (sym (lines_judged s shared lines)) ∙ h)
 
-jumps_decide : (shared lines : List (List ℕ)) (marks : List Mark) → length lines ≤ 1024 → first (faults_after (nothing_read shared) lines) ≡ None → mark_names marks ≡ labels_of lines
-    → first (body_faults shared lines) ≡ first (flat_map (jump_faults_in marks) (commands_of lines))
+jumps_decide : (s : Setting) (shared lines : List (List ℕ)) (marks : List Mark) → length lines ≤ 1024 → first (faults_after s (nothing_read shared) lines) ≡ None → mark_names marks ≡ labels_of lines
+    → first (body_faults s shared lines) ≡ first (flat_map (jump_faults_in marks) (commands_of lines))
 unfolding body_faults
-jumps_decide shared lines marks few h named =
+jumps_decide s shared lines marks few h named =
     first_none (check (nat_le (length lines) 1024) TooMany) _ (short_enough (length lines) few)
-    ∙ first_none (lines_faults (names_of shared lines) [] lines) _ (ap first (sym (lines_judged shared lines)) ∙ h)
+    ∙ first_none (lines_faults s (names_of shared lines) [] lines) _ (ap first (sym (lines_judged s shared lines)) ∙ h)
     ∙ ap first (sym (jumps_judged marks (labels_of lines) named (commands_of lines)))
 
 place_same : (lines : List (List ℕ)) (n : List ℕ) → is_some (place_in (marks_from 0 lines) n) ≡ true → place_at (marks_from 0 lines) n ≡ place_of lines n
@@ -233,21 +235,21 @@ place_same lines n h =
 abbrev Resolved : Result (Vec Command Global) FileFault → Reading → Type 0
 Resolved r q = Judges r (flat_map (jump_faults_in q.marks) q.commands) (λ code. map command_view code.items ≡ map (command_in q.names (place_at q.marks)) q.commands)
 
-resolved_whole : (shared lines : List (List ℕ)) (r : Result (Vec Command Global) FileFault) → length lines ≤ 1024 → first (faults_after (nothing_read shared) lines) ≡ None
-    → Resolved r (reading (commands_of lines) (names_of shared lines) (marks_from 0 lines)) → Judges r (body_faults shared lines) (λ code. map command_view code.items ≡ code_of shared lines)
+resolved_whole : (s : Setting) (shared lines : List (List ℕ)) (r : Result (Vec Command Global) FileFault) → length lines ≤ 1024 → first (faults_after s (nothing_read shared) lines) ≡ None
+    → Resolved r (reading (commands_of lines) (names_of shared lines) (marks_from 0 lines)) → Judges r (body_faults s shared lines) (λ code. map command_view code.items ≡ code_of shared lines)
 unfolding code_of
-resolved_whole shared lines (Ok code) few h found = (
-  jumps_decide shared lines (marks_from 0 lines) few h (marks_from-names 0 lines) ∙ found.0,
+resolved_whole s shared lines (Ok code) few h found = (
+  jumps_decide s shared lines (marks_from 0 lines) few h (marks_from-names 0 lines) ∙ found.0,
   found.1 ∙ commands_placed (names_of shared lines) (place_at (marks_from 0 lines)) (place_of lines) (marks_from 0 lines) (place_same lines) (commands_of lines) found.0,
 )
-resolved_whole shared lines (Err f) few h found = λ ne. jumps_decide shared lines (marks_from 0 lines) few h (marks_from-names 0 lines) ∙ found ne
+resolved_whole s shared lines (Err f) few h found = λ ne. jumps_decide s shared lines (marks_from 0 lines) few h (marks_from-names 0 lines) ∙ found ne
 
 pub body_read : (shared lines : List (List ℕ)) (q : Reading) → q ≡ reading_after (nothing_read shared) lines → q ≡ reading (commands_of lines) (names_of shared lines) (marks_from 0 lines)
 body_read shared lines q h = h ∙ read_whole (nothing_read shared) lines
 
-pub code_decided : (shared lines : List (List ℕ)) (q : Reading) (r : Result (Vec Command Global) FileFault) → length lines ≤ 1024 → first (faults_after (nothing_read shared) lines) ≡ None
-    → q ≡ reading_after (nothing_read shared) lines → Resolved r q → Judges r (body_faults shared lines) (λ code. map command_view code.items ≡ code_of shared lines)
-code_decided shared lines q r few h is found = resolved_whole shared lines r few h (subst (λ (p : Reading). Resolved r p) (body_read shared lines q is) found)
+pub code_decided : (s : Setting) (shared lines : List (List ℕ)) (q : Reading) (r : Result (Vec Command Global) FileFault) → length lines ≤ 1024 → first (faults_after s (nothing_read shared) lines) ≡ None
+    → q ≡ reading_after (nothing_read shared) lines → Resolved r q → Judges r (body_faults s shared lines) (λ code. map command_view code.items ≡ code_of shared lines)
+code_decided s shared lines q r few h is found = resolved_whole s shared lines r few h (subst (λ (p : Reading). Resolved r p) (body_read shared lines q is) found)
 
 pub shared_read : (shared lines : List (List ℕ)) (q : Reading) → q ≡ reading_after (nothing_read shared) lines → q.names.shared ≡ shared_after shared lines
 unfolding shared_after
@@ -261,7 +263,16 @@ next_line items i v line lt is text =
     ap lines_in (items_view-drop items i v lt) ∙ ap (λ (w : Value). line_in (view w) ∷ lines_in (items_view (drop (i + 1) items))) (sym is)
     ∙ ap (λ (t : List ℕ). t ∷ lines_in (items_view (drop (i + 1) items))) (sym text)
 
-pub line_stops : (r : Reading) (line : List ℕ) (left others : List (List ℕ)) (f : FileFault) (o : Option FileFault) → left ≡ line ∷ others → first (said_faults r (says line)) ≡ Some f
-    → first (faults_after r left) ≡ o → o ≡ Some f
-line_stops r line left others f o is h so_far =
-    sym so_far ∙ ap (λ (ls : List (List ℕ)). first (faults_after r ls)) is ∙ first_some (said_faults r (says line)) (faults_after (reading_with r (says line)) others) f h
+pub line_stops : (s : Setting) (r : Reading) (line : List ℕ) (left others : List (List ℕ)) (f : FileFault) (o : Option FileFault) → left ≡ line ∷ others → first (said_faults s r (says line)) ≡ Some f
+    → first (faults_after s r left) ≡ o → o ≡ Some f
+line_stops s r line left others f o is h so_far =
+    sym so_far ∙ ap (λ (ls : List (List ℕ)). first (faults_after s r ls)) is ∙ first_some (said_faults s r (says line)) (faults_after s (reading_with r (says line)) others) f h
+
+pub line_goes_on : (s : Setting) (r q : Reading) (line : List ℕ) (left others : List (List ℕ)) → left ≡ line ∷ others → first (said_faults s r (says line)) ≡ None → q ≡ reading_with r (says line)
+    → first (faults_after s r left) ≡ first (faults_after s q others)
+line_goes_on s r q line left others is good more =
+    ap (λ (ls : List (List ℕ)). first (faults_after s r ls)) is ∙ first_none (said_faults s r (says line)) (faults_after s (reading_with r (says line)) others) good
+    ∙ ap (λ (p : Reading). first (faults_after s p others)) (sym more)
+
+pub line_read : (r q : Reading) (line : List ℕ) (left others : List (List ℕ)) → left ≡ line ∷ others → q ≡ reading_with r (says line) → reading_after r left ≡ reading_after q others
+line_read r q line left others is more = ap (λ (ls : List (List ℕ)). reading_after r ls) is ∙ ap (λ (p : Reading). reading_after p others) (sym more)

@@ -5,14 +5,15 @@ use Rattle.std.proofs.lemmas.Bool.{cases_Bool, and_parts}
 use Rattle.std.proofs.lemmas.Bool.Decides.{nat_tests}
 use Rattle.std.proofs.lemmas.List.{append-nil, length-map}
 use Rattle.std.proofs.lemmas.List.Folds.{list_all-append}
-use Rattle.std.proofs.lemmas.List.Elements.{All-nil, All-cons}
+use Rattle.std.proofs.lemmas.List.Elements.{All-nil, All-cons, All-head, All-tail, All-map, All-weaker}
 use Rattle.taskscript.specs.declared.fault.FileFault.{FileFault}
-use Rattle.taskscript.specs.declared.fault.FileFault.TheVariants.{TooMany}
+use Rattle.taskscript.specs.declared.fault.FileFault.TheVariants.{BadCommand, NotInInterrupt, TooMany}
 use Rattle.taskscript.specs.declared.variable.Variable.{Variable}
 use Rattle.taskscript.specs.declared.variable.Variable.TheVariants.{Private, Shared}
 use Rattle.taskscript.specs.Commands as numbered
-use Rattle.taskscript.specs.Commands.{VariableFits, ArgumentFits, CommandFits}
+use Rattle.taskscript.specs.Commands.{CommandData, VariableFits, ArgumentFits, CommandFits}
 use Rattle.taskscript.specs.Faults.{first, check}
+use Rattle.taskscript.specs.Interrupting.{Setting, may_stand, names_softints}
 use Rattle.taskscript.specs.Lines.{NamedVariableData, NamedArgumentData, number, variable, label, quoted, NamedCommandData, LineData, label_line, command_line}
 use Rattle.taskscript.specs.Numbering.{seen_after, number_in, Names, names_with, names_after, variable_in, argument_in, command_in, is_within, variables_of_target, variables_of_arguments, variables_of, have_room}
 use Rattle.taskscript.specs.Code.{command_said, commands_of, labels_of, place_of, names_of, line_faults, lines_faults, jump_faults, body_faults, code_of, shared_after}
@@ -51,30 +52,56 @@ no_fault : (b : Bool) (f : FileFault) → first (check b f) ≡ None → b ≡ t
 no_fault true f h = refl
 no_fault false f h = absurd cc
 
--- what a line without a fault says
-said_fits : (names : Names) (places : List ℕ → ℕ) (before : List (List ℕ)) (o : Option LineData) (others : List NamedCommandData) → first (line_faults names before o) ≡ None
-    → All CommandFits (map (command_in names places) others) → All CommandFits (map (command_in names places) (cons_option (command_said o) others))
-said_fits names places before None others h rest = absurd cc
-said_fits names places before (Some (label_line n)) others h rest = rest
-said_fits names places before (Some (command_line c)) others h rest =
-    All-cons CommandFits (command_in names places c) (map (command_in names places) others) (command_fits names places c (no_fault (all_within names (variables_of c)) TooMany h)) rest
+-- ---- the commands of a body without a fault
 
-lines_fit : (names : Names) (places : List ℕ → ℕ) (before : List (List ℕ)) (lines : List (List ℕ)) → first (lines_faults names before lines) ≡ None → All CommandFits (map (command_in names places) (commands_of lines))
-lines_fit names places before [] h = All-nil CommandFits
-lines_fit names places before (line ∷ others) h =
+-- a command without a fault: the software interrupts that it names are there, it may stand in its body, and its variables are within their limits
+pub record Stands (s : Setting) (names : Names) (c : NamedCommandData) : Type 0 where
+  pub named : names_softints s c ≡ true
+  pub stands : may_stand s c ≡ true
+  pub within : all_within names (variables_of c) ≡ true
+
+command_stands : (s : Setting) (names : Names) (before : List (List ℕ)) (c : NamedCommandData) → first (line_faults s names before (Some (command_line c))) ≡ None → Stands s names c
+command_stands s names before c h =
+    let named = check (names_softints s c) BadCommand in
+    let stands = check (may_stand s c) NotInInterrupt in
+    let within = check (all_within names (variables_of c)) TooMany in
+    let rest = first_right named (stands ++ within) h in
+    record {
+      named = no_fault (names_softints s c) BadCommand (first_left named (stands ++ within) h);
+      stands = no_fault (may_stand s c) NotInInterrupt (first_left stands within rest);
+      within = no_fault (all_within names (variables_of c)) TooMany (first_right stands within rest);
+    }
+
+said_stand : (s : Setting) (names : Names) (before : List (List ℕ)) (o : Option LineData) (others : List NamedCommandData) → first (line_faults s names before o) ≡ None
+    → All (Stands s names) others → All (Stands s names) (cons_option (command_said o) others)
+said_stand s names before None others h rest = absurd cc
+said_stand s names before (Some (label_line n)) others h rest = rest
+said_stand s names before (Some (command_line c)) others h rest = All-cons (Stands s names) c others (command_stands s names before c h) rest
+
+lines_stand : (s : Setting) (names : Names) (before : List (List ℕ)) (lines : List (List ℕ)) → first (lines_faults s names before lines) ≡ None → All (Stands s names) (commands_of lines)
+lines_stand s names before [] h = All-nil (Stands s names)
+lines_stand s names before (line ∷ others) h =
     let after = before ++ labels_of (line ∷ []) in
-    said_fits names places before (says line) (commands_of others) (first_left (line_faults names before (says line)) (lines_faults names after others) h)
-    (lines_fit names places after others (first_right (line_faults names before (says line)) (lines_faults names after others) h))
+    said_stand s names before (says line) (commands_of others) (first_left (line_faults s names before (says line)) (lines_faults s names after others) h)
+    (lines_stand s names after others (first_right (line_faults s names before (says line)) (lines_faults s names after others) h))
 
--- no line of a body without a fault has one
-lines_good : (shared lines : List (List ℕ)) → first (body_faults shared lines) ≡ None → first (lines_faults (names_of shared lines) [] lines) ≡ None
+pub commands_stand : (s : Setting) (shared lines : List (List ℕ)) → first (body_faults s shared lines) ≡ None → All (Stands s (names_of shared lines)) (commands_of lines)
 unfolding body_faults
-lines_good shared lines h =
-    first_left (lines_faults (names_of shared lines) [] lines) (flat_map (jump_faults (labels_of lines)) (commands_of lines)) (first_right (check (nat_le (length lines) 1024) TooMany) _ h)
+commands_stand s shared lines h =
+    lines_stand s (names_of shared lines) [] lines
+    (first_left (lines_faults s (names_of shared lines) [] lines) (flat_map (jump_faults (labels_of lines)) (commands_of lines)) (first_right (check (nat_le (length lines) 1024) TooMany) _ h))
 
-pub commands_fit : (shared lines : List (List ℕ)) → first (body_faults shared lines) ≡ None → All CommandFits (code_of shared lines)
+-- what holds of each command, with the numbers of its variables and the places of its labels
+pub each_command : (P : CommandData → Type 0) (s : Setting) (shared lines : List (List ℕ)) → ((names : Names) (places : List ℕ → ℕ) (c : NamedCommandData) → Stands s names c → P (command_in names places c))
+    → first (body_faults s shared lines) ≡ None → All P (code_of shared lines)
 unfolding code_of
-commands_fit shared lines h = lines_fit (names_of shared lines) (place_of lines) [] lines (lines_good shared lines h)
+each_command P s shared lines holds h =
+    let made = command_in (names_of shared lines) (place_of lines) in
+    All-map P made (commands_of lines)
+    (All-weaker (Stands s (names_of shared lines)) (λ c. P (made c)) (λ c stands. holds (names_of shared lines) (place_of lines) c stands) (commands_of lines) (commands_stand s shared lines h))
+
+pub commands_fit : (s : Setting) (shared lines : List (List ℕ)) → first (body_faults s shared lines) ≡ None → All CommandFits (code_of shared lines)
+commands_fit s shared lines h = each_command CommandFits s shared lines (λ names places c stands. command_fits names places c stands.within) h
 
 -- ---- shared names
 
@@ -84,18 +111,11 @@ both a b h k = cc
 within-append : (names : Names) (vs ws : List NamedVariableData) → all_within names vs ≡ true → all_within names ws ≡ true → all_within names (vs ++ ws) ≡ true
 within-append names vs ws h k = list_all-append (λ v. is_within (variable_in names v)) vs ws ∙ both _ _ h k
 
-said_within : (names : Names) (before : List (List ℕ)) (o : Option LineData) (others : List NamedCommandData) → first (line_faults names before o) ≡ None
-    → all_within names (flat_map variables_of others) ≡ true → all_within names (flat_map variables_of (cons_option (command_said o) others)) ≡ true
-said_within names before None others h rest = absurd cc
-said_within names before (Some (label_line n)) others h rest = rest
-said_within names before (Some (command_line c)) others h rest = within-append names (variables_of c) (flat_map variables_of others) (no_fault (all_within names (variables_of c)) TooMany h) rest
-
-lines_within : (names : Names) (before : List (List ℕ)) (lines : List (List ℕ)) → first (lines_faults names before lines) ≡ None → all_within names (variables_left lines) ≡ true
-lines_within names before [] h = refl
-lines_within names before (line ∷ others) h =
-    let after = before ++ labels_of (line ∷ []) in
-    said_within names before (says line) (commands_of others) (first_left (line_faults names before (says line)) (lines_faults names after others) h)
-    (lines_within names after others (first_right (line_faults names before (says line)) (lines_faults names after others) h))
+commands_within : (s : Setting) (names : Names) (cs : List NamedCommandData) → All (Stands s names) cs → all_within names (flat_map variables_of cs) ≡ true
+commands_within s names [] h = refl
+commands_within s names (c ∷ cs) h =
+    let here : Stands s names c = All-head (Stands s names) c cs h in
+    within-append names (variables_of c) (flat_map variables_of cs) here.within (commands_within s names cs (All-tail (Stands s names) c cs h))
 
 -- a new name stands behind the others
 or_false : (a b : Bool) → (a || b) ≡ false → (a ≡ false) × (b ≡ false)
@@ -126,13 +146,13 @@ room_fits : (names : Names) (vs : List NamedVariableData) → have_room names vs
 room_fits names [] room h = h
 room_fits names (v ∷ vs) room h = room_fits (names_with names v) vs (and_parts _ _ room).1 (shared_grown v.is_shared names v.name (and_parts _ _ room).0 h)
 
-pub shared_fit : (shared lines : List (List ℕ)) → length shared ≤ 64 → first (body_faults shared lines) ≡ None → length (shared_after shared lines) ≤ 64
+pub shared_fit : (s : Setting) (shared lines : List (List ℕ)) → length shared ≤ 64 → first (body_faults s shared lines) ≡ None → length (shared_after shared lines) ≤ 64
 unfolding shared_after
-shared_fit shared lines few h =
+shared_fit s shared lines few h =
     let start : Names = record { private = []; shared = shared } in
     let vs = variables_left lines in
     let whole : names_after start (vs ++ []) ≡ names_of shared lines = ap (names_after start) (append-nil vs) in
-    room_fits start vs (room_whole start vs [] ∙ ap (λ (n : Names). all_within n vs) whole ∙ lines_within (names_of shared lines) [] lines (lines_good shared lines h)) few
+    room_fits start vs (room_whole start vs [] ∙ ap (λ (n : Names). all_within n vs) whole ∙ commands_within s (names_of shared lines) (commands_of lines) (commands_stand s shared lines h)) few
 
 -- ---- lengths
 

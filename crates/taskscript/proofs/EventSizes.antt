@@ -36,7 +36,7 @@ irq_some (Some source) e h = let same : Irq source ≡ e = cc in rw (← same) (
 
 stated_some : (line : List ℕ) (e : Event) (runs ticks irqs : Bool)
     → (if runs then option_map Run (turns_of (drop 4 line)) else if ticks then option_map Tick (turns_of (drop 5 line))
-        else if irqs then option_map Irq (requested_source_of (drop 4 line)) else None) ≡ Some e → 1 ≤ turns e
+    else if irqs then option_map Irq (requested_source_of (drop 4 line)) else None) ≡ Some e → 1 ≤ turns e
 stated_some line e true ticks irqs h = run_some (turns_of (drop 4 line)) e (turns_of_some (decimal_of (drop 4 line))) h
 stated_some line e false true irqs h = tick_some (turns_of (drop 5 line)) e (turns_of_some (decimal_of (drop 5 line))) h
 stated_some line e false false true h = irq_some (requested_source_of (drop 4 line)) e h

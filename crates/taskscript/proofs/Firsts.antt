@@ -1,5 +1,5 @@
 -- The first of the faults of two places, one after the other.
-use Rattle.std.proofs.Common.{◌≡◌, List, [], ◌∷◌, ◌++◌, Some, None, refl, ◌∙◌}
+use Rattle.std.proofs.Common.{◌≡◌, List, [], ◌∷◌, ◌++◌, Some, None, refl, sym, ap, ◌∙◌, append_assoc}
 use Rattle.taskscript.specs.declared.fault.FileFault.{FileFault}
 use Rattle.taskscript.specs.Faults.{first, IsFirst}
 
@@ -26,3 +26,11 @@ skip a b f none is ne = first_none a b none ∙ is ne
 -- two places without faults
 pub both : {F : Type 0} (a b : List F) → first a ≡ None → first b ≡ None → first (a ++ b) ≡ None
 both a b none last = first_none a b none ∙ last
+
+-- the first fault of two places, with a third one after them
+pub before_third : (a b c : List FileFault) (f : FileFault) → IsFirst f (a ++ b) → IsFirst f (a ++ (b ++ c))
+before_third a b c f is ne = ap first (sym (append_assoc a b c)) ∙ first_some (a ++ b) c f (is ne)
+
+-- a third place, after two without faults
+pub third : (a b c : List FileFault) (f : FileFault) → first (a ++ b) ≡ None → IsFirst f c → IsFirst f (a ++ (b ++ c))
+third a b c f none is ne = ap first (sym (append_assoc a b c)) ∙ first_none (a ++ b) c none ∙ is ne

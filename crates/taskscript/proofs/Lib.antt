@@ -8,6 +8,8 @@ pub mod EventSizes
 pub mod EventTurns
 pub mod FirstSight
 pub mod Firsts
+pub mod InterruptLaws
+pub mod Interrupts
 pub mod ItemTurns
 pub mod Jumps
 pub mod Keys
@@ -16,9 +18,9 @@ pub mod Machines
 pub mod Names
 pub mod OneName
 pub mod OwnArguments
+pub mod OwnerTurns
 pub mod Readings
 pub mod Resolved
-pub mod TaskTurns
 pub mod Turns
 pub mod Whole
 pub mod WordGroups

@@ -1,8 +1,11 @@
--- What holds of the machine of a tree without faults: a quantum within its range, few tasks, names that differ, short bodies, variables within the limits.
-use Rattle.std.proofs.Common.{is_none, ◌≡◌, ◌≢◌, ℕ, ◌≤◌, Bool, true, false, not, if◌then◌else◌, nat_le, List, [], ◌∷◌, ◌++◌, length, All, bytes_eq, codes, pos, negsuc, lit≤, ◌&&◌, Option, Some, None, refl, sym, ap, ◌∙◌, arith}
+-- What holds of the machine of a tree without faults: a quantum and a pool within their ranges, few software interrupts, servers and tasks, names that
+-- differ, short bodies, variables within the limits, and in the body of an interrupt what it may have.
+use Rattle.std.proofs.Common.{is_none, ◌≡◌, ◌≢◌, ◌⊎◌, ℕ, ◌≤◌, Bool, true, false, not, if◌then◌else◌, nat_le, List, [], ◌∷◌, ◌++◌, length, map, All, bytes_eq, codes, ℤ, pos, negsuc, inl, inr, lit≤, ◌&&◌, ◌||◌, Option, Some, None, refl, sym, ap, subst, ◌∙◌, append_assoc, arith}
 use Rattle.std.specs.List.{AllPairs, list_any}
+use Rattle.std.specs.Ordering.{int_eq}
 use Rattle.std.proofs.lemmas.Bool.{or_parts}
-use Rattle.std.proofs.lemmas.Bool.Decides.{nat_tests, not_from_Decides}
+use Rattle.std.proofs.lemmas.Bool.Decides.{nat_tests, not_from_Decides, Decides-int_eq}
+use Rattle.std.proofs.lemmas.List.{append-nil}
 use Rattle.std.proofs.lemmas.List.Elements.{All-nil, All-cons}
 use Rattle.std.proofs.lemmas.List.Folds.{list_any-append}
 use Rattle.std.proofs.lemmas.List.Kept.{AllPairs-cons}
@@ -12,14 +15,16 @@ use Rattle.memlist.specs.Regions.{regions_fault}
 use Rattle.toml.specs.Data.{Data, string, integer, float, boolean, datetime, array, table, Items, no_items, item, Members, get_member}
 use Rattle.taskscript.specs.declared.fault.FileFault.{FileFault}
 use Rattle.taskscript.specs.declared.fault.FileFault.TheVariants.{UnknownKey, BadValue, NameTwice, BadRegions, TooMany}
-use Rattle.taskscript.specs.Code.{lines_in, body_faults, shared_after}
+use Rattle.taskscript.specs.Code.{lines_in, body_faults, code_of, shared_after}
 use Rattle.taskscript.specs.Faults.{first, check}
-use Rattle.taskscript.specs.File.{TaskData, top_keys, task_keys, name_of, task_faults, tasks_faults, tasks_in, code_lines, bodies_faults, faults, region_faults, regions_faults, regions_in, quantum_of, pool_of, settings_faults, both_passes_faults, task_of, tasks_of, machine_of}
-use Rattle.taskscript.specs.Machines.{IsTask, IsMachine, task_names}
+use Rattle.taskscript.specs.File.{SoftintData, ServerData, TaskData, top_keys, softint_keys, server_keys, task_keys, name_of, softint_faults, server_faults, task_faults, named_faults, item_names, softints_in, servers_in, tasks_in, code_lines, setting_of, bodies_faults, with_bodies, shared_after_softints, shared_after_servers, names_before_servers, names_before_tasks, both_passes_faults, faults, region_faults, regions_faults, regions_in, quantum_of, pool_of, settings_faults, softint_of, softints_of, server_of, servers_of, task_of, tasks_of, machine_of}
+use Rattle.taskscript.specs.Interrupting.{Setting}
+use Rattle.taskscript.specs.Machines.{IsCode, IsSoftintPri, IsSoftint, IsServer, IsTask, IsMachine, softint_names, server_names, task_names}
 use Rattle.taskscript.specs.Names.{is_name}
-use Rattle.taskscript.specs.Tree.{required, optional, keys_are_among, integer_faults, pri_faults, boolean_faults, name_faults, count_items, array_faults, are_strings, code_faults, number_or, items_faults, string_or_nothing, items_or_none}
+use Rattle.taskscript.specs.Tree.{required, optional, table_faults, keys_are_among, integer_faults, pri_faults, is_softint_pri, softint_pri_faults, source_faults, boolean_faults, name_faults, count_items, array_faults, are_strings, code_faults, integer_or, number_or, items_faults, string_or_nothing, items_or_none, members_or_none}
 use Rattle.taskscript.proofs.CodeLaws.{commands_fit, length-code_of}
 use Rattle.taskscript.proofs.Firsts.{first_left, first_right}
+use Rattle.taskscript.proofs.InterruptLaws.{commands_named, commands_interrupt}
 use Rattle.taskscript.proofs.Jumps.{jumps_fit}
 use Rattle.taskscript.proofs.OneName.{quotes_once}
 use Rattle.taskscript.proofs.OwnArguments.{commands_have}
@@ -75,81 +80,180 @@ array_passes limit judge (Some (boolean b)) empty h = absurd cc
 array_passes limit judge (Some (datetime d)) empty h = absurd cc
 array_passes limit judge (Some (table ms)) empty h = absurd cc
 
--- ---- one task
+one_of : (a b : Bool) → (a || b) ≡ true → (a ≡ true) ⊎ (b ≡ true)
+one_of true b h = inl refl
+one_of false b h = inr h
+
+-- one of the five priorities
+one_of_five : (z : ℤ) → is_softint_pri z ≡ true → IsSoftintPri z
+one_of_five z h =
+    elim (one_of (int_eq z (negsuc 31)) _ h) [
+      | inl e ↦ inr (inr (inr (inr ((Decides-int_eq z (negsuc 31)).0 e))))
+      | inr i ↦ elim (one_of (int_eq z (negsuc 15)) _ i) [
+        | inl e ↦ inr (inr (inr (inl ((Decides-int_eq z (negsuc 15)).0 e))))
+        | inr j ↦ elim (one_of (int_eq z (pos 0)) _ j) [
+          | inl e ↦ inr (inr (inl ((Decides-int_eq z (pos 0)).0 e)))
+          | inr k ↦ elim (one_of (int_eq z (pos 16)) (int_eq z (pos 32)) k) [
+            | inl e ↦ inr (inl ((Decides-int_eq z (pos 16)).0 e))
+            | inr e ↦ inl ((Decides-int_eq z (pos 32)).0 e)
+          ]
+        ]
+      ]
+    ]
+
+pri_passes : (value : Option Data) → first (required softint_pri_faults value) ≡ None → IsSoftintPri (integer_or (pos 0) value)
+pri_passes None h = absurd cc
+pri_passes (Some (integer z)) h = one_of_five z (passes (is_softint_pri z) BadValue h)
+pri_passes (Some (string s)) h = absurd cc
+pri_passes (Some (float x)) h = absurd cc
+pri_passes (Some (boolean b)) h = absurd cc
+pri_passes (Some (datetime d)) h = absurd cc
+pri_passes (Some (array ds)) h = absurd cc
+pri_passes (Some (table ms)) h = absurd cc
+
+-- an item that is a table without faults
+of_table : (judge : Members → List FileFault) (d : Data) → first (table_faults judge d) ≡ None → first (judge (members_or_none d)) ≡ None
+of_table judge (table ms) h = h
+of_table judge (string s) h = absurd cc
+of_table judge (integer z) h = absurd cc
+of_table judge (float x) h = absurd cc
+of_table judge (boolean b) h = absurd cc
+of_table judge (datetime d) h = absurd cc
+of_table judge (array ds) h = absurd cc
+
+-- ---- one item
+
+abbrev Judge : Type 0
+Judge = List (List ℕ) → Members → List FileFault
+
+-- a name and a code are among what is judged of an item
+record JudgesBoth (judge : Judge) : Type 0 where
+  name : (before : List (List ℕ)) (ms : Members) → first (judge before ms) ≡ None → first (required (name_faults before) (get_member (codes "name") ms)) ≡ None
+  code : (before : List (List ℕ)) (ms : Members) → first (judge before ms) ≡ None → first (required code_faults (get_member (codes "code") ms)) ≡ None
+
+softint_values : (before : List (List ℕ)) (ms : Members) → first (softint_faults before ms) ≡ None
+    → first (required softint_pri_faults (get_member (codes "pri") ms) ++ required code_faults (get_member (codes "code") ms)) ≡ None
+softint_values before ms h = first_right (required (name_faults before) (get_member (codes "name") ms)) _ (first_right (check (keys_are_among softint_keys ms) UnknownKey) _ h)
+
+softint_judged : JudgesBoth softint_faults
+softint_judged = record {
+  name = λ before ms h. first_left (required (name_faults before) (get_member (codes "name") ms)) _ (first_right (check (keys_are_among softint_keys ms) UnknownKey) _ h);
+  code = λ before ms h. first_right (required softint_pri_faults (get_member (codes "pri") ms)) _ (softint_values before ms h);
+}
+
+server_judged : JudgesBoth server_faults
+server_judged = record {
+  name = λ before ms h. first_left (required (name_faults before) (get_member (codes "name") ms)) _ (first_right (check (keys_are_among server_keys ms) UnknownKey) _ h);
+  code = λ before ms h.
+      first_right (optional boolean_faults (get_member (codes "claim") ms)) _
+      (first_right (pri_faults ms) _
+      (first_right (required source_faults (get_member (codes "source") ms)) _
+      (first_right (required (name_faults before) (get_member (codes "name") ms)) _ (first_right (check (keys_are_among server_keys ms) UnknownKey) _ h))));
+}
+
+task_judged : JudgesBoth task_faults
+task_judged = record {
+  name = λ before ms h. first_left (required (name_faults before) (get_member (codes "name") ms)) _ (first_right (check (keys_are_among task_keys ms) UnknownKey) _ h);
+  code = λ before ms h.
+      first_right (optional boolean_faults (get_member (codes "start") ms)) _
+      (first_right (pri_faults ms) _
+      (first_right (required (name_faults before) (get_member (codes "name") ms)) _ (first_right (check (keys_are_among task_keys ms) UnknownKey) _ h)));
+}
 
 length-lines_in : (ds : Items) → length (lines_in ds) ≡ count_items ds
 length-lines_in no_items = refl
 length-lines_in (item d ds) = rw (length-lines_in ds) (omega arith)
 
--- the faults of a task's values, after those of its keys
-name_part : (before : List (List ℕ)) (ms : Members) → first (task_faults before (table ms)) ≡ None → first (required (name_faults before) (get_member (codes "name") ms)) ≡ None
-name_part before ms h = first_left _ _ (first_right (check (keys_are_among task_keys ms) UnknownKey) _ h)
+is_fresh : (judge : Judge) → JudgesBoth judge → (before : List (List ℕ)) (d : Data) → first (table_faults (judge before) d) ≡ None → list_any (bytes_eq (name_of d)) before ≡ false
+is_fresh judge both before d h = (name_passes before (get_member (codes "name") (members_or_none d)) (both.name before (members_or_none d) (of_table (judge before) d h))).1
 
-code_part : (before : List (List ℕ)) (ms : Members) → first (task_faults before (table ms)) ≡ None → first (required code_faults (get_member (codes "code") ms)) ≡ None
-code_part before ms h =
-    first_right (optional boolean_faults (get_member (codes "start") ms)) _
-    (first_right (pri_faults ms) _
-    (first_right (required (name_faults before) (get_member (codes "name") ms)) _ (first_right (check (keys_are_among task_keys ms) UnknownKey) _ h)))
+is_named : (judge : Judge) → JudgesBoth judge → (before : List (List ℕ)) (d : Data) → first (table_faults (judge before) d) ≡ None → is_name (name_of d) ≡ true
+is_named judge both before d h = (name_passes before (get_member (codes "name") (members_or_none d)) (both.name before (members_or_none d) (of_table (judge before) d h))).0
 
-is_fresh : (before : List (List ℕ)) (d : Data) → first (task_faults before d) ≡ None → list_any (bytes_eq (name_of d)) before ≡ false
-is_fresh before (table ms) h = (name_passes before (get_member (codes "name") ms) (name_part before ms h)).1
-is_fresh before (string s) h = absurd cc
-is_fresh before (integer z) h = absurd cc
-is_fresh before (float x) h = absurd cc
-is_fresh before (boolean b) h = absurd cc
-is_fresh before (datetime d) h = absurd cc
-is_fresh before (array ds) h = absurd cc
+is_short : (judge : Judge) → JudgesBoth judge → (before : List (List ℕ)) (d : Data) → first (table_faults (judge before) d) ≡ None → length (code_lines d) ≤ 1024
+is_short judge both before d h =
+    let value = get_member (codes "code") (members_or_none d) in
+    let few : count_items (items_or_none value) ≤ 1024 = code_passes value (both.code before (members_or_none d) (of_table (judge before) d h)) in
+    omega (arith, length-lines_in (items_or_none value), few)
 
-is_named : (before : List (List ℕ)) (d : Data) → first (task_faults before d) ≡ None → is_name (name_of d) ≡ true
-is_named before (table ms) h = (name_passes before (get_member (codes "name") ms) (name_part before ms h)).0
-is_named before (string s) h = absurd cc
-is_named before (integer z) h = absurd cc
-is_named before (float x) h = absurd cc
-is_named before (boolean b) h = absurd cc
-is_named before (datetime d) h = absurd cc
-is_named before (array ds) h = absurd cc
-
-is_short : (before : List (List ℕ)) (d : Data) → first (task_faults before d) ≡ None → length (code_lines d) ≤ 1024
-is_short before (table ms) h = rw (length-lines_in (items_or_none (get_member (codes "code") ms))) (code_passes (get_member (codes "code") ms) (code_part before ms h))
-is_short before (string s) h = absurd cc
-is_short before (integer z) h = absurd cc
-is_short before (float x) h = absurd cc
-is_short before (boolean b) h = absurd cc
-is_short before (datetime d) h = absurd cc
-is_short before (array ds) h = absurd cc
-
-task_holds : (before shared : List (List ℕ)) (d : Data) → first (task_faults before d) ≡ None → first (body_faults shared (code_lines d)) ≡ None → IsTask (task_of shared d)
-task_holds before shared d h k = record {
-  name = is_named before d h;
-  code = omega (arith, length-code_of shared (code_lines d), is_short before d h);
-  commands = commands_fit shared (code_lines d) k;
+code_holds : (s : Setting) (shared : List (List ℕ)) (d : Data) → length (code_lines d) ≤ 1024 → first (body_faults s shared (code_lines d)) ≡ None → IsCode s.softints (code_of shared (code_lines d))
+code_holds s shared d short h = record {
+  few = omega (arith, length-code_of shared (code_lines d), short);
+  commands = commands_fit s shared (code_lines d) h;
   arguments = commands_have shared (code_lines d);
   names = quotes_once shared (code_lines d);
+  causes = commands_named s shared (code_lines d) h;
+}
+
+abbrev setting : Bool → List (List ℕ) → Setting
+setting of_interrupt softints = record { of_interrupt = of_interrupt; softints = softints }
+
+softint_holds : (softints before shared : List (List ℕ)) (d : Data) → first (table_faults (softint_faults before) d) ≡ None → first (body_faults (setting true softints) shared (code_lines d)) ≡ None
+    → IsSoftint softints (softint_of shared d)
+softint_holds softints before shared d h k =
+    let ms = members_or_none d in
+    let values = softint_values before ms (of_table (softint_faults before) d h) in
+    record {
+      name = is_named softint_faults softint_judged before d h;
+      pri = pri_passes (get_member (codes "pri") ms) (first_left (required softint_pri_faults (get_member (codes "pri") ms)) _ values);
+      code = code_holds (setting true softints) shared d (is_short softint_faults softint_judged before d h) k;
+      words = commands_interrupt softints shared (code_lines d) k;
+    }
+
+server_holds : (softints before shared : List (List ℕ)) (d : Data) → first (table_faults (server_faults before) d) ≡ None → first (body_faults (setting true softints) shared (code_lines d)) ≡ None
+    → IsServer softints (server_of shared d)
+server_holds softints before shared d h k = record {
+  name = is_named server_faults server_judged before d h;
+  code = code_holds (setting true softints) shared d (is_short server_faults server_judged before d h) k;
+  words = commands_interrupt softints shared (code_lines d) k;
+}
+
+task_holds : (softints before shared : List (List ℕ)) (d : Data) → first (table_faults (task_faults before) d) ≡ None → first (body_faults (setting false softints) shared (code_lines d)) ≡ None
+    → IsTask softints (task_of shared d)
+task_holds softints before shared d h k = record {
+  name = is_named task_faults task_judged before d h;
+  code = code_holds (setting false softints) shared d (is_short task_faults task_judged before d h) k;
   jumps = jumps_fit shared (code_lines d);
 }
 
--- ---- all tasks
+-- ---- all items of an array
 
-tasks_hold : (before shared : List (List ℕ)) (ds : Items) → first (tasks_faults before ds) ≡ None → first (bodies_faults shared ds) ≡ None → All IsTask (tasks_of shared ds)
-tasks_hold before shared no_items h k = All-nil IsTask
-tasks_hold before shared (item d ds) h k =
-    All-cons IsTask (task_of shared d) (tasks_of (shared_after shared (code_lines d)) ds)
-    (task_holds before shared d (first_left _ _ h) (first_left _ _ k))
-    (tasks_hold (before ++ name_of d ∷ []) (shared_after shared (code_lines d)) ds (first_right (task_faults before d) _ h) (first_right (body_faults shared (code_lines d)) _ k))
+all_hold : {X : Type 0} (P : X → Type 0) (judge : Judge) (s : Setting) (of : List (List ℕ) → Data → X)
+    → ((before shared : List (List ℕ)) (d : Data) → first (table_faults (judge before) d) ≡ None → first (body_faults s shared (code_lines d)) ≡ None → P (of shared d))
+    → (before shared : List (List ℕ)) (ds : Items) → first (named_faults judge before ds) ≡ None → first (bodies_faults s shared ds) ≡ None → All P (with_bodies of shared ds)
+all_hold P judge s of holds before shared no_items h k = All-nil P
+all_hold P judge s of holds before shared (item d ds) h k =
+    let after = shared_after shared (code_lines d) in
+    All-cons P (of shared d) (with_bodies of after ds)
+    (holds before shared d (first_left (table_faults (judge before) d) _ h) (first_left (body_faults s shared (code_lines d)) _ k))
+    (all_hold P judge s of holds (before ++ name_of d ∷ []) after ds (first_right (table_faults (judge before) d) _ h) (first_right (body_faults s shared (code_lines d)) _ k))
 
-length-tasks_of : (shared : List (List ℕ)) (ds : Items) → length (tasks_of shared ds) ≡ count_items ds
-length-tasks_of shared no_items = refl
-length-tasks_of shared (item d ds) = rw (length-tasks_of (shared_after shared (code_lines d)) ds) (omega arith)
+length-with_bodies : {X : Type 0} (of : List (List ℕ) → Data → X) (shared : List (List ℕ)) (ds : Items) → length (with_bodies of shared ds) ≡ count_items ds
+length-with_bodies of shared no_items = refl
+length-with_bodies of shared (item d ds) = rw (length-with_bodies of (shared_after shared (code_lines d)) ds) (omega arith)
+
+names-with_bodies : {X : Type 0} (of : List (List ℕ) → Data → X) (name : X → List ℕ) → ((shared : List (List ℕ)) (d : Data) → name (of shared d) ≡ name_of d)
+    → (shared : List (List ℕ)) (ds : Items) → map name (with_bodies of shared ds) ≡ item_names ds
+names-with_bodies of name same shared no_items = refl
+names-with_bodies of name same shared (item d ds) =
+    ap (λ (n : List ℕ). n ∷ map name (with_bodies of (shared_after shared (code_lines d)) ds)) (same shared d)
+    ∙ ap (λ (ns : List (List ℕ)). name_of d ∷ ns) (names-with_bodies of name same (shared_after shared (code_lines d)) ds)
 
 -- ---- names
 
-abbrev names_in : Items → List (List ℕ)
-names_in no_items = []
-names_in (item d ds) = name_of d ∷ names_in ds
+-- each of these names is none of those before it
+abbrev AreNew : List (List ℕ) → List (List ℕ) → Type 0
+AreNew before [] = Unit {0}
+AreNew before (n ∷ ns) = (list_any (bytes_eq n) before ≡ false) × AreNew (before ++ n ∷ []) ns
 
-task_names-tasks_of : (shared : List (List ℕ)) (ds : Items) → task_names (tasks_of shared ds) ≡ names_in ds
-task_names-tasks_of shared no_items = refl
-task_names-tasks_of shared (item d ds) = ap (λ ns. name_of d ∷ ns) (task_names-tasks_of (shared_after shared (code_lines d)) ds)
+names_new : (judge : Judge) → JudgesBoth judge → (before : List (List ℕ)) (ds : Items) → first (named_faults judge before ds) ≡ None → AreNew before (item_names ds)
+names_new judge both before no_items h = tt
+names_new judge both before (item d ds) h =
+    (is_fresh judge both before d (first_left (table_faults (judge before) d) _ h), names_new judge both (before ++ name_of d ∷ []) ds (first_right (table_faults (judge before) d) _ h))
+
+new-append : (before ns ms : List (List ℕ)) → AreNew before ns → AreNew (before ++ ns) ms → AreNew before (ns ++ ms)
+new-append before [] ms h k = subst (λ (names : List (List ℕ)). AreNew names ms) (append-nil before) k
+new-append before (n ∷ ns) ms h k = (h.0, new-append (before ++ n ∷ []) ns ms h.1 (subst (λ (names : List (List ℕ)). AreNew names ms) (sym (append_assoc before (n ∷ []) ns)) k))
 
 unused_parts : (n : List ℕ) (before : List (List ℕ)) (x : List ℕ) → list_any (bytes_eq n) (before ++ x ∷ []) ≡ false → (list_any (bytes_eq n) before ≡ false) × (bytes_eq n x ≡ false)
 unused_parts n before x h =
@@ -160,18 +264,17 @@ differ : (x n : List ℕ) → bytes_eq n x ≡ false → x ≢ n
 differ x n h = λ e. not_from_Decides (bytes_eq n x) (bytes_eq-Decides n x) h (sym e)
 
 -- no later name is one of those before
-all_fresh : (before : List (List ℕ)) (ds : Items) → first (tasks_faults before ds) ≡ None → All (λ n. list_any (bytes_eq n) before ≡ false) (names_in ds)
-all_fresh before no_items h = All-nil (λ n. list_any (bytes_eq n) before ≡ false)
-all_fresh before (item d ds) h =
-    let later = all_fresh (before ++ name_of d ∷ []) ds (first_right (task_faults before d) _ h) in
-    All-cons (λ n. list_any (bytes_eq n) before ≡ false) (name_of d) (names_in ds) (is_fresh before d (first_left _ _ h)) (λ k n lt. (unused_parts _ before (name_of d) (later k n lt)).0)
+all_fresh : (before ns : List (List ℕ)) → AreNew before ns → All (λ n. list_any (bytes_eq n) before ≡ false) ns
+all_fresh before [] h = All-nil (λ n. list_any (bytes_eq n) before ≡ false)
+all_fresh before (n ∷ ns) h =
+    let later = all_fresh (before ++ n ∷ []) ns h.1 in
+    All-cons (λ m. list_any (bytes_eq m) before ≡ false) n ns h.0 (λ k d lt. (unused_parts _ before n (later k d lt)).0)
 
-all_differ : (before : List (List ℕ)) (ds : Items) → first (tasks_faults before ds) ≡ None → AllPairs (λ s t. s ≢ t) (names_in ds)
-all_differ before no_items h = λ i j d lt k. absurd (omega arith)
-all_differ before (item d ds) h =
-    let rest = first_right (task_faults before d) _ h in
-    let later = all_fresh (before ++ name_of d ∷ []) ds rest in
-    AllPairs-cons (λ s t. s ≢ t) (name_of d) (names_in ds) (λ k n lt. differ (name_of d) _ (unused_parts _ before (name_of d) (later k n lt)).1) (all_differ (before ++ name_of d ∷ []) ds rest)
+all_differ : (before ns : List (List ℕ)) → AreNew before ns → AllPairs (λ s t. s ≢ t) ns
+all_differ before [] h = λ i j d lt k. absurd (omega arith)
+all_differ before (n ∷ ns) h =
+    let later = all_fresh (before ++ n ∷ []) ns h.1 in
+    AllPairs-cons (λ s t. s ≢ t) n ns (λ k d lt. differ n _ (unused_parts _ before n (later k d lt)).1) (all_differ (before ++ n ∷ []) ns h.1)
 
 -- ---- the machine
 
@@ -198,7 +301,7 @@ no_fault None h = refl
 no_fault (Some f) h = absurd cc
 
 regions_hold : (ms : Members) → first (regions_faults ms) ≡ None → regions_fault 1048576 (regions_in ms) ≡ None
-regions_hold ms h = no_fault (regions_fault 1048576 (regions_in ms)) (first_right (optional (array_faults 8 (items_faults region_faults)) (get_member (codes "region") ms)) _ h)
+regions_hold ms h = no_fault (regions_fault 1048576 (regions_in ms)) (first_right (optional (array_faults 8 (items_faults (table_faults region_faults))) (get_member (codes "region") ms)) _ h)
 
 -- the faults of a whole tree, part by part
 pub record HasNoFaults (tree : Members) : Type 0 where
@@ -217,31 +320,81 @@ has_none ms h =
       passes = first_right (regions_faults ms) (both_passes_faults ms) arrays;
     }
 
+-- the faults of both passes, array by array
+record HasGoodOwners (tree : Members) : Type 0 where
+  softints : first (optional (array_faults 32 (named_faults softint_faults [])) (get_member (codes "softint") tree)) ≡ None
+  servers : first (optional (array_faults 32 (named_faults server_faults (names_before_servers tree))) (get_member (codes "server") tree)) ≡ None
+  tasks : first (optional (array_faults 64 (named_faults task_faults (names_before_tasks tree))) (get_member (codes "task") tree)) ≡ None
+  softint_bodies : first (bodies_faults (setting_of true tree) [] (softints_in tree)) ≡ None
+  server_bodies : first (bodies_faults (setting_of true tree) (shared_after_softints tree) (servers_in tree)) ≡ None
+  task_bodies : first (bodies_faults (setting_of false tree) (shared_after_servers tree) (tasks_in tree)) ≡ None
+
+good_owners : (ms : Members) → first (both_passes_faults ms) ≡ None → HasGoodOwners ms
+good_owners ms h =
+    let softints = optional (array_faults 32 (named_faults softint_faults [])) (get_member (codes "softint") ms) in
+    let servers = optional (array_faults 32 (named_faults server_faults (names_before_servers ms))) (get_member (codes "server") ms) in
+    let tasks = optional (array_faults 64 (named_faults task_faults (names_before_tasks ms))) (get_member (codes "task") ms) in
+    let softint_bodies = bodies_faults (setting_of true ms) [] (softints_in ms) in
+    let server_bodies = bodies_faults (setting_of true ms) (shared_after_softints ms) (servers_in ms) in
+    let task_bodies = bodies_faults (setting_of false ms) (shared_after_servers ms) (tasks_in ms) in
+    let heads = first_left (softints ++ (servers ++ tasks)) (softint_bodies ++ (server_bodies ++ task_bodies)) h in
+    let bodies = first_right (softints ++ (servers ++ tasks)) (softint_bodies ++ (server_bodies ++ task_bodies)) h in
+    let later_heads = first_right softints (servers ++ tasks) heads in
+    let later_bodies = first_right softint_bodies (server_bodies ++ task_bodies) bodies in
+    record {
+      softints = first_left softints (servers ++ tasks) heads;
+      servers = first_left servers tasks later_heads;
+      tasks = first_right servers tasks later_heads;
+      softint_bodies = first_left softint_bodies (server_bodies ++ task_bodies) bodies;
+      server_bodies = first_left server_bodies task_bodies later_bodies;
+      task_bodies = first_right server_bodies task_bodies later_bodies;
+    }
+
+softint_names-are : (ms : Members) → softint_names (softints_of [] (softints_in ms)) ≡ item_names (softints_in ms)
+softint_names-are ms = names-with_bodies softint_of (λ (i : SoftintData). i.name) (λ shared d. refl) [] (softints_in ms)
+
+server_names-are : (ms : Members) → server_names (servers_of (shared_after_softints ms) (servers_in ms)) ≡ item_names (servers_in ms)
+server_names-are ms = names-with_bodies server_of (λ (s : ServerData). s.name) (λ shared d. refl) (shared_after_softints ms) (servers_in ms)
+
+task_names-are : (ms : Members) → task_names (tasks_of (shared_after_servers ms) (tasks_in ms)) ≡ item_names (tasks_in ms)
+task_names-are ms = names-with_bodies task_of (λ (t : TaskData). t.name) (λ shared d. refl) (shared_after_servers ms) (tasks_in ms)
+
 pub machine_of_parts : (ms : Members) → HasNoFaults ms → IsMachine (machine_of ms)
 machine_of_parts ms h =
-    let tasks = optional (array_faults 64 (tasks_faults [])) (get_member (codes "task") ms) in
-    let bodies = bodies_faults [] (tasks_in ms) in
-    let tree = array_passes 64 (tasks_faults []) (get_member (codes "task") ms) refl (first_left tasks bodies h.passes) in
+    let good = good_owners ms h.passes in
+    let softints = array_passes 32 (named_faults softint_faults []) (get_member (codes "softint") ms) refl good.softints in
+    let servers = array_passes 32 (named_faults server_faults (names_before_servers ms)) (get_member (codes "server") ms) refl good.servers in
+    let tasks = array_passes 64 (named_faults task_faults (names_before_tasks ms)) (get_member (codes "task") ms) refl good.tasks in
     let quantum_faults = optional (integer_faults (pos 1) (pos 255)) (get_member (codes "quantum") ms) in
     let pool_faults = optional (integer_faults (pos 1) (pos 1024)) (get_member (codes "pool") ms) in
     let quantum = number_passes 1 255 4 (get_member (codes "quantum") ms) (lit≤ tt) (lit≤ tt) (first_left quantum_faults pool_faults h.settings) in
     let pool = number_passes 1 1024 64 (get_member (codes "pool") ms) (lit≤ tt) (lit≤ tt) (first_right quantum_faults pool_faults h.settings) in
+    let firsts = item_names (softints_in ms) in
+    let seconds = item_names (servers_in ms) in
+    let thirds = item_names (tasks_in ms) in
+    let new : AreNew [] (firsts ++ (seconds ++ thirds)) = new-append [] firsts (seconds ++ thirds) (names_new softint_faults softint_judged [] (softints_in ms) softints.1)
+    (new-append firsts seconds thirds (names_new server_faults server_judged firsts (servers_in ms) servers.1) (names_new task_faults task_judged (firsts ++ seconds) (tasks_in ms) tasks.1)) in
     record {
       some_quantum = quantum.0;
       short_quantum = quantum.1;
       some_pool = pool.0;
       small_pool = pool.1;
       regions = regions_hold ms h.regions;
-      few = omega (arith, length-tasks_of [] (tasks_in ms), tree.0);
-      tasks = tasks_hold [] [] (tasks_in ms) tree.1 (first_right tasks bodies h.passes);
-      names = rw (task_names-tasks_of [] (tasks_in ms)) (all_differ [] (tasks_in ms) tree.1);
+      few_softints = omega (arith, length-with_bodies softint_of [] (softints_in ms), softints.0);
+      softints = rw (softint_names-are ms) (all_hold (IsSoftint firsts) softint_faults (setting true firsts) softint_of (softint_holds firsts) [] [] (softints_in ms) softints.1 good.softint_bodies);
+      few_servers = omega (arith, length-with_bodies server_of (shared_after_softints ms) (servers_in ms), servers.0);
+      servers = rw (softint_names-are ms) (all_hold (IsServer firsts) server_faults (setting true firsts) server_of (server_holds firsts) firsts (shared_after_softints ms) (servers_in ms) servers.1 good.server_bodies);
+      few = omega (arith, length-with_bodies task_of (shared_after_servers ms) (tasks_in ms), tasks.0);
+      tasks = rw (softint_names-are ms) (all_hold (IsTask firsts) task_faults (setting false firsts) task_of (task_holds firsts) (firsts ++ seconds) (shared_after_servers ms) (tasks_in ms) tasks.1 good.task_bodies);
+      names = rw (softint_names-are ms, server_names-are ms, task_names-are ms) (all_differ [] (firsts ++ (seconds ++ thirds)) new);
     }
 
 pub machine_holds : (ms : Members) → first (faults ms) ≡ None → IsMachine (machine_of ms)
 machine_holds ms h = machine_of_parts ms (has_none ms h)
 
 -- the same of parts that were read from the tree
-pub read_holds : (ms : Members) (quantum pool : ℕ) (regions : List Region) (tasks : List TaskData) → HasNoFaults ms
-    → quantum ≡ quantum_of ms → pool ≡ pool_of ms → regions ≡ regions_in ms → tasks ≡ tasks_of [] (tasks_in ms)
-    → IsMachine (record { quantum = quantum; pool = pool; regions = regions; tasks = tasks })
-read_holds ms quantum pool regions tasks none p q r s = rw (p, q, r, s) (machine_of_parts ms none)
+pub read_holds : (ms : Members) (quantum pool : ℕ) (regions : List Region) (softints : List SoftintData) (servers : List ServerData) (tasks : List TaskData) → HasNoFaults ms
+    → quantum ≡ quantum_of ms → pool ≡ pool_of ms → regions ≡ regions_in ms
+    → softints ≡ softints_of [] (softints_in ms) → servers ≡ servers_of (shared_after_softints ms) (servers_in ms) → tasks ≡ tasks_of (shared_after_servers ms) (tasks_in ms)
+    → IsMachine (record { quantum = quantum; pool = pool; regions = regions; softints = softints; servers = servers; tasks = tasks })
+read_holds ms quantum pool regions softints servers tasks none p q r s t u = rw (p, q, r, s, t, u) (machine_of_parts ms none)

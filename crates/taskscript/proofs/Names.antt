@@ -7,10 +7,10 @@ use Rattle.std.proofs.lemmas.Option.{same_Some}
 use Rattle.arrayvec.specs.ArrayString.{ArrayString}
 use Rattle.taskscript.specs.Numbering.{seen_after, number_in, texts}
 
-abbrev is : List ℕ → ArrayString → Bool
+abbrev pub is : List ℕ → ArrayString → Bool
 is n k = bytes_eq n k.bytes
 
-any_texts : (n : List ℕ) (ks : List ArrayString) → list_any (bytes_eq n) (texts ks) ≡ list_any (is n) ks
+pub any_texts : (n : List ℕ) (ks : List ArrayString) → list_any (bytes_eq n) (texts ks) ≡ list_any (is n) ks
 any_texts n [] = refl
 any_texts n (k ∷ ks) = ap (λ (b : Bool). bytes_eq n k.bytes || b) (any_texts n ks)
 

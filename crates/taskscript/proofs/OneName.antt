@@ -3,17 +3,18 @@ use Rattle.std.proofs.Common.{ℕ, ◌+◌, ◌≡◌, ◌≤◌, arith, lit≤,
 use Rattle.std.specs.Prelude.{count_by, slice_index_or}
 use Rattle.std.proofs.lemmas.List.Sums.{sum_by-cons}
 use Rattle.taskscript.specs.declared.word.Word.{Word}
-use Rattle.taskscript.specs.declared.word.Word.TheVariants.{Plain, Signals, Nesting, Tasks, Lists, Memory, Ports, Semaphores}
+use Rattle.taskscript.specs.declared.word.Word.TheVariants.{Plain, Signals, Nesting, Tasks, Lists, Memory, Ports, Semaphores, Interrupts}
 use Rattle.taskscript.specs.declared.word.plain.PlainWord.TheVariants.{Set, Add, Sub, And, Or, Jump, JumpZ, JumpNZ, Print}
 use Rattle.taskscript.specs.declared.word.task_signals.SignalWord.TheVariants.{AllocSignal, FreeSignal, SetSignal, Signal, Wait}
 use Rattle.taskscript.specs.declared.word.nesting.NestingWord.TheVariants.{Forbid, Permit, Disable, Enable}
 use Rattle.taskscript.specs.declared.word.tasks.TaskWord.TheVariants.{SetTaskPri, AddTask, RemTask, FindTask}
 use Rattle.taskscript.specs.declared.word.lists.ListWord.TheVariants.{NewList, FreeList, NewNode, FreeNode, AddHead, AddTail, Enqueue, Insert, Remove, RemHead, RemTail, First, Last, Succ, Pred, FindName}
 use Rattle.taskscript.specs.declared.word.memory.MemoryWord.TheVariants.{AllocMem, FreeMem, AvailMem}
-use Rattle.taskscript.specs.declared.word.ports.PortWord.TheVariants.{CreateMsgPort, DeleteMsgPort, AddPort, RemPort, FindPort, PortSignal, PortIgnore, NewMsg, FreeMsg, MsgWord, SetMsgWord, MsgType, PutMsg, GetMsg, WaitPort, ReplyMsg}
+use Rattle.taskscript.specs.declared.word.ports.PortWord.TheVariants.{CreateMsgPort, DeleteMsgPort, AddPort, RemPort, FindPort, PortSignal, PortCause, PortIgnore, NewMsg, FreeMsg, MsgWord, SetMsgWord, MsgType, PutMsg, GetMsg, WaitPort, ReplyMsg}
 use Rattle.taskscript.specs.declared.word.semaphores.SemaphoreWord.TheVariants.{NewSem, FreeSem, ObtainSemaphore, AttemptSemaphore, ReleaseSemaphore}
+use Rattle.taskscript.specs.declared.word.interrupts.InterruptWord.TheVariants.{Cause}
 use Rattle.taskscript.specs.declared.word.row.Kind.{Kind}
-use Rattle.taskscript.specs.declared.word.row.Kind.TheVariants.{Value, Label, Name, NameOrNone}
+use Rattle.taskscript.specs.declared.word.row.Kind.TheVariants.{Value, Label, Name, NameOrNone, Softint}
 use Rattle.taskscript.specs.Commands.{ArgumentData, number, variable, quoted, place, CommandData}
 use Rattle.taskscript.specs.Words.{kinds}
 use Rattle.taskscript.specs.Machines.{IsOfKind, AreOfKinds, HasItsArguments, is_quoted, QuotesOnce}
@@ -26,6 +27,7 @@ may_be_name Value = false
 may_be_name Label = false
 may_be_name Name = true
 may_be_name NameOrNone = true
+may_be_name Softint = true
 
 -- no word has more than one such place
 one_name : (w : Word) → count_by may_be_name (kinds w) ≤ 1
@@ -76,6 +78,7 @@ one_name (Ports AddPort) = lit≤ tt
 one_name (Ports RemPort) = lit≤ tt
 one_name (Ports FindPort) = lit≤ tt
 one_name (Ports PortSignal) = lit≤ tt
+one_name (Ports PortCause) = lit≤ tt
 one_name (Ports PortIgnore) = lit≤ tt
 one_name (Ports NewMsg) = lit≤ tt
 one_name (Ports FreeMsg) = lit≤ tt
@@ -91,6 +94,7 @@ one_name (Semaphores FreeSem) = lit≤ tt
 one_name (Semaphores ObtainSemaphore) = lit≤ tt
 one_name (Semaphores AttemptSemaphore) = lit≤ tt
 one_name (Semaphores ReleaseSemaphore) = lit≤ tt
+one_name (Interrupts Cause) = lit≤ tt
 
 -- the count of a first one and the others
 abbrev of_one : Bool → ℕ
@@ -117,6 +121,10 @@ kind_counts NameOrNone (number n) h = lit≤ tt
 kind_counts NameOrNone (variable v) h = lit≤ tt
 kind_counts NameOrNone (quoted n) h = lit≤ tt
 kind_counts NameOrNone (place p) h = lit≤ tt
+kind_counts Softint (number n) h = lit≤ tt
+kind_counts Softint (variable v) h = lit≤ tt
+kind_counts Softint (quoted n) h = lit≤ tt
+kind_counts Softint (place p) h = lit≤ tt
 
 counted : (ks : List Kind) (args : List ArgumentData) → AreOfKinds ks args → count_by is_quoted args ≤ count_by may_be_name ks
 counted [] [] h = omega arith

@@ -3,7 +3,7 @@ use Rattle.std.proofs.Common.{◌≡◌, ℕ, List, [], ◌∷◌, map, All, Opt
 use Rattle.std.specs.List.{cons_option}
 use Rattle.std.proofs.lemmas.List.Elements.{All-nil, All-cons}
 use Rattle.taskscript.specs.declared.word.row.Kind.{Kind}
-use Rattle.taskscript.specs.declared.word.row.Kind.TheVariants.{Value, Label, Name, NameOrNone}
+use Rattle.taskscript.specs.declared.word.row.Kind.TheVariants.{Value, Label, Name, NameOrNone, Softint}
 use Rattle.taskscript.specs.Code.{command_said, commands_of, place_of, names_of, code_of}
 use Rattle.taskscript.specs.Lines.{fields, NamedArgumentData, variable, number, label, quoted, NamedCommandData, LineData, label_line, command_line}
 use Rattle.taskscript.specs.Machines.{IsOfKind, AreOfKinds, HasItsArguments}
@@ -26,6 +26,10 @@ argument_kind names places Name f (variable v) h = h
 argument_kind names places Name f (number n) h = h
 argument_kind names places Name f (label n) h = h
 argument_kind names places Name f (quoted n) h = h.1
+argument_kind names places Softint f (variable v) h = h
+argument_kind names places Softint f (number n) h = h
+argument_kind names places Softint f (label n) h = h
+argument_kind names places Softint f (quoted n) h = h.1
 argument_kind names places NameOrNone f (variable v) h = h
 argument_kind names places NameOrNone f (number n) h = h.1
 argument_kind names places NameOrNone f (label n) h = h

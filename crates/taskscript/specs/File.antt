@@ -1,17 +1,15 @@
 -- The machine that a file states, or its first fault.
-use Rattle.std.specs.Prelude.{is_none, ℕ, ℤ, pos, Bool, true, false, unwrap_or, codes, List, [], ◌∷◌, ◌++◌, Option, Some, None, Result, Ok, Err}
+use Rattle.std.specs.Prelude.{is_none, ℕ, ℤ, pos, Bool, true, false, codes, List, [], ◌∷◌, ◌++◌, Option, Some, None, Result, Err}
 use Rattle.memlist.specs.declared.region.Region.{Region}
 use Rattle.memlist.specs.Regions.{regions_fault}
-use Rattle.toml.specs.Data.{Data, table, Items, no_items, item, Members, get_member}
+use Rattle.toml.specs.Data.{Data, Items, no_items, item, Members, get_member}
 use Rattle.taskscript.specs.declared.fault.FileFault.{FileFault}
-use Rattle.taskscript.specs.declared.fault.FileFault.TheVariants.{NotToml, UnknownKey, BadValue, BadRegions}
+use Rattle.taskscript.specs.declared.fault.FileFault.TheVariants.{NotToml, UnknownKey, BadRegions}
 use Rattle.taskscript.specs.declared.source.Source.{Source}
-use Rattle.taskscript.specs.declared.source.Source.TheVariants.{Ports}
 use Rattle.taskscript.specs.Commands.{CommandData}
 use Rattle.taskscript.specs.Faults.{first, judged, check}
 use Rattle.taskscript.specs.Interrupting.{Setting}
-use Rattle.taskscript.specs.Sources.{source_of}
-use Rattle.taskscript.specs.Tree.{document_of, required, optional, keys_are_among, integer_faults, pri_faults, softint_pri_faults, source_faults, boolean_faults, name_faults, array_faults, items_faults, code_faults, pri_in, number_or, boolean_or, string_or_nothing, items_or_none, members_or_none}
+use Rattle.taskscript.specs.Tree.{document_of, required, optional, table_faults, of_items, keys_are_among, integer_faults, pri_faults, softint_pri_faults, source_faults, boolean_faults, name_faults, array_faults, items_faults, code_faults, pri_in, source_in, number_or, boolean_or, string_or_nothing, items_or_none, members_or_none}
 use Rattle.taskscript.specs.Code.{lines_in, body_faults, code_of, shared_after}
 
 -- ---- machines
@@ -60,17 +58,13 @@ abbrev pub region_keys : List (List ℕ)
 region_keys = codes "base" ∷ codes "size" ∷ codes "attrs" ∷ codes "pri" ∷ []
 
 -- the table of a region: its keys, then its values in the order base, size, attrs, pri
-abbrev pub region_table_faults : Members → List FileFault
-region_table_faults region =
+abbrev pub region_faults : Members → List FileFault
+region_faults region =
     check (keys_are_among region_keys region) UnknownKey
     ++ (required (integer_faults (pos 0) (pos 4294967295)) (get_member (codes "base") region)
     ++ (required (integer_faults (pos 0) (pos 4294967295)) (get_member (codes "size") region)
     ++ (optional (integer_faults (pos 0) (pos 7)) (get_member (codes "attrs") region)
     ++ pri_faults region)))
-
-abbrev pub region_faults : Data → List FileFault
-region_faults (table region) = region_table_faults region
-region_faults _ = BadValue ∷ []
 
 abbrev pub region_of : Data → Region
 region_of region = record {
@@ -81,8 +75,7 @@ region_of region = record {
 }
 
 abbrev pub regions_of : Items → List Region
-regions_of no_items = []
-regions_of (item region rest) = region_of region ∷ regions_of rest
+regions_of regions = of_items region_of regions
 
 -- the items of the array `region`
 abbrev pub regions_in : Members → List Region
@@ -91,7 +84,7 @@ regions_in tree = regions_of (items_or_none (get_member (codes "region") tree))
 -- the regions in their order, and after the last of them all together: 1,048,576 bytes is the most that they may have
 abbrev pub regions_faults : Members → List FileFault
 regions_faults tree =
-    optional (array_faults 8 (items_faults region_faults)) (get_member (codes "region") tree)
+    optional (array_faults 8 (items_faults (table_faults region_faults))) (get_member (codes "region") tree)
     ++ check (is_none (regions_fault 1048576 (regions_in tree))) BadRegions
 
 -- ---- software interrupts, servers and tasks: what has a name and a code
@@ -103,20 +96,16 @@ abbrev pub server_keys : List (List ℕ)
 server_keys = codes "name" ∷ codes "source" ∷ codes "pri" ∷ codes "claim" ∷ codes "code" ∷ []
 
 -- the table of a software interrupt after the names before it: its keys, then its values in the order name, pri, code
-abbrev pub softint_table_faults : List (List ℕ) → Members → List FileFault
-softint_table_faults before softint =
+abbrev pub softint_faults : List (List ℕ) → Members → List FileFault
+softint_faults before softint =
     check (keys_are_among softint_keys softint) UnknownKey
     ++ (required (name_faults before) (get_member (codes "name") softint)
     ++ (required softint_pri_faults (get_member (codes "pri") softint)
     ++ required code_faults (get_member (codes "code") softint)))
 
-abbrev pub softint_faults : List (List ℕ) → Data → List FileFault
-softint_faults before (table softint) = softint_table_faults before softint
-softint_faults before _ = BadValue ∷ []
-
 -- the table of a server after the names before it: its keys, then its values in the order name, source, pri, claim, code
-abbrev pub server_table_faults : List (List ℕ) → Members → List FileFault
-server_table_faults before server =
+abbrev pub server_faults : List (List ℕ) → Members → List FileFault
+server_faults before server =
     check (keys_are_among server_keys server) UnknownKey
     ++ (required (name_faults before) (get_member (codes "name") server)
     ++ (required source_faults (get_member (codes "source") server)
@@ -124,22 +113,14 @@ server_table_faults before server =
     ++ (optional boolean_faults (get_member (codes "claim") server)
     ++ required code_faults (get_member (codes "code") server)))))
 
-abbrev pub server_faults : List (List ℕ) → Data → List FileFault
-server_faults before (table server) = server_table_faults before server
-server_faults before _ = BadValue ∷ []
-
 -- the table of a task after the names before it: its keys, then its values in the order name, pri, start, code
-abbrev pub task_table_faults : List (List ℕ) → Members → List FileFault
-task_table_faults before task =
+abbrev pub task_faults : List (List ℕ) → Members → List FileFault
+task_faults before task =
     check (keys_are_among task_keys task) UnknownKey
     ++ (required (name_faults before) (get_member (codes "name") task)
     ++ (pri_faults task
     ++ (optional boolean_faults (get_member (codes "start") task)
     ++ required code_faults (get_member (codes "code") task))))
-
-abbrev pub task_faults : List (List ℕ) → Data → List FileFault
-task_faults before (table task) = task_table_faults before task
-task_faults before _ = BadValue ∷ []
 
 abbrev pub name_of : Data → List ℕ
 name_of owner = string_or_nothing (get_member (codes "name") (members_or_none owner))
@@ -154,17 +135,16 @@ abbrev pub claim_of : Data → Bool
 claim_of server = boolean_or false (get_member (codes "claim") (members_or_none server))
 
 abbrev pub server_source_of : Data → Source
-server_source_of server = unwrap_or (source_of (string_or_nothing (get_member (codes "source") (members_or_none server)))) Ports
+server_source_of server = source_in (members_or_none server)
 
--- the items in their order, each after the names before it
-abbrev pub named_faults : (List (List ℕ) → Data → List FileFault) → List (List ℕ) → Items → List FileFault
+-- the items in their order, each a table that is judged after the names before it
+abbrev pub named_faults : (List (List ℕ) → Members → List FileFault) → List (List ℕ) → Items → List FileFault
 named_faults judge before no_items = []
-named_faults judge before (item owner rest) = judge before owner ++ named_faults judge (before ++ name_of owner ∷ []) rest
+named_faults judge before (item owner rest) = table_faults (judge before) owner ++ named_faults judge (before ++ name_of owner ∷ []) rest
 
 -- the names of the items
 abbrev pub item_names : Items → List (List ℕ)
-item_names no_items = []
-item_names (item owner rest) = name_of owner ∷ item_names rest
+item_names owners = of_items name_of owners
 
 -- the quantum, 4 where the file has none
 abbrev pub quantum_of : Members → ℕ
@@ -204,6 +184,11 @@ bodies_faults setting shared (item owner rest) =
 abbrev pub shared_after_bodies : List (List ℕ) → Items → List (List ℕ)
 shared_after_bodies shared no_items = shared
 shared_after_bodies shared (item owner rest) = shared_after_bodies (shared_after shared (code_lines owner)) rest
+
+-- what has a body, each after the shared variables of the bodies before it
+abbrev pub with_bodies : {X : Type 0} → (List (List ℕ) → Data → X) → List (List ℕ) → Items → List X
+with_bodies of shared no_items = []
+with_bodies of shared (item owner rest) = of shared owner ∷ with_bodies of (shared_after shared (code_lines owner)) rest
 
 -- ---- the whole
 
@@ -258,8 +243,7 @@ abbrev pub task_of : List (List ℕ) → Data → TaskData
 task_of shared task = record { name = name_of task; pri = pri_of task; start = start_of task; code = code_of shared (code_lines task) }
 
 abbrev pub tasks_of : List (List ℕ) → Items → List TaskData
-tasks_of shared no_items = []
-tasks_of shared (item task rest) = task_of shared task ∷ tasks_of (shared_after shared (code_lines task)) rest
+tasks_of shared tasks = with_bodies task_of shared tasks
 
 -- a software interrupt, and a server, whose body stands after those shared variables
 abbrev pub softint_of : List (List ℕ) → Data → SoftintData
@@ -270,8 +254,7 @@ softint_of shared softint = record {
 }
 
 abbrev pub softints_of : List (List ℕ) → Items → List SoftintData
-softints_of shared no_items = []
-softints_of shared (item softint rest) = softint_of shared softint ∷ softints_of (shared_after shared (code_lines softint)) rest
+softints_of shared softints = with_bodies softint_of shared softints
 
 abbrev pub server_of : List (List ℕ) → Data → ServerData
 server_of shared server = record {
@@ -283,8 +266,7 @@ server_of shared server = record {
 }
 
 abbrev pub servers_of : List (List ℕ) → Items → List ServerData
-servers_of shared no_items = []
-servers_of shared (item server rest) = server_of shared server ∷ servers_of (shared_after shared (code_lines server)) rest
+servers_of shared servers = with_bodies server_of shared servers
 
 abbrev pub machine_of : Members → MachineData
 machine_of tree = record {

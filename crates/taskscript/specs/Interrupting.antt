@@ -1,7 +1,7 @@
 -- Which lines a body may have. That of a software interrupt or of a server has few words and no variables of its own; and whichever body it
 -- is, a word that names a software interrupt names one of the file.
-use Rattle.std.specs.Prelude.{ℕ, Bool, true, false, not, ◌&&◌, ◌||◌, bytes_eq, List, [], ◌∷◌}
-use Rattle.std.specs.List.{list_all, list_any}
+use Rattle.std.specs.Prelude.{ℕ, Bool, true, false, not, ◌&&◌, ◌||◌, bytes_eq, List, [], ◌∷◌, Option, Some, None}
+use Rattle.std.specs.List.{list_all, list_any, cons_option}
 use Rattle.taskscript.specs.declared.word.Word.{Word}
 use Rattle.taskscript.specs.declared.word.Word.TheVariants.{Plain, Signals, Ports, Interrupts}
 use Rattle.taskscript.specs.declared.word.plain.PlainWord.{PlainWord}
@@ -12,7 +12,7 @@ use Rattle.taskscript.specs.declared.word.ports.PortWord.{PortWord}
 use Rattle.taskscript.specs.declared.word.ports.PortWord.TheVariants.{PutMsg, GetMsg, ReplyMsg}
 use Rattle.taskscript.specs.declared.word.row.Kind.{Kind}
 use Rattle.taskscript.specs.declared.word.row.Kind.TheVariants.{Softint}
-use Rattle.taskscript.specs.Lines.{NamedVariableData, NamedArgumentData, quoted, NamedCommandData}
+use Rattle.taskscript.specs.Lines.{NamedVariableData, NamedArgumentData, variable, quoted, NamedCommandData}
 use Rattle.taskscript.specs.Numbering.{variables_of}
 use Rattle.taskscript.specs.Words.{kinds}
 
@@ -57,9 +57,13 @@ may_stand setting c = not setting.of_interrupt || is_of_interrupt c
 
 -- ---- the software interrupts that a command names
 
+-- the name of a software interrupt that an argument of a kind is, if it is one
+abbrev pub softint_named : Kind → NamedArgumentData → Option (List ℕ)
+softint_named Softint (quoted name) = Some name
+softint_named _ _ = None
+
 abbrev pub softints_among : List Kind → List NamedArgumentData → List (List ℕ)
-softints_among (Softint ∷ kinds) (quoted name ∷ others) = name ∷ softints_among kinds others
-softints_among (kind ∷ kinds) (a ∷ others) = softints_among kinds others
+softints_among (kind ∷ kinds) (a ∷ others) = cons_option (softint_named kind a) (softints_among kinds others)
 softints_among _ _ = []
 
 abbrev pub softints_of : NamedCommandData → List (List ℕ)
@@ -68,3 +72,10 @@ softints_of c = softints_among (kinds c.word) c.arguments
 -- each software interrupt that a command names is one of the file
 abbrev pub names_softints : Setting → NamedCommandData → Bool
 names_softints setting c = list_all (λ name. list_any (bytes_eq name) setting.softints) (softints_of c)
+
+-- ---- one argument, as the code judges it
+
+-- no private variable
+abbrev pub is_open : NamedArgumentData → Bool
+is_open (variable v) = v.is_shared
+is_open _ = true

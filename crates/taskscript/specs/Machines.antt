@@ -1,6 +1,6 @@
 -- What holds of the machine of every file that is accepted.
-use Rattle.std.specs.Prelude.{◌≡◌, ◌≢◌, ◌⊎◌, ℕ, ℤ, pos, negsuc, ◌≤◌, Bool, true, false, None, IfSome, All, List, [], ◌∷◌, ◌++◌, bytes_eq, count_by, length, map}
-use Rattle.std.specs.List.{AllPairs, list_any}
+use Rattle.std.specs.Prelude.{◌≡◌, ◌≢◌, ◌⊎◌, ℕ, ℤ, pos, negsuc, ◌≤◌, Bool, true, false, Option, Some, None, IfSome, All, List, [], ◌∷◌, ◌++◌, bytes_eq, count_by, length, map}
+use Rattle.std.specs.List.{AllPairs, list_any, cons_option}
 use Rattle.memlist.specs.Regions.{regions_fault}
 use Rattle.taskscript.specs.declared.word.row.Kind.{Kind}
 use Rattle.taskscript.specs.declared.word.row.Kind.TheVariants.{Value, Label, Name, NameOrNone, Softint}
@@ -66,10 +66,14 @@ pub record IsOfInterrupt (c : CommandData) : Type 0 where
   pub target : IfSome c.target IsShared
   pub arguments : All ReadsShared c.arguments
 
+-- the name of a software interrupt that an argument of a kind is, if it is one
+abbrev pub softint_asked : Kind → ArgumentData → Option (List ℕ)
+softint_asked Softint (quoted name) = Some name
+softint_asked _ _ = None
+
 -- the names that stand where a word asks for a software interrupt
 abbrev pub softints_named : List Kind → List ArgumentData → List (List ℕ)
-softints_named (Softint ∷ kinds) (quoted name ∷ others) = name ∷ softints_named kinds others
-softints_named (kind ∷ kinds) (a ∷ others) = softints_named kinds others
+softints_named (kind ∷ kinds) (a ∷ others) = cons_option (softint_asked kind a) (softints_named kinds others)
 softints_named _ _ = []
 
 -- each software interrupt that a command names is one of these

@@ -1,16 +1,23 @@
 -- What the readers of a file hold, as the data that it stands for.
-use Rattle.std.specs.Prelude.{◌≡◌, ℕ, ℤ, Bool, List, ◌∷◌, [], map, None}
-use Rattle.toml.specs.Data.{Data, Items, no_items, item}
+use Rattle.std.specs.Prelude.{◌≡◌, ℕ, List, [], ◌++◌, map, None}
+use Rattle.toml.specs.Data.{Data, Members}
 use Rattle.taskscript.specs.declared.fault.FileFault.{FileFault}
 use Rattle.taskscript.specs.declared.fault.FileFault.TheVariants.{NotToml, OutOfMemory}
 use Rattle.taskscript.specs.declared.file.SoftintRecord.{SoftintRecord}
 use Rattle.taskscript.specs.declared.file.ServerRecord.{ServerRecord}
 use Rattle.taskscript.specs.declared.file.TaskRecord.{TaskRecord}
-use Rattle.taskscript.specs.declared.tasks.Head.{Head}
+use Rattle.taskscript.specs.declared.heads.SoftintHead.{SoftintHead}
+use Rattle.taskscript.specs.declared.heads.ServerHead.{ServerHead}
+use Rattle.taskscript.specs.declared.heads.TaskHead.{TaskHead}
+use Rattle.taskscript.specs.declared.owners.Heads.{Heads}
+use Rattle.taskscript.specs.declared.owners.Owners.{Owners}
+use Rattle.taskscript.specs.declared.interrupting.Setting.{Setting as CodeSetting}
 use Rattle.taskscript.specs.Code.{code_of}
-use Rattle.taskscript.specs.Commands.{command_view}
-use Rattle.taskscript.specs.File.{SoftintData, ServerData, TaskData, name_of, pri_of, start_of, code_lines}
-use Rattle.taskscript.specs.Tree.{document_of}
+use Rattle.taskscript.specs.Commands.{CommandData, command_view}
+use Rattle.taskscript.specs.File.{SoftintData, ServerData, TaskData, name_of, pri_of, server_source_of, start_of, claim_of, code_lines, softints_in, servers_in, tasks_in, item_names, names_before_tasks, shared_after_softints, shared_after_servers, softints_of, servers_of, tasks_of}
+use Rattle.taskscript.specs.Interrupting.{Setting}
+use Rattle.taskscript.specs.Numbering.{texts}
+use Rattle.taskscript.specs.Tree.{document_of, of_items}
 
 -- why there is no tree
 abbrev pub DocumentFault : FileFault → List ℕ → Type 0
@@ -26,26 +33,62 @@ server_view s = record { name = s.name.bytes; source = s.source; pri = s.pri; cl
 abbrev pub task_view : TaskRecord → TaskData
 task_view t = record { name = t.name.bytes; pri = t.pri; start = t.start; code = map command_view t.code.items }
 
--- ---- heads: what the first pass keeps of a task
+-- ---- heads: what the first pass keeps of an item, which has no commands yet
 
-pub record HeadData : Type 0 where
-  pub name : List ℕ
-  pub pri : ℤ
-  pub start : Bool
+abbrev pub softint_head_view : SoftintHead → SoftintData
+softint_head_view h = record { name = h.name.bytes; pri = h.pri; code = [] }
 
-abbrev pub head_view : Head → HeadData
-head_view h = record { name = h.name.bytes; pri = h.pri; start = h.start }
+abbrev pub server_head_view : ServerHead → ServerData
+server_head_view h = record { name = h.name.bytes; source = h.source; pri = h.pri; claim = h.claim; code = [] }
 
-abbrev pub head_names : List Head → List (List ℕ)
-head_names hs = map (λ h. h.name.bytes) hs
+abbrev pub task_head_view : TaskHead → TaskData
+task_head_view h = record { name = h.name.bytes; pri = h.pri; start = h.start; code = [] }
 
-abbrev pub head_of : Data → HeadData
-head_of task = record { name = name_of task; pri = pri_of task; start = start_of task }
+abbrev pub softint_head_of : Data → SoftintData
+softint_head_of softint = record { name = name_of softint; pri = pri_of softint; code = [] }
 
-abbrev pub heads_of : Items → List HeadData
-heads_of no_items = []
-heads_of (item task rest) = head_of task ∷ heads_of rest
+abbrev pub server_head_of : Data → ServerData
+server_head_of server = record {
+  name = name_of server;
+  source = server_source_of server;
+  pri = pri_of server;
+  claim = claim_of server;
+  code = [];
+}
 
--- the task of a head, whose body stands after those shared variables
-abbrev pub task_with : HeadData → List (List ℕ) → Data → TaskData
-task_with head shared task = record { name = head.name; pri = head.pri; start = head.start; code = code_of shared (code_lines task) }
+abbrev pub task_head_of : Data → TaskData
+task_head_of task = record { name = name_of task; pri = pri_of task; start = start_of task; code = [] }
+
+-- a head with the commands of its body
+abbrev pub softint_with : SoftintData → List CommandData → SoftintData
+softint_with head code = record head { code = code }
+
+abbrev pub server_with : ServerData → List CommandData → ServerData
+server_with head code = record head { code = code }
+
+abbrev pub task_with : TaskData → List CommandData → TaskData
+task_with head code = record head { code = code }
+
+-- what an item is, whose body stands after those shared variables, by its head
+abbrev pub made_of : {X : Type 0} → (Data → X) → (X → List CommandData → X) → List (List ℕ) → Data → X
+made_of head_of with shared owner = with (head_of owner) (code_of shared (code_lines owner))
+
+-- ---- what a body is judged by
+
+abbrev pub setting_view : CodeSetting → Setting
+setting_view s = record { of_interrupt = s.of_interrupt; softints = texts s.softints.now }
+
+-- ---- both passes
+
+-- the heads of a file, with the names of all of them
+pub record AreHeads (heads : Heads) (tree : Members) : Type 0 where
+  pub softints : map softint_head_view heads.softints.items ≡ of_items softint_head_of (softints_in tree)
+  pub servers : map server_head_view heads.servers.items ≡ of_items server_head_of (servers_in tree)
+  pub tasks : map task_head_view heads.tasks.items ≡ of_items task_head_of (tasks_in tree)
+  pub names : texts heads.names.items ≡ names_before_tasks tree ++ item_names (tasks_in tree)
+
+-- the software interrupts, the servers and the tasks of a file
+pub record AreOwners (owners : Owners) (tree : Members) : Type 0 where
+  pub softints : map softint_view owners.softints.items ≡ softints_of [] (softints_in tree)
+  pub servers : map server_view owners.servers.items ≡ servers_of (shared_after_softints tree) (servers_in tree)
+  pub tasks : map task_view owners.tasks.items ≡ tasks_of (shared_after_servers tree) (tasks_in tree)

@@ -1,5 +1,5 @@
 -- The tree that a text states, and the faults of its places. Each place is judged by itself, from the tree alone.
-use Rattle.std.specs.Prelude.{ℕ, ◌+◌, Bool, true, false, not, ◌&&◌, ◌||◌, ℤ, pos, negsuc, codes, unsigned_abs, int_le, is_some, nat_le, bytes_eq, List, [], ◌∷◌, ◌++◌, Option, Some, None, if◌then◌else◌}
+use Rattle.std.specs.Prelude.{ℕ, ◌+◌, Bool, true, false, not, ◌&&◌, ◌||◌, ℤ, pos, negsuc, codes, unsigned_abs, unwrap_or, int_le, is_some, nat_le, bytes_eq, List, [], ◌∷◌, ◌++◌, Option, Some, None, if◌then◌else◌}
 use Rattle.std.specs.List.{list_any}
 use Rattle.std.specs.Ordering.{int_eq}
 use Rattle.std.specs.Str.{is_utf8}
@@ -7,6 +7,8 @@ use Rattle.toml.specs.Data.{Data, string, integer, boolean, array, table, Items,
 use Rattle.toml.specs.Parse.{parse_document}
 use Rattle.taskscript.specs.declared.fault.FileFault.{FileFault}
 use Rattle.taskscript.specs.declared.fault.FileFault.TheVariants.{MissingKey, BadValue, NameTwice, TooMany}
+use Rattle.taskscript.specs.declared.source.Source.{Source}
+use Rattle.taskscript.specs.declared.source.Source.TheVariants.{Ports}
 use Rattle.taskscript.specs.Faults.{check}
 use Rattle.taskscript.specs.Names.{is_name}
 use Rattle.taskscript.specs.Sources.{source_of}
@@ -33,6 +35,11 @@ keys_are_among listed no_members = true
 keys_are_among listed (member key value rest) = list_any (bytes_eq key) listed && keys_are_among listed rest
 
 -- ---- values
+
+-- a table, which is then judged
+abbrev pub table_faults : (Members → List FileFault) → Data → List FileFault
+table_faults judge (table members) = judge members
+table_faults judge _ = BadValue ∷ []
 
 -- an integer from low to high
 abbrev pub integer_faults : ℤ → ℤ → Data → List FileFault
@@ -111,6 +118,10 @@ abbrev pub string_or_nothing : Option Data → List ℕ
 string_or_nothing (Some (string s)) = s
 string_or_nothing _ = []
 
+-- the source that the key `source` names
+abbrev pub source_in : Members → Source
+source_in owner = unwrap_or (source_of (string_or_nothing (get_member (codes "source") owner))) Ports
+
 abbrev pub items_or_none : Option Data → Items
 items_or_none (Some (array items)) = items
 items_or_none _ = no_items
@@ -118,3 +129,8 @@ items_or_none _ = no_items
 abbrev pub members_or_none : Data → Members
 members_or_none (table members) = members
 members_or_none _ = no_members
+
+-- what some items are, each by itself
+abbrev pub of_items : {X : Type 0} → (Data → X) → Items → List X
+of_items of no_items = []
+of_items of (item value rest) = of value ∷ of_items of rest

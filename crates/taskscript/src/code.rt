@@ -9,10 +9,12 @@ ghost use Rattle.taskscript.specs.Commands.{command_view};
 ghost use Rattle.taskscript.specs.Faults.{Judges};
 ghost use Rattle.taskscript.specs.Lines.{label_line, command_line, named_command_view};
 ghost use Rattle.taskscript.specs.Numbering.{texts};
+ghost use Rattle.taskscript.specs.Records.{setting_view};
 
 use crate::body::Body;
 use crate::command::Command;
 use crate::fault::FileFault;
+use crate::interrupting::{Setting, judge_command};
 use crate::label::LabelName;
 use crate::line::read_line;
 use crate::named::{Line, NamedCommand};
@@ -36,19 +38,23 @@ fn line_in(item: &Value) -> &str
     }
 }
 
-// A label is read; BadLabel where it stood before.
+// A label is read; NotInInterrupt in the body of an interrupt, and BadLabel where it stood before.
 fn add_label(
+    setting: Setting<'_>,
     body: &mut Body,
     name: LabelName,
     shared: &IndexSet<VariableName>,
 ) -> Result<(), FileFault>
     requires { length body.old.commands.items < 2 ^ 32 }
-    ensures judged { ReadsOn result
+    ensures judged { ReadsOn (setting_view setting.entry) result
         (reading_view body.old shared.now.keys)
         (reading_view body.new shared.now.keys)
         (Some (label_line name.bytes)) }
     ensures commands { OnOk result (body.new.commands.items ≡ body.old.commands.items) }
 {
+    if setting.of_interrupt {
+        return Err(FileFault::NotInInterrupt);
+    }
     let place = body.commands.len() as u32;
     match body.labels.insert(name, place)? {
         None => Ok(()),
@@ -56,18 +62,20 @@ fn add_label(
     }
 }
 
-// A command is read; TooMany where it has a variable past its limit.
+// A command is read; TooMany where it has a variable past its limit, after the faults that it has by its body.
 fn add_command(
+    setting: Setting<'_>,
     body: &mut Body,
     command: NamedCommand,
     shared: &mut IndexSet<VariableName>,
 ) -> Result<(), FileFault>
-    ensures judged { ReadsOn result
+    ensures judged { ReadsOn (setting_view setting.entry) result
         (reading_view body.old shared.old.keys)
         (reading_view body.new shared.new.keys)
         (Some (command_line (named_command_view command))) }
     ensures commands { OnOk result (length body.new.commands.items ≡ length body.old.commands.items + 1) }
 {
+    judge_command(setting, &command)?;
     see_command(&command, &mut body.private, shared)?;
     body.commands.push(command)?;
     Ok(())
@@ -76,32 +84,34 @@ fn add_command(
 // One more line of the body is read.
 fn add_line(
     alloc: Global,
+    setting: Setting<'_>,
     body: &mut Body,
     line: &str,
     shared: &mut IndexSet<VariableName>,
 ) -> Result<(), FileFault>
     requires { length body.old.commands.items < 2 ^ 32 }
-    ensures judged { ReadsOn result
+    ensures judged { ReadsOn (setting_view setting.entry) result
         (reading_view body.old shared.old.keys)
         (reading_view body.new shared.new.keys)
         (says line.now) }
     ensures commands { OnOk result (length body.new.commands.items ≤ length body.old.commands.items + 1) }
 {
     match read_line(alloc, line)? {
-        Line::Label(name) => add_label(body, name, shared),
-        Line::Command(command) => add_command(body, command, shared),
+        Line::Label(name) => add_label(setting, body, name, shared),
+        Line::Command(command) => add_command(setting, body, command, shared),
     }
 }
 
 fn body_of(
     alloc: Global,
+    setting: Setting<'_>,
     lines: &[Value],
     shared: &mut IndexSet<VariableName>,
 ) -> Result<Body, FileFault>
     requires { length lines.now ≤ 1024 }
     ensures { let start = nothing_read (texts shared.old.keys) in
         let all = lines_in (items_view lines.now) in
-        Judges result (faults_after start all) (λ body. reading_view body shared.new.keys ≡ reading_after start all) }
+        Judges result (faults_after (setting_view setting.entry) start all) (λ body. reading_view body shared.new.keys ≡ reading_after start all) }
 {
     let mut body = Body {
         commands: Vec::new(alloc),
@@ -109,32 +119,35 @@ fn body_of(
         labels: IndexMap::new(alloc),
     };
     for item in lines {
-        add_line(alloc, &mut body, line_in(item), shared)?;
+        add_line(alloc, setting, &mut body, line_in(item), shared)?;
     }
     Ok(body)
 }
 
 /// The commands of a body, whose lines are these items.
 ///
-/// `shared` has the names of shared variables that the bodies before it named, in the order of first
-/// sight, and gets those of this one. A body of more than 1,024 lines is TooMany. Then the first faulty
-/// line decides: BadCommand where it says nothing, BadLabel where it is a label that stood before,
-/// TooMany where it has the 33rd private variable of the body or the 65th shared one of the file. If no
-/// line is faulty, a jump to a label that is not in the body is BadLabel. After an `Err` nothing is said
-/// of `shared`. The lines are our own.
+/// `setting` says whether it is the body of an interrupt, and has the names of the software interrupts of
+/// the file. `shared` has the names of shared variables that the bodies before it named, in the order of
+/// first sight, and gets those of this one. A body of more than 1,024 lines is TooMany. Then the first
+/// faulty line decides: BadCommand where it says nothing, or names a software interrupt that the file
+/// lacks; NotInInterrupt where it may not stand in the body of an interrupt; BadLabel where it is a label
+/// that stood before; TooMany where it has the 33rd private variable of the body or the 65th shared one of
+/// the file. If no line is faulty, a jump to a label that is not in the body is BadLabel. After an `Err`
+/// nothing is said of `shared`. The lines are our own.
 pub fn read_code(
     alloc: Global,
+    setting: Setting<'_>,
     lines: &[Value],
     shared: &mut IndexSet<VariableName>,
 ) -> Result<Vec<Command>, FileFault>
     ensures judged { let before = texts shared.old.keys in
         let all = lines_in (items_view lines.now) in
-        Judges result (body_faults before all) (λ code. map command_view code.items ≡ code_of before all) }
+        Judges result (body_faults (setting_view setting.entry) before all) (λ code. map command_view code.items ≡ code_of before all) }
     ensures shared { OnOk result (texts shared.new.keys ≡ shared_after (texts shared.old.keys) (lines_in (items_view lines.now))) }
 {
     if lines.len() > LINE_LIMIT {
         return Err(FileFault::TooMany);
     }
-    let body = body_of(alloc, lines, shared)?;
+    let body = body_of(alloc, setting, lines, shared)?;
     commands_in(alloc, &body.commands, &body.private, shared, &body.labels)
 }

@@ -1,7 +1,8 @@
 //! Names of the machine file.
-ghost use Rattle.std.specs.Prelude.{◌≡◌};
-ghost use Rattle.std.specs.List.{list_all};
+ghost use Rattle.std.specs.Prelude.{◌≡◌, bytes_eq};
+ghost use Rattle.std.specs.List.{list_all, list_any};
 ghost use Rattle.taskscript.specs.Names.{is_name, is_name_byte};
+ghost use Rattle.taskscript.specs.Numbering.{texts};
 
 use arrayvec::ArrayString;
 
@@ -30,4 +31,18 @@ pub fn is_name(text: &str) -> bool
         return false;
     }
     has_name_bytes(text.as_bytes())
+}
+
+fn any_named(names: &[Name], text: &str) -> bool
+    ensures { result ≡ list_any (λ n. bytes_eq text.now n.bytes) names.now }
+{
+    names.iter().any(|name| text == name.as_str())
+}
+
+/// Whether the text is one of these names.
+#[tactic(auto, using(crate::proofs::Names::any_texts))]
+pub fn is_among(names: &[Name], text: &str) -> bool
+    ensures { result ≡ list_any (bytes_eq text.now) (texts names.now) }
+{
+    any_named(names, text)
 }

@@ -6,8 +6,8 @@ ghost use Rattle.taskscript.specs.File.{settings_faults, quantum_of, pool_of, fa
 
 use crate::fault::FileFault;
 use crate::file::MachineFile;
+use crate::owners::owners_at;
 use crate::regions::regions_at;
-use crate::tasks::tasks_at;
 use crate::tree::{document, has_only, optional_number};
 use std::alloc::Global;
 use toml::Table;
@@ -33,37 +33,51 @@ fn settings_of(table: &Table) -> Result<Settings, FileFault>
 fn machine_of(alloc: Global, table: &Table) -> Result<MachineFile, FileFault>
     ensures { Judges result (faults (table_view table.now)) (λ m. m ≡ machine_of (table_view table.now)) }
 {
-    if !has_only(table, &["quantum", "pool", "region", "task"]) {
+    if !has_only(
+        table,
+        &["quantum", "pool", "region", "softint", "server", "task"],
+    ) {
         return Err(FileFault::UnknownKey);
     }
     let settings = settings_of(table)?;
     let regions = regions_at(alloc, table)?;
-    let tasks = tasks_at(alloc, table)?;
+    let owners = owners_at(alloc, table)?;
     Ok(MachineFile {
         quantum: settings.quantum,
         pool: settings.pool,
         regions,
-        tasks,
+        softints: owners.softints,
+        servers: owners.servers,
+        tasks: owners.tasks,
     })
 }
 
 /// Reads a machine file, a TOML document.
 ///
 /// It may have `quantum`, 1 to 255, which is 4 where it is absent, `pool`, 1 to 1024, which is 64 where it is absent, `region`, an array of
-/// at most 8 tables, and `task`, an array of at most 64 tables. A region has `base` and `size`, 0 to 4294967295, and may have `attrs`, 0 to
-/// 7, which is 1 where it is absent, and a `pri` as a task. A task has a `name` of 1 to 31 of the characters `A`-`Z`, `a`-`z`, `0`-`9`, `.`,
-/// `_` and `-`, which no other task has, and a `code`, an array of at most 1,024 strings, which are its lines. It may have a `pri` from -128
-/// to 127, which is 0 where it is absent, and a boolean `start`, which is true where it is absent.
+/// at most 8 tables, `softint` and `server`, arrays of at most 32 tables each, and `task`, an array of at most 64 tables. A region has `base`
+/// and `size`, 0 to 4294967295, and may have `attrs`, 0 to 7, which is 1 where it is absent, and a `pri` as a task.
+///
+/// A software interrupt, a server and a task have a `name` of 1 to 31 of the characters `A`-`Z`, `a`-`z`, `0`-`9`, `.`, `_` and `-`, which no
+/// other of them all has, and a `code`, an array of at most 1,024 strings, which are its lines. A software interrupt has a `pri` of -32, -16,
+/// 0, 16 or 32. A server has a `source`, `PORTS`, `VERTB` or `EXTER`, and may have a `pri` as a task and a boolean `claim`, which is false
+/// where it is absent. A task may have a `pri` from -128 to 127, which is 0 where it is absent, and a boolean `start`, which is true where it
+/// is absent.
+///
+/// The body of a software interrupt or of a server may have `Set`, `Add`, `Sub`, `And`, `Or`, `Print`, `Signal`, `Cause`, `PutMsg`, `GetMsg`
+/// and `ReplyMsg`, shared variables and no labels. A name that stands where a word asks for a software interrupt is that of one of the file.
 ///
 /// # Errors
 ///
-/// The first faulty place decides. First the whole tree is judged: the keys of the file, then `quantum` and `pool`, then `region` and `task`
-/// (`BadValue` where it is no array, `TooMany` where it is too long), then item by item: `BadValue` where it is no table, `UnknownKey`, then
-/// its keys in the order `base`, `size`, `attrs`, `pri`, or `name`, `pri`, `start`, `code`, each `MissingKey` or `BadValue`, with `NameTwice`
-/// right after the name and `TooMany` after a `code` of strings. `BadRegions` comes after the last region, where `memlist::check_regions`
-/// refuses them. Then the bodies of all tasks are judged: in each, line by line, `BadCommand`, `BadLabel` for a label that stands twice and
-/// `TooMany` for a variable past its limit, and after its last line `BadLabel` for a jump whose label the body lacks. `NotToml` comes before
-/// all else, and `OutOfMemory` may come wherever memory is refused.
+/// The first faulty place decides. First the whole tree is judged: the keys of the file, then `quantum` and `pool`, then `region`, `softint`,
+/// `server` and `task` (`BadValue` where it is no array, `TooMany` where it is too long), then item by item: `BadValue` where it is no table,
+/// `UnknownKey`, then its keys in the order `base`, `size`, `attrs`, `pri`, or `name`, `pri`, `code`, or `name`, `source`, `pri`, `claim`,
+/// `code`, or `name`, `pri`, `start`, `code`, each `MissingKey` or `BadValue`, with `NameTwice` right after the name and `TooMany` after a
+/// `code` of strings. `BadRegions` comes after the last region, where `memlist::check_regions` refuses them. Then the bodies of all software
+/// interrupts, of all servers and of all tasks are judged: in each, line by line, `BadCommand`, `NotInInterrupt` for what is right in a task
+/// and may not stand in the body of an interrupt, `BadLabel` for a label that stands twice and `TooMany` for a variable past its limit, and
+/// after its last line `BadLabel` for a jump whose label the body lacks. `NotToml` comes before all else, and `OutOfMemory` may come wherever
+/// memory is refused.
 ///
 /// The format is this project's own choice.
 pub fn read_machine(alloc: Global, bytes: &[u8]) -> Result<MachineFile, FileFault>

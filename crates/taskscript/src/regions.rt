@@ -4,8 +4,8 @@ ghost use Rattle.memlist.specs.Regions.{regions_fault};
 ghost use Rattle.toml.specs.Data.{table as a_table, get_member};
 ghost use Rattle.toml.specs.View.{table_view, view, items_view};
 ghost use Rattle.taskscript.specs.Faults.{Judges};
-ghost use Rattle.taskscript.specs.File.{region_table_faults, region_faults, region_of, regions_of, regions_faults, regions_in};
-ghost use Rattle.taskscript.specs.Tree.{optional, array_faults, items_faults};
+ghost use Rattle.taskscript.specs.File.{region_faults, region_of, regions_of, regions_faults, regions_in};
+ghost use Rattle.taskscript.specs.Tree.{optional, table_faults, array_faults, items_faults};
 
 use crate::fault::FileFault;
 use crate::tree::{has_only, member, optional_number, optional_pri, required_number};
@@ -15,7 +15,7 @@ use toml::{Table, Value};
 
 /// The region of a table, whose keys and values are judged in their order.
 fn region_in(table: &Table) -> Result<Region, FileFault>
-    ensures { Judges result (region_table_faults (table_view table.now)) (λ r. r ≡ region_of (a_table (table_view table.now))) }
+    ensures { Judges result (region_faults (table_view table.now)) (λ r. r ≡ region_of (a_table (table_view table.now))) }
 {
     if !has_only(table, &["base", "size", "attrs", "pri"]) {
         return Err(FileFault::UnknownKey);
@@ -33,7 +33,7 @@ fn region_in(table: &Table) -> Result<Region, FileFault>
 }
 
 fn region_of(value: &Value) -> Result<Region, FileFault>
-    ensures { Judges result (region_faults (view value.now)) (λ r. r ≡ region_of (view value.now)) }
+    ensures { Judges result (table_faults region_faults (view value.now)) (λ r. r ≡ region_of (view value.now)) }
 {
     match value.as_table() {
         None => Err(FileFault::BadValue),
@@ -42,7 +42,7 @@ fn region_of(value: &Value) -> Result<Region, FileFault>
 }
 
 fn regions_of(alloc: Global, items: &[Value]) -> Result<Vec<Region>, FileFault>
-    ensures { Judges result (items_faults region_faults (items_view items.now)) (λ rs. rs.items ≡ regions_of (items_view items.now)) }
+    ensures { Judges result (items_faults (table_faults region_faults) (items_view items.now)) (λ rs. rs.items ≡ regions_of (items_view items.now)) }
 {
     let mut regions = Vec::new(alloc);
     for item in items {
@@ -55,7 +55,7 @@ fn regions_of(alloc: Global, items: &[Value]) -> Result<Vec<Region>, FileFault>
 /// The items of the array that the key `region` holds, or none.
 #[tactic(auto, using(crate::proofs::Keys::count_items_view))]
 fn listed_regions(alloc: Global, table: &Table) -> Result<Vec<Region>, FileFault>
-    ensures { Judges result (optional (array_faults 8 (items_faults region_faults)) (get_member (codes "region") (table_view table.now))) (λ rs. rs.items ≡ regions_in (table_view table.now)) }
+    ensures { Judges result (optional (array_faults 8 (items_faults (table_faults region_faults))) (get_member (codes "region") (table_view table.now))) (λ rs. rs.items ≡ regions_in (table_view table.now)) }
 {
     let value = match member(table, "region") {
         None => return Ok(Vec::new(alloc)),

@@ -1,6 +1,6 @@
 //! Where interrupts come from, as both texts name it.
 ghost use Rattle.std.specs.Prelude.{◌≡◌};
-ghost use Rattle.taskscript.specs.Sources.{source_text};
+ghost use Rattle.taskscript.specs.Sources.{source_of, source_text};
 
 /// A source of interrupts. RKM Libraries, Exec Interrupts: the order of their priorities.
 #[derive(Clone, Copy, Debug, PartialEq, Eq)]
@@ -14,6 +14,21 @@ pub enum Source {
 }
 
 impl Source {
+    /// The source of this name, if there is one.
+    pub fn named(name: &str) -> Option<Source>
+        ensures { result ≡ source_of name.now }
+    {
+        if name == "PORTS" {
+            Some(Source::Ports)
+        } else if name == "VERTB" {
+            Some(Source::Vertb)
+        } else if name == "EXTER" {
+            Some(Source::Exter)
+        } else {
+            None
+        }
+    }
+
     /// The name of the source, as it stands in the texts and in the trace.
     pub fn text(self) -> &'static str
         ensures { result.now ≡ source_text self }

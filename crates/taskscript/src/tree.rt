@@ -1,13 +1,14 @@
 //! Places of the tree that a text states: the document, the keys of a table, and what a key holds.
-ghost use Rattle.std.specs.Prelude.{◌≡◌, ◌≤◌, pos, Some, None, true, option_map, map, bytes_eq, int_le, IfOk, IfErr};
+ghost use Rattle.std.specs.Prelude.{◌≡◌, ◌≤◌, pos, Some, None, true, codes, option_map, map, bytes_eq, int_le, IfOk, IfErr};
 ghost use Rattle.std.specs.List.{list_any};
 ghost use Rattle.toml.specs.Data.{get_member};
 ghost use Rattle.toml.specs.View.{table_view, view, items_view};
 ghost use Rattle.taskscript.specs.Faults.{Judges};
 ghost use Rattle.taskscript.specs.Records.{DocumentFault};
-ghost use Rattle.taskscript.specs.Tree.{keys_are_among, required, optional, integer_faults, pri_faults, boolean_faults, integer_or, pri_in, number_or, boolean_or, items_or_none, document_of, are_strings};
+ghost use Rattle.taskscript.specs.Tree.{keys_are_among, required, optional, integer_faults, pri_faults, is_softint_pri, softint_pri_faults, source_faults, boolean_faults, integer_or, pri_in, source_in, number_or, boolean_or, items_or_none, document_of, are_strings};
 
 use crate::fault::FileFault;
+use crate::source::Source;
 use std::alloc::Global;
 use toml::{Table, Value};
 
@@ -133,6 +134,50 @@ pub fn required_number(table: &Table, key: &str, low: u32, high: u32) -> Result<
                 Err(FileFault::BadValue)
             }
         }
+    }
+}
+
+fn is_softint_pri(pri: i64) -> bool
+    ensures { result ≡ is_softint_pri pri }
+{
+    pri == -32 || (pri == -16 || (pri == 0 || (pri == 16 || pri == 32)))
+}
+
+/// The priority of a software interrupt, which the key `pri` holds: -32, -16, 0, 16 or 32 (RKM Libraries, Exec Interrupts).
+pub fn softint_pri(table: &Table) -> Result<i8, FileFault>
+    ensures { Judges result (required softint_pri_faults (get_member (codes "pri") (table_view table.now))) (λ p. p ≡ pri_in (table_view table.now)) }
+{
+    let value = match member(table, "pri") {
+        None => return Err(FileFault::MissingKey),
+        Some(value) => value,
+    };
+    match value.as_integer() {
+        None => Err(FileFault::BadValue),
+        Some(z) => {
+            if is_softint_pri(z) {
+                Ok(z as i8)
+            } else {
+                Err(FileFault::BadValue)
+            }
+        }
+    }
+}
+
+/// The source whose name the key `source` holds.
+pub fn required_source(table: &Table) -> Result<Source, FileFault>
+    ensures { Judges result (required source_faults (get_member (codes "source") (table_view table.now))) (λ s. s ≡ source_in (table_view table.now)) }
+{
+    let value = match member(table, "source") {
+        None => return Err(FileFault::MissingKey),
+        Some(value) => value,
+    };
+    let name = match value.as_str() {
+        None => return Err(FileFault::BadValue),
+        Some(name) => name,
+    };
+    match Source::named(name) {
+        None => Err(FileFault::BadValue),
+        Some(source) => Ok(source),
     }
 }
 

@@ -1,9 +1,11 @@
-use Rattle.std.proofs.Common.{◌≡◌}
+use Rattle.std.proofs.Common.{◌≡◌, ◌∙◌, sym, arith}
 use Rattle.std.proofs.lemmas.Result.{err_from_is_err_and}
 use Rattle.toml.specs.View.{view}
-use Rattle.taskscript.specs.Bodies.{reading_view}
+use Rattle.taskscript.specs.Bodies.{reading_view, reading_with}
 use Rattle.taskscript.specs.Code.{line_in}
-use Rattle.taskscript.proofs.BodyReading.{next_line, line_stops}
+use Rattle.taskscript.specs.Meaning.{says}
+use Rattle.taskscript.specs.Records.{setting_view}
+use Rattle.taskscript.proofs.BodyReading.{next_line, line_stops, line_goes_on, line_read}
 use Rattle.taskscript.proofs.code.body_of.Goals as goal
 
 pub returns-in_err-add_line : goal.returns-in_err-add_line
@@ -11,4 +13,19 @@ returns-in_err-add_line c =
     let p = err_from_is_err_and c.from_residual.result c.from_residual.ensures.1 in
     let text : c.line_in.result.now ≡ line_in (view c.item-item.result) = c.line_in.ensures in
     let is = next_line c.args.lines.now c.loop-item.item-index c.item-item.result c.line_in.result.now c.loop-item-test.true c.item-item.is text in
-    rw (p.1, p.2) (λ ne. line_stops (reading_view c.loop-item.body c.loop-item.shared.keys) c.line_in.result.now _ _ c.in_err-add_line.field-0.0 _ is (c.in_err-add_line.ensures.judged ne) c.loop-item.invariant.judged)
+    rw (p.1, p.2) (λ ne. line_stops (setting_view c.args.setting) (reading_view c.loop-item.body c.loop-item.shared.keys) c.line_in.result.now _ _ c.in_err-add_line.field-0.0 _ is (c.in_err-add_line.ensures.judged ne) c.loop-item.invariant.judged)
+
+pub loop-item-preserved : goal.loop-item-preserved
+loop-item-preserved c =
+    let s = setting_view c.args.setting in
+    let before = reading_view c.loop-item.body c.loop-item.shared.keys in
+    let after = reading_view c.add_line.new.body c.add_line.new.shared.keys in
+    let line = c.line_in.result.now in
+    let text : line ≡ line_in (view c.item-item.result) = c.line_in.ensures in
+    let is = next_line c.args.lines.now c.loop-item.item-index c.item-item.result line c.loop-item-test.true c.item-item.is text in
+    let more : after ≡ reading_with before (says line) = c.in_ok-add_line.ensures.judged.1 in
+    record {
+      few = omega (arith, c.in_ok-add_line.ensures.commands, c.loop-item.invariant.few);
+      judged = sym (line_goes_on s before after line _ _ is c.in_ok-add_line.ensures.judged.0 more) ∙ c.loop-item.invariant.judged;
+      read = sym (line_read before after line _ _ is more) ∙ c.loop-item.invariant.read;
+    }

@@ -4,24 +4,25 @@ use Rattle.toml.specs.View.{items_view}
 use Rattle.taskscript.specs.Bodies.{reading_view}
 use Rattle.taskscript.specs.Code.{lines_in}
 use Rattle.taskscript.specs.Numbering.{texts}
+use Rattle.taskscript.specs.Records.{setting_view}
 use Rattle.taskscript.proofs.BodyReading.{lines_counted, too_long, line_decides, code_decided, shared_read}
 use Rattle.taskscript.proofs.code.read_code.Goals as goal
 
 pub returns-then-lines-gt-LINE_LIMIT-clause-judged :
     goal.returns-then-lines-gt-LINE_LIMIT-clause-judged
-returns-then-lines-gt-LINE_LIMIT-clause-judged c = λ _. too_long (texts c.args.shared.now.keys) (lines_in (items_view c.args.lines.now)) (rw (lines_counted c.args.lines.now) c.if-lines-gt-LINE_LIMIT.true)
+returns-then-lines-gt-LINE_LIMIT-clause-judged c = λ _. too_long (setting_view c.args.setting) (texts c.args.shared.now.keys) (lines_in (items_view c.args.lines.now)) (rw (lines_counted c.args.lines.now) c.if-lines-gt-LINE_LIMIT.true)
 
 pub returns-in_err-body-clause-judged : goal.returns-in_err-body-clause-judged
 returns-in_err-body-clause-judged c =
     let p = err_from_is_err_and c.from_residual.result c.from_residual.ensures.1 in
     let few : length (lines_in (items_view c.args.lines.now)) ≤ 1024 = rw (lines_counted c.args.lines.now) c.if-lines-gt-LINE_LIMIT.false in
-    rw (p.1, p.2) (λ ne. line_decides (texts c.args.shared.now.keys) (lines_in (items_view c.args.lines.now)) c.in_err-body.field-0.0 few (c.in_err-body.ensures ne))
+    rw (p.1, p.2) (λ ne. line_decides (setting_view c.args.setting) (texts c.args.shared.now.keys) (lines_in (items_view c.args.lines.now)) c.in_err-body.field-0.0 few (c.in_err-body.ensures ne))
 
 pub returns-clause-judged : goal.returns-clause-judged
 returns-clause-judged c =
     let few : length (lines_in (items_view c.args.lines.now)) ≤ 1024 = rw (lines_counted c.args.lines.now) c.if-lines-gt-LINE_LIMIT.false in
     let found = rw c.deref.ensures.value at c.commands_in.ensures in
-    code_decided (texts c.args.shared.now.keys) (lines_in (items_view c.args.lines.now)) (reading_view c.in_ok-body.body c.body_of.new.shared.keys) c.commands_in.result few c.in_ok-body.ensures.0 c.in_ok-body.ensures.1 found
+    code_decided (setting_view c.args.setting) (texts c.args.shared.now.keys) (lines_in (items_view c.args.lines.now)) (reading_view c.in_ok-body.body c.body_of.new.shared.keys) c.commands_in.result few c.in_ok-body.ensures.0 c.in_ok-body.ensures.1 found
 
 on_any : {X E P : Type 0} → P → (r : Result X E) → OnOk r P
 on_any p (Ok x) = p

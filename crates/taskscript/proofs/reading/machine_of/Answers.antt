@@ -4,7 +4,7 @@ use Rattle.toml.specs.View.{table_view}
 use Rattle.taskscript.specs.declared.fault.FileFault.TheVariants.{UnknownKey}
 use Rattle.taskscript.specs.Faults.{first, check}
 use Rattle.taskscript.specs.File.{top_keys, settings_faults, regions_faults, both_passes_faults}
-use Rattle.taskscript.specs.Records.{task_view}
+use Rattle.taskscript.specs.Records.{softint_view, server_view, task_view}
 use Rattle.taskscript.specs.Tree.{keys_are_among}
 use Rattle.taskscript.proofs.Firsts.{first_some, skip}
 use Rattle.taskscript.proofs.Machines.{read_holds}
@@ -12,9 +12,11 @@ use Rattle.taskscript.proofs.reading.machine_of.Goals as goal
 
 pub invariant_of-result : goal.invariant_of-result
 invariant_of-result c =
-    read_holds (table_view c.args.table.now) c.in_ok-settings.settings.quantum c.in_ok-settings.settings.pool c.in_ok-regions.regions.items (map task_view c.in_ok-tasks.tasks.items)
-    (record { settings = c.in_ok-settings.ensures.0; regions = c.in_ok-regions.ensures.0; passes = c.in_ok-tasks.ensures.0 })
-    c.in_ok-settings.ensures.1.0 c.in_ok-settings.ensures.1.1 c.in_ok-regions.ensures.1 c.in_ok-tasks.ensures.1
+    let owners = c.in_ok-owners.owners in
+    read_holds (table_view c.args.table.now) c.in_ok-settings.settings.quantum c.in_ok-settings.settings.pool c.in_ok-regions.regions.items
+    (map softint_view owners.softints.items) (map server_view owners.servers.items) (map task_view owners.tasks.items)
+    (record { settings = c.in_ok-settings.ensures.0; regions = c.in_ok-regions.ensures.0; passes = c.in_ok-owners.ensures.0 })
+    c.in_ok-settings.ensures.1.0 c.in_ok-settings.ensures.1.1 c.in_ok-regions.ensures.1 c.in_ok-owners.ensures.1.softints c.in_ok-owners.ensures.1.servers c.in_ok-owners.ensures.1.tasks
 
 pub returns-in_err-regions : goal.returns-in_err-regions
 returns-in_err-regions c =
@@ -25,12 +27,12 @@ returns-in_err-regions c =
     rw (p.1, p.2) (skip (check (keys_are_among top_keys t) UnknownKey) _ f keys
     (skip (settings_faults t) _ f c.in_ok-settings.ensures.0 (λ ne. first_some (regions_faults t) (both_passes_faults t) f (c.in_err-regions.ensures ne))))
 
-pub returns-in_err-tasks : goal.returns-in_err-tasks
-returns-in_err-tasks c =
-    let p = err_from_is_err_and c.from_residual-in_err-tasks.result c.from_residual-in_err-tasks.ensures.1 in
-    let f = c.in_err-tasks.field-0.0 in
+pub returns-in_err-owners : goal.returns-in_err-owners
+returns-in_err-owners c =
+    let p = err_from_is_err_and c.from_residual-in_err-owners.result c.from_residual-in_err-owners.ensures.1 in
+    let f = c.in_err-owners.field-0.0 in
     let t = table_view c.args.table.now in
     let keys = ap (λ (b : Bool). first (check b UnknownKey)) (sym c.has_only.ensures ∙ c.if-not-has_only.false) in
     rw (p.1, p.2) (skip (check (keys_are_among top_keys t) UnknownKey) _ f keys
     (skip (settings_faults t) _ f c.in_ok-settings.ensures.0
-    (skip (regions_faults t) (both_passes_faults t) f c.in_ok-regions.ensures.0 c.in_err-tasks.ensures)))
+    (skip (regions_faults t) (both_passes_faults t) f c.in_ok-regions.ensures.0 c.in_err-owners.ensures)))

@@ -2,11 +2,11 @@ use Rattle.std.proofs.Common.{◌≡◌, drop, ◌++◌}
 use Rattle.toml.specs.View.{items_view}
 use Rattle.taskscript.specs.Faults.{first}
 use Rattle.taskscript.specs.File.{region_faults, regions_of}
-use Rattle.taskscript.specs.Tree.{items_faults}
+use Rattle.taskscript.specs.Tree.{table_faults, items_faults}
 use Rattle.taskscript.proofs.regions.regions_of.Given as goal
 
 abbrev pub invariant-loop-item : goal.invariant-loop-item
 invariant-loop-item l = record {
-  judged : first (items_faults region_faults (items_view (drop l.item-index l.items))) ≡ first (items_faults region_faults (items_view l.items));
+  judged : first (items_faults (table_faults region_faults) (items_view (drop l.item-index l.items))) ≡ first (items_faults (table_faults region_faults) (items_view l.items));
   found : l.regions.items ++ regions_of (items_view (drop l.item-index l.items)) ≡ regions_of (items_view l.items);
 }

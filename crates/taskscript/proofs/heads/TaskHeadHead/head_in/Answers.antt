@@ -5,18 +5,18 @@ use Rattle.toml.specs.View.{table_view}
 use Rattle.taskscript.specs.declared.fault.FileFault.TheVariants.{UnknownKey}
 use Rattle.taskscript.specs.Faults.{first, check}
 use Rattle.taskscript.specs.File.{task_keys}
-use Rattle.taskscript.specs.Records.{head_names}
+use Rattle.taskscript.specs.Numbering.{texts}
 use Rattle.taskscript.specs.Tree.{required, optional, keys_are_among, pri_faults, boolean_faults, name_faults, code_faults}
 use Rattle.taskscript.proofs.Firsts.{skip}
-use Rattle.taskscript.proofs.tasks.head_in.Goals as goal
+use Rattle.taskscript.proofs.heads.TaskHeadHead.head_in.Goals as goal
 
-pub returns-in_err-check_code : goal.returns-in_err-check_code
-returns-in_err-check_code c =
+pub returns-in_err-check_code-clause-judged : goal.returns-in_err-check_code-clause-judged
+returns-in_err-check_code-clause-judged c =
     let p = err_from_is_err_and c.from_residual-in_err-check_code.result c.from_residual-in_err-check_code.ensures.1 in
     let f = c.in_err-check_code.field-0.0 in
     let t = table_view c.args.table.now in
     let keys = ap (λ (b : Bool). first (check b UnknownKey)) (sym c.has_only.ensures ∙ c.if-not-has_only.false) in
     rw (p.1, p.2) (skip (check (keys_are_among task_keys t) UnknownKey) _ f keys
-    (skip (required (name_faults (head_names c.args.before.now)) (get_member (codes "name") t)) _ f c.in_ok-name.ensures.0
+    (skip (required (name_faults (texts c.args.names.now.items)) (get_member (codes "name") t)) _ f c.in_ok-name.ensures.judged.0
     (skip (pri_faults t) _ f c.in_ok-pri.ensures.0
     (skip (optional boolean_faults (get_member (codes "start") t)) (required code_faults (get_member (codes "code") t)) f c.in_ok-start.ensures.0 c.in_err-check_code.ensures))))

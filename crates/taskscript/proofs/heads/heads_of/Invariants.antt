@@ -1,0 +1,17 @@
+use Rattle.std.proofs.Common.{◌≡◌, drop, map, ◌++◌}
+use Rattle.toml.specs.View.{items_view}
+use Rattle.taskscript.specs.Faults.{first}
+use Rattle.taskscript.specs.File.{named_faults, item_names}
+use Rattle.taskscript.specs.Numbering.{texts}
+use Rattle.taskscript.specs.Tree.{of_items}
+use Rattle.taskscript.proofs.heads.heads_of.Given as goal
+
+abbrev pub invariant-loop-item : goal.invariant-loop-item
+invariant-loop-item g l =
+    let left = items_view (drop l.item-index l.items) in
+    let all = items_view l.items in
+    record {
+      judged : first (named_faults g.H.Head.faults (texts l.names.items) left) ≡ first (named_faults g.H.Head.faults (texts l.fn.names.items) all);
+      found : map g.H.Head.head_view l.heads.items ++ of_items g.H.Head.head_of left ≡ of_items g.H.Head.head_of all;
+      names : texts l.names.items ++ item_names left ≡ texts l.fn.names.items ++ item_names all;
+    }

@@ -1,0 +1,19 @@
+use Rattle.std.proofs.Common.{◌≡◌, drop, map, ◌++◌}
+use Rattle.toml.specs.View.{items_view}
+use Rattle.taskscript.specs.Faults.{first}
+use Rattle.taskscript.specs.File.{bodies_faults, shared_after_bodies, with_bodies}
+use Rattle.taskscript.specs.Numbering.{texts}
+use Rattle.taskscript.specs.Records.{setting_view, made_of}
+use Rattle.taskscript.proofs.owners.records_of.Given as goal
+
+abbrev pub invariant-loop-i : goal.invariant-loop-i
+invariant-loop-i g l =
+    let setting = setting_view l.setting in
+    let of = made_of g.H.Head.head_of g.H.Head.with in
+    let left = items_view (drop l.i l.items) in
+    let all = items_view l.items in
+    record {
+      judged : first (bodies_faults setting (texts l.shared.keys) left) ≡ first (bodies_faults setting (texts l.fn.shared.keys) all);
+      found : map g.H.Head.record_view l.records.items ++ with_bodies of (texts l.shared.keys) left ≡ with_bodies of (texts l.fn.shared.keys) all;
+      names : shared_after_bodies (texts l.shared.keys) left ≡ shared_after_bodies (texts l.fn.shared.keys) all;
+    }

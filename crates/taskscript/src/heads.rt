@@ -1,0 +1,294 @@
+//! The first pass over the software interrupts, the servers and the tasks of a machine file: it judges the tree, and keeps a head of each item.
+ghost use Rattle.std.specs.Prelude.{◌≡◌, ◌++◌, ◌∷◌, [], Some, None, ℕ, List, codes, map, OnOk};
+ghost use Rattle.toml.specs.Data.{Data, Members, table as a_table, get_member};
+ghost use Rattle.toml.specs.View.{table_view, view, items_view};
+ghost use Rattle.taskscript.specs.Commands.{CommandData, command_view};
+ghost use Rattle.taskscript.specs.Faults.{Judges};
+ghost use Rattle.taskscript.specs.File.{SoftintData, ServerData, TaskData, softint_faults, server_faults, task_faults, named_faults, name_of, item_names};
+ghost use Rattle.taskscript.specs.Numbering.{texts};
+ghost use Rattle.taskscript.specs.Records.{softint_view, server_view, task_view, softint_head_view, server_head_view, task_head_view, softint_head_of, server_head_of, task_head_of, softint_with, server_with, task_with};
+ghost use Rattle.taskscript.specs.Tree.{required, optional, table_faults, name_faults, string_or_nothing, code_faults, array_faults, items_or_none, of_items};
+ghost use Rattle.taskscript.specs.declared.fault.FileFault.{FileFault};
+
+use crate::command::Command;
+use crate::fault::FileFault;
+use crate::file::{ServerRecord, SoftintRecord, TaskRecord};
+use crate::name::{Name, is_among, is_name};
+use crate::source::Source;
+use crate::tree::{
+    are_strings, has_only, member, optional_boolean, optional_pri, required_source, softint_pri,
+};
+use std::alloc::Global;
+use toml::{Table, Value};
+
+/// What the first pass keeps of an item that has a name and a code.
+pub trait Head: Copy {
+    /// What it is with its code.
+    type Record: Drop;
+
+    /// The data that a record stands for.
+    ghost Shown: { Type 0 };
+
+    /// The faults of an item's table after the names before it.
+    ghost faults: { List (List ℕ) → Members → List FileFault };
+
+    /// What a head stands for.
+    ghost head_view: { Self → Shown };
+
+    /// The head of an item.
+    ghost head_of: { Data → Shown };
+
+    /// What a record stands for.
+    ghost record_view: { Self.Record → Shown };
+
+    /// A head with its commands.
+    ghost with: { Shown → List CommandData → Shown };
+
+    /// Judges the keys and the values of an item in their order, the name after those before it, and adds it to them.
+    fn head_in(table: &Table, names: &mut Vec<Name>) -> Result<Self, FileFault>
+        ensures judged { Judges result (faults (texts names.old.items) (table_view table.now)) (λ h. head_view h ≡ head_of (a_table (table_view table.now))) }
+        ensures names { OnOk result (texts names.new.items ≡ texts names.old.items ++ name_of (a_table (table_view table.now)) ∷ []) };
+
+    /// What it is with its code.
+    fn with_code(self, code: Vec<Command>) -> Self::Record
+        ensures { record_view result ≡ with (head_view self) (map command_view code.items) };
+}
+
+/// What the first pass keeps of a software interrupt.
+#[derive(Clone, Copy)]
+pub struct SoftintHead {
+    pub name: Name,
+    pub pri: i8,
+}
+
+/// What the first pass keeps of a server.
+#[derive(Clone, Copy)]
+pub struct ServerHead {
+    pub name: Name,
+    pub source: Source,
+    pub pri: i8,
+    pub claim: bool,
+}
+
+/// What the first pass keeps of a task.
+#[derive(Clone, Copy)]
+pub struct TaskHead {
+    pub name: Name,
+    pub pri: i8,
+    pub start: bool,
+}
+
+/// The name that the key `name` holds, which is to be none of those before it, and is added to them.
+fn name_at(table: &Table, names: &mut Vec<Name>) -> Result<Name, FileFault>
+    ensures judged { Judges result (required (name_faults (texts names.old.items)) (get_member (codes "name") (table_view table.now))) (λ n. n.bytes ≡ string_or_nothing (get_member (codes "name") (table_view table.now))) }
+    ensures names { OnOk result (texts names.new.items ≡ texts names.old.items ++ string_or_nothing (get_member (codes "name") (table_view table.now)) ∷ []) }
+{
+    let value = match member(table, "name") {
+        None => return Err(FileFault::MissingKey),
+        Some(value) => value,
+    };
+    let text = match value.as_str() {
+        None => return Err(FileFault::BadValue),
+        Some(text) => text,
+    };
+    if !is_name(text) {
+        return Err(FileFault::BadValue);
+    }
+    if is_among(names, text) {
+        return Err(FileFault::NameTwice);
+    }
+    match Name::from(text) {
+        Ok(name) => {
+            names.push(name)?;
+            Ok(name)
+        }
+        Err(_) => Err(FileFault::BadValue),
+    }
+}
+
+/// Judges the array that the key `code` holds: strings first, then their number.
+#[tactic(auto, using(crate::proofs::Keys::count_items_view))]
+fn check_code(table: &Table) -> Result<(), FileFault>
+    ensures { Judges result (required code_faults (get_member (codes "code") (table_view table.now))) (λ _. Unit {0}) }
+{
+    let value = match member(table, "code") {
+        None => return Err(FileFault::MissingKey),
+        Some(value) => value,
+    };
+    let items = match value.as_array() {
+        None => return Err(FileFault::BadValue),
+        Some(items) => items,
+    };
+    if !are_strings(items) {
+        return Err(FileFault::BadValue);
+    }
+    if items.len() > 1024 {
+        return Err(FileFault::TooMany);
+    }
+    Ok(())
+}
+
+impl Head for SoftintHead {
+    type Record = SoftintRecord;
+
+    ghost Shown = { SoftintData };
+
+    ghost faults = { softint_faults };
+
+    ghost head_view = { softint_head_view };
+
+    ghost head_of = { softint_head_of };
+
+    ghost record_view = { softint_view };
+
+    ghost with = { softint_with };
+
+    fn head_in(table: &Table, names: &mut Vec<Name>) -> Result<SoftintHead, FileFault> {
+        if !has_only(table, &["name", "pri", "code"]) {
+            return Err(FileFault::UnknownKey);
+        }
+        let name = name_at(table, names)?;
+        let pri = softint_pri(table)?;
+        check_code(table)?;
+        Ok(SoftintHead { name, pri })
+    }
+
+    fn with_code(self, code: Vec<Command>) -> SoftintRecord {
+        SoftintRecord {
+            name: self.name,
+            pri: self.pri,
+            code,
+        }
+    }
+}
+
+impl Head for ServerHead {
+    type Record = ServerRecord;
+
+    ghost Shown = { ServerData };
+
+    ghost faults = { server_faults };
+
+    ghost head_view = { server_head_view };
+
+    ghost head_of = { server_head_of };
+
+    ghost record_view = { server_view };
+
+    ghost with = { server_with };
+
+    fn head_in(table: &Table, names: &mut Vec<Name>) -> Result<ServerHead, FileFault> {
+        if !has_only(table, &["name", "source", "pri", "claim", "code"]) {
+            return Err(FileFault::UnknownKey);
+        }
+        let name = name_at(table, names)?;
+        let source = required_source(table)?;
+        let pri = optional_pri(table)?;
+        let claim = optional_boolean(table, "claim", false)?;
+        check_code(table)?;
+        Ok(ServerHead {
+            name,
+            source,
+            pri,
+            claim,
+        })
+    }
+
+    fn with_code(self, code: Vec<Command>) -> ServerRecord {
+        ServerRecord {
+            name: self.name,
+            source: self.source,
+            pri: self.pri,
+            claim: self.claim,
+            code,
+        }
+    }
+}
+
+impl Head for TaskHead {
+    type Record = TaskRecord;
+
+    ghost Shown = { TaskData };
+
+    ghost faults = { task_faults };
+
+    ghost head_view = { task_head_view };
+
+    ghost head_of = { task_head_of };
+
+    ghost record_view = { task_view };
+
+    ghost with = { task_with };
+
+    fn head_in(table: &Table, names: &mut Vec<Name>) -> Result<TaskHead, FileFault> {
+        if !has_only(table, &["name", "pri", "start", "code"]) {
+            return Err(FileFault::UnknownKey);
+        }
+        let name = name_at(table, names)?;
+        let pri = optional_pri(table)?;
+        let start = optional_boolean(table, "start", true)?;
+        check_code(table)?;
+        Ok(TaskHead { name, pri, start })
+    }
+
+    fn with_code(self, code: Vec<Command>) -> TaskRecord {
+        TaskRecord {
+            name: self.name,
+            pri: self.pri,
+            start: self.start,
+            code,
+        }
+    }
+}
+
+fn head_of<H: Head>(value: &Value, names: &mut Vec<Name>) -> Result<H, FileFault>
+    ensures judged { Judges result (table_faults (H.faults (texts names.old.items)) (view value.now)) (λ h. H.head_view h ≡ H.head_of (view value.now)) }
+    ensures names { OnOk result (texts names.new.items ≡ texts names.old.items ++ name_of (view value.now) ∷ []) }
+{
+    match value.as_table() {
+        None => Err(FileFault::BadValue),
+        Some(table) => H::head_in(table, names),
+    }
+}
+
+fn heads_of<H: Head>(
+    alloc: Global,
+    items: &[Value],
+    names: &mut Vec<Name>,
+) -> Result<Vec<H>, FileFault>
+    ensures judged { Judges result (named_faults H.faults (texts names.old.items) (items_view items.now)) (λ hs. map H.head_view hs.items ≡ of_items H.head_of (items_view items.now)) }
+    ensures names { OnOk result (texts names.new.items ≡ texts names.old.items ++ item_names (items_view items.now)) }
+{
+    let mut heads = Vec::new(alloc);
+    for item in items {
+        let head = head_of(item, names)?;
+        heads.push(head)?;
+    }
+    Ok(heads)
+}
+
+/// The heads of the items of the array that the key holds, at most `limit`, or none; their names are added to those before them.
+#[tactic(auto, using(crate::proofs::Keys::count_items_view))]
+pub fn heads_at<H: Head>(
+    alloc: Global,
+    table: &Table,
+    key: &str,
+    limit: usize,
+    names: &mut Vec<Name>,
+) -> Result<Vec<H>, FileFault>
+    ensures judged { Judges result (optional (array_faults limit (named_faults H.faults (texts names.old.items))) (get_member key.now (table_view table.now))) (λ hs. map H.head_view hs.items ≡ of_items H.head_of (items_or_none (get_member key.now (table_view table.now)))) }
+    ensures names { OnOk result (texts names.new.items ≡ texts names.old.items ++ item_names (items_or_none (get_member key.now (table_view table.now)))) }
+{
+    let value = match member(table, key) {
+        None => return Ok(Vec::new(alloc)),
+        Some(value) => value,
+    };
+    let items = match value.as_array() {
+        None => return Err(FileFault::BadValue),
+        Some(items) => items,
+    };
+    if items.len() > limit {
+        return Err(FileFault::TooMany);
+    }
+    heads_of(alloc, items, names)
+}

@@ -1,0 +1,157 @@
+//! The software interrupts, the servers and the tasks of a machine file. A first pass judges the tree and keeps the heads of all of them, and a
+//! second one reads their bodies, in the order of the file.
+ghost use Rattle.std.specs.Prelude.{◌≡◌, ◌≤◌, length, take, map, OnOk};
+ghost use Rattle.toml.specs.View.{table_view, view, items_view};
+ghost use Rattle.taskscript.specs.Code.{lines_in, body_faults, code_of, shared_after};
+ghost use Rattle.taskscript.specs.Faults.{Judges};
+ghost use Rattle.taskscript.specs.File.{code_lines, bodies_faults, with_bodies, shared_after_bodies, owners_faults, lines_of_all_faults, both_passes_faults};
+ghost use Rattle.taskscript.specs.Numbering.{texts};
+ghost use Rattle.taskscript.specs.Records.{setting_view, made_of, AreHeads, AreOwners};
+ghost use Rattle.taskscript.specs.Tree.{of_items};
+
+use crate::code::read_code;
+use crate::fault::FileFault;
+use crate::file::{ServerRecord, SoftintRecord, TaskRecord};
+use crate::heads::{Head, ServerHead, SoftintHead, TaskHead, heads_at};
+use crate::interrupting::Setting;
+use crate::name::Name;
+use crate::tree::items_at;
+use crate::variable::VariableName;
+use indexmap::IndexSet;
+use std::alloc::Global;
+use toml::{Table, Value};
+
+/// The lines of what has a `code`, or none.
+fn lines_of(owner: &Value) -> &[Value]
+    ensures { lines_in (items_view result.now) ≡ code_lines (view owner.now) }
+{
+    match owner.as_table() {
+        None => &[],
+        Some(table) => items_at(table, "code"),
+    }
+}
+
+fn record_of<H: Head>(
+    alloc: Global,
+    setting: Setting<'_>,
+    head: H,
+    item: &Value,
+    shared: &mut IndexSet<VariableName>,
+) -> Result<H::Record, FileFault>
+    ensures judged { Judges result (body_faults (setting_view setting.entry) (texts shared.old.keys) (code_lines (view item.now))) (λ r. H.record_view r ≡ H.with (H.head_view head) (code_of (texts shared.old.keys) (code_lines (view item.now)))) }
+    ensures shared { OnOk result (texts shared.new.keys ≡ shared_after (texts shared.old.keys) (code_lines (view item.now))) }
+{
+    let code = read_code(alloc, setting, lines_of(item), shared)?;
+    Ok(head.with_code(code))
+}
+
+/// The second pass over the items of an array, whose heads the first one kept.
+fn records_of<H: Head>(
+    alloc: Global,
+    setting: Setting<'_>,
+    heads: &[H],
+    items: &[Value],
+    shared: &mut IndexSet<VariableName>,
+) -> Result<Vec<H::Record>, FileFault>
+    requires { map H.head_view heads.now ≡ of_items H.head_of (items_view items.now) }
+    ensures judged { Judges result (bodies_faults (setting_view setting.entry) (texts shared.old.keys) (items_view items.now)) (λ rs. map H.record_view rs.items ≡ with_bodies (made_of H.head_of H.with) (texts shared.old.keys) (items_view items.now)) }
+    ensures shared { OnOk result (texts shared.new.keys ≡ shared_after_bodies (texts shared.old.keys) (items_view items.now)) }
+{
+    let mut records = Vec::new(alloc);
+    for (i, item) in items.iter().enumerate() {
+        let record = record_of(alloc, setting, heads[i], item, shared)?;
+        records.push(record)?;
+    }
+    Ok(records)
+}
+
+/// The heads of all that has a name and a code, with their names in the order of the file.
+#[derive(Drop)]
+struct Heads {
+    softints: Vec<SoftintHead>,
+    servers: Vec<ServerHead>,
+    tasks: Vec<TaskHead>,
+    names: Vec<Name>,
+}
+
+/// The first pass.
+fn heads_in(alloc: Global, table: &Table) -> Result<Heads, FileFault>
+    ensures { Judges result (owners_faults (table_view table.now)) (λ hs. AreHeads hs (table_view table.now)) }
+{
+    let mut names = Vec::new(alloc);
+    let softints = heads_at(alloc, table, "softint", 32, &mut names)?;
+    let servers = heads_at(alloc, table, "server", 32, &mut names)?;
+    let tasks = heads_at(alloc, table, "task", 64, &mut names)?;
+    Ok(Heads {
+        softints,
+        servers,
+        tasks,
+        names,
+    })
+}
+
+/// All that has a name and a code.
+#[derive(Drop)]
+pub struct Owners {
+    pub softints: Vec<SoftintRecord>,
+    pub servers: Vec<ServerRecord>,
+    pub tasks: Vec<TaskRecord>,
+}
+
+fn front(names: &[Name], count: usize) -> &[Name]
+    requires { count ≤ length names.now }
+    ensures { result.now ≡ take count names.now }
+{
+    &names[..count]
+}
+
+/// The second pass.
+fn owners_in(alloc: Global, table: &Table, heads: &Heads) -> Result<Owners, FileFault>
+    requires { AreHeads heads.now (table_view table.now) }
+    ensures { Judges result (lines_of_all_faults (table_view table.now)) (λ o. AreOwners o (table_view table.now)) }
+{
+    let softints = front(&heads.names, heads.softints.len());
+    let of_interrupt = Setting {
+        of_interrupt: true,
+        softints,
+    };
+    let of_task = Setting {
+        of_interrupt: false,
+        softints,
+    };
+    let mut shared = IndexSet::new(alloc);
+    let softints = records_of(
+        alloc,
+        of_interrupt,
+        &heads.softints,
+        items_at(table, "softint"),
+        &mut shared,
+    )?;
+    let servers = records_of(
+        alloc,
+        of_interrupt,
+        &heads.servers,
+        items_at(table, "server"),
+        &mut shared,
+    )?;
+    let tasks = records_of(
+        alloc,
+        of_task,
+        &heads.tasks,
+        items_at(table, "task"),
+        &mut shared,
+    )?;
+    Ok(Owners {
+        softints,
+        servers,
+        tasks,
+    })
+}
+
+/// The software interrupts, the servers and the tasks of a file, by both passes.
+pub fn owners_at(alloc: Global, table: &Table) -> Result<Owners, FileFault>
+    ensures { Judges result (both_passes_faults (table_view table.now)) (λ o. AreOwners o (table_view table.now)) }
+{
+    let heads = heads_in(alloc, table)?;
+    owners_in(alloc, table, &heads)
+}
