@@ -110,7 +110,11 @@ fn are_known(softints: &[Name], kinds: &[Kind], arguments: &[NamedArgument]) -> 
 /// Judges a command by its body: BadCommand where it names a software interrupt that the file lacks, and NotInInterrupt where it may not stand
 /// in the body of an interrupt. The words of interrupts are our own choice.
 pub fn judge_command(setting: Setting<'_>, command: &NamedCommand) -> Result<(), FileFault>
-    ensures { Judges result (check (names_softints (setting_view setting.entry) (named_command_view command.now)) FileFault.BadCommand ++ check (may_stand (setting_view setting.entry) (named_command_view command.now)) FileFault.NotInInterrupt) (λ _. Unit {0}) }
+    ensures { let s = setting_view setting.entry in
+        let said = named_command_view command.now in
+        Judges result
+        (check (names_softints s said) FileFault.BadCommand ++ check (may_stand s said) FileFault.NotInInterrupt)
+        (λ _. Unit {0}) }
 {
     if !are_known(
         setting.softints,
