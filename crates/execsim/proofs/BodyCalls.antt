@@ -1,6 +1,7 @@
 -- How the machine follows the body of a software interrupt or of a server.
-use Rattle.std.proofs.Common.{◌≡◌, ℕ, zero, suc, ◌+◌, ◌<◌, true, false, List, [], ◌∷◌, length, take, Option, None, Some, refl, ap, sym, ◌∙◌, subst, add-one}
+use Rattle.std.proofs.Common.{◌≡◌, ℕ, zero, suc, ◌+◌, ◌≤◌, true, false, List, [], ◌∷◌, length, take, Option, None, Some, refl, ap, sym, ◌∙◌, subst, add-one}
 use Rattle.std.specs.Prelude.{slice_get}
+use Rattle.std.proofs.lemmas.List.{take_all}
 use Rattle.exectrace.specs.Sink.{Tape, Puts}
 use Rattle.exectrace.specs.Trace.{printed_line, Server, Softint}
 use Rattle.taskscript.specs.Commands.{CommandData}
@@ -74,6 +75,13 @@ more_commands {m} {n} {o} {a} {b} {c} body name code place is before last = rw a
 
     same_code : (s : State) → Agrees m s → code_of_body body n.bodies ≡ code
     same_code s e = ap (code_of_body body) (same_bodies s e) ∙ sym is
+
+pub all_commands : {m n : Seen} {a b : Tape} (body : Body) (name : List ℕ) (code : List CommandData) (place : ℕ) → name ≡ name_of_body body m.bodies
+    → code ≡ code_of_body body m.bodies → length code ≤ place → Follows (runs_body name (take place code)) m n a b
+    → Follows (runs_body (name_of_body body m.bodies) (code_of_body body m.bodies)) m n a b
+all_commands {m} {n} {a} {b} body name code place named is all follows =
+    subst (λ (x : List ℕ). Follows (runs_body x (code_of_body body m.bodies)) m n a b) named
+    (subst (λ (x : List CommandData). Follows (runs_body name x) m n a b) (take_all place code all ∙ is) follows)
 
 -- ---- a software interrupt, and a server
 

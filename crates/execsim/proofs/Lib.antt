@@ -15,6 +15,7 @@ pub mod Obtaining
 pub mod Ordering
 pub mod PortOrder
 pub mod Porting
+pub mod ServerChains
 pub mod Serving
 pub mod Signalling
 pub mod Stepping

@@ -1,5 +1,5 @@
 -- How the machine follows the causing, the requests and the serving of interrupts.
-use Rattle.std.proofs.Common.{◌≡◌, ℕ, zero, suc, ◌+◌, ◌-◌, ◌<◌, ◌≤◌, Bool, true, false, cond, not, ◌&&◌, ◌||◌, ◌==◌, nat_lt, List, [], ◌∷◌, length, map, drop, Option, None, Some, refl, ap, sym, ◌∙◌, arith}
+use Rattle.std.proofs.Common.{◌≡◌, ℕ, zero, suc, ◌+◌, ◌-◌, ◌<◌, ◌≤◌, Bool, true, false, cond, not, ◌&&◌, ◌||◌, ◌==◌, nat_lt, List, [], ◌∷◌, length, map, drop, Option, None, Some, refl, ap, sym, ◌∙◌, subst, arith}
 use Rattle.std.specs.Prelude.{ℤ, if◌then◌else◌, slice_get}
 use Rattle.std.specs.List.{list_any}
 use Rattle.std.proofs.lemmas.Bool.{ne_eqb}
@@ -181,6 +181,27 @@ chain_goes_on {m} {n} {o} {b = b} {c = c} asks place k here runs goes_on rest =
         guarded_going none.1 (follows_as {g = rest_of_chain asks (place + 1) n}
         (λ s e. ap (λ (x : Bodies). runs_chain (drop (suc place) (chain_of asks x.servers)) s) (sym same)
         ∙ ap (λ (k : ℕ). runs_chain (drop k (chain_of asks n.bodies.servers)) s) next_place) rest)
+
+-- From each state that is agreed with at first, there is one that is agreed with now, and the bodies are as they were.
+abbrev pub IsKnownFrom : Seen → Seen → Type 0
+IsKnownFrom m n = (s : State) → Agrees m s → (t : State) × (Agrees n t × (n.bodies ≡ m.bodies))
+
+pub known_here : (m : Seen) → IsKnownFrom m m
+known_here m s e = (s, (e, refl))
+
+pub known_after : {m n o : Seen} {a b : Tape} (k : ℕ) → IsKnownFrom m n → Follows (runs_server k) n o a b → IsKnownFrom m o
+known_after {m} {n} {o} k known runs s e =
+    let before = known s e in
+    let t = before.0 in
+    let agrees = runs.agrees t before.1.0 in
+    ((runs_server k t).state, (agrees, agrees.bodies ∙ server_keeps k t ∙ sym before.1.0.bodies ∙ before.1.1))
+
+-- all places were looked at
+pub chain_done : {next : State → Outcome} {m n : Seen} {a b : Tape} (asks : Source) (place : ℕ) → length m.bodies.servers ≤ place → IsKnownFrom m n
+    → ((o : Seen) (c : Tape) → Follows (rest_of_chain asks place n) n o b c → Follows next m o a c) → Follows next m n a b
+chain_done {m = m} {n = n} {b = b} asks place all known rest = follows_known (λ s e.
+    let same : m.bodies ≡ n.bodies = sym (known s e).1.1 in
+    rest n b (chain_at_end asks place b (subst (λ (x : Bodies). length x.servers ≤ place) same all)))
 
 -- ---- serving
 

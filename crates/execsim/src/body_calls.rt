@@ -17,6 +17,7 @@ ghost use Rattle.std.specs.Option.{option_map};
 use crate::bodies::Body;
 use crate::command::{Call, Caller, Operand, Slot, SmallCommand};
 use crate::kernel::Kernel;
+use crate::program::command_at;
 use execlist::space::ListSpace;
 use exectrace::lines::CallOutcome;
 use exectrace::printing::{put_alert, put_short_call};
@@ -169,13 +170,7 @@ impl<S: ListSpace> Kernel<S> {
         }
     }
 
-    fn does_ports_in_body<W: Sink>(
-        &mut self,
-        word: PortWord,
-        name: &Name,
-        call: &Call,
-        out: &mut W,
-    )
+    fn does_ports_in_body<W: Sink>(&mut self, word: PortWord, name: &Name, call: &Call, out: &mut W)
         ensures { Follows (does_ports_by word (ByBody name.now.bytes) (call_view call.now)) self.old self.new (W.tape out.old) (W.tape out.new) }
     {
         match word {
@@ -228,7 +223,7 @@ impl<S: ListSpace> Kernel<S> {
     fn command_in_body(&self, body: Body, place: usize) -> Option<SmallCommand>
         ensures { option_map small_view result ≡ slice_get (code_of_body body self.now.bodies) place }
     {
-        self.bodies.code(body).get(place).copied()
+        command_at(self.bodies.code(body), place).copied()
     }
 
     /// The command at a place of a body is done, unless an alert has stopped the machine.

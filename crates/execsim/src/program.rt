@@ -52,7 +52,7 @@ impl Call {
 }
 
 /// The command of that place, if there is one.
-fn command_at(code: &[SmallCommand], place: usize) -> Option<&SmallCommand>
+pub fn command_at(code: &[SmallCommand], place: usize) -> Option<&SmallCommand>
     ensures { option_copied result ≡ slice_get code.now place }
 {
     code.get(place)

@@ -1,0 +1,42 @@
+-- The chain of a source that the interrupts keep is that of the abstract machine.
+use Rattle.std.proofs.Common.{◌≡◌, ℕ, Bool, true, false, cond, List, [], ◌∷◌, length, map, get_or, refl, ap, sym, ◌∙◌}
+use Rattle.std.proofs.lemmas.List.{length-map}
+use Rattle.std.proofs.Math.ListN.{get_or-map as default_map}
+use Rattle.std.specs.Prelude.{ℤ, filter}
+use Rattle.std.specs.List.{range_with_len}
+use Rattle.execlist.specs.Order.{order}
+use Rattle.taskscript.specs.File.{ServerData}
+use Rattle.softint.specs.declared.interrupt.Server.{Server}
+use Rattle.softint.specs.declared.source.Source.{Source}
+use Rattle.softint.specs.declared.source.Source.TheVariants.{Ports}
+use Rattle.softint.specs.Interrupts.{Interrupts, chain, pri_at, serves}
+use Rattle.softint.specs.Sources.{is_source}
+use Rattle.execmodel.specs.State.{Bodies}
+use Rattle.execmodel.specs.Interrupts.{chain_of, no_server, server_pri, servers_of}
+use Rattle.execmodel.specs.Pending.{source_named}
+use Rattle.execsim.specs.Views.{IsFor, interrupting}
+use Rattle.execsim.proofs.Calling.{map-map_as}
+use Rattle.execmodel.proofs.Chains.{chain_is_order}
+
+filter_same : (test other : ℕ → Bool) → ((k : ℕ) → test k ≡ other k) → (xs : List ℕ) → filter test xs ≡ filter other xs
+filter_same test other same [] = refl
+filter_same test other same (x ∷ xs) =
+    ap (λ (b : Bool). cond b (x ∷ filter test xs) (filter test xs)) (same x) ∙ ap (λ (l : List ℕ). cond (other x) (x ∷ l) l) (filter_same test other same xs)
+
+-- the source of a server by its number
+source_at : (servers : List ServerData) (k : ℕ) → get_or (map (λ (v : Server). v.source) (map interrupting servers)) k Ports ≡ source_named (get_or servers k no_server).source
+source_at servers k =
+    ap (λ (l : List Source). get_or l k Ports) (sym (map-map_as (λ (v : Server). v.source) interrupting servers))
+    ∙ default_map (λ (s : ServerData). source_named s.source) servers k no_server
+
+chain_shown : (asks : Source) (servers : List ServerData) → chain asks (map interrupting servers) ≡ order (server_pri servers) (servers_of asks servers)
+chain_shown asks servers =
+    ap (λ (pris : List ℤ). order (pri_at pris) (filter (serves asks (map interrupting servers)) (range_with_len 0 (length (map interrupting servers)))))
+    (sym (map-map_as (λ (v : Server). v.pri) interrupting servers))
+    ∙ ap (λ (n : ℕ). order (server_pri servers) (filter (serves asks (map interrupting servers)) (range_with_len 0 n))) (length-map servers interrupting)
+    ∙ ap (order (server_pri servers)) (filter_same (serves asks (map interrupting servers))
+    (λ k. is_source (source_named (get_or servers k no_server).source) asks)
+    (λ k. ap (λ (source : Source). is_source source asks) (source_at servers k)) (range_with_len 0 (length servers)))
+
+pub chain_same : (asks : Source) (m : Interrupts) (bodies : Bodies) → IsFor bodies m → chain asks m.servers ≡ chain_of asks bodies.servers
+chain_same asks m bodies of = ap (chain asks) of.servers ∙ chain_shown asks bodies.servers ∙ sym (chain_is_order asks bodies.servers)

@@ -1,0 +1,10 @@
+use Rattle.std.proofs.Common.{◌≡◌, ℕ, ◌+◌}
+use Rattle.exectrace.specs.Sink.{Tape}
+use Rattle.execmodel.specs.Interrupts.{servings}
+use Rattle.execsim.specs.Agreement.{Follows, Seen}
+use Rattle.execsim.proofs.kernel.Kernel.interrupt.Given as goal
+
+-- what the servings that are left do ends what all of them do
+abbrev pub invariant-loop-turn : goal.invariant-loop-turn
+invariant-loop-turn g l = (left : ℕ) → left + l._turn ≡ 3 → (n : Seen) (c : Tape) → Follows (servings left) l.self n (g.W.Sink.tape l.out) c
+    → Follows (servings 3) l.initial.self n (g.W.Sink.tape l.initial.out) c

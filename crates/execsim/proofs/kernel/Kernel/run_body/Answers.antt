@@ -1,0 +1,9 @@
+use Rattle.std.proofs.Common.{refl}
+use Rattle.execsim.proofs.BodyCalls.{all_commands, more_commands, no_command}
+use Rattle.execsim.proofs.kernel.Kernel.run_body.Goals as goal
+
+pub loop-place-init : goal.loop-place-init
+loop-place-init g c = no_command _ _ _ _
+
+pub loop-place-preserved : goal.loop-place-preserved
+loop-place-preserved g c = more_commands _ _ _ _ refl c.loop-place.invariant c.do_place.ensures

@@ -1,0 +1,10 @@
+use Rattle.std.proofs.Common.{take}
+use Rattle.execmodel.specs.Bodies.{runs_body}
+use Rattle.execsim.specs.Agreement.{Follows}
+use Rattle.execsim.specs.Views.{code_of_body}
+use Rattle.execsim.proofs.kernel.Kernel.run_body.Given as goal
+
+-- the commands so far were done
+abbrev pub invariant-loop-place : goal.invariant-loop-place
+invariant-loop-place g l = Follows (runs_body l.name.bytes (take l.place (code_of_body l.body l.initial.self.bodies)))
+    l.initial.self l.self (g.W.Sink.tape l.initial.out) (g.W.Sink.tape l.out)

@@ -1,0 +1,13 @@
+use Rattle.execsim.specs.Agreement.{Follows}
+use Rattle.exectrace.specs.Sink.{Tape}
+use Rattle.execsim.specs.Agreement.{Seen}
+use Rattle.execsim.proofs.Serving.{IsKnownFrom, rest_of_chain}
+use Rattle.execsim.proofs.kernel.Kernel.run_chain.Given as goal
+
+-- what the servers from this place on do ends what all of them do
+abbrev pub invariant-loop-place : goal.invariant-loop-place
+invariant-loop-place g l = record {
+  known : IsKnownFrom l.initial.self l.self;
+  rest : (n : Seen) (c : Tape) → Follows (rest_of_chain l.source l.place l.self) l.self n (g.W.Sink.tape l.out) c
+      → Follows (rest_of_chain l.source 0 l.initial.self) l.initial.self n (g.W.Sink.tape l.initial.out) c;
+}
