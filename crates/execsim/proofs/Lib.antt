@@ -1,6 +1,8 @@
+pub mod Accepted
 pub mod Acting
 pub mod Allocating
 pub mod BodyCalls
+pub mod BodyNames
 pub mod Booting
 pub mod Calculating
 pub mod Calling

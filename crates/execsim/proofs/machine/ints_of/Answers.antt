@@ -1,0 +1,26 @@
+-- The priorities and the sources are those of the records.
+use Rattle.std.proofs.Common.{All, map, sym, subst}
+use Rattle.std.specs.Prelude.{ℤ, List}
+use Rattle.softint.specs.Interrupts.{IsPriority}
+use Rattle.softint.specs.declared.interrupt.Soft.{Soft}
+use Rattle.taskscript.specs.declared.file.SoftintRecord.{SoftintRecord}
+use Rattle.taskscript.specs.File.{SoftintData}
+use Rattle.taskscript.specs.Records.{softint_view}
+use Rattle.execsim.proofs.Accepted.{all_shown, all_under}
+use Rattle.execsim.proofs.Calling.{map-map_as}
+use Rattle.execsim.proofs.machine.ints_of.Goals as goal
+
+pub new-requires-clause-priorities : goal.new-requires-clause-priorities
+new-requires-clause-priorities g c =
+    let of_records = all_under (λ (s : SoftintData). IsPriority s.pri) softint_view c.args.softints.now c.requires.priorities in
+    let shown = all_shown IsPriority (λ (r : SoftintRecord). r.pri) c.args.softints.now of_records in
+    rw c.deref.ensures.value (all_under IsPriority (λ (s : Soft). s.pri) c.in_ok-softs.softs.items (subst (All IsPriority) (sym c.in_ok-softs.ensures.pris) shown))
+
+pub returns : goal.returns
+returns g c = rw (
+  c.deref.ensures.value,
+  c.in_ok-softs.ensures.pris,
+  c.deref-2.ensures.value,
+  c.in_ok-sources.ensures.servers,
+  map-map_as (λ (s : SoftintData). s.pri) softint_view c.args.softints.now,
+) at c.new.ensures

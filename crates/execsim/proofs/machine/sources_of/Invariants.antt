@@ -1,0 +1,8 @@
+use Rattle.std.proofs.Common.{◌≡◌, map, take}
+use Rattle.taskscript.specs.Records.{server_view}
+use Rattle.execsim.specs.Views.{interrupting}
+use Rattle.execsim.proofs.machine.sources_of.Given as goal
+
+-- the servers so far have given their sources and priorities
+abbrev pub invariant-loop-server : goal.invariant-loop-server
+invariant-loop-server l = l.sources.items ≡ map interrupting (map server_view (take l.server-index l.servers))
