@@ -144,7 +144,7 @@ chain_runs {m} asks place k here runs rest =
     (follows_then runs rest)
 
 -- it was the last one: it claims the interrupt, or an alert has stopped the machine
-pub chain_stops : {m n : Seen} {a b : Tape} (asks : Source) (place k : ℕ) → Some k ≡ slice_get (chain_of asks m.bodies.servers) place
+chain_stops : {m n : Seen} {a b : Tape} (asks : Source) (place k : ℕ) → Some k ≡ slice_get (chain_of asks m.bodies.servers) place
     → Follows (runs_server k) m n a b → ((server_at k m.bodies).claim || n.stopped) ≡ true → Follows (rest_of_chain asks place m) m n a b
 chain_stops {m} {n} {a} {b} asks place k here runs last =
     chain_runs asks place k here runs (by_stopped n.stopped refl (server_at k m.bodies).claim last)
@@ -157,28 +157,33 @@ chain_stops {m} {n} {a} {b} asks place k here runs last =
     by_stopped false is true last = guarded_going is (follows_nothing n b)
     by_stopped false is false last = absurd cc
 
+module _ {m n : Seen} {a b : Tape} (asks : Source) (place k : ℕ) (here : Some k ≡ slice_get (chain_of asks m.bodies.servers) place) (runs : Follows (runs_server k) m n a b) where
+  pub chain_claimed : (server_at k m.bodies).claim ≡ true → Follows (rest_of_chain asks place m) m n a b
+  chain_claimed claims = chain_stops asks place k here runs (ap (λ (claim : Bool). claim || n.stopped) claims)
+
+  pub chain_alerted : n.stopped ≡ true → Follows (rest_of_chain asks place m) m n a b
+  chain_alerted stopped = chain_stops asks place k here runs (ap (λ (last : Bool). (server_at k m.bodies).claim || last) stopped ∙ or_true (server_at k m.bodies).claim) where
+    or_true : (claim : Bool) → (claim || true) ≡ true
+    or_true true = refl
+    or_true false = refl
+
 -- it was not the last one
 pub chain_goes_on : {m n o : Seen} {a b c : Tape} (asks : Source) (place k : ℕ) → Some k ≡ slice_get (chain_of asks m.bodies.servers) place
-    → Follows (runs_server k) m n a b → ((server_at k m.bodies).claim || n.stopped) ≡ false
+    → Follows (runs_server k) m n a b → (server_at k m.bodies).claim ≡ false → n.stopped ≡ false
     → Follows (rest_of_chain asks (place + 1) n) n o b c → Follows (rest_of_chain asks place m) m o a c
-chain_goes_on {m} {n} {o} {b = b} {c = c} asks place k here runs goes_on rest =
-    follows_known (λ s e. chain_runs asks place k here runs (by_claim (server_at k m.bodies).claim (neither (server_at k m.bodies).claim n.stopped goes_on)
-    (same_bodies s e)))
+chain_goes_on {m} {n} {o} {b = b} {c = c} asks place k here runs unclaims going rest =
+    follows_known (λ s e. chain_runs asks place k here runs (by_claim (server_at k m.bodies).claim unclaims (same_bodies s e)))
   where
-    neither : (claim stopped : Bool) → (claim || stopped) ≡ false → (claim ≡ false) × (stopped ≡ false)
-    neither true stopped e = absurd cc
-    neither false stopped e = (refl, e)
-
     -- no server changes the bodies
     same_bodies : (s : State) → Agrees m s → n.bodies ≡ m.bodies
     same_bodies s e = (runs.agrees s e).bodies ∙ server_keeps k s ∙ sym e.bodies
 
-    by_claim : (claim : Bool) → (claim ≡ false) × (n.stopped ≡ false) → n.bodies ≡ m.bodies
+    by_claim : (claim : Bool) → claim ≡ false → n.bodies ≡ m.bodies
         → Follows (unless_stopped (unclaimed claim (drop (suc place) (chain_of asks m.bodies.servers)))) n o b c
     by_claim true none same = absurd cc
     by_claim false none same =
         let next_place : suc place ≡ place + 1 = omega arith in
-        guarded_going none.1 (follows_as {g = rest_of_chain asks (place + 1) n}
+        guarded_going going (follows_as {g = rest_of_chain asks (place + 1) n}
         (λ s e. ap (λ (x : Bodies). runs_chain (drop (suc place) (chain_of asks x.servers)) s) (sym same)
         ∙ ap (λ (k : ℕ). runs_chain (drop k (chain_of asks n.bodies.servers)) s) next_place) rest)
 

@@ -16,6 +16,9 @@ use softint::chain::ServerId;
 use softint::source::Source;
 use taskscript::Source as NamedSource;
 
+/// How many sources there are.
+const SOURCES: u32 = 3;
+
 /// The source of a name of the texts.
 pub fn source_named(name: NamedSource) -> Source
     ensures { result ≡ source_named name }
@@ -161,7 +164,7 @@ impl<S: ListSpace> Kernel<S> {
     pub(crate) fn interrupt<W: Sink>(&mut self, out: &mut W)
         ensures { Follows interrupts self.old self.new (W.tape out.old) (W.tape out.new) }
     {
-        for _turn in 0..3 {
+        for _turn in 0..SOURCES {
             match self.take_request() {
                 None => return,
                 Some(source) => {

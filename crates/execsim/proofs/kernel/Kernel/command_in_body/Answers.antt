@@ -6,6 +6,6 @@ use Rattle.execsim.specs.Views.{small_view}
 use Rattle.execsim.proofs.kernel.Kernel.command_in_body.Goals as goal
 
 pub returns : goal.returns
-returns g c =
+returns g c = rw (← c.self.view_is) (
     ap (option_map small_view) (c.copied.ensures ∙ c.command_at.ensures)
-    ∙ sym (slice_get-map small_view c.code.result.now c.args.place) ∙ ap (λ code. slice_get code c.args.place) c.code.ensures
+    ∙ sym (slice_get-map small_view c.code.result.now c.args.place) ∙ ap (λ code. slice_get code c.args.place) c.code.ensures)

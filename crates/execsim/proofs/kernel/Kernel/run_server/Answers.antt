@@ -1,5 +1,10 @@
+use Rattle.std.proofs.Common.{ap, ◌∙◌}
+use Rattle.execmodel.specs.Interrupts.{server_at}
+use Rattle.execsim.specs.Agreement.{Seen}
 use Rattle.execsim.proofs.BodyCalls.{server_as}
 use Rattle.execsim.proofs.kernel.Kernel.run_server.Goals as goal
 
 pub returns : goal.returns
-returns g c = server_as _ (rw c.name.ensures at c.put_server.ensures) c.run_body.ensures
+returns g c =
+    let named = c.name.ensures ∙ ap (λ (m : Seen). (server_at c.args.k m.bodies).name) c.self.view_is in
+    server_as _ (rw named at c.put_server.ensures) c.run_body.ensures

@@ -1,0 +1,27 @@
+use Rattle.std.proofs.Common.{◌≡◌, List, ℕ, subst, sym}
+use Rattle.exectrace.specs.Sink.{Tape}
+use Rattle.taskscript.specs.declared.word.plain.PlainWord.{PlainWord}
+use Rattle.execmodel.specs.State.{Call}
+use Rattle.execmodel.specs.Bodies.{does_plain_by}
+use Rattle.execmodel.specs.Calls.{Caller}
+use Rattle.execsim.specs.Agreement.{Seen, Follows}
+use Rattle.execsim.proofs.kernel.Kernel.does_plain_in_body.Goals as goal
+
+-- a plain call is done as its word says
+plain_as : {m n : Seen} {a b : Tape} (by : Caller) (call : Call) (word is : PlainWord) → word ≡ is → Follows (does_plain_by is by call) m n a b → Follows (does_plain_by word by call) m n a b
+plain_as {m} {n} {a} {b} by call word is same follows = subst (λ w. Follows (does_plain_by w by call) m n a b) (sym same) follows
+
+pub returns-in-Set : goal.returns-in-Set
+returns-in-Set g c = plain_as _ _ _ _ c.in-Set.is (c.set.ensures _)
+
+pub returns-in-Add : goal.returns-in-Add
+returns-in-Add g c = plain_as _ _ _ _ c.in-Add.is (c.add_words.ensures _)
+
+pub returns-in-Sub : goal.returns-in-Sub
+returns-in-Sub g c = plain_as _ _ _ _ c.in-Sub.is (c.sub_words.ensures _)
+
+pub returns-in-And : goal.returns-in-And
+returns-in-And g c = plain_as _ _ _ _ c.in-And.is (c.and_words.ensures _)
+
+pub returns-in-Or : goal.returns-in-Or
+returns-in-Or g c = plain_as _ _ _ _ c.in-Or.is (c.or_words.ensures _)
