@@ -4,10 +4,19 @@ use memlist::Region;
 use std::alloc::Global;
 use std::process::Abort;
 use std::test::*;
-use taskscript::{FileFault, PlainWord, SignalWord, Word, read_machine};
+use taskscript::{
+    Command, FileFault, InterruptWord, PlainWord, PortWord, ServerRecord, SignalWord,
+    SoftintRecord, Source, TaskRecord, Word, read_machine,
+};
 
 /// What a task must hold: its name, its priority, whether it starts, and the words of its commands.
 type Task = (&'static str, i8, bool, &'static [Word]);
+
+/// What a software interrupt must hold: its name, its priority, and the words of its commands.
+type Softint = (&'static str, i8, &'static [Word]);
+
+/// What a server must hold: its name, its source, its priority, whether it claims, and the words of its commands.
+type Server = (&'static str, Source, i8, bool, &'static [Word]);
 
 /// A machine file, and what it must give.
 #[derive(Clone, Copy)]
@@ -17,10 +26,12 @@ struct Machine {
     quantum: u8,
     pool: u32,
     regions: &'static [Region],
+    softints: &'static [Softint],
+    servers: &'static [Server],
     tasks: &'static [Task],
 }
 
-static MACHINES: [Machine; 2] = [
+static MACHINES: [Machine; 3] = [
     Machine {
         name: "a machine file gives its parts in order",
         file: "quantum = 255\npool = 1024\n\
@@ -43,6 +54,8 @@ static MACHINES: [Machine; 2] = [
                 pri: 0,
             },
         ],
+        softints: &[],
+        servers: &[],
         tasks: &[
             ("A.b_c-9", -128, false, &[]),
             (
@@ -62,7 +75,43 @@ static MACHINES: [Machine; 2] = [
         quantum: 4,
         pool: 64,
         regions: &[],
+        softints: &[],
+        servers: &[],
         tasks: &[],
+    },
+    Machine {
+        name: "a machine file gives its software interrupts and servers in order",
+        file: "[[server]]\nname = \"blank\"\nsource = \"VERTB\"\ncode = ['Cause \"low\"']\n\
+            [[softint]]\nname = \"high\"\npri = 32\ncode = [\"Print @a\"]\n\
+            [[server]]\nname = \"disk\"\nsource = \"EXTER\"\npri = -128\nclaim = true\ncode = []\n\
+            [[softint]]\nname = \"low\"\npri = -32\ncode = []\n\
+            [[task]]\nname = \"t\"\ncode = ['PortCause 0 \"low\"', 'Cause \"high\"']",
+        quantum: 4,
+        pool: 64,
+        regions: &[],
+        softints: &[
+            ("high", 32, &[Word::Plain(PlainWord::Print)]),
+            ("low", -32, &[]),
+        ],
+        servers: &[
+            (
+                "blank",
+                Source::Vertb,
+                0,
+                false,
+                &[Word::Interrupts(InterruptWord::Cause)],
+            ),
+            ("disk", Source::Exter, -128, true, &[]),
+        ],
+        tasks: &[(
+            "t",
+            0,
+            true,
+            &[
+                Word::Ports(PortWord::PortCause),
+                Word::Interrupts(InterruptWord::Cause),
+            ],
+        )],
     },
 ];
 
@@ -89,10 +138,49 @@ fn fault_of(alloc: Global, file: &[u8]) -> Option<FileFault> {
     }
 }
 
+/// The commands of a body have the words that are wanted.
+fn holds_words(rt: &impl Abort, name: &str, code: &[Command], words: &[Word]) {
+    same_at(rt, name, "code", code.len(), words.len());
+    for (command, word) in code.iter().zip(words) {
+        same_at(rt, name, "word", command.word, *word);
+    }
+}
+
+/// The software interrupts are those that are wanted.
+fn holds_softints(rt: &impl Abort, name: &str, found: &[SoftintRecord], wanted: &[Softint]) {
+    same_at(rt, name, "softints", found.len(), wanted.len());
+    for (softint, (text, pri, words)) in found.iter().zip(wanted) {
+        let head = (softint.name.as_str(), softint.pri);
+        same_at(rt, name, "head", head, (*text, *pri));
+        holds_words(rt, name, softint.code.as_slice(), *words);
+    }
+}
+
+/// The servers are those that are wanted.
+fn holds_servers(rt: &impl Abort, name: &str, found: &[ServerRecord], wanted: &[Server]) {
+    same_at(rt, name, "servers", found.len(), wanted.len());
+    for (server, (text, source, pri, claim, words)) in found.iter().zip(wanted) {
+        same_at(rt, name, "name", server.name.as_str(), *text);
+        same_at(rt, name, "source", server.source, *source);
+        let head = (server.pri, server.claim);
+        same_at(rt, name, "head", head, (*pri, *claim));
+        holds_words(rt, name, server.code.as_slice(), *words);
+    }
+}
+
+/// The tasks are those that are wanted.
+fn holds_tasks(rt: &impl Abort, name: &str, found: &[TaskRecord], wanted: &[Task]) {
+    same_at(rt, name, "tasks", found.len(), wanted.len());
+    for (task, (text, pri, start, words)) in found.iter().zip(wanted) {
+        let head = (task.name.as_str(), task.pri, task.start);
+        same_at(rt, name, "head", head, (*text, *pri, *start));
+        holds_words(rt, name, task.code.as_slice(), *words);
+    }
+}
+
 /// The machine of an accepted file holds the parts that are wanted.
 fn holds(rt: &impl Abort, alloc: Global, wanted: &Machine) {
     let machine = read_machine(alloc, wanted.file.as_bytes()).expect(rt, wanted.name);
-    let tasks = machine.tasks();
     same_at(
         rt,
         wanted.name,
@@ -108,15 +196,9 @@ fn holds(rt: &impl Abort, alloc: Global, wanted: &Machine) {
         machine.regions(),
         wanted.regions,
     );
-    same_at(rt, wanted.name, "tasks", tasks.len(), wanted.tasks.len());
-    for (task, (name, pri, start, words)) in tasks.iter().zip(wanted.tasks) {
-        let head = (task.name.as_str(), task.pri, task.start);
-        same_at(rt, wanted.name, "head", head, (*name, *pri, *start));
-        same_at(rt, wanted.name, "code", task.code.len(), words.len());
-        for (command, word) in task.code.iter().zip(*words) {
-            same_at(rt, wanted.name, "word", command.word, *word);
-        }
-    }
+    holds_softints(rt, wanted.name, machine.softints(), wanted.softints);
+    holds_servers(rt, wanted.name, machine.servers(), wanted.servers);
+    holds_tasks(rt, wanted.name, machine.tasks(), wanted.tasks);
 }
 
 #[test]
