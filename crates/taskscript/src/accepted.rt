@@ -5,9 +5,12 @@ ghost use Rattle.taskscript.specs.File.{MachineData, file_of};
 ghost use Rattle.taskscript.specs.Machines.{IsMachine};
 ghost use Rattle.taskscript.specs.declared.event.Event.{Event};
 
-/// The machine of an accepted file has a quantum of 1 to 255 and at most 64 tasks, whose names differ. Each has at most 1,024 commands.
-/// A command has as many arguments as its word, of the word's kinds, and at most one of them is a name; its variables are within the limits
-/// of 32 private ones and 64 shared ones, and each of its jumps goes to a command of its body or to the end behind the last one.
+/// The machine of an accepted file has a quantum of 1 to 255, a pool of 1 to 1,024, and at most 32 software interrupts, 32 servers and 64
+/// tasks, whose names differ, each from all others. Each has at most 1,024 commands. A command has as many arguments as its word, of the word's
+/// kinds, and at most one of them is a name; its variables are within the limits of 32 private ones and 64 shared ones, and where its word asks
+/// for a software interrupt, one of the file is named. Each jump of a task goes to a command of its body or to the end behind the last one. A
+/// software interrupt has one of the five priorities, and the commands of software interrupts and of servers have only the words that may stand
+/// there, and shared variables.
 pub fn accepted_file_is_machine()
     ensures { (bytes : List ℕ) (m : MachineData) → file_of bytes ≡ Ok m → IsMachine m }
 {}

@@ -30,17 +30,17 @@ pub enum FileFault {
     /// The regions of memory overlap, are misaligned or too large.
     #[error("the regions of memory are refused")]
     BadRegions = 6,
-    /// A line of a body has not the form of a label or of a command.
+    /// A line of a body has not the form of a label or of a command, or it names a software interrupt that the file lacks.
     #[error("a line is no command")]
     BadCommand = 7,
     /// A label stands twice in a body, or a jump names a label that is not in its body.
     #[error("a label stands twice or is lacking")]
     BadLabel = 8,
-    /// A line that is right in a task stands in the body of an interrupt, where it is not allowed.
+    /// A line that is right in a task stands in the body of a software interrupt or of a server, where it is not allowed.
     #[error("a line is not allowed in an interrupt")]
     NotInInterrupt = 9,
-    /// There are more regions, tasks, lines or variables than the limits allow.
-    #[error("there are too many regions, tasks, lines or variables")]
+    /// There are more regions, software interrupts, servers, tasks, lines or variables than the limits allow.
+    #[error("there are too many regions, software interrupts, servers, tasks, lines or variables")]
     TooMany = 10,
     /// Memory was refused while the file was read.
     #[error("out of memory")]
