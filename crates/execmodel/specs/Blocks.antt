@@ -1,11 +1,12 @@
 -- Memory and what lies in it: blocks, each with the object that begins there. Nothing in it is linked and nothing is sorted: each queue
 -- is a sequence in order of arrival.
-use Rattle.std.specs.Prelude.{ℕ, List}
+use Rattle.std.specs.Prelude.{ℕ, Bool, List}
 use Rattle.memlist.specs.declared.region.Region.{Region}
 use Rattle.execlist.specs.Lists.{Key}
 use Rattle.msgport.specs.Port.{Port}
 use Rattle.msgport.specs.declared.message.Message.{Message as Content}
 use Rattle.sigsem.specs.declared.semaphore.Sem.{Sem}
+use Rattle.taskscript.specs.File.{LibraryData}
 
 -- what a block of memory holds
 pub data Object : Type 0 where
@@ -22,6 +23,9 @@ pub data Object : Type 0 where
   -- a semaphore, with its owner or none, how often the owner has to release it, and the tasks that wait for it in order of request
   -- (RKM Libraries, Exec Semaphores)
   Semaphore : (sem : Sem) (waiters : List ℕ) → Object
+  -- a loaded library, by its number from 0 in the order of the file, with how often it is open, and whether it is to be expunged when it is
+  -- closed for the last time (RKM Libraries, Exec Libraries: lib_OpenCnt, LIBF_DELEXP)
+  Library : (number count : ℕ) (delayed : Bool) → Object
 
 -- a block of memory, and what begins there
 pub record Block : Type 0 where
@@ -37,10 +41,11 @@ pub record PublicPort : Type 0 where
   pub port : ℕ
   pub key : Key
 
--- the regions of memory in the order of the file, how many objects of each kind may live, the blocks that are allocated, and the public
--- ports in order of arrival
+-- the regions of memory and the libraries, both in the order of the file, how many objects of each kind may live, the blocks that are
+-- allocated, and the public ports in order of arrival
 pub record Memory : Type 0 where
   pub regions : List Region
+  pub libraries : List LibraryData
   pub pool : ℕ
   pub heap : Heap
   pub public : List PublicPort

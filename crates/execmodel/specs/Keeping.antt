@@ -9,6 +9,7 @@ use Rattle.taskscript.specs.declared.word.memory.MemoryWord.{MemoryWord}
 use Rattle.taskscript.specs.declared.word.ports.PortWord.{PortWord}
 use Rattle.taskscript.specs.declared.word.semaphores.SemaphoreWord.{SemaphoreWord}
 use Rattle.taskscript.specs.declared.word.interrupts.InterruptWord.{InterruptWord}
+use Rattle.taskscript.specs.declared.word.libraries.LibraryWord.{LibraryWord}
 use Rattle.scheduler.specs.Schedule.{Schedule}
 use Rattle.execmodel.specs.State.{Call, Memory, Pending, Program, Scripts, State, Outcome, program_of, with_program}
 use Rattle.execmodel.specs.Plain.{does_plain}
@@ -20,6 +21,7 @@ use Rattle.execmodel.specs.Memory.{does_memory}
 use Rattle.execmodel.specs.Ports.{does_ports}
 use Rattle.execmodel.specs.Semaphores.{does_semaphores}
 use Rattle.execmodel.specs.Causing.{does_interrupts}
+use Rattle.execmodel.specs.Libraries.{does_libraries}
 
 -- ---- parts blanked out
 
@@ -150,3 +152,6 @@ SemaphoreWordsChangeStatesAndObjects =
 abbrev pub InterruptWordsChangeWhatIsCaused : Type 0
 InterruptWordsChangeWhatIsCaused =
     (word : InterruptWord) (t : ℕ) (call : Call) → Keeps beside_interrupts (does_interrupts word t call)
+
+abbrev pub LibraryWordsChangeTheMemory : Type 0
+LibraryWordsChangeTheMemory = (word : LibraryWord) (t : ℕ) (call : Call) → Keeps beside_memory (does_libraries word t call)

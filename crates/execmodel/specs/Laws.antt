@@ -19,9 +19,12 @@ use Rattle.taskscript.specs.declared.word.Word.TheVariants as group
 use Rattle.taskscript.specs.declared.word.task_signals.SignalWord.TheVariants as signals
 use Rattle.taskscript.specs.declared.word.ports.PortWord.TheVariants as ports
 use Rattle.taskscript.specs.declared.word.semaphores.SemaphoreWord.TheVariants.{ReleaseSemaphore}
-use Rattle.execmodel.specs.State.{Call, Object, Plain, Mark, State, Outcome}
+use Rattle.execmodel.specs.State.{Call, Object, Plain, Block, Heap, Mark, State, Outcome}
 use Rattle.execmodel.specs.Calls.{argument, alerted, next_call}
-use Rattle.execmodel.specs.Memory.{extents, does_free_mem}
+use Rattle.std.specs.Option.{option_map}
+use Rattle.taskscript.specs.declared.word.libraries.LibraryWord.TheVariants.{CloseLibrary}
+use Rattle.execmodel.specs.Libraries.{is_library_at, number_of, count_of, is_delayed}
+use Rattle.execmodel.specs.Memory.{block_at, extents, does_free_mem}
 use Rattle.execmodel.specs.Objects.{object_at}
 use Rattle.execmodel.specs.Ports.{messages_of}
 use Rattle.execmodel.specs.Semaphores.{sem_of, waiters_of}
@@ -213,3 +216,28 @@ is_serving _ = false
 -- One settle serves three times at most.
 abbrev pub ThreeServingsAtMost : Type 0
 ThreeServingsAtMost = (s : State) → count_by is_serving (settle s).lines ≤ 3
+
+-- ---- libraries
+
+-- the running task is to close a library for the last time that is to be expunged
+pub record IsLastClose (base : ℕ) (s : State) : Type 0 where
+  pub t : ℕ
+  pub call : Call
+  pub calls : IsToCall t call s
+  pub word : call.word ≡ group.Libraries CloseLibrary
+  pub names : argument 0 call ≡ base
+  pub once : count_of base s.memory.heap ≡ 1
+  pub delayed : is_delayed base s.memory.heap ≡ true
+
+-- the same library lies at a base in both heaps, in a block of the same size
+pub record StaysLoaded (base : ℕ) (old new : Heap) : Type 0 where
+  pub loaded : is_library_at base new ≡ true
+  pub number : number_of base new ≡ number_of base old
+  pub block : option_map (λ (b : Block). b.size) (block_at base new) ≡ option_map (λ (b : Block). b.size) (block_at base old)
+
+-- A library that is open keeps its base and its block, unless this step closes it for the last time and it is to be expunged then.
+abbrev pub OpenLibrariesStay : Type 0
+OpenLibrariesStay =
+    (base : ℕ) → OfEveryAction (λ action s o.
+    is_library_at base s.memory.heap ≡ true → 1 ≤ count_of base s.memory.heap
+    → StaysLoaded base s.memory.heap o.state.memory.heap ⊎ ((action ≡ OneStep) × IsLastClose base s))

@@ -10,6 +10,7 @@ pub mod Memory
 pub mod Objects
 pub mod Semaphores
 pub mod Lists
+pub mod Libraries
 pub mod Pending
 pub mod Causing
 pub mod Ports

@@ -59,7 +59,7 @@ beside first second = task (codes "a") (pos 0) first ∷ task (codes "b") (negsu
 
 -- a machine without memory and tasks
 abbrev pub bare : MachineData
-bare = record { quantum = 4; pool = 64; regions = []; softints = []; servers = []; tasks = [] }
+bare = record { quantum = 4; pool = 64; regions = []; libraries = []; softints = []; servers = []; tasks = [] }
 
 -- so many bytes of public memory
 abbrev pub room : ℕ → List Region

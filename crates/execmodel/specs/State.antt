@@ -9,7 +9,7 @@ use Rattle.taskscript.specs.File.{MachineData, SoftintData, ServerData, TaskData
 use Rattle.scheduler.specs.Schedule.{Schedule, unstarted}
 use Rattle.softint.specs.Sources.{no_latches}
 use Rattle.softint.specs.declared.latches.Latches.{Latches}
-pub use Rattle.execmodel.specs.Blocks.{Object, Plain, ListHead, Node, MsgPort, Message, Semaphore, Block, Heap, PublicPort, Memory, on_heap}
+pub use Rattle.execmodel.specs.Blocks.{Object, Plain, ListHead, Node, MsgPort, Message, Semaphore, Library, Block, Heap, PublicPort, Memory, on_heap}
 
 -- a command of a task with the values that its arguments had when it was first tried, and the place of the command after it; and, where
 -- the task waits in it at a port, the signals that it waits for, else 0
@@ -146,7 +146,7 @@ unfoldable pub booted : MachineData → State
 booted machine = record {
   schedule = unstarted (length machine.tasks) (map (λ (task : TaskData). task.pri) machine.tasks) (map (λ (task : TaskData). task.name) machine.tasks) machine.quantum;
   scripts = record { programs = map begun machine.tasks; shared = replicate shared_variables 0 };
-  memory = record { regions = machine.regions; pool = machine.pool; heap = []; public = [] };
+  memory = record { regions = machine.regions; libraries = machine.libraries; pool = machine.pool; heap = []; public = [] };
   bodies = record { softints = machine.softints; servers = machine.servers };
   pending = record { caused = []; latches = no_latches };
   stopped = false;

@@ -3,7 +3,7 @@ use Rattle.std.specs.Prelude.{ℕ, zero, suc, true, if◌then◌else◌, List, [
 use Rattle.exectrace.specs.Trace.{Value, Done, Switch, Idle}
 use Rattle.exectrace.specs.Trace as trace
 use Rattle.taskscript.specs.declared.word.Word.{Word}
-use Rattle.taskscript.specs.declared.word.Word.TheVariants.{Plain, Signals, Nesting, Tasks, Lists, Memory, Ports, Semaphores, Interrupts}
+use Rattle.taskscript.specs.declared.word.Word.TheVariants.{Plain, Signals, Nesting, Tasks, Lists, Memory, Ports, Semaphores, Interrupts, Libraries}
 use Rattle.taskscript.specs.declared.event.Event.{Event}
 use Rattle.taskscript.specs.declared.event.Event.TheVariants.{Run, Tick, Irq}
 use Rattle.taskscript.specs.File.{MachineData}
@@ -24,6 +24,7 @@ use Rattle.execmodel.specs.Memory.{does_memory}
 use Rattle.execmodel.specs.Ports.{does_ports}
 use Rattle.execmodel.specs.Semaphores.{does_semaphores}
 use Rattle.execmodel.specs.Causing.{does_interrupts}
+use Rattle.execmodel.specs.Libraries.{does_libraries}
 use Rattle.softint.specs.declared.source.Source.{Source}
 use Rattle.softint.specs.declared.source.Source.TheVariants.{Vertb}
 
@@ -56,6 +57,7 @@ does_word (Memory word) t call s = does_memory word t call s
 does_word (Ports word) t call s = does_ports word t call s
 does_word (Semaphores word) t call s = does_semaphores word t call s
 does_word (Interrupts word) t call s = does_interrupts word t call s
+does_word (Libraries word) t call s = does_libraries word t call s
 
 unfoldable pub does : ℕ → Call → State → Outcome
 does t call s = does_word call.word t call s

@@ -21,6 +21,12 @@ pub record TaskData : Type 0 where
   pub start : Bool
   pub code : List CommandData
 
+-- a library: its name, its version (0 to 65535), and the bytes of memory that it takes while it is loaded (8 to 65536)
+pub record LibraryData : Type 0 where
+  pub name : List ℕ
+  pub version : ℕ
+  pub size : ℕ
+
 -- a software interrupt: its name, its priority (-32, -16, 0, 16 or 32), and its commands in the order of its lines
 pub record SoftintData : Type 0 where
   pub name : List ℕ
@@ -37,11 +43,12 @@ pub record ServerData : Type 0 where
   pub code : List CommandData
 
 -- a machine: the quantum in servings of VERTB (1 to 255), the number of objects of each kind that may live (1 to 1,024), and its regions of
--- memory, its software interrupts, its servers and its tasks, each in the order of the file; the first task is task 1
+-- memory, its libraries, its software interrupts, its servers and its tasks, each in the order of the file; the first task is task 1
 pub record MachineData : Type 0 where
   pub quantum : ℕ
   pub pool : ℕ
   pub regions : List Region
+  pub libraries : List LibraryData
   pub softints : List SoftintData
   pub servers : List ServerData
   pub tasks : List TaskData
@@ -49,7 +56,7 @@ pub record MachineData : Type 0 where
 -- ---- the first pass: the tree
 
 abbrev pub top_keys : List (List ℕ)
-top_keys = codes "quantum" ∷ codes "pool" ∷ codes "region" ∷ codes "softint" ∷ codes "server" ∷ codes "task" ∷ []
+top_keys = codes "quantum" ∷ codes "pool" ∷ codes "region" ∷ codes "library" ∷ codes "softint" ∷ codes "server" ∷ codes "task" ∷ []
 
 abbrev pub task_keys : List (List ℕ)
 task_keys = codes "name" ∷ codes "pri" ∷ codes "start" ∷ codes "code" ∷ []
@@ -86,6 +93,23 @@ abbrev pub regions_faults : Members → List FileFault
 regions_faults tree =
     optional (array_faults 8 (items_faults (table_faults region_faults))) (get_member (codes "region") tree)
     ++ check (is_none (regions_fault 1048576 (regions_in tree))) BadRegions
+
+-- ---- libraries
+
+abbrev pub library_keys : List (List ℕ)
+library_keys = codes "name" ∷ codes "version" ∷ codes "size" ∷ []
+
+-- the table of a library after the names of the libraries before it: its keys, then its values in the order name, version, size
+abbrev pub library_table_faults : List (List ℕ) → Members → List FileFault
+library_table_faults before library =
+    check (keys_are_among library_keys library) UnknownKey
+    ++ (required (name_faults before) (get_member (codes "name") library)
+    ++ (required (integer_faults (pos 0) (pos 65535)) (get_member (codes "version") library)
+    ++ required (integer_faults (pos 8) (pos 65536)) (get_member (codes "size") library)))
+
+abbrev pub library_faults : List (List ℕ) → Data → List FileFault
+library_faults before (table library) = library_table_faults before library
+library_faults before _ = BadValue ∷ []
 
 -- ---- software interrupts, servers and tasks: what has a name and a code
 
@@ -170,6 +194,25 @@ tasks_in tree = items_or_none (get_member (codes "task") tree)
 abbrev pub code_lines : Data → List (List ℕ)
 code_lines owner = lines_in (items_or_none (get_member (codes "code") (members_or_none owner)))
 
+-- the items of the array `library`
+abbrev pub libraries_in : Members → Items
+libraries_in tree = items_or_none (get_member (codes "library") tree)
+
+-- the libraries in their order: no two have one name
+abbrev pub libraries_faults : Members → List FileFault
+libraries_faults tree = optional (array_faults 32 (named_faults library_faults [])) (get_member (codes "library") tree)
+
+abbrev pub library_of : Data → LibraryData
+library_of library = record {
+  name = name_of library;
+  version = number_or 0 (get_member (codes "version") (members_or_none library));
+  size = number_or 0 (get_member (codes "size") (members_or_none library));
+}
+
+abbrev pub libraries_of : Items → List LibraryData
+libraries_of no_items = []
+libraries_of (item library rest) = library_of library ∷ libraries_of rest
+
 -- what the body of an interrupt, or of a task, is judged by
 abbrev pub setting_of : Bool → Members → Setting
 setting_of of_interrupt tree = record { of_interrupt = of_interrupt; softints = item_names (softints_in tree) }
@@ -236,7 +279,8 @@ faults tree =
     check (keys_are_among top_keys tree) UnknownKey
     ++ (settings_faults tree
     ++ (regions_faults tree
-    ++ both_passes_faults tree))
+    ++ (libraries_faults tree
+    ++ both_passes_faults tree)))
 
 -- a task, whose body stands after those shared variables
 abbrev pub task_of : List (List ℕ) → Data → TaskData
@@ -273,6 +317,7 @@ machine_of tree = record {
   quantum = quantum_of tree;
   pool = pool_of tree;
   regions = regions_in tree;
+  libraries = libraries_of (libraries_in tree);
   softints = softints_of [] (softints_in tree);
   servers = servers_of (shared_after_softints tree) (servers_in tree);
   tasks = tasks_of (shared_after_servers tree) (tasks_in tree);

@@ -9,6 +9,7 @@ pub mod InterruptWords
 pub mod Interrupting
 pub mod Labels
 pub mod Lines
+pub mod LibraryWords
 pub mod ListWords
 pub mod Machines
 pub mod Meaning

@@ -7,7 +7,7 @@ use Rattle.taskscript.specs.declared.word.row.Kind.TheVariants.{Value, Label, Na
 use Rattle.taskscript.specs.Commands.{ArgumentData, number, variable, quoted, place, CommandData, CommandFits}
 use Rattle.taskscript.specs.declared.variable.Variable.{Variable}
 use Rattle.taskscript.specs.declared.variable.Variable.TheVariants.{Private, Shared}
-use Rattle.taskscript.specs.File.{SoftintData, ServerData, TaskData, MachineData}
+use Rattle.taskscript.specs.File.{LibraryData, SoftintData, ServerData, TaskData, MachineData}
 use Rattle.taskscript.specs.Interrupting.{is_word_of_interrupt}
 use Rattle.taskscript.specs.Names.{is_name}
 use Rattle.taskscript.specs.Words.{kinds}
@@ -111,6 +111,16 @@ pub record IsServer (softints : List (List ℕ)) (server : ServerData) : Type 0 
   pub code : IsCode softints server.code
   pub words : All IsOfInterrupt server.code
 
+-- a library of a file: its name is a name, its version and its size are within the limits
+pub record IsLibrary (library : LibraryData) : Type 0 where
+  pub name : is_name library.name ≡ true
+  pub version : library.version ≤ 65535
+  pub some_size : 8 ≤ library.size
+  pub small_size : library.size ≤ 65536
+
+abbrev pub library_names : List LibraryData → List (List ℕ)
+library_names libraries = map (λ (l : LibraryData). l.name) libraries
+
 abbrev pub softint_names : List SoftintData → List (List ℕ)
 softint_names softints = map (λ (i : SoftintData). i.name) softints
 
@@ -124,14 +134,17 @@ task_names tasks = map (λ (t : TaskData). t.name) tasks
 abbrev pub body_names : MachineData → List (List ℕ)
 body_names machine = softint_names machine.softints ++ (server_names machine.servers ++ task_names machine.tasks)
 
--- a machine of a file: a quantum of 1 to 255, a pool of 1 to 1,024, regions that memory may have, and at most 32 software interrupts, 32
--- servers and 64 tasks, whose names differ
+-- a machine of a file: a quantum of 1 to 255, a pool of 1 to 1,024, regions that memory may have, at most 32 libraries, whose names differ,
+-- and at most 32 software interrupts, 32 servers and 64 tasks, whose names differ together
 pub record IsMachine (machine : MachineData) : Type 0 where
   pub some_quantum : 1 ≤ machine.quantum
   pub short_quantum : machine.quantum ≤ 255
   pub some_pool : 1 ≤ machine.pool
   pub small_pool : machine.pool ≤ 1024
   pub regions : regions_fault 1048576 machine.regions ≡ None
+  pub few_libraries : length machine.libraries ≤ 32
+  pub libraries : All IsLibrary machine.libraries
+  pub library_names : AllPairs (λ s t. s ≢ t) (library_names machine.libraries)
   pub few_softints : length machine.softints ≤ 32
   pub softints : All (IsSoftint (softint_names machine.softints)) machine.softints
   pub few_servers : length machine.servers ≤ 32

@@ -3,6 +3,7 @@ use Rattle.std.specs.Prelude.{◌≡◌, ℕ, List, [], ◌++◌, map, None}
 use Rattle.toml.specs.Data.{Data, Members}
 use Rattle.taskscript.specs.declared.fault.FileFault.{FileFault}
 use Rattle.taskscript.specs.declared.fault.FileFault.TheVariants.{NotToml, OutOfMemory}
+use Rattle.taskscript.specs.declared.file.LibraryRecord.{LibraryRecord}
 use Rattle.taskscript.specs.declared.file.SoftintRecord.{SoftintRecord}
 use Rattle.taskscript.specs.declared.file.ServerRecord.{ServerRecord}
 use Rattle.taskscript.specs.declared.file.TaskRecord.{TaskRecord}
@@ -14,7 +15,7 @@ use Rattle.taskscript.specs.declared.owners.Owners.{Owners}
 use Rattle.taskscript.specs.declared.interrupting.Setting.{Setting as CodeSetting}
 use Rattle.taskscript.specs.Code.{code_of}
 use Rattle.taskscript.specs.Commands.{CommandData, command_view}
-use Rattle.taskscript.specs.File.{SoftintData, ServerData, TaskData, name_of, pri_of, server_source_of, start_of, claim_of, code_lines, softints_in, servers_in, tasks_in, item_names, names_before_tasks, shared_after_softints, shared_after_servers, softints_of, servers_of, tasks_of}
+use Rattle.taskscript.specs.File.{LibraryData, SoftintData, ServerData, TaskData, name_of, pri_of, server_source_of, start_of, claim_of, code_lines, softints_in, servers_in, tasks_in, item_names, names_before_tasks, shared_after_softints, shared_after_servers, softints_of, servers_of, tasks_of}
 use Rattle.taskscript.specs.Interrupting.{Setting}
 use Rattle.taskscript.specs.Numbering.{texts}
 use Rattle.taskscript.specs.Tree.{document_of, of_items}
@@ -23,7 +24,10 @@ use Rattle.taskscript.specs.Tree.{document_of, of_items}
 abbrev pub DocumentFault : FileFault → List ℕ → Type 0
 DocumentFault fault bytes = ¬ (fault ≡ OutOfMemory) → (document_of bytes ≡ None) × (fault ≡ NotToml)
 
--- a software interrupt, a server and a task, as its record has it
+-- a library, a software interrupt, a server and a task, as its record has it
+abbrev pub library_view : LibraryRecord → LibraryData
+library_view l = record { name = l.name.bytes; version = l.version; size = l.size }
+
 abbrev pub softint_view : SoftintRecord → SoftintData
 softint_view i = record { name = i.name.bytes; pri = i.pri; code = map command_view i.code.items }
 

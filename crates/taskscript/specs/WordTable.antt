@@ -2,7 +2,7 @@
 use Rattle.std.proofs.Common.{◌≡◌, ◌≤◌, lit≤, false, nat_le, length, Some, refl}
 use Rattle.std.specs.Prelude.{slice_index}
 use Rattle.taskscript.specs.declared.word.Word.{Word}
-use Rattle.taskscript.specs.declared.word.Word.TheVariants.{Plain, Signals, Nesting, Tasks, Lists, Memory, Ports, Semaphores, Interrupts}
+use Rattle.taskscript.specs.declared.word.Word.TheVariants.{Plain, Signals, Nesting, Tasks, Lists, Memory, Ports, Semaphores, Interrupts, Libraries}
 use Rattle.taskscript.specs.declared.word.plain.PlainWord.TheVariants.{Set, Add, Sub, And, Or, Jump, JumpZ, JumpNZ, Print}
 use Rattle.taskscript.specs.declared.word.task_signals.SignalWord.TheVariants.{AllocSignal, FreeSignal, SetSignal, Signal, Wait}
 use Rattle.taskscript.specs.declared.word.nesting.NestingWord.TheVariants.{Forbid, Permit, Disable, Enable}
@@ -12,6 +12,7 @@ use Rattle.taskscript.specs.declared.word.memory.MemoryWord.TheVariants.{AllocMe
 use Rattle.taskscript.specs.declared.word.ports.PortWord.TheVariants.{CreateMsgPort, DeleteMsgPort, AddPort, RemPort, FindPort, PortSignal, PortCause, PortIgnore, NewMsg, FreeMsg, MsgWord, SetMsgWord, MsgType, PutMsg, GetMsg, WaitPort, ReplyMsg}
 use Rattle.taskscript.specs.declared.word.semaphores.SemaphoreWord.TheVariants.{NewSem, FreeSem, ObtainSemaphore, AttemptSemaphore, ReleaseSemaphore}
 use Rattle.taskscript.specs.declared.word.interrupts.InterruptWord.TheVariants.{Cause}
+use Rattle.taskscript.specs.declared.word.libraries.LibraryWord.TheVariants.{OpenLibrary, CloseLibrary, RemLibrary, LibOpenCnt}
 use Rattle.taskscript.specs.Words.{word_text, word_of, kinds}
 
 -- no word has more than four arguments
@@ -80,6 +81,10 @@ few_kinds (Semaphores ObtainSemaphore) = lit≤ tt
 few_kinds (Semaphores AttemptSemaphore) = lit≤ tt
 few_kinds (Semaphores ReleaseSemaphore) = lit≤ tt
 few_kinds (Interrupts Cause) = lit≤ tt
+few_kinds (Libraries OpenLibrary) = lit≤ tt
+few_kinds (Libraries CloseLibrary) = lit≤ tt
+few_kinds (Libraries RemLibrary) = lit≤ tt
+few_kinds (Libraries LibOpenCnt) = lit≤ tt
 
 -- a word is the word of its text
 pub word_known : (w : Word) → word_of (word_text w) ≡ Some w
@@ -147,6 +152,10 @@ word_known (Semaphores ObtainSemaphore) = refl
 word_known (Semaphores AttemptSemaphore) = refl
 word_known (Semaphores ReleaseSemaphore) = refl
 word_known (Interrupts Cause) = refl
+word_known (Libraries OpenLibrary) = refl
+word_known (Libraries CloseLibrary) = refl
+word_known (Libraries RemLibrary) = refl
+word_known (Libraries LibOpenCnt) = refl
 
 -- a word begins with no small letter
 pub word_is_capital : (w : Word) → nat_le 97 (slice_index (word_text w) 0) ≡ false
@@ -214,3 +223,7 @@ word_is_capital (Semaphores ObtainSemaphore) = refl
 word_is_capital (Semaphores AttemptSemaphore) = refl
 word_is_capital (Semaphores ReleaseSemaphore) = refl
 word_is_capital (Interrupts Cause) = refl
+word_is_capital (Libraries OpenLibrary) = refl
+word_is_capital (Libraries CloseLibrary) = refl
+word_is_capital (Libraries RemLibrary) = refl
+word_is_capital (Libraries LibOpenCnt) = refl

@@ -1,7 +1,7 @@
 //! What a machine file states: the machine's parts, as records.
 ghost use Rattle.std.specs.Prelude.{◌≡◌, map};
 ghost use Rattle.taskscript.specs.Machines.{IsMachine};
-ghost use Rattle.taskscript.specs.Records.{softint_view, server_view, task_view};
+ghost use Rattle.taskscript.specs.Records.{library_view, softint_view, server_view, task_view};
 
 use crate::command::Command;
 use crate::name::Name;
@@ -20,6 +20,16 @@ pub struct TaskRecord {
     pub start: bool,
     /// Its commands, in the order of its lines: at most 1,024.
     pub code: Vec<Command>,
+}
+
+/// A library of the machine.
+#[derive(Clone, Copy)]
+pub struct LibraryRecord {
+    /// Its name, which no other library has.
+    pub name: Name,
+    pub version: u16,
+    /// The bytes of memory that it takes while it is loaded: 8 to 65,536.
+    pub size: u32,
 }
 
 /// A software interrupt of the machine.
@@ -56,6 +66,7 @@ pub struct MachineFile {
     pub(crate) quantum: u8,
     pub(crate) pool: u32,
     pub(crate) regions: Vec<Region>,
+    pub(crate) libraries: Vec<LibraryRecord>,
     pub(crate) softints: Vec<SoftintRecord>,
     pub(crate) servers: Vec<ServerRecord>,
     pub(crate) tasks: Vec<TaskRecord>,
@@ -65,7 +76,7 @@ impl Model for MachineFile {
     ghost use Rattle.std.specs.Prelude.{map};
     ghost use Rattle.taskscript.specs.File.{MachineData};
     ghost use Rattle.taskscript.specs.Machines.{IsMachine};
-    ghost use Rattle.taskscript.specs.Records.{softint_view, server_view, task_view};
+    ghost use Rattle.taskscript.specs.Records.{library_view, softint_view, server_view, task_view};
 
     ghost Value = { MachineData };
 
@@ -73,6 +84,7 @@ impl Model for MachineFile {
       quantum = m.quantum;
       pool = m.pool;
       regions = m.regions.items;
+      libraries = map library_view m.libraries.items;
       softints = map softint_view m.softints.items;
       servers = map server_view m.servers.items;
       tasks = map task_view m.tasks.items;
@@ -82,6 +94,7 @@ impl Model for MachineFile {
       quantum = m.quantum;
       pool = m.pool;
       regions = m.regions.items;
+      libraries = map library_view m.libraries.items;
       softints = map softint_view m.softints.items;
       servers = map server_view m.servers.items;
       tasks = map task_view m.tasks.items;
@@ -112,6 +125,14 @@ impl MachineFile {
         ensures machine { IsMachine self.now }
     {
         &self.regions
+    }
+
+    /// The libraries, in the order of the file: at most 32 (RKM Libraries, Exec Libraries).
+    pub fn libraries(&self) -> &[LibraryRecord]
+        ensures libraries { map library_view result.now ≡ self.now.libraries }
+        ensures machine { IsMachine self.now }
+    {
+        &self.libraries
     }
 
     /// The software interrupts, in the order of the file: at most 32 (RKM Libraries, Exec Interrupts).

@@ -34,7 +34,7 @@ pub use command::{Argument, Command};
 pub use event::{Event, Events};
 pub use events::read_events;
 pub use fault::{EventFault, FileFault};
-pub use file::{MachineFile, ServerRecord, SoftintRecord, TaskRecord};
+pub use file::{LibraryRecord, MachineFile, ServerRecord, SoftintRecord, TaskRecord};
 pub use laws::{
     one_command, one_meaning, one_reading, read_line_is_said, refused_line_says_nothing,
     said_line_is_read,
@@ -44,6 +44,6 @@ pub use reading::read_machine;
 pub use source::Source;
 pub use variable::{Variable, VariableName};
 pub use word::{
-    InterruptWord, Kind, ListWord, MemoryWord, NestingWord, PlainWord, PortWord, SemaphoreWord,
+    InterruptWord, Kind, LibraryWord, ListWord, MemoryWord, NestingWord, PlainWord, PortWord, SemaphoreWord,
     SignalWord, TaskWord, Word, word_of,
 };

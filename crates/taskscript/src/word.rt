@@ -6,6 +6,7 @@ ghost use Rattle.taskscript.specs.Rows.{row_view};
 ghost use Rattle.taskscript.specs.Words.{answers, kinds, row, word_of, word_text};
 
 mod interrupts;
+mod libraries;
 mod lists;
 mod memory;
 mod nesting;
@@ -17,6 +18,7 @@ mod task_signals;
 mod tasks;
 
 pub use interrupts::InterruptWord;
+pub use libraries::LibraryWord;
 pub use lists::ListWord;
 pub use memory::MemoryWord;
 pub use nesting::NestingWord;
@@ -49,6 +51,8 @@ pub enum Word {
     Semaphores(SemaphoreWord),
     /// A call on interrupts.
     Interrupts(InterruptWord),
+    /// A call on libraries.
+    Libraries(LibraryWord),
 }
 
 impl Word {
@@ -65,6 +69,7 @@ impl Word {
             Word::Ports(word) => word.row(),
             Word::Semaphores(word) => word.row(),
             Word::Interrupts(word) => word.row(),
+            Word::Libraries(word) => word.row(),
         }
     }
 
@@ -110,4 +115,5 @@ pub fn word_of(text: &str) -> Option<Word>
         .or(found(&ports::ALL, text))
         .or(found(&semaphores::ALL, text))
         .or(found(&interrupts::ALL, text))
+        .or(found(&libraries::ALL, text))
 }

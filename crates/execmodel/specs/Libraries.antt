@@ -1,0 +1,178 @@
+-- Libraries (RKM Libraries, Exec Libraries). A library is absent, or it is loaded and begins at an address, its base. A base that no loaded
+-- library has is the alert HANDLE; a library that is closed more often than opened is the alert LIB (own choice).
+use Rattle.std.specs.Prelude.{ℕ, ◌+◌, ◌-◌, Bool, true, false, not, ◌&&◌, if◌then◌else◌, nat_eq, nat_le, bytes_eq, unwrap_or, slice_index_or, find, map, codes, List, [], Option, None, Some}
+use Rattle.std.specs.List.{position_from}
+use Rattle.std.specs.Option.{option_and_then, option_map, option_map_or}
+use Rattle.taskscript.specs.File.{LibraryData}
+use Rattle.taskscript.specs.declared.word.libraries.LibraryWord.{LibraryWord}
+use Rattle.taskscript.specs.declared.word.libraries.LibraryWord.TheVariants as word
+use Rattle.execmodel.specs.State.{Call, Object, Library, Block, Heap, Memory, State, Outcome, on_memory, on_heap}
+use Rattle.execmodel.specs.Calls.{argument, name_argument, done, answered, unless}
+use Rattle.execmodel.specs.Memory.{freed, place_for, placed}
+use Rattle.execmodel.specs.Objects.{object_at, is_kind, public_memory, replaced}
+
+-- ---- libraries in memory
+
+abbrev pub is_library : Object → Bool
+is_library (Library number count delayed) = true
+is_library _ = false
+
+-- a loaded library begins at an address
+unfoldable pub is_library_at : ℕ → Heap → Bool
+is_library_at base heap = is_kind is_library (object_at base heap)
+
+-- the number of a library in the order of the file, how often it is open, and whether it is to be expunged
+abbrev pub number_in : Object → ℕ
+number_in (Library number count delayed) = number
+number_in _ = 0
+
+abbrev pub count_in : Object → ℕ
+count_in (Library number count delayed) = count
+count_in _ = 0
+
+abbrev pub delayed_in : Object → Bool
+delayed_in (Library number count delayed) = delayed
+delayed_in _ = false
+
+-- the same of the library that begins at an address
+unfoldable pub number_of : ℕ → Heap → ℕ
+number_of base heap = option_map_or number_in (object_at base heap) 0
+
+unfoldable pub count_of : ℕ → Heap → ℕ
+count_of base heap = option_map_or count_in (object_at base heap) 0
+
+unfoldable pub is_delayed : ℕ → Heap → Bool
+is_delayed base heap = option_map_or delayed_in (object_at base heap) false
+
+-- the library at a base is open so often, and is to be expunged or not
+unfoldable pub with_library : ℕ → ℕ → Bool → Heap → Heap
+with_library base count delayed heap = map (replaced base (Library (number_of base heap) count delayed)) heap
+
+-- an object is library i
+abbrev pub is_numbered : ℕ → Object → Bool
+is_numbered i (Library number count delayed) = nat_eq number i
+is_numbered i _ = false
+
+-- the base of library i, if it is loaded
+unfoldable pub base_of : ℕ → Heap → Option ℕ
+base_of i heap =
+    option_map (λ (entry : ℕ × Block). entry.0) (find (λ (entry : ℕ × Block). is_numbered i entry.1.object) heap)
+
+-- the alert of a call on a library
+unfoldable pub library_alert : ℕ → Heap → Option (List ℕ)
+library_alert base heap = if not (is_library_at base heap) then Some (codes "HANDLE") else None
+
+-- ---- opening
+
+abbrev pub no_library : LibraryData
+no_library = record { name = []; version = 0; size = 0 }
+
+-- library i of the file
+abbrev pub library_at : ℕ → Memory → LibraryData
+library_at i memory = slice_index_or memory.libraries i no_library
+
+-- the number of the library of a name, if the file has one
+abbrev pub library_named : List ℕ → Memory → Option ℕ
+library_named name memory = position_from (λ (library : LibraryData). bytes_eq library.name name) 0 memory.libraries
+
+-- a library may be open so many times (own choice: lib_OpenCnt is a word of 16 bits)
+abbrev pub most_openings : ℕ
+most_openings = 65535
+
+-- how often library i is open: not at all where it is absent
+abbrev pub openings : ℕ → Memory → ℕ
+openings i memory = option_map_or (λ base. count_of base memory.heap) (base_of i memory.heap) 0
+
+-- library i has at least that version, and may be opened once more
+abbrev pub can_open : ℕ → Memory → ℕ → Bool
+can_open version memory i = nat_le version (library_at i memory).version && not (nat_eq (openings i memory) most_openings)
+
+abbrev pub only_if : (ℕ → Bool) → ℕ → Option ℕ
+only_if test i = if test i then Some i else None
+
+-- the library that is opened under a name, where there is one and it can be
+abbrev pub library_to_open : List ℕ → ℕ → Memory → Option ℕ
+library_to_open name version memory = option_and_then (only_if (can_open version memory)) (library_named name memory)
+
+-- where a library lies, or where it is loaded: it takes memory as an object does
+abbrev pub base_or_place : Option ℕ → ℕ → Memory → Option ℕ
+base_or_place (Some base) i memory = Some base
+base_or_place None i memory = place_for (library_at i memory).size public_memory memory
+
+abbrev pub base_opened : Option ℕ → Memory → Option ℕ
+base_opened None memory = None
+base_opened (Some i) memory = base_or_place (base_of i memory.heap) i memory
+
+-- the base that an opening gives, or none
+unfoldable pub opening : List ℕ → ℕ → Memory → Option ℕ
+opening name version memory = base_opened (library_to_open name version memory) memory
+
+-- a loaded library is open once more, and is not to be expunged any more; an absent one is loaded and open once, if it has a place
+abbrev pub entered_or_loaded : Option ℕ → ℕ → Memory → Memory
+entered_or_loaded (Some base) i memory = on_heap (λ heap. with_library base (count_of base heap + 1) false heap) memory
+entered_or_loaded None i memory =
+    placed (library_at i memory).size (Library i 1 false) (place_for (library_at i memory).size public_memory memory) memory
+
+abbrev pub library_opened : Option ℕ → Memory → Memory
+library_opened None memory = memory
+library_opened (Some i) memory = entered_or_loaded (base_of i memory.heap) i memory
+
+unfoldable pub opened : List ℕ → ℕ → Memory → Memory
+opened name version memory = library_opened (library_to_open name version memory) memory
+
+-- OpenLibrary name version: answers the base of the library of that name, which is loaded first where it is absent, and is open once more;
+-- 0 where there is none of the name, its version is lower, it is open 65,535 times, or there is no place for it
+-- (autodoc exec.library/OpenLibrary; the count, and that a library takes memory with MEMF_PUBLIC: own choice)
+unfoldable pub does_open_library : ℕ → Call → State → Outcome
+does_open_library t call s =
+    let name = unwrap_or (name_argument 0 call) [] in
+    let version = argument 1 call in
+    answered t call (unwrap_or (opening name version s.memory) 0) (on_memory (opened name version) s)
+
+-- ---- closing and removing
+
+-- the alert of CloseLibrary: the library must be open
+unfoldable pub close_alert : ℕ → Heap → Option (List ℕ)
+close_alert base heap =
+    if not (is_library_at base heap) then Some (codes "HANDLE")
+    else (if nat_eq (count_of base heap) 0 then Some (codes "LIB") else None)
+
+-- a library is open once less; one that is to be expunged, and is open no more, is freed
+unfoldable pub closed : ℕ → Memory → Memory
+closed base memory =
+    if nat_eq (count_of base memory.heap) 1 && is_delayed base memory.heap then freed base memory
+    else on_heap (with_library base (count_of base memory.heap - 1) (is_delayed base memory.heap)) memory
+
+-- CloseLibrary base: the library is open once less; 0 does nothing (autodoc exec.library/CloseLibrary; the alerts: own choice)
+unfoldable pub does_close_library : ℕ → Call → State → Outcome
+does_close_library t call s =
+    let base = argument 0 call in
+    if nat_eq base 0 then done t call s
+    else unless (close_alert base s.memory.heap) t call (λ s. done t call (on_memory (closed base) s)) s
+
+-- a library that is not open is freed; an open one is to be expunged when it is closed for the last time
+unfoldable pub removed : ℕ → Memory → Memory
+removed base memory =
+    if nat_eq (count_of base memory.heap) 0 then freed base memory
+    else on_heap (with_library base (count_of base memory.heap) true) memory
+
+-- RemLibrary base: the library is expunged, now or when it is closed for the last time (autodoc exec.library/RemLibrary; the alert: own
+-- choice)
+unfoldable pub does_rem_library : ℕ → Call → State → Outcome
+does_rem_library t call s =
+    let base = argument 0 call in
+    unless (library_alert base s.memory.heap) t call (λ s. done t call (on_memory (removed base) s)) s
+
+-- LibOpenCnt base: answers how often the library is open (RKM Libraries, Exec Libraries: lib_OpenCnt; that there is a call for it: own choice)
+unfoldable pub does_lib_open_cnt : ℕ → Call → State → Outcome
+does_lib_open_cnt t call s =
+    let base = argument 0 call in
+    unless (library_alert base s.memory.heap) t call (λ s. answered t call (count_of base s.memory.heap) s) s
+
+-- ---- the words of this group
+
+abbrev pub does_libraries : LibraryWord → ℕ → Call → State → Outcome
+does_libraries word.OpenLibrary t call s = does_open_library t call s
+does_libraries word.CloseLibrary t call s = does_close_library t call s
+does_libraries word.RemLibrary t call s = does_rem_library t call s
+does_libraries word.LibOpenCnt t call s = does_lib_open_cnt t call s
