@@ -100,16 +100,12 @@ abbrev pub library_keys : List (List ℕ)
 library_keys = codes "name" ∷ codes "version" ∷ codes "size" ∷ []
 
 -- the table of a library after the names of the libraries before it: its keys, then its values in the order name, version, size
-abbrev pub library_table_faults : List (List ℕ) → Members → List FileFault
-library_table_faults before library =
+abbrev pub library_faults : List (List ℕ) → Members → List FileFault
+library_faults before library =
     check (keys_are_among library_keys library) UnknownKey
     ++ (required (name_faults before) (get_member (codes "name") library)
     ++ (required (integer_faults (pos 0) (pos 65535)) (get_member (codes "version") library)
     ++ required (integer_faults (pos 8) (pos 65536)) (get_member (codes "size") library)))
-
-abbrev pub library_faults : List (List ℕ) → Data → List FileFault
-library_faults before (table library) = library_table_faults before library
-library_faults before _ = BadValue ∷ []
 
 -- ---- software interrupts, servers and tasks: what has a name and a code
 
@@ -208,10 +204,6 @@ library_of library = record {
   version = number_or 0 (get_member (codes "version") (members_or_none library));
   size = number_or 0 (get_member (codes "size") (members_or_none library));
 }
-
-abbrev pub libraries_of : Items → List LibraryData
-libraries_of no_items = []
-libraries_of (item library rest) = library_of library ∷ libraries_of rest
 
 -- what the body of an interrupt, or of a task, is judged by
 abbrev pub setting_of : Bool → Members → Setting
@@ -317,7 +309,7 @@ machine_of tree = record {
   quantum = quantum_of tree;
   pool = pool_of tree;
   regions = regions_in tree;
-  libraries = libraries_of (libraries_in tree);
+  libraries = of_items library_of (libraries_in tree);
   softints = softints_of [] (softints_in tree);
   servers = servers_of (shared_after_softints tree) (servers_in tree);
   tasks = tasks_of (shared_after_servers tree) (tasks_in tree);

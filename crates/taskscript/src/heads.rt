@@ -1,57 +1,62 @@
-//! The first pass over the software interrupts, the servers and the tasks of a machine file: it judges the tree, and keeps a head of each item.
+//! The libraries of a machine file, and the first pass over its software interrupts, its servers and its tasks: it judges the tree, and keeps a
+//! head of each item.
 ghost use Rattle.std.specs.Prelude.{◌≡◌, ◌++◌, ◌∷◌, [], Some, None, ℕ, List, codes, map, OnOk};
 ghost use Rattle.toml.specs.Data.{Data, Members, table as a_table, get_member};
 ghost use Rattle.toml.specs.View.{table_view, view, items_view};
 ghost use Rattle.taskscript.specs.Commands.{CommandData, command_view};
 ghost use Rattle.taskscript.specs.Faults.{Judges};
-ghost use Rattle.taskscript.specs.File.{SoftintData, ServerData, TaskData, softint_faults, server_faults, task_faults, named_faults, name_of, item_names};
+ghost use Rattle.taskscript.specs.File.{LibraryData, SoftintData, ServerData, TaskData, library_faults, library_of, softint_faults, server_faults, task_faults, named_faults, name_of, item_names};
 ghost use Rattle.taskscript.specs.Numbering.{texts};
-ghost use Rattle.taskscript.specs.Records.{softint_view, server_view, task_view, softint_head_view, server_head_view, task_head_view, softint_head_of, server_head_of, task_head_of, softint_with, server_with, task_with};
+ghost use Rattle.taskscript.specs.Records.{library_view, softint_view, server_view, task_view, softint_head_view, server_head_view, task_head_view, softint_head_of, server_head_of, task_head_of, softint_with, server_with, task_with};
 ghost use Rattle.taskscript.specs.Tree.{required, optional, table_faults, name_faults, string_or_nothing, code_faults, array_faults, items_or_none, of_items};
 ghost use Rattle.taskscript.specs.declared.fault.FileFault.{FileFault};
 
 use crate::command::Command;
 use crate::fault::FileFault;
-use crate::file::{ServerRecord, SoftintRecord, TaskRecord};
+use crate::file::{LibraryRecord, ServerRecord, SoftintRecord, TaskRecord};
 use crate::name::{Name, is_among, is_name};
 use crate::source::Source;
 use crate::tree::{
-    are_strings, has_only, member, optional_boolean, optional_pri, required_source, softint_pri,
+    are_strings, has_only, member, optional_boolean, optional_pri, required_number, required_source,
+    softint_pri,
 };
 use std::alloc::Global;
 use toml::{Table, Value};
 
-/// What the first pass keeps of an item that has a name and a code.
-pub trait Head: Copy {
-    /// What it is with its code.
-    type Record: Drop;
-
-    /// The data that a record stands for.
+/// What the first pass keeps of an item that has a name.
+pub trait Named: Copy {
+    /// The data that it stands for.
     ghost Shown: { Type 0 };
 
     /// The faults of an item's table after the names before it.
     ghost faults: { List (List ℕ) → Members → List FileFault };
 
-    /// What a head stands for.
+    /// What it stands for.
     ghost head_view: { Self → Shown };
 
-    /// The head of an item.
+    /// The one of an item.
     ghost head_of: { Data → Shown };
-
-    /// What a record stands for.
-    ghost record_view: { Self.Record → Shown };
-
-    /// A head with its commands.
-    ghost with: { Shown → List CommandData → Shown };
 
     /// Judges the keys and the values of an item in their order, the name after those before it, and adds it to them.
     fn head_in(table: &Table, names: &mut Vec<Name>) -> Result<Self, FileFault>
         ensures judged { Judges result (faults (texts names.old.items) (table_view table.now)) (λ h. head_view h ≡ head_of (a_table (table_view table.now))) }
         ensures names { OnOk result (texts names.new.items ≡ texts names.old.items ++ name_of (a_table (table_view table.now)) ∷ []) };
+}
+
+/// What the first pass keeps of an item that has a name and a code.
+pub trait Head: Named {
+    /// What it is with its code.
+    type Record: Drop;
+
+    /// What a record stands for.
+    ghost record_view: { Self.Record → Self.Shown };
+
+    /// A head with its commands.
+    ghost with: { Self.Shown → List CommandData → Self.Shown };
 
     /// What it is with its code.
     fn with_code(self, code: Vec<Command>) -> Self::Record
-        ensures { record_view result ≡ with (head_view self) (map command_view code.items) };
+        ensures { record_view result ≡ with (Self.head_view self) (map command_view code.items) };
 }
 
 /// What the first pass keeps of a software interrupt.
@@ -128,9 +133,7 @@ fn check_code(table: &Table) -> Result<(), FileFault>
     Ok(())
 }
 
-impl Head for SoftintHead {
-    type Record = SoftintRecord;
-
+impl Named for SoftintHead {
     ghost Shown = { SoftintData };
 
     ghost faults = { softint_faults };
@@ -138,10 +141,6 @@ impl Head for SoftintHead {
     ghost head_view = { softint_head_view };
 
     ghost head_of = { softint_head_of };
-
-    ghost record_view = { softint_view };
-
-    ghost with = { softint_with };
 
     fn head_in(table: &Table, names: &mut Vec<Name>) -> Result<SoftintHead, FileFault> {
         if !has_only(table, &["name", "pri", "code"]) {
@@ -152,6 +151,14 @@ impl Head for SoftintHead {
         check_code(table)?;
         Ok(SoftintHead { name, pri })
     }
+}
+
+impl Head for SoftintHead {
+    type Record = SoftintRecord;
+
+    ghost record_view = { softint_view };
+
+    ghost with = { softint_with };
 
     fn with_code(self, code: Vec<Command>) -> SoftintRecord {
         SoftintRecord {
@@ -162,9 +169,7 @@ impl Head for SoftintHead {
     }
 }
 
-impl Head for ServerHead {
-    type Record = ServerRecord;
-
+impl Named for ServerHead {
     ghost Shown = { ServerData };
 
     ghost faults = { server_faults };
@@ -172,10 +177,6 @@ impl Head for ServerHead {
     ghost head_view = { server_head_view };
 
     ghost head_of = { server_head_of };
-
-    ghost record_view = { server_view };
-
-    ghost with = { server_with };
 
     fn head_in(table: &Table, names: &mut Vec<Name>) -> Result<ServerHead, FileFault> {
         if !has_only(table, &["name", "source", "pri", "claim", "code"]) {
@@ -193,6 +194,14 @@ impl Head for ServerHead {
             claim,
         })
     }
+}
+
+impl Head for ServerHead {
+    type Record = ServerRecord;
+
+    ghost record_view = { server_view };
+
+    ghost with = { server_with };
 
     fn with_code(self, code: Vec<Command>) -> ServerRecord {
         ServerRecord {
@@ -205,9 +214,7 @@ impl Head for ServerHead {
     }
 }
 
-impl Head for TaskHead {
-    type Record = TaskRecord;
-
+impl Named for TaskHead {
     ghost Shown = { TaskData };
 
     ghost faults = { task_faults };
@@ -215,10 +222,6 @@ impl Head for TaskHead {
     ghost head_view = { task_head_view };
 
     ghost head_of = { task_head_of };
-
-    ghost record_view = { task_view };
-
-    ghost with = { task_with };
 
     fn head_in(table: &Table, names: &mut Vec<Name>) -> Result<TaskHead, FileFault> {
         if !has_only(table, &["name", "pri", "start", "code"]) {
@@ -230,6 +233,14 @@ impl Head for TaskHead {
         check_code(table)?;
         Ok(TaskHead { name, pri, start })
     }
+}
+
+impl Head for TaskHead {
+    type Record = TaskRecord;
+
+    ghost record_view = { task_view };
+
+    ghost with = { task_with };
 
     fn with_code(self, code: Vec<Command>) -> TaskRecord {
         TaskRecord {
@@ -241,7 +252,31 @@ impl Head for TaskHead {
     }
 }
 
-fn head_of<H: Head>(value: &Value, names: &mut Vec<Name>) -> Result<H, FileFault>
+impl Named for LibraryRecord {
+    ghost Shown = { LibraryData };
+
+    ghost faults = { library_faults };
+
+    ghost head_view = { library_view };
+
+    ghost head_of = { library_of };
+
+    fn head_in(table: &Table, names: &mut Vec<Name>) -> Result<LibraryRecord, FileFault> {
+        if !has_only(table, &["name", "version", "size"]) {
+            return Err(FileFault::UnknownKey);
+        }
+        let name = name_at(table, names)?;
+        let version = required_number(table, "version", 0, 65535)?;
+        let size = required_number(table, "size", 8, 65536)?;
+        Ok(LibraryRecord {
+            name,
+            version: version as u16,
+            size,
+        })
+    }
+}
+
+fn head_of<H: Named>(value: &Value, names: &mut Vec<Name>) -> Result<H, FileFault>
     ensures judged { Judges result (table_faults (H.faults (texts names.old.items)) (view value.now)) (λ h. H.head_view h ≡ H.head_of (view value.now)) }
     ensures names { OnOk result (texts names.new.items ≡ texts names.old.items ++ name_of (view value.now) ∷ []) }
 {
@@ -251,7 +286,7 @@ fn head_of<H: Head>(value: &Value, names: &mut Vec<Name>) -> Result<H, FileFault
     }
 }
 
-fn heads_of<H: Head>(
+fn heads_of<H: Named>(
     alloc: Global,
     items: &[Value],
     names: &mut Vec<Name>,
@@ -269,7 +304,7 @@ fn heads_of<H: Head>(
 
 /// The heads of the items of the array that the key holds, at most `limit`, or none; their names are added to those before them.
 #[tactic(auto, using(crate::proofs::Keys::count_items_view))]
-pub fn heads_at<H: Head>(
+pub fn heads_at<H: Named>(
     alloc: Global,
     table: &Table,
     key: &str,

@@ -1,11 +1,14 @@
 //! Reading a machine file.
-ghost use Rattle.std.specs.Prelude.{◌≡◌, Ok, Err, MatchResult};
+ghost use Rattle.std.specs.Prelude.{◌≡◌, map, Ok, Err, MatchResult};
 ghost use Rattle.toml.specs.View.{table_view};
 ghost use Rattle.taskscript.specs.Faults.{Judges};
-ghost use Rattle.taskscript.specs.File.{settings_faults, quantum_of, pool_of, faults, machine_of, file_of};
+ghost use Rattle.taskscript.specs.Records.{library_view};
+ghost use Rattle.taskscript.specs.Tree.{of_items};
+ghost use Rattle.taskscript.specs.File.{libraries_faults, libraries_in, library_of, settings_faults, quantum_of, pool_of, faults, machine_of, file_of};
 
 use crate::fault::FileFault;
-use crate::file::MachineFile;
+use crate::file::{LibraryRecord, MachineFile};
+use crate::heads::heads_at;
 use crate::owners::owners_at;
 use crate::regions::regions_at;
 use crate::tree::{document, has_only, optional_number};
@@ -30,22 +33,34 @@ fn settings_of(table: &Table) -> Result<Settings, FileFault>
     })
 }
 
+/// The libraries of a file, whose names are distinct among themselves.
+fn libraries_at(alloc: Global, table: &Table) -> Result<Vec<LibraryRecord>, FileFault>
+    ensures { Judges result (libraries_faults (table_view table.now)) (λ ls. map library_view ls.items ≡ of_items library_of (libraries_in (table_view table.now))) }
+{
+    let mut names = Vec::new(alloc);
+    heads_at(alloc, table, "library", 32, &mut names)
+}
+
 fn machine_of(alloc: Global, table: &Table) -> Result<MachineFile, FileFault>
     ensures { Judges result (faults (table_view table.now)) (λ m. m ≡ machine_of (table_view table.now)) }
 {
     if !has_only(
         table,
-        &["quantum", "pool", "region", "softint", "server", "task"],
+        &[
+            "quantum", "pool", "region", "library", "softint", "server", "task",
+        ],
     ) {
         return Err(FileFault::UnknownKey);
     }
     let settings = settings_of(table)?;
     let regions = regions_at(alloc, table)?;
+    let libraries = libraries_at(alloc, table)?;
     let owners = owners_at(alloc, table)?;
     Ok(MachineFile {
         quantum: settings.quantum,
         pool: settings.pool,
         regions,
+        libraries,
         softints: owners.softints,
         servers: owners.servers,
         tasks: owners.tasks,
@@ -55,8 +70,10 @@ fn machine_of(alloc: Global, table: &Table) -> Result<MachineFile, FileFault>
 /// Reads a machine file, a TOML document.
 ///
 /// It may have `quantum`, 1 to 255, which is 4 where it is absent, `pool`, 1 to 1024, which is 64 where it is absent, `region`, an array of
-/// at most 8 tables, `softint` and `server`, arrays of at most 32 tables each, and `task`, an array of at most 64 tables. A region has `base`
+/// at most 8 tables, `library`, `softint` and `server`, arrays of at most 32 tables each, and `task`, an array of at most 64 tables. A region has `base`
 /// and `size`, 0 to 4294967295, and may have `attrs`, 0 to 7, which is 1 where it is absent, and a `pri` as a task.
+///
+/// A library has a `name` as below, which no other library has, a `version` from 0 to 65535, and a `size` in bytes, 8 to 65536.
 ///
 /// A software interrupt, a server and a task have a `name` of 1 to 31 of the characters `A`-`Z`, `a`-`z`, `0`-`9`, `.`, `_` and `-`, which no
 /// other of them all has, and a `code`, an array of at most 1,024 strings, which are its lines. A software interrupt has a `pri` of -32, -16,
@@ -69,8 +86,8 @@ fn machine_of(alloc: Global, table: &Table) -> Result<MachineFile, FileFault>
 ///
 /// # Errors
 ///
-/// The first faulty place decides. First the whole tree is judged: the keys of the file, then `quantum` and `pool`, then `region`, `softint`,
-/// `server` and `task` (`BadValue` where it is no array, `TooMany` where it is too long), then item by item: `BadValue` where it is no table,
+/// The first faulty place decides. First the whole tree is judged: the keys of the file, then `quantum` and `pool`, then `region`, `library`,
+/// `softint`, `server` and `task` (`BadValue` where it is no array, `TooMany` where it is too long), then item by item: `BadValue` where it is no table,
 /// `UnknownKey`, then its keys in the order `base`, `size`, `attrs`, `pri`, or `name`, `pri`, `code`, or `name`, `source`, `pri`, `claim`,
 /// `code`, or `name`, `pri`, `start`, `code`, each `MissingKey` or `BadValue`, with `NameTwice` right after the name and `TooMany` after a
 /// `code` of strings. `BadRegions` comes after the last region, where `memlist::check_regions` refuses them. Then the bodies of all software
