@@ -17,8 +17,8 @@ use crate::file::{LibraryRecord, ServerRecord, SoftintRecord, TaskRecord};
 use crate::name::{Name, is_among, is_name};
 use crate::source::Source;
 use crate::tree::{
-    are_strings, has_only, member, optional_boolean, optional_pri, required_number, required_source,
-    softint_pri,
+    are_strings, has_only, member, optional_boolean, optional_pri, required_number,
+    required_source, softint_pri,
 };
 use std::alloc::Global;
 use toml::{Table, Value};

@@ -44,6 +44,6 @@ pub use reading::read_machine;
 pub use source::Source;
 pub use variable::{Variable, VariableName};
 pub use word::{
-    InterruptWord, Kind, LibraryWord, ListWord, MemoryWord, NestingWord, PlainWord, PortWord, SemaphoreWord,
-    SignalWord, TaskWord, Word, word_of,
+    InterruptWord, Kind, LibraryWord, ListWord, MemoryWord, NestingWord, PlainWord, PortWord,
+    SemaphoreWord, SignalWord, TaskWord, Word, word_of,
 };
