@@ -10,6 +10,7 @@ mod causing;
 mod command;
 mod interrupts;
 mod kernel;
+mod libraries;
 mod lists;
 mod machine;
 mod memory;

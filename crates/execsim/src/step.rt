@@ -99,6 +99,7 @@ impl<S: ListSpace> Kernel<S> {
             Word::Ports(word) => self.does_ports(word, t, call, out),
             Word::Semaphores(word) => self.does_semaphores(word, t, call, out),
             Word::Interrupts(word) => self.does_interrupts(word, t, call, out),
+            Word::Libraries(word) => self.does_libraries(word, t, call, out),
         }
     }
 

@@ -1,0 +1,93 @@
+//! Libraries: how they are opened, closed and removed. A loaded library is named by its base, the address of its block. The calls of `Heap`
+//! have the effects on memory.
+ghost use Rattle.std.specs.Prelude.{◌≡◌, ◌<◌, length};
+ghost use Rattle.execmodel.specs.Libraries.{opening, opened, does_libraries};
+ghost use Rattle.execmodel.specs.Libraries.{does_open_library, does_close_library, does_rem_library, does_lib_open_cnt};
+ghost use Rattle.execsim.specs.Agreement.{Follows};
+ghost use Rattle.execsim.specs.Views.{call_view};
+
+use crate::command::Call;
+use crate::kernel::Kernel;
+use crate::ports::name_or_empty;
+use exectrace::{Name, Sink};
+use execlist::space::ListSpace;
+use taskq::TaskId;
+use taskscript::LibraryWord;
+
+impl<S: ListSpace> Kernel<S> {
+    /// Opens the library of a name with at least that version, if there is one and it has a place.
+    fn open(&mut self, name: Name, version: u32) -> Option<u32>
+        ensures answer { result ≡ opening name.bytes version self.old.memory }
+        ensures next { self.new ≡ record self.old { memory = opened name.bytes version self.old.memory } }
+    {
+        self.memory.open_library(name.as_str(), version)
+    }
+
+    /// OpenLibrary name version: answers the base of the library of that name, which is loaded first where it is absent, and is open once
+    /// more; 0 where there is none of the name, its version is lower, it is open 65,535 times, or there is no place for it (autodoc
+    /// exec.library/OpenLibrary; the count, and that a library takes memory with MEMF_PUBLIC: own choice).
+    fn open_library<W: Sink>(&mut self, t: TaskId, call: &Call, out: &mut W)
+        requires { t < length self.old.scripts.programs }
+        ensures { Follows (does_open_library t (call_view call.now)) self.old self.new (W.tape out.old) (W.tape out.new) }
+    {
+        let name = name_or_empty(call.name(0));
+        let base = self.open(name, call.number(1));
+        self.answered(t, call, base.unwrap_or(0), out);
+    }
+
+    /// CloseLibrary base: the library is open once less, and goes where it is to be expunged and is open no more; 0 does nothing. HANDLE
+    /// where no loaded library begins there, LIB where it is not open (autodoc exec.library/CloseLibrary; the alerts: own choice).
+    fn close_library<W: Sink>(&mut self, t: TaskId, call: &Call, out: &mut W)
+        requires { t < length self.old.scripts.programs }
+        ensures { Follows (does_close_library t (call_view call.now)) self.old self.new (W.tape out.old) (W.tape out.new) }
+    {
+        let base = call.number(0);
+        if base == 0 {
+            self.done(t, call, out);
+        } else {
+            let tried = self.memory.close_library(base);
+            self.concluded(tried, t, call, out);
+        }
+    }
+
+    /// RemLibrary base: the library is expunged, or is to be when it is closed for the last time. HANDLE where no loaded library begins there
+    /// (autodoc exec.library/RemLibrary; the alert: own choice).
+    fn rem_library<W: Sink>(&mut self, t: TaskId, call: &Call, out: &mut W)
+        requires { t < length self.old.scripts.programs }
+        ensures { Follows (does_rem_library t (call_view call.now)) self.old self.new (W.tape out.old) (W.tape out.new) }
+    {
+        let base = call.number(0);
+        let tried = self.memory.remove_library(base);
+        self.concluded(tried, t, call, out);
+    }
+
+    /// LibOpenCnt base: answers how often the library is open. HANDLE where no loaded library begins there (RKM Libraries, Exec Libraries:
+    /// lib_OpenCnt; that there is a call for it: own choice).
+    fn lib_open_cnt<W: Sink>(&mut self, t: TaskId, call: &Call, out: &mut W)
+        requires { t < length self.old.scripts.programs }
+        ensures { Follows (does_lib_open_cnt t (call_view call.now)) self.old self.new (W.tape out.old) (W.tape out.new) }
+    {
+        let base = call.number(0);
+        let tried = self.memory.library_count(base);
+        self.concluded_with(tried, t, call, out);
+    }
+
+    /// A call of task t on libraries, by its word.
+    pub(crate) fn does_libraries<W: Sink>(
+        &mut self,
+        word: LibraryWord,
+        t: TaskId,
+        call: &Call,
+        out: &mut W,
+    )
+        requires { t < length self.old.scripts.programs }
+        ensures { Follows (does_libraries word t (call_view call.now)) self.old self.new (W.tape out.old) (W.tape out.new) }
+    {
+        match word {
+            LibraryWord::OpenLibrary => self.open_library(t, call, out),
+            LibraryWord::CloseLibrary => self.close_library(t, call, out),
+            LibraryWord::RemLibrary => self.rem_library(t, call, out),
+            LibraryWord::LibOpenCnt => self.lib_open_cnt(t, call, out),
+        }
+    }
+}
