@@ -23,21 +23,23 @@ module _ {t : Tabled} (sound : IsSound t) (kind : Kind) (code : ℕ) (is_code : 
 
   module _ (formed : IsWellFormed t.memory.regions t.memory.blocks) (number a : ℕ) (memory : Memory) (d r : Pooled ℕ) where
     pub kept_freed : slot (slots_of kind t) number ≡ Some a → memory ≡ without_block a t.memory → r ≡ released number (slice_index_or t.pools code d)
-        → IsSound (record { memory = memory; pools = slice_set t.pools code r; pool = t.pool })
+        → IsSound (record { memory = memory; pools = slice_set t.pools code r; pool = t.pool; libs = t.libs })
     kept_freed live is_memory is = subst IsSound (λ i. record {
       memory = sym is_memory i;
       pools = slice_set t.pools (sym is_code i) ((ap (released number) (sym (pool_is d)) ∙ sym is) i);
       pool = t.pool;
+      libs = t.libs;
     }) (sound_freed sound formed kind number a live)
 
     pub kept_made : (size tag : ℕ) (asked stock : Pooled ℕ) → IsStocked (slice_index_or t.pools code stock)
         → Some number ≡ next_number (slice_index_or t.pools code asked) → size ≡ size_of kind → tag ≡ tag_of kind number
         → Some a ≡ fit t.memory.regions t.memory.blocks size 1 → memory ≡ allocated size tag (Some a) t.memory
         → r ≡ given a (slice_index_or t.pools code d)
-        → IsSound (record { memory = memory; pools = slice_set t.pools code r; pool = t.pool })
+        → IsSound (record { memory = memory; pools = slice_set t.pools code r; pool = t.pool; libs = t.libs })
     kept_made size tag asked stock stocked next is_size is_tag fits is_memory is = subst IsSound (λ i. record {
       memory = ((λ j. allocated (sym is_size j) (sym is_tag j) (Some a) t.memory) ∙ sym is_memory) i;
       pools = slice_set t.pools (sym is_code i) ((ap (given a) (sym (pool_is d)) ∙ sym is) i);
       pool = t.pool;
+      libs = t.libs;
     }) (sound_made sound formed kind number a (subst IsStocked (pool_is stock) stocked) (ap next_number (sym (pool_is asked)) ∙ sym next)
         (ap (λ n. fit t.memory.regions t.memory.blocks n 1) (sym is_size) ∙ sym fits))

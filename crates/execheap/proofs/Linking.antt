@@ -16,7 +16,7 @@ use Rattle.execheap.specs.declared.kind.Kind.TheVariants as variant
 use Rattle.execheap.specs.declared.tag.Tagged.{Tagged}
 use Rattle.execheap.specs.declared.tag.Tagged.TheVariants as tag
 use Rattle.execheap.specs.Tags.{tagged}
-use Rattle.execheap.specs.Numbered.{Numbered, IsSound, IsSpace, address_in, key_at, object_of, shown_entry, shown_heap, shown_memory, shown_public, shown_tagged, places}
+use Rattle.execheap.specs.Numbered.{IsSound, IsSpace, Numbered, address_in, key_at, object_of, places, shown_entry, shown_heap, shown_library, shown_memory, shown_public, shown_tagged}
 use Rattle.execheap.specs.Changes as numbered
 use Rattle.execheap.proofs.Entries.{all_then}
 use Rattle.execheap.proofs.Mapped.{all_of_part_after, enqueue-map, find-map, first-map, last-map, members, part_after-map, part_before-map, put_after-map, without-map, without_absent, without_first-map, without_last-map}
@@ -34,6 +34,7 @@ heap_set : (s : Numbered) (sequences : List (List ℕ)) (homes : List (Option �
     → shown_memory (record s { sequences = sequences; homes = homes }) ≡ on_heap (λ old. heap) (shown_memory s)
 heap_set s sequences homes heap is = λ i. record {
   regions = s.table.memory.regions;
+  libraries = map shown_library s.table.libs.known;
   pool = s.table.pool;
   heap = is i;
   public = map (shown_public s) s.ports.public;

@@ -3,16 +3,18 @@ use Rattle.std.proofs.Common.{◌≡◌, ◌≢◌, ℕ, ◌+◌, ◌<◌, Bool,
 use Rattle.std.specs.Prelude.{Some, None, Option, is_some, nat_eq, not, IfSome, IsSome}
 use Rattle.std.specs.Option.{option_map, option_and_then}
 use Rattle.std.specs.Ordering.{nat_cmp, eq_by_cmp}
+use Rattle.std.specs.FinMap.{put}
 use Rattle.std.specs.FinMap.{nat_cmp-IsAntisymmetric}
 use Rattle.std.specs.FinMap.Entries.{find-put, find-where_key}
 use Rattle.std.proofs.lemmas.Cmp.{nat_cmp_total}
 use Rattle.std.proofs.lemmas.List.{get_or-set_same, get_or-set_other, length-set}
-use Rattle.memlist.specs.Blocks.{block_at}
+use Rattle.memlist.specs.Blocks.{Blocks, block_at, freed}
 use Rattle.memlist.specs.Fit.{fit, round}
 use Rattle.memlist.specs.Memory.{Memory, IsWellFormed}
 use Rattle.memlist.proofs.Addresses.{fitted_fresh}
 use Rattle.memlist.proofs.Answered.{cases_eq, key_other, key_same, nat_eq-other}
 use Rattle.memlist.proofs.Keeping.{rising_sorted}
+use Rattle.execlib.specs.Libraries.{library_tag}
 use Rattle.execlist.specs.Pool.{IsStocked, Pooled, all_free, given, next_number, released, slot, taken}
 use Rattle.execlist.proofs.Pools.{given_slots, slot_known, slot_other, slot_same, taken_given, taken_released}
 use Rattle.execheap.proofs.Entries.{all_then, at_found, some_same}
@@ -31,6 +33,20 @@ tag_in found = option_map (λ (block : ℕ × ℕ). block.1) found
 -- a block counts for a kind where its tag is of that kind
 abbrev pub counts : Kind → ℕ → Bool
 counts kind tag = is_of kind (tagged tag)
+
+-- the tag of a block that stays where another is put, or freed
+module _ (a b g : ℕ) (blocks : Blocks) (there : tag_at b blocks ≡ Some g) where
+  pub tag_placed : (v : ℕ × ℕ) → block_at a blocks ≡ None → tag_at b (put nat_cmp a v blocks) ≡ Some g
+  tag_placed v fresh =
+      let other : b ≢ a = λ same. (let bad : false ≡ true = ap is_some (sym (ap tag_in fresh) ∙ ap (λ x. tag_at x blocks) (sym same) ∙ there) in cc) in
+      ap tag_in (find-put nat_cmp nat_cmp_total b a v blocks) ∙ ap (λ c. tag_in (cond c (Some v) (block_at b blocks))) (key_other b a other) ∙ there
+
+  pub tag_left : b ≢ a → tag_at b (freed a blocks) ≡ Some g
+  tag_left other =
+      ap tag_in
+      (find-where_key nat_cmp (λ x. not (nat_eq x a)) b (λ x e. ap (λ y. not (nat_eq y a)) (sym (nat_cmp-IsAntisymmetric b x e))) blocks
+      ∙ ap (λ c. cond (not c) (block_at b blocks) None) (nat_eq-other b a other))
+      ∙ there
 
 module _ {t : Tabled} (sound : IsSound t) where
   -- ---- what is found
@@ -85,7 +101,7 @@ module _ {t : Tabled} (sound : IsSound t) where
 
 module _ {t : Tabled} (sound : IsSound t) (kind : Kind) (p : Pooled ℕ) (memory : Memory) where
   abbrev pub changed : Tabled
-  changed = record { memory = memory; pools = slice_set t.pools (kind_code kind) p; pool = t.pool }
+  changed = record { memory = memory; pools = slice_set t.pools (kind_code kind) p; pool = t.pool; libs = t.libs }
 
   pub pool_here : pool_of kind changed ≡ p
   pool_here = get_or-set_same t.pools (kind_code kind) p (all_free 0) (omega (arith, sound.kinds, kind_few kind))
@@ -111,6 +127,7 @@ module _ {t : Tabled} (sound : IsSound t) (kind : Kind) (p : Pooled ℕ) (memory
       matched = matched;
       each = λ k. length_kept k ∙ sound.each k;
       kinds = length-set t.pools (kind_code kind) p ∙ sound.kinds;
+      each_library = sound.each_library;
       small = sound.small;
     }
 
@@ -203,6 +220,7 @@ module _ {t : Tabled} (sound : IsSound t) (formed : IsWellFormed t.memory.region
     )
         (all_then {P = IsTagged t} {Q = IsTagged made} (λ e here. (kept (tagged e.1.1) e.0 here.0, here.1)) t.memory.blocks sound.matched.tagged);
     complete = complete;
+    loaded = λ i b is. tag_placed a b (library_tag i) t.memory.blocks (sound.matched.loaded i b is) (round (size_of kind), tag_of kind number) fresh;
     count = λ k. omega (arith, passing_put (counts k) a (round (size_of kind), tag_of kind number) t.memory.blocks fresh, sound.matched.count k, more k);
   })
 
@@ -271,6 +289,9 @@ module _ {t : Tabled} (sound : IsSound t) (formed : IsWellFormed t.memory.region
         sound_changed sound kind (released number (pool_of kind t)) without.memory number None left_set (record {
           tagged = all_freed {P = IsTagged t} {Q = IsTagged without} a t.memory.blocks (λ e ne here. (stays (tagged e.1.1) e.0 ne here.0, here.1)) sound.matched.tagged;
           complete = left_complete;
+          loaded = λ i b is. tag_left a b (library_tag i) t.memory.blocks (sound.matched.loaded i b is) (λ same. (let e : library_tag i ≡ tag_of kind number = some_same
+              (sym (sound.matched.loaded i b is) ∙ ap (λ x. tag_at x t.memory.blocks) same ∙ sound.matched.complete kind number a live) in
+              omega (arith, e, kind_few kind, number_small sound kind number a live)));
           count = λ k. omega (
             arith,
             passing_freed (counts k) a block t.memory.blocks (rising_sorted t.memory.blocks formed.in_order) there,

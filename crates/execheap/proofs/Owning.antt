@@ -10,7 +10,7 @@ use Rattle.execmodel.specs.Semaphores as model
 use Rattle.execheap.specs.declared.kind.Kind.{Kind}
 use Rattle.execheap.specs.declared.kind.Kind.TheVariants as variant
 use Rattle.execheap.specs.Tags.{is_same}
-use Rattle.execheap.specs.Numbered.{Numbered, object_of, shown_heap, shown_memory, shown_public, places}
+use Rattle.execheap.specs.Numbered.{Numbered, object_of, places, shown_heap, shown_library, shown_memory, shown_public}
 use Rattle.execheap.specs.Table.{number_at}
 use Rattle.execheap.specs.Changes.{on_semaphores}
 use Rattle.execheap.proofs.Posted.{item_known, none_left, same_at, written_at}
@@ -23,6 +23,7 @@ pub heap_owned : (s : Numbered) (q : Semaphores) (heap : Heap) → shown_heap (r
     → shown_memory (record s { sems = q }) ≡ on_heap (λ old. heap) (shown_memory s)
 heap_owned s q heap is = λ i. record {
   regions = s.table.memory.regions;
+  libraries = map shown_library s.table.libs.known;
   pool = s.table.pool;
   heap = is i;
   public = map (shown_public s) s.ports.public;

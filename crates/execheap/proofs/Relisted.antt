@@ -6,7 +6,8 @@ use Rattle.std.proofs.lemmas.Simd.{map-map}
 use Rattle.std.proofs.lemmas.List.{get_or-set_other}
 use Rattle.std.proofs.lemmas.Grind.{get_or-set_at}
 use Rattle.execlist.specs.Lists.{sequence}
-use Rattle.execmodel.specs.State.{Object, ListHead, Block}
+use Rattle.execlib.specs.Libraries.{count_of, is_delayed}
+use Rattle.execmodel.specs.State.{Object, ListHead, Library, Block}
 use Rattle.execmodel.specs.Lists.{with_nodes}
 use Rattle.execmodel.specs.Objects.{replaced}
 use Rattle.execheap.specs.declared.kind.Kind.{Kind}
@@ -14,6 +15,7 @@ use Rattle.execheap.specs.declared.kind.Kind.TheVariants as variant
 use Rattle.execheap.specs.declared.tag.Tagged.{Tagged}
 use Rattle.execheap.specs.declared.tag.Tagged.TheVariants as tag
 use Rattle.execheap.specs.Tags.{is_same, tagged}
+use Rattle.execheap.specs.Table.{Tabled}
 use Rattle.execheap.specs.Numbered.{Numbered, address_in, object_of, places, shown_entry, shown_heap, shown_tagged}
 use Rattle.execheap.proofs.Entries.{all_then, map_same}
 use Rattle.execheap.proofs.Tagging.{either_number, is_object}
@@ -23,19 +25,14 @@ abbrev pub Tells : Numbered → ℕ → Kind → ℕ → Type 0
 Tells s address kind number =
     AllByRecursion (λ (entry : ℕ × (ℕ × ℕ)). nat_eq entry.0 address ≡ is_object kind number (tagged entry.1.1)) s.table.memory.blocks
 
--- an object of a kind and a number is another, and all else is the same
-module _ (old new : Numbered) (address : ℕ) (object : Object) (kind : Kind) (number : ℕ)
-    (same : (k : Kind) (m : ℕ) → object_of k m new ≡ (if is_same k kind && nat_eq m number then object else object_of k m old)) where
-  shows : (x : Tagged) → shown_tagged new x ≡ (if is_object kind number x then object else shown_tagged old x)
-  shows tag.Plain = refl
-  shows (tag.Library i) = refl
-  shows (tag.Object k m) = same k m
-
-  replaced_entry : (entry : ℕ × (ℕ × ℕ)) → nat_eq entry.0 address ≡ is_object kind number (tagged entry.1.1)
+-- what a tag says is another where it passes a test, and all else is the same
+module _ (old new : Numbered) (address : ℕ) (object : Object) (test : Tagged → Bool)
+    (shows : (x : Tagged) → shown_tagged new x ≡ (if test x then object else shown_tagged old x)) where
+  replaced_entry : (entry : ℕ × (ℕ × ℕ)) → nat_eq entry.0 address ≡ test (tagged entry.1.1)
       → shown_entry new entry ≡ replaced address object (shown_entry old entry)
   replaced_entry entry told =
       ap (λ (o : Object). (entry.0, record { size = entry.1.0; object = o })) (shows (tagged entry.1.1))
-      ∙ either (is_object kind number (tagged entry.1.1))
+      ∙ either (test (tagged entry.1.1))
       ∙ ap (λ b. (entry.0, if b then record { size = entry.1.0; object = object } else record { size = entry.1.0; object = shown_tagged old (tagged entry.1.1) })) (sym told)
     where
       either : (b : Bool) → ◌≡◌ {A = ℕ × Block} (entry.0, record { size = entry.1.0; object = (if b then object else shown_tagged old (tagged entry.1.1)) })
@@ -43,14 +40,26 @@ module _ (old new : Numbered) (address : ℕ) (object : Object) (kind : Kind) (n
       either true = refl
       either false = refl
 
-  pub object_replaced : Tells old address kind number → new.table.memory ≡ old.table.memory
-      → shown_heap new ≡ map (replaced address object) (shown_heap old)
+  pub tagged_replaced : AllByRecursion (λ (entry : ℕ × (ℕ × ℕ)). nat_eq entry.0 address ≡ test (tagged entry.1.1)) old.table.memory.blocks
+      → new.table.memory ≡ old.table.memory → shown_heap new ≡ map (replaced address object) (shown_heap old)
   unfolding shown_heap
-  object_replaced told is =
+  tagged_replaced told is =
       ap (λ memory. map (shown_entry new) memory.blocks) is
       ∙ map_same (shown_entry new) (λ entry. replaced address object (shown_entry old entry)) old.table.memory.blocks
       (all_then (λ entry here. replaced_entry entry here) old.table.memory.blocks told)
       ∙ sym (map-map (replaced address object) (shown_entry old) old.table.memory.blocks)
+
+-- an object of a kind and a number is another, and all else is the same
+module _ (old new : Numbered) (address : ℕ) (object : Object) (kind : Kind) (number : ℕ)
+    (same : (k : Kind) (m : ℕ) → object_of k m new ≡ (if is_same k kind && nat_eq m number then object else object_of k m old)) where
+  pub object_replaced : Tells old address kind number → new.table ≡ old.table → shown_heap new ≡ map (replaced address object) (shown_heap old)
+  object_replaced told is =
+      tagged_replaced old new address object (is_object kind number) shows told (ap (λ (t : Tabled). t.memory) is)
+    where
+      shows : (x : Tagged) → shown_tagged new x ≡ (if is_object kind number x then object else shown_tagged old x)
+      shows tag.Plain = refl
+      shows (tag.Library i) = ap (λ (t : Tabled). Library i (count_of i t.libs) (is_delayed i t.libs)) is
+      shows (tag.Object k m) = same k m
 
 -- ---- an item that is set
 

@@ -12,7 +12,8 @@ use Rattle.memlist.specs.Fit.{fit, round}
 use Rattle.memlist.specs.Memory.{IsWellFormed, without_block}
 use Rattle.execlist.specs.Pool.{IsStocked, next_number, slot}
 use Rattle.execlist.proofs.Pools.{taken_below}
-use Rattle.execmodel.specs.State.{Object, Plain, Block}
+use Rattle.execlib.specs.Libraries.{count_of, is_delayed}
+use Rattle.execmodel.specs.State.{Object, Plain, Library, Block}
 use Rattle.execmodel.specs.Memory as model
 use Rattle.execmodel.specs.Memory.{freed, place_for, placed}
 use Rattle.execmodel.specs.Objects.{object_at, is_kind, live, place_for_object}
@@ -23,7 +24,7 @@ use Rattle.execheap.specs.declared.tag.Tagged.{Tagged}
 use Rattle.execheap.specs.declared.tag.Tagged.TheVariants as tag
 use Rattle.execheap.specs.Tags.{is_of, is_same, number_in, size_of, tag_of, tagged}
 use Rattle.execheap.specs.Table.{Tabled, IsSound, IsTagged, counted, number_at, object_at_next, place_of, pool_of, slots_of, with_object, without_object}
-use Rattle.execheap.specs.Numbered.{Numbered, object_of, shown_block, shown_entry, shown_heap, shown_memory, shown_public, shown_tagged, test_of}
+use Rattle.execheap.specs.Numbered.{Numbered, object_of, shown_block, shown_entry, shown_heap, shown_library, shown_memory, shown_public, shown_tagged, test_of}
 use Rattle.execheap.proofs.Counting.{all_freed}
 use Rattle.execheap.proofs.Matching.{number_small, other_object}
 use Rattle.execheap.proofs.Tagging.{cases_kind, read_tag, same_other, same_self}
@@ -48,16 +49,23 @@ test_plain kind.Semaphore = refl
 
 -- ---- what begins at an address
 
+test_library : (k : Kind) (i count : ℕ) (delayed : Bool) → test_of k (Library i count delayed) ≡ false
+test_library kind.List i count delayed = refl
+test_library kind.Node i count delayed = refl
+test_library kind.Port i count delayed = refl
+test_library kind.Message i count delayed = refl
+test_library kind.Semaphore i count delayed = refl
+
 pub test_shown : (s : Numbered) (k : Kind) (x : Tagged) → test_of k (shown_tagged s x) ≡ is_of k x
 test_shown s k (tag.Object j n) = test_told k j n s
 test_shown s k tag.Plain = test_plain k
-test_shown s k (tag.Library i) = test_plain k
+test_shown s k (tag.Library i) = test_library k i (count_of i s.table.libs) (is_delayed i s.table.libs)
 
 pub block_shown : (s : Numbered) (a : ℕ) → model.block_at a (shown_heap s) ≡ option_map (shown_block s) (block_at a s.table.memory.blocks)
 unfolding shown_heap
 block_shown s a = find_shown (shown_block s) a s.table.memory.blocks
 
-object_at_shown : (s : Numbered) (a : ℕ)
+pub object_at_shown : (s : Numbered) (a : ℕ)
     → object_at a (shown_heap s) ≡ option_map (λ (block : ℕ × ℕ). shown_tagged s (tagged block.1)) (block_at a s.table.memory.blocks)
 object_at_shown s a = ap (option_map (λ (block : Block). block.object)) (block_shown s a) ∙ both (block_at a s.table.memory.blocks)
   where
@@ -169,6 +177,7 @@ module _ {s u : Numbered} (sound : IsSound s.table) (kind : Kind) (number a : �
   unfolding shown_heap
   made_shown object is beside small here public = λ i. record {
     regions = (is i).memory.regions;
+    libraries = map shown_library (is i).libs.known;
     pool = (is i).pool;
     heap = (
         ap (λ (t : Tabled). map (shown_entry u) t.memory.blocks) is
@@ -182,7 +191,7 @@ module _ {s u : Numbered} (sound : IsSound s.table) (kind : Kind) (number a : �
   } where
     same : (x : Tagged) (b : ℕ) → place_of x b s.table ≡ Some b → shown_tagged u x ≡ shown_tagged s x
     same tag.Plain b told = refl
-    same (tag.Library i) b told = refl
+    same (tag.Library i) b told = ap (λ (t : Tabled). Library i (count_of i t.libs) (is_delayed i t.libs)) is
     same (tag.Object k m) b told = beside k m b told
 
   pub freed_shown : IsWellFormed s.table.memory.regions s.table.memory.blocks → slot (slots_of kind s.table) number ≡ Some a
@@ -193,6 +202,7 @@ module _ {s u : Numbered} (sound : IsSound s.table) (kind : Kind) (number a : �
   unfolding shown_heap
   freed_shown formed live is beside public = λ i. record {
     regions = (is i).memory.regions;
+    libraries = map shown_library (is i).libs.known;
     pool = (is i).pool;
     heap = (
         ap (λ (t : Tabled). map (shown_entry u) t.memory.blocks) is
@@ -202,7 +212,7 @@ module _ {s u : Numbered} (sound : IsSound s.table) (kind : Kind) (number a : �
   } where
     same : (x : Tagged) (b : ℕ) → b ≢ a → place_of x b s.table ≡ Some b → shown_tagged u x ≡ shown_tagged s x
     same tag.Plain b other told = refl
-    same (tag.Library i) b other told = refl
+    same (tag.Library i) b other told = ap (λ (t : Tabled). Library i (count_of i t.libs) (is_delayed i t.libs)) is
     same (tag.Object k m) b other told = beside k m b (other_object sound formed kind number a live k m b other told) told
 
     all_but : (es : Blocks) → AllByRecursion (IsTagged s.table) es

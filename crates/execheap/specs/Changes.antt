@@ -2,16 +2,17 @@
 use Rattle.std.specs.Prelude.{ℕ, ℤ, ◌-◌, if◌then◌else◌, List, [], ◌∷◌, ◌++◌, drop, length, replicate, slice_set, take, Option, None, Some}
 use Rattle.execlist.specs.Order.{enqueue, first, without}
 use Rattle.execlist.specs.Lists.{Key, blank, home, last, pri_of, put_after, sequence}
+use Rattle.execlib.specs.Libraries.{Description}
 use Rattle.memlist.specs.declared.region.Region.{Region}
 use Rattle.msgport.specs.Ports.{MessagePorts, no_ports}
 use Rattle.sigsem.specs.Semaphores.{Semaphores, no_sems, is_open, entered, queued as sem_queued, dropped}
 use Rattle.execheap.specs.Table as table
 use Rattle.execheap.specs.Numbered.{Numbered, most_tasks}
 
--- no block, and no object of a pool of so many of each kind
-abbrev pub unused : List Region → ℕ → Numbered
-unused regions pool = record {
-  table = table.unused regions pool;
+-- no block, no object of a pool of so many of each kind, and none of these libraries loaded
+abbrev pub unused : List Region → ℕ → List Description → Numbered
+unused regions pool known = record {
+  table = table.unused regions pool known;
   sequences = replicate pool [];
   homes = replicate pool None;
   keys = replicate pool blank;

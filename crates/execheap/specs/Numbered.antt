@@ -2,12 +2,14 @@
 use Rattle.std.specs.Prelude.{◌≡◌, ℕ, ◌≤◌, if◌then◌else◌, Bool, IsSome, IsTrue, is_some, List, length, map, slice_index_or, Option, None, Some, unwrap_or}
 use Rattle.execlist.specs.Lists.{Key, blank, sequence, home, is_at, times}
 use Rattle.execlist.specs.Pool.{Pooled, slot}
+use Rattle.execlib.specs.Libraries.{Description, count_of, is_delayed}
 use Rattle.memlist.specs.Memory.{IsWellFormed}
 use Rattle.msgport.specs.Ports as ports
 use Rattle.msgport.specs.Ports.{MessagePorts, is_port, port_at, message_at, messages_of}
 use Rattle.sigsem.specs.Semaphores as sems
 use Rattle.sigsem.specs.Semaphores.{Semaphores, sem_at, waiters_of}
-use Rattle.execmodel.specs.State.{Object, Plain, ListHead, Node, MsgPort, Message, Semaphore, Block, Heap, PublicPort, Memory}
+use Rattle.taskscript.specs.File.{LibraryData}
+use Rattle.execmodel.specs.State.{Object, Plain, ListHead, Node, MsgPort, Message, Semaphore, Library, Block, Heap, PublicPort, Memory}
 use Rattle.execmodel.specs.Lists.{is_list, is_node}
 use Rattle.execmodel.specs.Ports as model
 use Rattle.execmodel.specs.Semaphores.{is_semaphore}
@@ -60,7 +62,8 @@ test_of variant.Semaphore object = is_semaphore object
 
 abbrev pub shown_tagged : Numbered → Tagged → Object
 shown_tagged s (tag.Object kind number) = object_of kind number s
-shown_tagged s _ = Plain
+shown_tagged s (tag.Library i) = Library i (count_of i s.table.libs) (is_delayed i s.table.libs)
+shown_tagged s tag.Plain = Plain
 
 abbrev pub shown_block : Numbered → ℕ × ℕ → Block
 shown_block s block = record { size = block.0; object = shown_tagged s (tagged block.1) }
@@ -75,10 +78,15 @@ shown_heap s = map (shown_entry s) s.table.memory.blocks
 abbrev pub shown_public : Numbered → ℕ → PublicPort
 shown_public s p = record { port = address_in (places variant.Port s) p; key = key_at s.ports.keys p }
 
+-- a library that may be opened
+abbrev pub shown_library : Description → LibraryData
+shown_library library = record { name = library.name; version = library.version; size = library.size }
+
 -- The memory that objects by number stand for. Its public ports stand in the order in which they are kept.
 abbrev pub shown_memory : Numbered → Memory
 shown_memory s = record {
   regions = s.table.memory.regions;
+  libraries = map shown_library s.table.libs.known;
   pool = s.table.pool;
   heap = shown_heap s;
   public = map (shown_public s) s.ports.public;

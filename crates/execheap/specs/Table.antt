@@ -1,4 +1,5 @@
--- Which blocks are objects: for each kind the addresses of its objects by number, beside the blocks with their tags.
+-- Which blocks are objects and which are libraries: for each kind the addresses of its objects by number, and the libraries with their
+-- bases, beside the blocks with their tags.
 use Rattle.std.specs.Prelude.{◌≡◌, ℕ, ◌≤◌, nat_eq, List, [], ◌∷◌, filter, length, slice_index_or, slice_set, Option, None, Some}
 use Rattle.std.specs.Option.{option_map, option_and_then}
 use Rattle.std.specs.List.{AllByRecursion}
@@ -7,17 +8,22 @@ use Rattle.memlist.specs.declared.region.Region.{Region}
 use Rattle.memlist.specs.Blocks.{Blocks, block_at}
 use Rattle.memlist.specs.Fit.{fit}
 use Rattle.memlist.specs.Memory.{allocated, untouched, without_block}
+use Rattle.execlib.specs.declared.library.Loaded.{Loaded}
+use Rattle.execlib.specs.Libraries as library
+use Rattle.execlib.specs.Libraries.{Description, Libraries, library_tag, loaded_at, no_library_loaded}
 use Rattle.execlist.specs.Pool.{Pooled, all_free, given, next_number, released, slot, taken}
 use Rattle.execheap.specs.declared.kind.Kind.{Kind}
 use Rattle.execheap.specs.declared.tag.Tagged.{Tagged}
 use Rattle.execheap.specs.declared.tag.Tagged.TheVariants.{Plain, Object, Library}
-use Rattle.execheap.specs.Tags.{is_of, is_plain, kind_code, kinds, number_in, size_of, tag_of, tagged}
+use Rattle.execheap.specs.Tags.{is_of, is_plain, kind_code, kinds, library_in, number_in, size_of, tag_of, tagged}
 
--- the blocks with their tags, and by kind the addresses of its objects by number; of each kind so many may live
+-- the blocks with their tags, and by kind the addresses of its objects by number, of each kind so many may live; and the libraries, which
+-- are loaded into blocks
 pub record Tabled : Type 0 where
   pub memory : memlist.Memory
   pub pools : List (Pooled ℕ)
   pub pool : ℕ
+  pub libs : Libraries
 
 -- the addresses of the objects of a kind, by number
 abbrev pub pool_of : Kind → Tabled → Pooled ℕ
@@ -30,18 +36,27 @@ slots_of kind t = (pool_of kind t).slots
 abbrev pub number_at : Kind → ℕ → Tabled → Option ℕ
 number_at kind address t = option_and_then (λ (block : ℕ × ℕ). number_in kind (tagged block.1)) (block_at address t.memory.blocks)
 
+-- the address of a library by number, if it is loaded
+abbrev pub base_at : ℕ → Libraries → Option ℕ
+base_at i libs = option_map (λ (loaded : Loaded). loaded.base) (loaded_at i libs)
+
+-- the number of the library that begins at an address
+abbrev pub library_at : ℕ → Tabled → Option ℕ
+library_at address t = option_and_then (λ (block : ℕ × ℕ). library_in (tagged block.1)) (block_at address t.memory.blocks)
+
 -- ---- made and freed
 
 -- a pool for each kind, by its code, of which none is given
 abbrev pub free_pools : ℕ → List (Pooled ℕ)
 free_pools pool = all_free pool ∷ all_free pool ∷ all_free pool ∷ all_free pool ∷ all_free pool ∷ []
 
--- nothing is allocated, and of each kind so many objects may live
-abbrev pub unused : List Region → ℕ → Tabled
-unused regions pool = record {
+-- nothing is allocated, of each kind so many objects may live, and none of these libraries is loaded
+abbrev pub unused : List Region → ℕ → List Description → Tabled
+unused regions pool known = record {
   memory = untouched regions;
   pools = free_pools pool;
   pool = pool;
+  libs = no_library_loaded known;
 }
 
 -- the number and the address of a new object of a kind, if there is a number left and its block fits
@@ -69,13 +84,28 @@ without_object kind number address t = record t {
   pools = slice_set t.pools (kind_code kind) (released number (pool_of kind t));
 }
 
+-- ---- libraries
+
+-- a library, if there is one to open, is open once more at a base, or has found no place
+abbrev pub library_opened : (found base : Option ℕ) → Tabled → Tabled
+library_opened found base t =
+    record t { memory = library.memory_for found base t.libs t.memory; libs = library.opened found base t.libs }
+
+-- a library is closed once
+abbrev pub library_closed : ℕ → Tabled → Tabled
+library_closed i t = record t { memory = library.memory_after_close i t.libs t.memory; libs = library.closed i t.libs }
+
+-- a library is removed, now or when it is closed for the last time
+abbrev pub library_removed : ℕ → Tabled → Tabled
+library_removed i t = record t { memory = library.memory_after_removal i t.libs t.memory; libs = library.removed i t.libs }
+
 -- ---- what always holds
 
 -- the address of what begins at an address
 abbrev pub place_of : Tagged → ℕ → Tabled → Option ℕ
 place_of Plain address t = Some address
 place_of (Object kind number) address t = slot (slots_of kind t) number
-place_of (Library i) address t = None
+place_of (Library i) address t = base_at i t.libs
 
 -- the tag of a block is 0 where it is plain, and else names the object of that address
 abbrev pub IsTagged : Tabled → ℕ × (ℕ × ℕ) → Type 0
@@ -90,17 +120,19 @@ tag_at address blocks = option_map (λ (block : ℕ × ℕ). block.1) (block_at 
 abbrev pub counted : Kind → Blocks → ℕ
 counted kind blocks = length (filter (λ (entry : ℕ × (ℕ × ℕ)). is_of kind (tagged entry.1.1)) blocks)
 
--- Blocks and numbers tell each other: a tag names the object of its block's address, an object that has an address begins at a block with
--- its tag, and of each kind as many blocks are tagged as numbers are given.
+-- Blocks and numbers tell each other: a tag names the object or the library of its block's address, an object that has an address begins at
+-- a block with its tag, a loaded library does, and of each kind as many blocks are tagged as numbers are given.
 pub record IsMatched (t : Tabled) : Type 0 where
   pub tagged : AllByRecursion (IsTagged t) t.memory.blocks
   pub complete : (kind : Kind) → (number address : ℕ) → slot (slots_of kind t) number ≡ Some address
       → tag_at address t.memory.blocks ≡ Some (tag_of kind number)
+  pub loaded : (i base : ℕ) → base_at i t.libs ≡ Some base → tag_at base t.memory.blocks ≡ Some (library_tag i)
   pub count : (kind : Kind) → counted kind t.memory.blocks ≡ taken (slots_of kind t)
 
--- and there is one pool for each kind, all of one length
+-- and there is one pool for each kind, all of one length, and one place for each library
 pub record IsSound (t : Tabled) : Type 0 where
   pub matched : IsMatched t
   pub each : (kind : Kind) → length (slots_of kind t) ≡ t.pool
   pub kinds : length t.pools ≡ length kinds
+  pub each_library : length t.libs.loaded ≡ length t.libs.known
   pub small : t.pool ≤ 1024

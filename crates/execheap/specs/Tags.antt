@@ -62,6 +62,11 @@ abbrev pub is_of : Kind → Tagged → Bool
 is_of kind (Object other number) = is_same other kind
 is_of kind _ = false
 
+-- the number of the library, if it is one
+abbrev pub library_in : Tagged → Option ℕ
+library_in (Library number) = Some number
+library_in _ = None
+
 -- the number of the object, if it is one of that kind
 abbrev pub number_in : Kind → Tagged → Option ℕ
 number_in kind (Object other number) = if is_same other kind then Some number else None

@@ -9,6 +9,7 @@ ghost use Rattle.execheap.specs.declared.kind.Kind.TheVariants as variant;
 ghost use Rattle.execheap.specs.Numbered.{IsKnown, address_in, places, shown_heap};
 ghost use Rattle.execheap.specs.Refusals.{alert_of, is_none_or_in};
 
+mod libraries;
 mod ports;
 mod semaphores;
 

@@ -1,28 +1,32 @@
 //! The memory of a machine and the objects that live in it, by address. Its value is the memory of the abstract machine,
 //! with the public ports in the order in which they are kept.
-ghost use Rattle.std.specs.Prelude.{◌≡◌, ◌≤◌, ℕ, [], true, false, None, Some, IfOk, IsTrue, OnErr, OnOk, option_map};
+ghost use Rattle.std.specs.Prelude.{◌≡◌, ◌≤◌, ℕ, [], true, false, None, Some, length, map, IfOk, IsTrue, OnErr, OnOk, option_map};
+ghost use Rattle.execlib.specs.Libraries.{description_of};
 ghost use Rattle.memlist.specs.Fit.{avail};
 ghost use Rattle.execmodel.specs.State.{ListHead, Node, Plain, on_heap};
 ghost use Rattle.execmodel.specs.Memory.{block_at, can_be_asked, extents, freed, is_named, place_for, placed};
 ghost use Rattle.execmodel.specs.Objects.{place_for_object};
 ghost use Rattle.execmodel.specs.Lists.{is_list, is_node, free_list_alert, free_node_alert, link_alert, insert_alert, linked_alert, list_alert, find_alert};
 ghost use Rattle.execmodel.specs.Lists.{added_head, added_tail, enqueued, inserted, unlinked, removed_head, removed_tail, first_of, last_of, succ_of, pred_of, found_node};
+ghost use Rattle.execheap.specs.Numbered.{shown_library};
 ghost use Rattle.execheap.specs.Changes.{key_with};
 ghost use Rattle.execheap.specs.Refusals.{alert_of};
 
+mod libraries;
 mod ports;
 mod semaphores;
 
 use crate::objects::Objects;
 use crate::refusal::Refusal;
+use execlib::library::LibInit;
 use execlist::key::Name;
 use execlist::space::ListSpace;
 use memlist::Region;
 use std::alloc::{AllocError, Global};
 use std::marker::Model;
 
-/// The memory of a machine and the objects that live in it: lists and nodes, ports and messages, semaphores, over list spaces of the type
-/// S.
+/// The memory of a machine and the objects that live in it: lists and nodes, ports and messages, semaphores, and the libraries that are
+/// loaded, over list spaces of the type S.
 ///
 /// An object is named by the address of its block. No method takes memory of the host: `new` makes room for all that can ever live.
 #[derive(Drop)]
@@ -40,13 +44,20 @@ impl<S: ListSpace> Model for Heap<S> {
 }
 
 impl<S: ListSpace> Heap<S> {
-    /// The memory of these regions with nothing allocated; of each kind as many objects may live as `pool` says. An error means that memory
-    /// of the host is lacking, or that `check_regions` refuses the regions, which no machine file's are.
-    pub fn new(alloc: Global, regions: &[Region], pool: u32) -> Result<Self, AllocError>
-        requires { pool ≤ 1024 }
-        ensures { IfOk result (λ h. h ≡ record { regions = regions.now; pool = pool; heap = []; public = [] }) }
+    /// The memory of these regions with nothing allocated, and these libraries, at most 32, none of them loaded; of each kind as many objects
+    /// may live as `pool` says. An error means that memory of the host is lacking, or that `check_regions` refuses the regions, which no
+    /// machine file's are.
+    pub fn new(
+        alloc: Global,
+        regions: &[Region],
+        pool: u32,
+        libraries: &[LibInit],
+    ) -> Result<Self, AllocError>
+        requires pool { pool ≤ 1024 }
+        requires few { length libraries.now ≤ 32 }
+        ensures { IfOk result (λ h. h ≡ record { regions = regions.now; libraries = map shown_library (map description_of libraries.now); pool = pool; heap = []; public = [] }) }
     {
-        let objects = Objects::new(alloc, regions, pool)?;
+        let objects = Objects::new(alloc, regions, pool, libraries)?;
         Ok(Heap { objects })
     }
 

@@ -11,6 +11,7 @@ mod refusal;
 mod table;
 mod tag;
 
+pub use execlib::library::LibInit;
 pub use execlist::key::Name;
 pub use execlist::space::ListSpace;
 pub use heap::Heap;

@@ -1,8 +1,9 @@
 //! Objects by number, and the blocks in which they live. What the methods here mean by address stands in `heap`.
-ghost use Rattle.std.specs.Prelude.{◌≡◌, ◌≤◌, not, ◌&&◌, true, false, [], None, Some, find, option_map, IfOk, IfSome, IsSome, IsTrue};
+ghost use Rattle.std.specs.Prelude.{◌≡◌, ◌≤◌, not, ◌&&◌, true, false, [], None, Some, find, length, map, option_map, IfOk, IfSome, IsSome, IsTrue};
 ghost use Rattle.std.specs.Option.{ForSome};
 ghost use Rattle.execlist.specs.Order.{first};
 ghost use Rattle.execlist.specs.Lists.{home, is_named, last, part_after, part_before, part_from, sequence};
+ghost use Rattle.execlib.specs.Libraries.{description_of};
 ghost use Rattle.memlist.specs.Fit.{asks, avail, fit};
 ghost use Rattle.memlist.specs.Memory.{allocated, can_free, without_block};
 ghost use Rattle.execlist.specs.Pool.{slot};
@@ -15,11 +16,13 @@ ghost use Rattle.execheap.specs.Table.{number_at};
 ghost use Rattle.execheap.specs.Numbered.{IsKnown, places, shown_memory};
 ghost use Rattle.execheap.specs.Changes.{unused, key_with, at_head, at_tail, queued, put, taken_out, head_taken, tail_taken};
 
+mod libraries;
 mod ports;
 mod semaphores;
 
 use crate::kind::Kind;
 use crate::table::Table;
+use execlib::library::LibInit;
 use execlist::key::Name;
 use execlist::space::{HeaderId, ListSpace, NodeId};
 use memlist::Region;
@@ -35,7 +38,7 @@ const MOST_TASKS: usize = 4096;
 /// and the semaphores keep what they hold, and give the numbers that the table gives.
 #[derive(Drop)]
 pub struct Objects<S: ListSpace> {
-    table: Table,
+    table: Table<S>,
     space: S,
     ports: Ports<S>,
     sems: Sems<S>,
@@ -66,13 +69,19 @@ impl<S: ListSpace> Model for Objects<S> {
 }
 
 impl<S: ListSpace> Objects<S> {
-    /// Memory of these regions in which nothing is allocated, and room for so many objects of each kind.
-    pub fn new(alloc: Global, regions: &[Region], pool: u32) -> Result<Self, AllocError>
-        requires { pool ≤ 1024 }
-        ensures { IfOk result (λ o. o ≡ unused regions.now pool) }
+    /// Memory of these regions in which nothing is allocated, room for so many objects of each kind, and these libraries, none of them loaded.
+    pub fn new(
+        alloc: Global,
+        regions: &[Region],
+        pool: u32,
+        libraries: &[LibInit],
+    ) -> Result<Self, AllocError>
+        requires pool { pool ≤ 1024 }
+        requires few { length libraries.now ≤ 32 }
+        ensures { IfOk result (λ o. o ≡ unused regions.now pool (map description_of libraries.now)) }
     {
         let pool = pool as usize;
-        let table = Table::new(alloc, regions, pool)?;
+        let table = Table::new(alloc, regions, pool, libraries)?;
         let space = S::new(alloc, pool, pool)?;
         let ports = Ports::new(alloc, pool, pool)?;
         let sems = Sems::new(alloc, pool, MOST_TASKS)?;

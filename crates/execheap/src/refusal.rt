@@ -20,6 +20,9 @@ pub enum Refusal {
     /// A semaphore that is to be freed is owned, one that is to be released is not the caller's, or one is obtained too often.
     #[error("a semaphore owned, not owned by the caller, or obtained too often")]
     Sem,
+    /// A library that is to be closed is not open.
+    #[error("a library that is not open")]
+    Lib,
 }
 
 impl Refusal {
@@ -32,6 +35,7 @@ impl Refusal {
             Refusal::Link => "LINK",
             Refusal::Port => "PORT",
             Refusal::Sem => "SEM",
+            Refusal::Lib => "LIB",
         }
     }
 }

@@ -1,13 +1,18 @@
-//! Which blocks are objects of which kind, and where each object is. Here is nothing of what objects hold.
-ghost use Rattle.std.specs.Prelude.{◌≡◌, ◌≤◌, not, ◌&&◌, true, false, IfOk, IfSome, IsSome, IsTrue, None, Some};
+//! Which blocks are objects of which kind, and where each object is; and the libraries, which are loaded into blocks. Here is nothing of
+//! what objects hold.
+ghost use Rattle.std.specs.Prelude.{◌≡◌, ◌≤◌, not, ◌&&◌, true, false, length, map, IfOk, IfSome, IsSome, IsTrue, None, Some};
 ghost use Rattle.memlist.specs.Fit.{asks, avail, fit};
 ghost use Rattle.memlist.specs.Memory.{IsWellFormed, allocated, can_free, untouched, without_block};
 ghost use Rattle.execlist.specs.Pool.{IsStocked, all_free, slot};
-ghost use Rattle.execheap.specs.Table.{IsSound, free_pools, next_object, number_at, pool_of, slots_of, unused, with_object, without_object};
+ghost use Rattle.execlib.specs.Libraries.{close_fault, count_of, description_of, is_loaded, library_to_open, no_library_loaded, opened_base};
+ghost use Rattle.execheap.specs.Table.{IsSound, base_at, free_pools, library_at, library_closed, library_opened, library_removed, next_object, number_at, pool_of, slots_of, unused, with_object, without_object};
 
 use crate::kind::Kind;
-use crate::tag::{number_in, read, tag_of};
+use crate::tag::{library_in, number_in, read, tag_of};
+use execlib::library::LibInit;
+use execlib::libs::{LibId, Libs};
 use execlist::pool::Pool;
+use execlist::space::ListSpace;
 use memlist::{MemList, Region};
 use std::alloc::{AllocError, Global};
 use std::marker::Model;
@@ -15,36 +20,45 @@ use std::marker::Model;
 /// The requirement of the memory of an object: it is public (exec/memory.h).
 const MEMF_PUBLIC: u32 = 1;
 
-/// The blocks of a memory, and for each kind the addresses of its objects, by number.
+/// The blocks of a memory, for each kind the addresses of its objects, by number, and the libraries.
 #[derive(Drop)]
-pub struct Table {
+pub struct Table<S: ListSpace> {
     memory: MemList,
     pools: [Pool<u32>; 5],
     pool: usize,
+    libs: Libs<S>,
 }
 
-impl Model for Table {
+impl<S: ListSpace> Model for Table<S> {
     ghost use Rattle.execheap.specs.Table.{IsSound, Tabled};
 
     ghost Value = { Tabled };
 
-    ghost view = { λ t. record { memory = t.memory; pools = t.pools; pool = t.pool } };
+    ghost view = { λ t. record { memory = t.memory; pools = t.pools; pool = t.pool; libs = t.libs } };
 
-    ghost invariant = { λ t. IsSound (record { memory = t.memory; pools = t.pools; pool = t.pool }) };
+    ghost invariant = { λ t. IsSound (record { memory = t.memory; pools = t.pools; pool = t.pool; libs = t.libs }) };
 }
 
-impl Table {
-    /// Memory of these regions in which nothing is allocated, and room for so many objects of each kind.
-    pub fn new(alloc: Global, regions: &[Region], pool: usize) -> Result<Self, AllocError>
-        requires { pool ≤ 1024 }
-        ensures { IfOk result (λ t. t ≡ unused regions.now pool) }
+impl<S: ListSpace> Table<S> {
+    /// Memory of these regions in which nothing is allocated, room for so many objects of each kind, and these libraries, none of them loaded.
+    pub fn new(
+        alloc: Global,
+        regions: &[Region],
+        pool: usize,
+        libraries: &[LibInit],
+    ) -> Result<Self, AllocError>
+        requires pool { pool ≤ 1024 }
+        requires few { length libraries.now ≤ 32 }
+        ensures { IfOk result (λ t. t ≡ unused regions.now pool (map description_of libraries.now)) }
     {
         let memory = memory_of(alloc, regions)?;
         let pools = pools_of(alloc, pool)?;
+        let libs = Libs::new(alloc, libraries)?;
         Ok(Table {
             memory,
             pools,
             pool,
+            libs,
         })
     }
 
@@ -133,6 +147,62 @@ impl Table {
         self.memory.is_well_formed();
         self.memory.free_block(address);
         self.pools[kind.code()].release(number);
+    }
+
+    // ---- libraries
+
+    /// The number of the loaded library that begins at an address, if one does.
+    pub fn library_at(&self, address: u32) -> Option<LibId>
+        ensures value { result ≡ library_at address self.now }
+        ensures live { IfSome result (λ i. base_at i self.now.libs ≡ Some address) }
+    {
+        match self.memory.block_at(address) {
+            Some((_, tag)) => library_in(read(tag)),
+            None => None,
+        }
+    }
+
+    /// How often a loaded library is open.
+    pub fn library_count(&self, i: LibId) -> u32
+        requires { IsTrue (is_loaded i self.now.libs) }
+        ensures { result ≡ count_of i self.now.libs }
+    {
+        self.libs.count(i)
+    }
+
+    /// Opens the library of a name that has at least a version, loading it first where it is absent, and answers its base; none where there
+    /// is none such, or it can be opened no more, or its block fits nowhere.
+    pub fn open_library(&mut self, name: &str, version: u32) -> Option<u32>
+        ensures answer { result ≡ opened_base (library_to_open name.now version self.old.libs) self.old.libs self.old.memory }
+        ensures next { self.new ≡ library_opened (library_to_open name.now version self.old.libs) result self.old }
+        ensures sound { IsSound self.old }
+        ensures memory { IsWellFormed self.old.memory.regions self.old.memory.blocks }
+    {
+        self.memory.is_well_formed();
+        self.libs.open(name, version, &mut self.memory)
+    }
+
+    /// Closes a library that is open once.
+    pub fn close_library(&mut self, i: LibId)
+        requires loaded { IsTrue (is_loaded i self.old.libs) }
+        requires open { close_fault i self.old.libs ≡ None }
+        ensures next { self.new ≡ library_closed i self.old }
+        ensures sound { IsSound self.old }
+        ensures memory { IsWellFormed self.old.memory.regions self.old.memory.blocks }
+    {
+        self.memory.is_well_formed();
+        self.libs.close(i, &mut self.memory).unwrap();
+    }
+
+    /// Removes a loaded library, now or when it is closed for the last time.
+    pub fn remove_library(&mut self, i: LibId)
+        requires { IsTrue (is_loaded i self.old.libs) }
+        ensures next { self.new ≡ library_removed i self.old }
+        ensures sound { IsSound self.old }
+        ensures memory { IsWellFormed self.old.memory.regions self.old.memory.blocks }
+    {
+        self.memory.is_well_formed();
+        self.libs.remove(i, &mut self.memory);
     }
 }
 

@@ -1,6 +1,6 @@
 //! The tag that stands beside a block: what begins there.
 ghost use Rattle.std.specs.Prelude.{◌≡◌, ◌<◌};
-ghost use Rattle.execheap.specs.Tags.{number_in, tag_of, tagged};
+ghost use Rattle.execheap.specs.Tags.{library_in, number_in, tag_of, tagged};
 
 use crate::kind::Kind;
 
@@ -49,6 +49,16 @@ pub fn number_in(kind: Kind, tagged: Tagged) -> Option<usize>
 {
     match tagged {
         Tagged::Object(other, number) if other == kind => Some(number),
+        _ => None,
+    }
+}
+
+/// The number of the library, if it is one.
+pub fn library_in(tagged: Tagged) -> Option<usize>
+    ensures { result ≡ library_in tagged }
+{
+    match tagged {
+        Tagged::Library(number) => Some(number),
         _ => None,
     }
 }

@@ -3,7 +3,7 @@ use Rattle.execheap.proofs.Keeping.{kept_made}
 use Rattle.execheap.proofs.table.Table.make.Goals as goal
 
 pub invariant_of-self-2 : goal.invariant_of-self-2
-invariant_of-self-2 c =
+invariant_of-self-2 g c =
     let put = c.in_ok-address.ensures in
     kept_made c.self.invariant c.args.kind c.code-code.result c.code-code.ensures c.is_well_formed.ensures c.in_ok-number.number c.in_ok-address.address
     c.alloc_mem.new.self c.index-self-code-3.result c.give.new.self

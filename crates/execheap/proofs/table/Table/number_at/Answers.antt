@@ -6,7 +6,7 @@ use Rattle.execheap.proofs.Matching.{number_lives}
 use Rattle.execheap.proofs.table.Table.number_at.Goals as goal
 
 pub returns-in-Some-clause-live : goal.returns-in-Some-clause-live
-returns-in-Some-clause-live c =
+returns-in-Some-clause-live g c =
     let kind = c.args.kind in
     rw (sym c.self.view_is) (number_lives c.self.invariant kind c.args.address c.number_in.result
     (c.number_in.ensures ∙ ap (number_in kind) c.read.ensures
