@@ -1,5 +1,5 @@
--- What holds of the machine of a tree without faults: a quantum and a pool within their ranges, few software interrupts, servers and tasks, names that
--- differ, short bodies, variables within the limits, and in the body of an interrupt what it may have.
+-- What holds of the machine of a tree without faults: a quantum and a pool within their ranges, few libraries with versions and sizes within
+-- theirs, few software interrupts, servers and tasks, names that differ, short bodies, variables within the limits, and in the body of an interrupt what it may have.
 use Rattle.std.proofs.Common.{is_none, ◌≡◌, ◌≢◌, ◌⊎◌, ℕ, ◌≤◌, Bool, true, false, not, if◌then◌else◌, nat_le, List, [], ◌∷◌, ◌++◌, length, map, All, bytes_eq, codes, ℤ, pos, negsuc, inl, inr, lit≤, ◌&&◌, ◌||◌, Option, Some, None, refl, sym, ap, subst, ◌∙◌, append_assoc, arith}
 use Rattle.std.specs.List.{AllPairs, list_any}
 use Rattle.std.specs.Ordering.{int_eq}
@@ -17,16 +17,17 @@ use Rattle.taskscript.specs.declared.fault.FileFault.{FileFault}
 use Rattle.taskscript.specs.declared.fault.FileFault.TheVariants.{UnknownKey, BadValue, NameTwice, BadRegions, TooMany}
 use Rattle.taskscript.specs.Code.{lines_in, body_faults, code_of, shared_after}
 use Rattle.taskscript.specs.Faults.{first, check}
-use Rattle.taskscript.specs.File.{SoftintData, ServerData, TaskData, top_keys, softint_keys, server_keys, task_keys, name_of, softint_faults, server_faults, task_faults, named_faults, item_names, softints_in, servers_in, tasks_in, code_lines, setting_of, bodies_faults, with_bodies, shared_after_softints, shared_after_servers, names_before_servers, names_before_tasks, both_passes_faults, faults, region_faults, regions_faults, regions_in, quantum_of, pool_of, settings_faults, softint_of, softints_of, server_of, servers_of, task_of, tasks_of, machine_of}
+use Rattle.taskscript.specs.File.{LibraryData, SoftintData, ServerData, TaskData, top_keys, library_keys, softint_keys, server_keys, task_keys, name_of, library_faults, softint_faults, server_faults, task_faults, named_faults, item_names, libraries_in, libraries_faults, library_of, softints_in, servers_in, tasks_in, code_lines, setting_of, bodies_faults, with_bodies, shared_after_softints, shared_after_servers, names_before_servers, names_before_tasks, both_passes_faults, faults, region_faults, regions_faults, regions_in, quantum_of, pool_of, settings_faults, softint_of, softints_of, server_of, servers_of, task_of, tasks_of, MachineData, machine_of}
 use Rattle.taskscript.specs.Interrupting.{Setting}
-use Rattle.taskscript.specs.Machines.{IsCode, IsSoftintPri, IsSoftint, IsServer, IsTask, IsMachine, softint_names, server_names, task_names}
+use Rattle.taskscript.specs.Machines.{IsCode, IsSoftintPri, IsLibrary, IsSoftint, IsServer, IsTask, IsMachine, library_names, softint_names, server_names, task_names}
 use Rattle.taskscript.specs.Names.{is_name}
-use Rattle.taskscript.specs.Tree.{required, optional, table_faults, keys_are_among, integer_faults, pri_faults, is_softint_pri, softint_pri_faults, source_faults, boolean_faults, name_faults, count_items, array_faults, are_strings, code_faults, integer_or, number_or, items_faults, string_or_nothing, items_or_none, members_or_none}
+use Rattle.taskscript.specs.Tree.{required, optional, table_faults, keys_are_among, integer_faults, pri_faults, is_softint_pri, softint_pri_faults, source_faults, boolean_faults, name_faults, count_items, array_faults, are_strings, code_faults, integer_or, number_or, items_faults, of_items, string_or_nothing, items_or_none, members_or_none}
 use Rattle.taskscript.proofs.CodeLaws.{commands_fit, length-code_of}
 use Rattle.taskscript.proofs.Firsts.{first_left, first_right}
 use Rattle.taskscript.proofs.InterruptLaws.{commands_named, commands_interrupt}
 use Rattle.taskscript.proofs.Jumps.{jumps_fit}
 use Rattle.taskscript.proofs.OneName.{quotes_once}
+use Rattle.taskscript.proofs.OwnerTurns.{length-of_items}
 use Rattle.taskscript.proofs.OwnArguments.{commands_have}
 
 -- ---- one place
@@ -126,10 +127,17 @@ of_table judge (array ds) h = absurd cc
 abbrev Judge : Type 0
 Judge = List (List ℕ) → Members → List FileFault
 
--- a name and a code are among what is judged of an item
-record JudgesBoth (judge : Judge) : Type 0 where
+-- a name is among what is judged of an item
+record JudgesName (judge : Judge) : Type 0 where
   name : (before : List (List ℕ)) (ms : Members) → first (judge before ms) ≡ None → first (required (name_faults before) (get_member (codes "name") ms)) ≡ None
+
+-- and so is a code
+record JudgesBoth (judge : Judge) : Type 0 where
+  named : JudgesName judge
   code : (before : List (List ℕ)) (ms : Members) → first (judge before ms) ≡ None → first (required code_faults (get_member (codes "code") ms)) ≡ None
+
+library_named : JudgesName library_faults
+library_named = record { name = λ before ms h. first_left (required (name_faults before) (get_member (codes "name") ms)) _ (first_right (check (keys_are_among library_keys ms) UnknownKey) _ h) }
 
 softint_values : (before : List (List ℕ)) (ms : Members) → first (softint_faults before ms) ≡ None
     → first (required softint_pri_faults (get_member (codes "pri") ms) ++ required code_faults (get_member (codes "code") ms)) ≡ None
@@ -137,13 +145,13 @@ softint_values before ms h = first_right (required (name_faults before) (get_mem
 
 softint_judged : JudgesBoth softint_faults
 softint_judged = record {
-  name = λ before ms h. first_left (required (name_faults before) (get_member (codes "name") ms)) _ (first_right (check (keys_are_among softint_keys ms) UnknownKey) _ h);
+  named = record { name = λ before ms h. first_left (required (name_faults before) (get_member (codes "name") ms)) _ (first_right (check (keys_are_among softint_keys ms) UnknownKey) _ h) };
   code = λ before ms h. first_right (required softint_pri_faults (get_member (codes "pri") ms)) _ (softint_values before ms h);
 }
 
 server_judged : JudgesBoth server_faults
 server_judged = record {
-  name = λ before ms h. first_left (required (name_faults before) (get_member (codes "name") ms)) _ (first_right (check (keys_are_among server_keys ms) UnknownKey) _ h);
+  named = record { name = λ before ms h. first_left (required (name_faults before) (get_member (codes "name") ms)) _ (first_right (check (keys_are_among server_keys ms) UnknownKey) _ h) };
   code = λ before ms h.
       first_right (optional boolean_faults (get_member (codes "claim") ms)) _
       (first_right (pri_faults ms) _
@@ -153,7 +161,7 @@ server_judged = record {
 
 task_judged : JudgesBoth task_faults
 task_judged = record {
-  name = λ before ms h. first_left (required (name_faults before) (get_member (codes "name") ms)) _ (first_right (check (keys_are_among task_keys ms) UnknownKey) _ h);
+  named = record { name = λ before ms h. first_left (required (name_faults before) (get_member (codes "name") ms)) _ (first_right (check (keys_are_among task_keys ms) UnknownKey) _ h) };
   code = λ before ms h.
       first_right (optional boolean_faults (get_member (codes "start") ms)) _
       (first_right (pri_faults ms) _
@@ -164,11 +172,11 @@ length-lines_in : (ds : Items) → length (lines_in ds) ≡ count_items ds
 length-lines_in no_items = refl
 length-lines_in (item d ds) = rw (length-lines_in ds) (omega arith)
 
-is_fresh : (judge : Judge) → JudgesBoth judge → (before : List (List ℕ)) (d : Data) → first (table_faults (judge before) d) ≡ None → list_any (bytes_eq (name_of d)) before ≡ false
-is_fresh judge both before d h = (name_passes before (get_member (codes "name") (members_or_none d)) (both.name before (members_or_none d) (of_table (judge before) d h))).1
+is_fresh : (judge : Judge) → JudgesName judge → (before : List (List ℕ)) (d : Data) → first (table_faults (judge before) d) ≡ None → list_any (bytes_eq (name_of d)) before ≡ false
+is_fresh judge named before d h = (name_passes before (get_member (codes "name") (members_or_none d)) (named.name before (members_or_none d) (of_table (judge before) d h))).1
 
-is_named : (judge : Judge) → JudgesBoth judge → (before : List (List ℕ)) (d : Data) → first (table_faults (judge before) d) ≡ None → is_name (name_of d) ≡ true
-is_named judge both before d h = (name_passes before (get_member (codes "name") (members_or_none d)) (both.name before (members_or_none d) (of_table (judge before) d h))).0
+is_named : (judge : Judge) → JudgesName judge → (before : List (List ℕ)) (d : Data) → first (table_faults (judge before) d) ≡ None → is_name (name_of d) ≡ true
+is_named judge named before d h = (name_passes before (get_member (codes "name") (members_or_none d)) (named.name before (members_or_none d) (of_table (judge before) d h))).0
 
 is_short : (judge : Judge) → JudgesBoth judge → (before : List (List ℕ)) (d : Data) → first (table_faults (judge before) d) ≡ None → length (code_lines d) ≤ 1024
 is_short judge both before d h =
@@ -194,7 +202,7 @@ softint_holds softints before shared d h k =
     let ms = members_or_none d in
     let values = softint_values before ms (of_table (softint_faults before) d h) in
     record {
-      name = is_named softint_faults softint_judged before d h;
+      name = is_named softint_faults softint_judged.named before d h;
       pri = pri_passes (get_member (codes "pri") ms) (first_left (required softint_pri_faults (get_member (codes "pri") ms)) _ values);
       code = code_holds (setting true softints) shared d (is_short softint_faults softint_judged before d h) k;
       words = commands_interrupt softints shared (code_lines d) k;
@@ -203,7 +211,7 @@ softint_holds softints before shared d h k =
 server_holds : (softints before shared : List (List ℕ)) (d : Data) → first (table_faults (server_faults before) d) ≡ None → first (body_faults (setting true softints) shared (code_lines d)) ≡ None
     → IsServer softints (server_of shared d)
 server_holds softints before shared d h k = record {
-  name = is_named server_faults server_judged before d h;
+  name = is_named server_faults server_judged.named before d h;
   code = code_holds (setting true softints) shared d (is_short server_faults server_judged before d h) k;
   words = commands_interrupt softints shared (code_lines d) k;
 }
@@ -211,12 +219,70 @@ server_holds softints before shared d h k = record {
 task_holds : (softints before shared : List (List ℕ)) (d : Data) → first (table_faults (task_faults before) d) ≡ None → first (body_faults (setting false softints) shared (code_lines d)) ≡ None
     → IsTask softints (task_of shared d)
 task_holds softints before shared d h k = record {
-  name = is_named task_faults task_judged before d h;
+  name = is_named task_faults task_judged.named before d h;
   code = code_holds (setting false softints) shared d (is_short task_faults task_judged before d h) k;
   jumps = jumps_fit shared (code_lines d);
 }
 
+-- a number of a key that may be absent
+number_passes : (low high otherwise : ℕ) (value : Option Data) → low ≤ otherwise → otherwise ≤ high → first (optional (integer_faults (pos low) (pos high)) value) ≡ None
+    → (low ≤ number_or otherwise value) × (number_or otherwise value ≤ high)
+number_passes low high otherwise None p q h = (p, q)
+number_passes low high otherwise (Some (integer (pos n))) p q h = by (nat_le low n) (nat_le n high) refl refl h
+  where
+    by : (above below : Bool) → nat_le low n ≡ above → nat_le n high ≡ below → first (check (above && below) BadValue) ≡ None → (low ≤ n) × (n ≤ high)
+    by true true e f h = (grind (arith, nat_tests, e), grind (arith, nat_tests, f))
+    by true false e f h = absurd cc
+    by false below e f h = absurd cc
+number_passes low high otherwise (Some (integer (negsuc n))) p q h = absurd cc
+number_passes low high otherwise (Some (string s)) p q h = absurd cc
+number_passes low high otherwise (Some (float x)) p q h = absurd cc
+number_passes low high otherwise (Some (boolean b)) p q h = absurd cc
+number_passes low high otherwise (Some (datetime d)) p q h = absurd cc
+number_passes low high otherwise (Some (array ds)) p q h = absurd cc
+number_passes low high otherwise (Some (table ms)) p q h = absurd cc
+
+-- a number of a key that may not be absent
+required_passes : (low high : ℕ) (value : Option Data) → low ≤ high → first (required (integer_faults (pos low) (pos high)) value) ≡ None → (low ≤ number_or 0 value) × (number_or 0 value ≤ high)
+required_passes low high None p h = absurd cc
+required_passes low high (Some (integer (pos n))) p h = number_passes low high high (Some (integer (pos n))) p (omega arith) h
+required_passes low high (Some (integer (negsuc n))) p h = absurd cc
+required_passes low high (Some (string s)) p h = absurd cc
+required_passes low high (Some (float x)) p h = absurd cc
+required_passes low high (Some (boolean b)) p h = absurd cc
+required_passes low high (Some (datetime d)) p h = absurd cc
+required_passes low high (Some (array ds)) p h = absurd cc
+required_passes low high (Some (table ms)) p h = absurd cc
+
+library_holds : (before : List (List ℕ)) (d : Data) → first (table_faults (library_faults before) d) ≡ None → IsLibrary (library_of d)
+library_holds before d h =
+    let ms = members_or_none d in
+    let name = required (name_faults before) (get_member (codes "name") ms) in
+    let version = required (integer_faults (pos 0) (pos 65535)) (get_member (codes "version") ms) in
+    let size = required (integer_faults (pos 8) (pos 65536)) (get_member (codes "size") ms) in
+    let values : first (name ++ (version ++ size)) ≡ None = first_right (check (keys_are_among library_keys ms) UnknownKey) (name ++ (version ++ size)) (of_table (library_faults before) d h) in
+    let numbers : first (version ++ size) ≡ None = first_right name (version ++ size) values in
+    let sizes = required_passes 8 65536 (get_member (codes "size") ms) (lit≤ tt) (first_right version size numbers) in
+    record {
+      name = is_named library_faults library_named before d h;
+      version = (required_passes 0 65535 (get_member (codes "version") ms) (lit≤ tt) (first_left version size numbers)).1;
+      some_size = sizes.0;
+      small_size = sizes.1;
+    }
+
 -- ---- all items of an array
+
+each_holds : {X : Type 0} (P : X → Type 0) (judge : Judge) (of : Data → X) → ((before : List (List ℕ)) (d : Data) → first (table_faults (judge before) d) ≡ None → P (of d))
+    → (before : List (List ℕ)) (ds : Items) → first (named_faults judge before ds) ≡ None → All P (of_items of ds)
+each_holds P judge of holds before no_items h = All-nil P
+each_holds P judge of holds before (item d ds) h =
+    All-cons P (of d) (of_items of ds) (holds before d (first_left (table_faults (judge before) d) _ h))
+    (each_holds P judge of holds (before ++ name_of d ∷ []) ds (first_right (table_faults (judge before) d) _ h))
+
+names-of_items : {X : Type 0} (of : Data → X) (name : X → List ℕ) → ((d : Data) → name (of d) ≡ name_of d) → (ds : Items) → map name (of_items of ds) ≡ item_names ds
+names-of_items of name same no_items = refl
+names-of_items of name same (item d ds) =
+    ap (λ (n : List ℕ). n ∷ map name (of_items of ds)) (same d) ∙ ap (λ (ns : List (List ℕ)). name_of d ∷ ns) (names-of_items of name same ds)
 
 all_hold : {X : Type 0} (P : X → Type 0) (judge : Judge) (s : Setting) (of : List (List ℕ) → Data → X)
     → ((before shared : List (List ℕ)) (d : Data) → first (table_faults (judge before) d) ≡ None → first (body_faults s shared (code_lines d)) ≡ None → P (of shared d))
@@ -246,10 +312,10 @@ abbrev AreNew : List (List ℕ) → List (List ℕ) → Type 0
 AreNew before [] = Unit {0}
 AreNew before (n ∷ ns) = (list_any (bytes_eq n) before ≡ false) × AreNew (before ++ n ∷ []) ns
 
-names_new : (judge : Judge) → JudgesBoth judge → (before : List (List ℕ)) (ds : Items) → first (named_faults judge before ds) ≡ None → AreNew before (item_names ds)
-names_new judge both before no_items h = tt
-names_new judge both before (item d ds) h =
-    (is_fresh judge both before d (first_left (table_faults (judge before) d) _ h), names_new judge both (before ++ name_of d ∷ []) ds (first_right (table_faults (judge before) d) _ h))
+names_new : (judge : Judge) → JudgesName judge → (before : List (List ℕ)) (ds : Items) → first (named_faults judge before ds) ≡ None → AreNew before (item_names ds)
+names_new judge named before no_items h = tt
+names_new judge named before (item d ds) h =
+    (is_fresh judge named before d (first_left (table_faults (judge before) d) _ h), names_new judge named (before ++ name_of d ∷ []) ds (first_right (table_faults (judge before) d) _ h))
 
 new-append : (before ns ms : List (List ℕ)) → AreNew before ns → AreNew (before ++ ns) ms → AreNew before (ns ++ ms)
 new-append before [] ms h k = subst (λ (names : List (List ℕ)). AreNew names ms) (append-nil before) k
@@ -278,24 +344,6 @@ all_differ before (n ∷ ns) h =
 
 -- ---- the machine
 
--- a number of a key that may be absent
-number_passes : (low high otherwise : ℕ) (value : Option Data) → low ≤ otherwise → otherwise ≤ high → first (optional (integer_faults (pos low) (pos high)) value) ≡ None
-    → (low ≤ number_or otherwise value) × (number_or otherwise value ≤ high)
-number_passes low high otherwise None p q h = (p, q)
-number_passes low high otherwise (Some (integer (pos n))) p q h = by (nat_le low n) (nat_le n high) refl refl h
-  where
-    by : (above below : Bool) → nat_le low n ≡ above → nat_le n high ≡ below → first (check (above && below) BadValue) ≡ None → (low ≤ n) × (n ≤ high)
-    by true true e f h = (grind (arith, nat_tests, e), grind (arith, nat_tests, f))
-    by true false e f h = absurd cc
-    by false below e f h = absurd cc
-number_passes low high otherwise (Some (integer (negsuc n))) p q h = absurd cc
-number_passes low high otherwise (Some (string s)) p q h = absurd cc
-number_passes low high otherwise (Some (float x)) p q h = absurd cc
-number_passes low high otherwise (Some (boolean b)) p q h = absurd cc
-number_passes low high otherwise (Some (datetime d)) p q h = absurd cc
-number_passes low high otherwise (Some (array ds)) p q h = absurd cc
-number_passes low high otherwise (Some (table ms)) p q h = absurd cc
-
 no_fault : {X : Type 0} (fault : Option X) → first (check (is_none fault) BadRegions) ≡ None → fault ≡ None
 no_fault None h = refl
 no_fault (Some f) h = absurd cc
@@ -307,17 +355,21 @@ regions_hold ms h = no_fault (regions_fault 1048576 (regions_in ms)) (first_righ
 pub record HasNoFaults (tree : Members) : Type 0 where
   pub settings : first (settings_faults tree) ≡ None
   pub regions : first (regions_faults tree) ≡ None
+  pub libraries : first (libraries_faults tree) ≡ None
   pub passes : first (both_passes_faults tree) ≡ None
 
 has_none : (ms : Members) → first (faults ms) ≡ None → HasNoFaults ms
 has_none ms h =
     let keys = check (keys_are_among top_keys ms) UnknownKey in
-    let values : first (settings_faults ms ++ (regions_faults ms ++ both_passes_faults ms)) ≡ None = first_right keys (settings_faults ms ++ (regions_faults ms ++ both_passes_faults ms)) h in
-    let arrays : first (regions_faults ms ++ both_passes_faults ms) ≡ None = first_right (settings_faults ms) (regions_faults ms ++ both_passes_faults ms) values in
+    let later = libraries_faults ms ++ both_passes_faults ms in
+    let values : first (settings_faults ms ++ (regions_faults ms ++ later)) ≡ None = first_right keys (settings_faults ms ++ (regions_faults ms ++ later)) h in
+    let arrays : first (regions_faults ms ++ later) ≡ None = first_right (settings_faults ms) (regions_faults ms ++ later) values in
+    let last : first later ≡ None = first_right (regions_faults ms) later arrays in
     record {
-      settings = first_left (settings_faults ms) (regions_faults ms ++ both_passes_faults ms) values;
-      regions = first_left (regions_faults ms) (both_passes_faults ms) arrays;
-      passes = first_right (regions_faults ms) (both_passes_faults ms) arrays;
+      settings = first_left (settings_faults ms) (regions_faults ms ++ later) values;
+      regions = first_left (regions_faults ms) later arrays;
+      libraries = first_left (libraries_faults ms) (both_passes_faults ms) last;
+      passes = first_right (libraries_faults ms) (both_passes_faults ms) last;
     }
 
 -- the faults of both passes, array by array
@@ -350,6 +402,9 @@ good_owners ms h =
       task_bodies = first_right server_bodies task_bodies later_bodies;
     }
 
+library_names-are : (ms : Members) → library_names (of_items library_of (libraries_in ms)) ≡ item_names (libraries_in ms)
+library_names-are ms = names-of_items library_of (λ (l : LibraryData). l.name) (λ d. refl) (libraries_in ms)
+
 softint_names-are : (ms : Members) → softint_names (softints_of [] (softints_in ms)) ≡ item_names (softints_in ms)
 softint_names-are ms = names-with_bodies softint_of (λ (i : SoftintData). i.name) (λ shared d. refl) [] (softints_in ms)
 
@@ -362,6 +417,7 @@ task_names-are ms = names-with_bodies task_of (λ (t : TaskData). t.name) (λ sh
 pub machine_of_parts : (ms : Members) → HasNoFaults ms → IsMachine (machine_of ms)
 machine_of_parts ms h =
     let good = good_owners ms h.passes in
+    let libraries = array_passes 32 (named_faults library_faults []) (get_member (codes "library") ms) refl h.libraries in
     let softints = array_passes 32 (named_faults softint_faults []) (get_member (codes "softint") ms) refl good.softints in
     let servers = array_passes 32 (named_faults server_faults (names_before_servers ms)) (get_member (codes "server") ms) refl good.servers in
     let tasks = array_passes 64 (named_faults task_faults (names_before_tasks ms)) (get_member (codes "task") ms) refl good.tasks in
@@ -372,14 +428,17 @@ machine_of_parts ms h =
     let firsts = item_names (softints_in ms) in
     let seconds = item_names (servers_in ms) in
     let thirds = item_names (tasks_in ms) in
-    let new : AreNew [] (firsts ++ (seconds ++ thirds)) = new-append [] firsts (seconds ++ thirds) (names_new softint_faults softint_judged [] (softints_in ms) softints.1)
-    (new-append firsts seconds thirds (names_new server_faults server_judged firsts (servers_in ms) servers.1) (names_new task_faults task_judged (firsts ++ seconds) (tasks_in ms) tasks.1)) in
+    let new : AreNew [] (firsts ++ (seconds ++ thirds)) = new-append [] firsts (seconds ++ thirds) (names_new softint_faults softint_judged.named [] (softints_in ms) softints.1)
+    (new-append firsts seconds thirds (names_new server_faults server_judged.named firsts (servers_in ms) servers.1) (names_new task_faults task_judged.named (firsts ++ seconds) (tasks_in ms) tasks.1)) in
     record {
       some_quantum = quantum.0;
       short_quantum = quantum.1;
       some_pool = pool.0;
       small_pool = pool.1;
       regions = regions_hold ms h.regions;
+      few_libraries = omega (arith, length-of_items library_of (libraries_in ms), libraries.0);
+      libraries = each_holds IsLibrary library_faults library_of library_holds [] (libraries_in ms) libraries.1;
+      library_names = rw (library_names-are ms) (all_differ [] (item_names (libraries_in ms)) (names_new library_faults library_named [] (libraries_in ms) libraries.1));
       few_softints = omega (arith, length-with_bodies softint_of [] (softints_in ms), softints.0);
       softints = rw (softint_names-are ms) (all_hold (IsSoftint firsts) softint_faults (setting true firsts) softint_of (softint_holds firsts) [] [] (softints_in ms) softints.1 good.softint_bodies);
       few_servers = omega (arith, length-with_bodies server_of (shared_after_softints ms) (servers_in ms), servers.0);
@@ -393,8 +452,18 @@ pub machine_holds : (ms : Members) → first (faults ms) ≡ None → IsMachine 
 machine_holds ms h = machine_of_parts ms (has_none ms h)
 
 -- the same of parts that were read from the tree
-pub read_holds : (ms : Members) (quantum pool : ℕ) (regions : List Region) (softints : List SoftintData) (servers : List ServerData) (tasks : List TaskData) → HasNoFaults ms
-    → quantum ≡ quantum_of ms → pool ≡ pool_of ms → regions ≡ regions_in ms
+pub read_holds : (ms : Members) (quantum pool : ℕ) (regions : List Region) (libraries : List LibraryData) (softints : List SoftintData) (servers : List ServerData) (tasks : List TaskData) → HasNoFaults ms
+    → quantum ≡ quantum_of ms → pool ≡ pool_of ms → regions ≡ regions_in ms → libraries ≡ of_items library_of (libraries_in ms)
     → softints ≡ softints_of [] (softints_in ms) → servers ≡ servers_of (shared_after_softints ms) (servers_in ms) → tasks ≡ tasks_of (shared_after_servers ms) (tasks_in ms)
-    → IsMachine (record { quantum = quantum; pool = pool; regions = regions; softints = softints; servers = servers; tasks = tasks })
-read_holds ms quantum pool regions softints servers tasks none p q r s t u = rw (p, q, r, s, t, u) (machine_of_parts ms none)
+    → IsMachine (record { quantum = quantum; pool = pool; regions = regions; libraries = libraries; softints = softints; servers = servers; tasks = tasks })
+read_holds ms quantum pool regions libraries softints servers tasks none p q r l s t u = rw (p, q, r, l, s, t, u) (machine_of_parts ms none)
+
+abbrev made : ℕ → ℕ → List Region → List LibraryData → List SoftintData → List ServerData → List TaskData → MachineData
+made quantum pool regions libraries softints servers tasks = record { quantum = quantum; pool = pool; regions = regions; libraries = libraries; softints = softints; servers = servers; tasks = tasks }
+
+-- and they are its machine
+pub read_is : (ms : Members) (quantum pool : ℕ) (regions : List Region) (libraries : List LibraryData) (softints : List SoftintData) (servers : List ServerData) (tasks : List TaskData)
+    → quantum ≡ quantum_of ms → pool ≡ pool_of ms → regions ≡ regions_in ms → libraries ≡ of_items library_of (libraries_in ms)
+    → softints ≡ softints_of [] (softints_in ms) → servers ≡ servers_of (shared_after_softints ms) (servers_in ms) → tasks ≡ tasks_of (shared_after_servers ms) (tasks_in ms)
+    → made quantum pool regions libraries softints servers tasks ≡ machine_of ms
+read_is ms quantum pool regions libraries softints servers tasks p q r l s t u = rw (p, q, r, l, s, t, u) refl

@@ -3,7 +3,7 @@ use Rattle.std.proofs.Common.{ℕ, ◌+◌, ◌≡◌, ◌≤◌, arith, lit≤,
 use Rattle.std.specs.Prelude.{count_by, slice_index_or}
 use Rattle.std.proofs.lemmas.List.Sums.{sum_by-cons}
 use Rattle.taskscript.specs.declared.word.Word.{Word}
-use Rattle.taskscript.specs.declared.word.Word.TheVariants.{Plain, Signals, Nesting, Tasks, Lists, Memory, Ports, Semaphores, Interrupts}
+use Rattle.taskscript.specs.declared.word.Word.TheVariants.{Plain, Signals, Nesting, Tasks, Lists, Memory, Ports, Semaphores, Interrupts, Libraries}
 use Rattle.taskscript.specs.declared.word.plain.PlainWord.TheVariants.{Set, Add, Sub, And, Or, Jump, JumpZ, JumpNZ, Print}
 use Rattle.taskscript.specs.declared.word.task_signals.SignalWord.TheVariants.{AllocSignal, FreeSignal, SetSignal, Signal, Wait}
 use Rattle.taskscript.specs.declared.word.nesting.NestingWord.TheVariants.{Forbid, Permit, Disable, Enable}
@@ -13,6 +13,7 @@ use Rattle.taskscript.specs.declared.word.memory.MemoryWord.TheVariants.{AllocMe
 use Rattle.taskscript.specs.declared.word.ports.PortWord.TheVariants.{CreateMsgPort, DeleteMsgPort, AddPort, RemPort, FindPort, PortSignal, PortCause, PortIgnore, NewMsg, FreeMsg, MsgWord, SetMsgWord, MsgType, PutMsg, GetMsg, WaitPort, ReplyMsg}
 use Rattle.taskscript.specs.declared.word.semaphores.SemaphoreWord.TheVariants.{NewSem, FreeSem, ObtainSemaphore, AttemptSemaphore, ReleaseSemaphore}
 use Rattle.taskscript.specs.declared.word.interrupts.InterruptWord.TheVariants.{Cause}
+use Rattle.taskscript.specs.declared.word.libraries.LibraryWord.TheVariants.{OpenLibrary, CloseLibrary, RemLibrary, LibOpenCnt}
 use Rattle.taskscript.specs.declared.word.row.Kind.{Kind}
 use Rattle.taskscript.specs.declared.word.row.Kind.TheVariants.{Value, Label, Name, NameOrNone, Softint}
 use Rattle.taskscript.specs.Commands.{ArgumentData, number, variable, quoted, place, CommandData}
@@ -95,6 +96,10 @@ one_name (Semaphores ObtainSemaphore) = lit≤ tt
 one_name (Semaphores AttemptSemaphore) = lit≤ tt
 one_name (Semaphores ReleaseSemaphore) = lit≤ tt
 one_name (Interrupts Cause) = lit≤ tt
+one_name (Libraries OpenLibrary) = lit≤ tt
+one_name (Libraries CloseLibrary) = lit≤ tt
+one_name (Libraries RemLibrary) = lit≤ tt
+one_name (Libraries LibOpenCnt) = lit≤ tt
 
 -- the count of a first one and the others
 abbrev of_one : Bool → ℕ

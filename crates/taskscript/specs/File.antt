@@ -94,19 +94,6 @@ regions_faults tree =
     optional (array_faults 8 (items_faults (table_faults region_faults))) (get_member (codes "region") tree)
     ++ check (is_none (regions_fault 1048576 (regions_in tree))) BadRegions
 
--- ---- libraries
-
-abbrev pub library_keys : List (List ℕ)
-library_keys = codes "name" ∷ codes "version" ∷ codes "size" ∷ []
-
--- the table of a library after the names of the libraries before it: its keys, then its values in the order name, version, size
-abbrev pub library_faults : List (List ℕ) → Members → List FileFault
-library_faults before library =
-    check (keys_are_among library_keys library) UnknownKey
-    ++ (required (name_faults before) (get_member (codes "name") library)
-    ++ (required (integer_faults (pos 0) (pos 65535)) (get_member (codes "version") library)
-    ++ required (integer_faults (pos 8) (pos 65536)) (get_member (codes "size") library)))
-
 -- ---- software interrupts, servers and tasks: what has a name and a code
 
 abbrev pub softint_keys : List (List ℕ)
@@ -184,11 +171,18 @@ servers_in tree = items_or_none (get_member (codes "server") tree)
 abbrev pub tasks_in : Members → Items
 tasks_in tree = items_or_none (get_member (codes "task") tree)
 
--- ---- the second pass: the lines
+-- ---- libraries
 
--- the lines of what has a `code`
-abbrev pub code_lines : Data → List (List ℕ)
-code_lines owner = lines_in (items_or_none (get_member (codes "code") (members_or_none owner)))
+abbrev pub library_keys : List (List ℕ)
+library_keys = codes "name" ∷ codes "version" ∷ codes "size" ∷ []
+
+-- the table of a library after the names of the libraries before it: its keys, then its values in the order name, version, size
+abbrev pub library_faults : List (List ℕ) → Members → List FileFault
+library_faults before library =
+    check (keys_are_among library_keys library) UnknownKey
+    ++ (required (name_faults before) (get_member (codes "name") library)
+    ++ (required (integer_faults (pos 0) (pos 65535)) (get_member (codes "version") library)
+    ++ required (integer_faults (pos 8) (pos 65536)) (get_member (codes "size") library)))
 
 -- the items of the array `library`
 abbrev pub libraries_in : Members → Items
@@ -204,6 +198,12 @@ library_of library = record {
   version = number_or 0 (get_member (codes "version") (members_or_none library));
   size = number_or 0 (get_member (codes "size") (members_or_none library));
 }
+
+-- ---- the second pass: the lines
+
+-- the lines of what has a `code`
+abbrev pub code_lines : Data → List (List ℕ)
+code_lines owner = lines_in (items_or_none (get_member (codes "code") (members_or_none owner)))
 
 -- what the body of an interrupt, or of a task, is judged by
 abbrev pub setting_of : Bool → Members → Setting

@@ -48,34 +48,35 @@ server_head_view h = record { name = h.name.bytes; source = h.source; pri = h.pr
 abbrev pub task_head_view : TaskHead → TaskData
 task_head_view h = record { name = h.name.bytes; pri = h.pri; start = h.start; code = [] }
 
-abbrev pub softint_head_of : Data → SoftintData
-softint_head_of softint = record { name = name_of softint; pri = pri_of softint; code = [] }
+-- what an item is with those commands
+abbrev pub softint_with : Data → List CommandData → SoftintData
+softint_with softint code = record { name = name_of softint; pri = pri_of softint; code = code }
 
-abbrev pub server_head_of : Data → ServerData
-server_head_of server = record {
+abbrev pub server_with : Data → List CommandData → ServerData
+server_with server code = record {
   name = name_of server;
   source = server_source_of server;
   pri = pri_of server;
   claim = claim_of server;
-  code = [];
+  code = code;
 }
 
+abbrev pub task_with : Data → List CommandData → TaskData
+task_with task code = record { name = name_of task; pri = pri_of task; start = start_of task; code = code }
+
+-- its head
+abbrev pub softint_head_of : Data → SoftintData
+softint_head_of softint = softint_with softint []
+
+abbrev pub server_head_of : Data → ServerData
+server_head_of server = server_with server []
+
 abbrev pub task_head_of : Data → TaskData
-task_head_of task = record { name = name_of task; pri = pri_of task; start = start_of task; code = [] }
+task_head_of task = task_with task []
 
--- a head with the commands of its body
-abbrev pub softint_with : SoftintData → List CommandData → SoftintData
-softint_with head code = record head { code = code }
-
-abbrev pub server_with : ServerData → List CommandData → ServerData
-server_with head code = record head { code = code }
-
-abbrev pub task_with : TaskData → List CommandData → TaskData
-task_with head code = record head { code = code }
-
--- what an item is, whose body stands after those shared variables, by its head
-abbrev pub made_of : {X : Type 0} → (Data → X) → (X → List CommandData → X) → List (List ℕ) → Data → X
-made_of head_of with shared owner = with (head_of owner) (code_of shared (code_lines owner))
+-- what an item is, whose body stands after those shared variables
+abbrev pub made_of : {X : Type 0} → (Data → List CommandData → X) → List (List ℕ) → Data → X
+made_of with shared owner = with owner (code_of shared (code_lines owner))
 
 -- ---- what a body is judged by
 

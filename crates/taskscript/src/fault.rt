@@ -39,8 +39,8 @@ pub enum FileFault {
     /// A line that is right in a task stands in the body of a software interrupt or of a server, where it is not allowed.
     #[error("a line is not allowed in an interrupt")]
     NotInInterrupt = 9,
-    /// There are more regions, software interrupts, servers, tasks, lines or variables than the limits allow.
-    #[error("there are too many regions, software interrupts, servers, tasks, lines or variables")]
+    /// There are more regions, libraries, software interrupts, servers, tasks, lines or variables than the limits allow.
+    #[error("there are too many regions, libraries, software interrupts, servers, tasks, lines or variables")]
     TooMany = 10,
     /// Memory was refused while the file was read.
     #[error("out of memory")]

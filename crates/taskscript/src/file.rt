@@ -27,6 +27,7 @@ pub struct TaskRecord {
 pub struct LibraryRecord {
     /// Its name, which no other library has.
     pub name: Name,
+    /// Its version, which an opener may ask for at least.
     pub version: u16,
     /// The bytes of memory that it takes while it is loaded: 8 to 65,536.
     pub size: u32,

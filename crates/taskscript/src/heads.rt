@@ -48,15 +48,18 @@ pub trait Head: Named {
     /// What it is with its code.
     type Record: Drop;
 
+    /// The data that it stands for with its code.
+    ghost Whole: { Type 0 };
+
     /// What a record stands for.
-    ghost record_view: { Self.Record → Self.Shown };
+    ghost record_view: { Self.Record → Whole };
 
-    /// A head with its commands.
-    ghost with: { Self.Shown → List CommandData → Self.Shown };
+    /// The one of an item, with those commands.
+    ghost with: { Data → List CommandData → Whole };
 
-    /// What it is with its code.
+    /// What it is with its code: the head of an item becomes that item with these commands.
     fn with_code(self, code: Vec<Command>) -> Self::Record
-        ensures { record_view result ≡ with (Self.head_view self) (map command_view code.items) };
+        ensures { (item : Data) → Self.head_view self ≡ Self.head_of item → record_view result ≡ with item (map command_view code.items) };
 }
 
 /// What the first pass keeps of a software interrupt.
@@ -156,6 +159,8 @@ impl Named for SoftintHead {
 impl Head for SoftintHead {
     type Record = SoftintRecord;
 
+    ghost Whole = { SoftintData };
+
     ghost record_view = { softint_view };
 
     ghost with = { softint_with };
@@ -199,6 +204,8 @@ impl Named for ServerHead {
 impl Head for ServerHead {
     type Record = ServerRecord;
 
+    ghost Whole = { ServerData };
+
     ghost record_view = { server_view };
 
     ghost with = { server_with };
@@ -237,6 +244,8 @@ impl Named for TaskHead {
 
 impl Head for TaskHead {
     type Record = TaskRecord;
+
+    ghost Whole = { TaskData };
 
     ghost record_view = { task_view };
 

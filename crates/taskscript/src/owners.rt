@@ -2,7 +2,7 @@
 //! second one reads their bodies, in the order of the file.
 ghost use Rattle.std.specs.Prelude.{◌≡◌, ◌≤◌, length, take, map, OnOk};
 ghost use Rattle.toml.specs.View.{table_view, view, items_view};
-ghost use Rattle.taskscript.specs.Code.{lines_in, body_faults, code_of, shared_after};
+ghost use Rattle.taskscript.specs.Code.{lines_in, body_faults, shared_after};
 ghost use Rattle.taskscript.specs.Faults.{Judges};
 ghost use Rattle.taskscript.specs.File.{code_lines, bodies_faults, with_bodies, shared_after_bodies, owners_faults, lines_of_all_faults, both_passes_faults};
 ghost use Rattle.taskscript.specs.Numbering.{texts};
@@ -38,7 +38,8 @@ fn record_of<H: Head>(
     item: &Value,
     shared: &mut IndexSet<VariableName>,
 ) -> Result<H::Record, FileFault>
-    ensures judged { Judges result (body_faults (setting_view setting.entry) (texts shared.old.keys) (code_lines (view item.now))) (λ r. H.record_view r ≡ H.with (H.head_view head) (code_of (texts shared.old.keys) (code_lines (view item.now)))) }
+    requires { H.head_view head ≡ H.head_of (view item.now) }
+    ensures judged { Judges result (body_faults (setting_view setting.entry) (texts shared.old.keys) (code_lines (view item.now))) (λ r. H.record_view r ≡ made_of H.with (texts shared.old.keys) (view item.now)) }
     ensures shared { OnOk result (texts shared.new.keys ≡ shared_after (texts shared.old.keys) (code_lines (view item.now))) }
 {
     let code = read_code(alloc, setting, lines_of(item), shared)?;
@@ -54,7 +55,7 @@ fn records_of<H: Head>(
     shared: &mut IndexSet<VariableName>,
 ) -> Result<Vec<H::Record>, FileFault>
     requires { map H.head_view heads.now ≡ of_items H.head_of (items_view items.now) }
-    ensures judged { Judges result (bodies_faults (setting_view setting.entry) (texts shared.old.keys) (items_view items.now)) (λ rs. map H.record_view rs.items ≡ with_bodies (made_of H.head_of H.with) (texts shared.old.keys) (items_view items.now)) }
+    ensures judged { Judges result (bodies_faults (setting_view setting.entry) (texts shared.old.keys) (items_view items.now)) (λ rs. map H.record_view rs.items ≡ with_bodies (made_of H.with) (texts shared.old.keys) (items_view items.now)) }
     ensures shared { OnOk result (texts shared.new.keys ≡ shared_after_bodies (texts shared.old.keys) (items_view items.now)) }
 {
     let mut records = Vec::new(alloc);

@@ -70,10 +70,11 @@ fn machine_of(alloc: Global, table: &Table) -> Result<MachineFile, FileFault>
 /// Reads a machine file, a TOML document.
 ///
 /// It may have `quantum`, 1 to 255, which is 4 where it is absent, `pool`, 1 to 1024, which is 64 where it is absent, `region`, an array of
-/// at most 8 tables, `library`, `softint` and `server`, arrays of at most 32 tables each, and `task`, an array of at most 64 tables. A region has `base`
-/// and `size`, 0 to 4294967295, and may have `attrs`, 0 to 7, which is 1 where it is absent, and a `pri` as a task.
+/// at most 8 tables, `library`, `softint` and `server`, arrays of at most 32 tables each, and `task`, an array of at most 64 tables. A region
+/// has `base` and `size`, 0 to 4294967295, and may have `attrs`, 0 to 7, which is 1 where it is absent, and a `pri` as a task.
 ///
-/// A library has a `name` as below, which no other library has, a `version` from 0 to 65535, and a `size` in bytes, 8 to 65536.
+/// A library has a `name` as below, which no other library has, a `version` from 0 to 65535, and a `size` in bytes, 8 to 65536. What is no
+/// library may have a library's name.
 ///
 /// A software interrupt, a server and a task have a `name` of 1 to 31 of the characters `A`-`Z`, `a`-`z`, `0`-`9`, `.`, `_` and `-`, which no
 /// other of them all has, and a `code`, an array of at most 1,024 strings, which are its lines. A software interrupt has a `pri` of -32, -16,
@@ -87,10 +88,10 @@ fn machine_of(alloc: Global, table: &Table) -> Result<MachineFile, FileFault>
 /// # Errors
 ///
 /// The first faulty place decides. First the whole tree is judged: the keys of the file, then `quantum` and `pool`, then `region`, `library`,
-/// `softint`, `server` and `task` (`BadValue` where it is no array, `TooMany` where it is too long), then item by item: `BadValue` where it is no table,
-/// `UnknownKey`, then its keys in the order `base`, `size`, `attrs`, `pri`, or `name`, `pri`, `code`, or `name`, `source`, `pri`, `claim`,
-/// `code`, or `name`, `pri`, `start`, `code`, each `MissingKey` or `BadValue`, with `NameTwice` right after the name and `TooMany` after a
-/// `code` of strings. `BadRegions` comes after the last region, where `memlist::check_regions` refuses them. Then the bodies of all software
+/// `softint`, `server` and `task` (`BadValue` where it is no array, `TooMany` where it is too long), then item by item: `BadValue` where it is
+/// no table, `UnknownKey`, then its keys in the order `base`, `size`, `attrs`, `pri`, or `name`, `version`, `size`, or `name`, `pri`, `code`,
+/// or `name`, `source`, `pri`, `claim`, `code`, or `name`, `pri`, `start`, `code`, each `MissingKey` or `BadValue`, with `NameTwice` right
+/// after the name and `TooMany` after a `code` of strings. `BadRegions` comes after the last region, where `memlist::check_regions` refuses them. Then the bodies of all software
 /// interrupts, of all servers and of all tasks are judged: in each, line by line, `BadCommand`, `NotInInterrupt` for what is right in a task
 /// and may not stand in the body of an interrupt, `BadLabel` for a label that stands twice and `TooMany` for a variable past its limit, and
 /// after its last line `BadLabel` for a jump whose label the body lacks. `NotToml` comes before all else, and `OutOfMemory` may come wherever

@@ -11,7 +11,7 @@ invariant-loop-item g l =
     let left = items_view (drop l.item-index l.items) in
     let all = items_view l.items in
     record {
-      judged : first (named_faults g.H.Head.faults (texts l.names.items) left) ≡ first (named_faults g.H.Head.faults (texts l.fn.names.items) all);
-      found : map g.H.Head.head_view l.heads.items ++ of_items g.H.Head.head_of left ≡ of_items g.H.Head.head_of all;
+      judged : first (named_faults g.H.Named.faults (texts l.names.items) left) ≡ first (named_faults g.H.Named.faults (texts l.fn.names.items) all);
+      found : map g.H.Named.head_view l.heads.items ++ of_items g.H.Named.head_of left ≡ of_items g.H.Named.head_of all;
       names : texts l.names.items ++ item_names left ≡ texts l.fn.names.items ++ item_names all;
     }

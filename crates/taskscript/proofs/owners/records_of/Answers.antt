@@ -1,7 +1,7 @@
-use Rattle.std.proofs.Common.{◌≡◌, sym, ◌∙◌, ap, arith}
+use Rattle.std.proofs.Common.{◌≡◌, sym, ◌∙◌, arith}
 use Rattle.std.proofs.lemmas.Result.{err_from_is_err_and}
 use Rattle.toml.specs.View.{view}
-use Rattle.taskscript.specs.Code.{code_of, shared_after}
+use Rattle.taskscript.specs.Code.{shared_after}
 use Rattle.taskscript.specs.File.{code_lines}
 use Rattle.taskscript.specs.Numbering.{texts}
 use Rattle.taskscript.specs.Records.{setting_view, made_of}
@@ -9,10 +9,13 @@ use Rattle.taskscript.proofs.OwnerTurns.{heads_fill, heads_at, bodies_stop, bodi
 use Rattle.taskscript.proofs.owners.records_of.Goals as goal
 
 pub bounds-heads-i : goal.bounds-heads-i
-bounds-heads-i g c = omega (arith, heads_fill g.H.Head.head_view g.H.Head.head_of c.args.heads.now c.args.items.now c.requires, c.loop-i-test.true)
+bounds-heads-i g c = omega (arith, heads_fill g.H.Named.head_view g.H.Named.head_of c.args.heads.now c.args.items.now c.requires, c.loop-i-test.true)
 
 pub offset_bounds-heads-i : goal.offset_bounds-heads-i
-offset_bounds-heads-i g c = omega (arith, heads_fill g.H.Head.head_view g.H.Head.head_of c.args.heads.now c.args.items.now c.requires, c.loop-i-test.true)
+offset_bounds-heads-i g c = omega (arith, heads_fill g.H.Named.head_view g.H.Named.head_of c.args.heads.now c.args.items.now c.requires, c.loop-i-test.true)
+
+pub record_of-requires : goal.record_of-requires
+record_of-requires g c = heads_at g.H.Named.head_view g.H.Named.head_of c.args.heads.now c.args.items.now c.loop-i.i c.index-heads-i.result c.index-items-i.result c.requires c.loop-i-test.true c.index-heads-i.is c.index-items-i.is
 
 pub returns-in_err-record-clause-judged : goal.returns-in_err-record-clause-judged
 returns-in_err-record-clause-judged g c =
@@ -22,13 +25,12 @@ returns-in_err-record-clause-judged g c =
 pub loop-i-preserved : goal.loop-i-preserved
 loop-i-preserved g c =
     let setting = setting_view c.args.setting in
-    let of = made_of g.H.Head.head_of g.H.Head.with in
+    let of = made_of g.H.Head.with in
     let item = c.index-items-i.result in
     let before = texts c.loop-i.shared.keys in
     let after = texts c.record_of.new.shared.keys in
     let seen : after ≡ shared_after before (code_lines (view item)) = c.in_ok-record.ensures.shared in
-    let head = heads_at g.H.Head.head_view g.H.Head.head_of c.args.heads.now c.args.items.now c.loop-i.i c.index-heads-i.result item c.requires c.loop-i-test.true c.index-heads-i.is c.index-items-i.is in
-    let same : g.H.Head.record_view c.in_ok-record.record ≡ of before (view item) = c.in_ok-record.ensures.judged.1 ∙ ap (λ h. g.H.Head.with h (code_of before (code_lines (view item)))) head in
+    let same : g.H.Head.record_view c.in_ok-record.record ≡ of before (view item) = c.in_ok-record.ensures.judged.1 in
     rw c.in_ok-push.ensures.items (record {
       judged = sym (bodies_go_on setting before after c.args.items.now c.loop-i.i item c.loop-i-test.true c.index-items-i.is c.in_ok-record.ensures.judged.0 seen) ∙ c.loop-i.invariant.judged;
       found = sym (records_found g.H.Head.record_view of before after c.loop-i.records.items c.in_ok-record.record c.args.items.now c.loop-i.i item c.loop-i-test.true c.index-items-i.is seen same) ∙ c.loop-i.invariant.found;

@@ -9,7 +9,7 @@ use Rattle.taskscript.proofs.owners.records_of.Given as goal
 abbrev pub invariant-loop-i : goal.invariant-loop-i
 invariant-loop-i g l =
     let setting = setting_view l.setting in
-    let of = made_of g.H.Head.head_of g.H.Head.with in
+    let of = made_of g.H.Head.with in
     let left = items_view (drop l.i l.items) in
     let all = items_view l.items in
     record {

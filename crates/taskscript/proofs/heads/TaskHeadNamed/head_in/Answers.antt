@@ -8,7 +8,7 @@ use Rattle.taskscript.specs.File.{task_keys}
 use Rattle.taskscript.specs.Numbering.{texts}
 use Rattle.taskscript.specs.Tree.{required, optional, keys_are_among, pri_faults, boolean_faults, name_faults, code_faults}
 use Rattle.taskscript.proofs.Firsts.{skip}
-use Rattle.taskscript.proofs.heads.TaskHeadHead.head_in.Goals as goal
+use Rattle.taskscript.proofs.heads.TaskHeadNamed.head_in.Goals as goal
 
 pub returns-in_err-check_code-clause-judged : goal.returns-in_err-check_code-clause-judged
 returns-in_err-check_code-clause-judged c =

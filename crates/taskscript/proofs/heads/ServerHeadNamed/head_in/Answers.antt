@@ -8,7 +8,7 @@ use Rattle.taskscript.specs.File.{server_keys}
 use Rattle.taskscript.specs.Numbering.{texts}
 use Rattle.taskscript.specs.Tree.{required, optional, keys_are_among, pri_faults, source_faults, boolean_faults, name_faults, code_faults}
 use Rattle.taskscript.proofs.Firsts.{first_some, skip}
-use Rattle.taskscript.proofs.heads.ServerHeadHead.head_in.Goals as goal
+use Rattle.taskscript.proofs.heads.ServerHeadNamed.head_in.Goals as goal
 
 pub returns-in_err-claim-clause-judged : goal.returns-in_err-claim-clause-judged
 returns-in_err-claim-clause-judged c =

@@ -1,0 +1,21 @@
+use Rattle.std.proofs.Common.{sym, ◌∙◌, ap, Bool, codes, pos}
+use Rattle.std.proofs.lemmas.Result.{err_from_is_err_and}
+use Rattle.toml.specs.Data.{get_member}
+use Rattle.toml.specs.View.{table_view}
+use Rattle.taskscript.specs.declared.fault.FileFault.TheVariants.{UnknownKey}
+use Rattle.taskscript.specs.Faults.{first, check}
+use Rattle.taskscript.specs.File.{library_keys}
+use Rattle.taskscript.specs.Numbering.{texts}
+use Rattle.taskscript.specs.Tree.{required, keys_are_among, integer_faults, name_faults}
+use Rattle.taskscript.proofs.Firsts.{skip}
+use Rattle.taskscript.proofs.heads.LibraryRecordNamed.head_in.Goals as goal
+
+pub returns-in_err-size-clause-judged : goal.returns-in_err-size-clause-judged
+returns-in_err-size-clause-judged c =
+    let p = err_from_is_err_and c.from_residual-in_err-size.result c.from_residual-in_err-size.ensures.1 in
+    let f = c.in_err-size.field-0.0 in
+    let t = table_view c.args.table.now in
+    let keys = ap (λ (b : Bool). first (check b UnknownKey)) (sym c.has_only.ensures ∙ c.if-not-has_only.false) in
+    rw (p.1, p.2) (skip (check (keys_are_among library_keys t) UnknownKey) _ f keys
+    (skip (required (name_faults (texts c.args.names.now.items)) (get_member (codes "name") t)) _ f c.in_ok-name.ensures.judged.0
+    (skip (required (integer_faults (pos 0) (pos 65535)) (get_member (codes "version") t)) (required (integer_faults (pos 8) (pos 65536)) (get_member (codes "size") t)) f c.in_ok-version.ensures.exact.0 c.in_err-size.ensures.exact)))
