@@ -5,14 +5,13 @@ use Rattle.std.proofs.lemmas.List.{take_all}
 use Rattle.exectrace.specs.Sink.{Tape, Puts}
 use Rattle.exectrace.specs.Trace.{printed_line, Server, Softint}
 use Rattle.taskscript.specs.Commands.{CommandData}
-use Rattle.execmodel.specs.State.{Bodies, State, Outcome, quiet, says, andthen, unless_stopped}
+use Rattle.execmodel.specs.State.{Bodies, State, says, andthen, unless_stopped}
 use Rattle.execmodel.specs.Bodies.{body_step, runs_body}
 use Rattle.execmodel.specs.Calls.{call_in_body}
-use Rattle.execmodel.specs.State.{Call, Scripts}
+use Rattle.execmodel.specs.State.{Call}
 use Rattle.execmodel.specs.Bodies.{does_in_body}
 use Rattle.execmodel.specs.Interrupts.{runs_server, server_at, softint_at}
 use Rattle.execsim.specs.declared.bodies.Body.{Body}
-use Rattle.execsim.specs.declared.bodies.Body.TheVariants as body
 use Rattle.execsim.specs.Actions.{does_at_place, softint_body}
 use Rattle.execsim.specs.Agreement.{Seen, Agrees, Follows}
 use Rattle.execsim.specs.Views.{code_of_body, name_of_body}

@@ -1,7 +1,7 @@
 -- The names of the software interrupts of a file differ, so that each stands once among the names that were put in, at its number.
-use Rattle.std.proofs.Common.{◌≡◌, ◌≢◌, ℕ, zero, suc, ◌+◌, ◌<◌, ◌≤◌, Bool, true, false, cond, not, List, [], ◌∷◌, ◌++◌, length, map, take, get_or, Option, None, Some, refl, sym, ap, ◌∙◌, subst, arith}
+use Rattle.std.proofs.Common.{◌≡◌, ◌≢◌, ℕ, suc, ◌+◌, ◌<◌, Bool, true, false, cond, not, List, [], ◌∷◌, ◌++◌, length, map, take, get_or, None, Some, refl, sym, ap, ◌∙◌, arith}
 use Rattle.std.specs.Prelude.{◌||◌, nat_lt, bytes_eq}
-use Rattle.std.specs.List.{AllPairs, list_any, position, position_or_len, prefix_len}
+use Rattle.std.specs.List.{AllPairs, list_any, position, position_or_len}
 use Rattle.std.proofs.lemmas.Bool.{ltb-false}
 use Rattle.std.proofs.lemmas.List.{get_or-take, length-map, length-take-le, map_push, take-map, take_more}
 use Rattle.std.proofs.Math.ListN.{get_or-map as default_map}

@@ -1,6 +1,6 @@
 -- No body changes what interrupts execute.
 use Rattle.std.proofs.Common.{◌≡◌, ℕ, Bool, true, false, cond, List, [], ◌∷◌, Option, None, Some, refl, ◌∙◌}
-use Rattle.std.specs.Prelude.{nat_eq, if◌then◌else◌}
+use Rattle.std.specs.Prelude.{nat_eq}
 use Rattle.taskscript.specs.declared.word.Word.{Word}
 use Rattle.taskscript.specs.declared.word.Word.TheVariants as word
 use Rattle.taskscript.specs.declared.word.plain.PlainWord.{PlainWord}
@@ -16,7 +16,7 @@ use Rattle.msgport.specs.declared.action.Action.{Action}
 use Rattle.msgport.specs.declared.action.Action.TheVariants as action
 use Rattle.msgport.specs.Port.{acting}
 use Rattle.execlist.specs.Order.{first}
-use Rattle.execmodel.specs.State.{Bodies, Call, State, Outcome, quiet, andthen, unless_stopped, on_memory, on_heap}
+use Rattle.execmodel.specs.State.{Call, State, Outcome, quiet, andthen, unless_stopped, on_memory, on_heap}
 use Rattle.execmodel.specs.Bodies.{body_step, does_in_body, does_interrupts_by, does_plain_by, does_ports_by, does_signals_by, does_word_by, runs_body}
 use Rattle.execmodel.specs.Calls.{ByBody, argument, call_in_body, unless_by}
 use Rattle.execmodel.specs.Interrupts.{runs_server, server_at}

@@ -1,5 +1,5 @@
 -- The commands of a file, made small: of the arguments at most one is a name, so it can stand beside them.
-use Rattle.std.proofs.Common.{◌≡◌, ℕ, zero, suc, ◌+◌, ◌<◌, ◌≤◌, arith, Bool, true, false, if◌then◌else◌, List, [], ◌∷◌, ◌++◌, All, length, map, take, get_or, Option, refl, sym, subst, ap, ◌∙◌}
+use Rattle.std.proofs.Common.{◌≡◌, ℕ, zero, suc, ◌+◌, ◌<◌, ◌≤◌, arith, if◌then◌else◌, List, [], ◌∷◌, ◌++◌, All, length, map, take, get_or, Option, refl, sym, subst, ap, ◌∙◌}
 use Rattle.std.specs.Prelude.{count_by}
 use Rattle.std.proofs.lemmas.List.{take_more, take_more_set, map_push, take-map, length-map}
 use Rattle.std.proofs.lemmas.List.Elements.{All-nil, All-cons}

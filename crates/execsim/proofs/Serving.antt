@@ -1,5 +1,5 @@
 -- How the machine follows the causing, the requests and the serving of interrupts.
-use Rattle.std.proofs.Common.{◌≡◌, ℕ, zero, suc, ◌+◌, ◌-◌, ◌<◌, ◌≤◌, Bool, true, false, cond, not, ◌&&◌, ◌||◌, ◌==◌, nat_lt, List, [], ◌∷◌, length, map, drop, Option, None, Some, refl, ap, sym, ◌∙◌, subst, arith}
+use Rattle.std.proofs.Common.{◌≡◌, ℕ, zero, suc, ◌+◌, ◌≤◌, Bool, true, false, cond, not, ◌&&◌, ◌||◌, ◌==◌, nat_lt, List, [], ◌∷◌, length, drop, Option, None, Some, refl, ap, sym, ◌∙◌, subst, arith}
 use Rattle.std.specs.Prelude.{ℤ, if◌then◌else◌, slice_get}
 use Rattle.std.specs.List.{list_any}
 use Rattle.std.proofs.lemmas.Bool.{ne_eqb}
@@ -16,10 +16,10 @@ use Rattle.softint.specs.Interrupts as ints
 use Rattle.softint.specs.Interrupts.{Interrupts, pri_at}
 use Rattle.execmodel.specs.State.{Bodies, Pending, State, Outcome, quiet, says, andthen, unless_stopped, on_pending, on_schedule}
 use Rattle.execmodel.specs.Interrupts.{by_choice, chain_of, counted, interrupts, runs_chain, runs_server, server_at, server_pri, servers_of, serves, servings, text_of_source}
-use Rattle.execmodel.specs.Pending.{allows_interrupts, is_caused, next_softint, next_source, softint_pri, taken_off, with_latch_of}
+use Rattle.execmodel.specs.Pending.{allows_interrupts, is_caused, next_softint, next_source, softint_pri, with_latch_of}
 use Rattle.execsim.specs.Actions.{served, softint_seen, source_seen, with_caused}
 use Rattle.execsim.specs.Agreement.{Seen, Agrees, Follows}
-use Rattle.execsim.specs.Views.{IsFor, interrupting}
+use Rattle.execsim.specs.Views.{IsFor}
 use Rattle.execsim.proofs.Following.{follows_as, follows_change, follows_known, follows_nothing, follows_says, follows_then, guarded_going, guarded_stopped, moves_latch, moves_schedule}
 use Rattle.execsim.proofs.Keeping.{server_keeps}
 use Rattle.execsim.proofs.Ordering.{allowed-in_order, counted-in_order}

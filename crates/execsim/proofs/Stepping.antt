@@ -11,7 +11,7 @@ use Rattle.scheduler.specs.Dispatch as dispatch
 use Rattle.scheduler.specs.declared.Switch.{Switch as Choice}
 use Rattle.scheduler.specs.declared.Switch.TheVariants as switch
 use Rattle.softint.specs.declared.source.Source.{Source}
-use Rattle.execmodel.specs.State.{Call, Scripts, State, Outcome, quiet, andthen, program_of, on_schedule, on_pending, unless_stopped}
+use Rattle.execmodel.specs.State.{Call, Scripts, State, quiet, andthen, program_of, on_schedule, on_pending, unless_stopped}
 use Rattle.execmodel.specs.Scheduling.{rescheduled, added}
 use Rattle.execmodel.specs.Calls.{next_call}
 use Rattle.execmodel.specs.Interrupts.{interrupts, runs_softint}

@@ -1,5 +1,5 @@
 -- What the commands, the calls and the bodies of the machine show.
-use Rattle.std.specs.Prelude.{◌≡◌, ◌<◌, ℕ, All, List, [], ◌∷◌, length, map, take}
+use Rattle.std.specs.Prelude.{◌≡◌, ◌<◌, ℕ, All, List, [], ◌∷◌, map, take}
 use Rattle.std.specs.Option.{option_map}
 use Rattle.exectrace.specs.Short.{short_argument}
 use Rattle.taskscript.specs.declared.variable.Variable.{Variable}

@@ -1,7 +1,7 @@
 use Rattle.taskscript.specs.File.{ServerData}
 use Rattle.taskscript.specs.Records as records
-use Rattle.execsim.specs.Views.{CanBeSmall, server_view}
-use Rattle.execsim.proofs.Naming.{holds_at, shown_more}
+use Rattle.execsim.specs.Views.{CanBeSmall}
+use Rattle.execsim.proofs.Naming.{holds_at}
 use Rattle.execsim.proofs.bodies.servers_of.Goals as goal
 
 pub server_of-requires : goal.server_of-requires

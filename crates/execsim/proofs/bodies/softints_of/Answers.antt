@@ -1,7 +1,7 @@
 use Rattle.taskscript.specs.File.{SoftintData}
 use Rattle.taskscript.specs.Records as records
-use Rattle.execsim.specs.Views.{CanBeSmall, softint_view}
-use Rattle.execsim.proofs.Naming.{holds_at, shown_more}
+use Rattle.execsim.specs.Views.{CanBeSmall}
+use Rattle.execsim.proofs.Naming.{holds_at}
 use Rattle.execsim.proofs.bodies.softints_of.Goals as goal
 
 pub softint_of-requires : goal.softint_of-requires

@@ -1,6 +1,5 @@
 -- The priorities and the sources are those of the records.
-use Rattle.std.proofs.Common.{All, map, sym, subst}
-use Rattle.std.specs.Prelude.{ℤ, List}
+use Rattle.std.proofs.Common.{All, sym, subst}
 use Rattle.softint.specs.Interrupts.{IsPriority}
 use Rattle.softint.specs.declared.interrupt.Soft.{Soft}
 use Rattle.taskscript.specs.declared.file.SoftintRecord.{SoftintRecord}

@@ -1,4 +1,3 @@
-use Rattle.std.proofs.Common.{◌∙◌, sym}
 use Rattle.taskscript.specs.Commands.{CommandFits, command_view}
 use Rattle.taskscript.specs.Machines.{QuotesOnce}
 use Rattle.execsim.specs.Views.{small_view}

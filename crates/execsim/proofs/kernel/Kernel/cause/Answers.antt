@@ -1,9 +1,9 @@
 -- What is caused is put in behind those of its priority.
-use Rattle.std.proofs.Common.{◌≡◌, true, length, ap, sym, ◌∙◌, rules}
+use Rattle.std.proofs.Common.{◌≡◌, true, length, ap, ◌∙◌}
 use Rattle.std.specs.Prelude.{nat_lt}
-use Rattle.memlist.proofs.Answered.{nat_lt-true, nat_lt-false}
+use Rattle.memlist.proofs.Answered.{nat_lt-true}
 use Rattle.execmodel.specs.State.{Pending}
-use Rattle.execsim.proofs.Serving.{causes_known, causes_unknown, pending_of}
+use Rattle.execsim.proofs.Serving.{causes_known, pending_of}
 use Rattle.execsim.proofs.kernel.Kernel.cause.Goals as goal
 
 pub returns-then-i-softint_count : goal.returns-then-i-softint_count

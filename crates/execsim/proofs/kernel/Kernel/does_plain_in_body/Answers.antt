@@ -1,4 +1,4 @@
-use Rattle.std.proofs.Common.{◌≡◌, List, ℕ, subst, sym}
+use Rattle.std.proofs.Common.{◌≡◌, subst, sym}
 use Rattle.exectrace.specs.Sink.{Tape}
 use Rattle.taskscript.specs.declared.word.plain.PlainWord.{PlainWord}
 use Rattle.execmodel.specs.State.{Call}

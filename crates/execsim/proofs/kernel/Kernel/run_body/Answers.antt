@@ -1,6 +1,6 @@
 use Rattle.std.proofs.Common.{refl}
 use Rattle.execsim.specs.Views.{code_of_body}
-use Rattle.execsim.proofs.BodyCalls.{all_commands, more_commands, no_command}
+use Rattle.execsim.proofs.BodyCalls.{more_commands, no_command}
 use Rattle.execsim.proofs.kernel.Kernel.run_body.Goals as goal
 
 pub loop-place-init : goal.loop-place-init
