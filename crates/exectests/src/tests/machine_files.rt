@@ -5,12 +5,15 @@ use std::alloc::Global;
 use std::process::Abort;
 use std::test::*;
 use taskscript::{
-    Command, FileFault, InterruptWord, PlainWord, PortWord, ServerRecord, SignalWord,
-    SoftintRecord, Source, TaskRecord, Word, read_machine,
+    Command, FileFault, InterruptWord, LibraryRecord, PlainWord, PortWord, ServerRecord,
+    SignalWord, SoftintRecord, Source, TaskRecord, Word, read_machine,
 };
 
 /// What a task must hold: its name, its priority, whether it starts, and the words of its commands.
 type Task = (&'static str, i8, bool, &'static [Word]);
+
+/// What a library must hold: its name, its version and its size.
+type Library = (&'static str, u16, u32);
 
 /// What a software interrupt must hold: its name, its priority, and the words of its commands.
 type Softint = (&'static str, i8, &'static [Word]);
@@ -26,12 +29,13 @@ struct Machine {
     quantum: u8,
     pool: u32,
     regions: &'static [Region],
+    libraries: &'static [Library],
     softints: &'static [Softint],
     servers: &'static [Server],
     tasks: &'static [Task],
 }
 
-static MACHINES: [Machine; 3] = [
+static MACHINES: [Machine; 4] = [
     Machine {
         name: "a machine file gives its parts in order",
         file: "quantum = 255\npool = 1024\n\
@@ -54,6 +58,7 @@ static MACHINES: [Machine; 3] = [
                 pri: 0,
             },
         ],
+        libraries: &[],
         softints: &[],
         servers: &[],
         tasks: &[
@@ -75,6 +80,7 @@ static MACHINES: [Machine; 3] = [
         quantum: 4,
         pool: 64,
         regions: &[],
+        libraries: &[],
         softints: &[],
         servers: &[],
         tasks: &[],
@@ -89,6 +95,7 @@ static MACHINES: [Machine; 3] = [
         quantum: 4,
         pool: 64,
         regions: &[],
+        libraries: &[],
         softints: &[
             ("high", 32, &[Word::Plain(PlainWord::Print)]),
             ("low", -32, &[]),
@@ -113,6 +120,19 @@ static MACHINES: [Machine; 3] = [
             ],
         )],
     },
+    Machine {
+        name: "a machine file gives its libraries in order, and a task may have the name of one",
+        file: "[[task]]\nname = \"b\"\ncode = []\n\
+            [[library]]\nsize = 65536\nname = \"b\"\nversion = 0\n\
+            [[library]]\nname = \"a.library\"\nversion = 65535\nsize = 8\n",
+        quantum: 4,
+        pool: 64,
+        regions: &[],
+        libraries: &[("b", 0, 65536), ("a.library", 65535, 8)],
+        softints: &[],
+        servers: &[],
+        tasks: &[("b", 0, true, &[])],
+    },
 ];
 
 /// The faults, with their numbers.
@@ -130,6 +150,73 @@ static NUMBERS: [(FileFault, u8); 11] = [
     (FileFault::OutOfMemory, 11),
 ];
 
+/// Files of libraries, each with its fault, if it is refused.
+static LIBRARIES: [(&str, Option<FileFault>); 19] = [
+    ("library = []", None),
+    ("library = 1", Some(FileFault::BadValue)),
+    ("library = [1]", Some(FileFault::BadValue)),
+    (
+        "[[library]]\nname = \"a\"\nversion = 0\nsize = 7",
+        Some(FileFault::BadValue),
+    ),
+    ("[[library]]\nname = \"a\"\nversion = 0\nsize = 8", None),
+    ("[[library]]\nname = \"a\"\nversion = 0\nsize = 9", None),
+    (
+        "[[library]]\nname = \"a\"\nversion = 65535\nsize = 65536",
+        None,
+    ),
+    (
+        "[[library]]\nname = \"a\"\nversion = 0\nsize = 65537",
+        Some(FileFault::BadValue),
+    ),
+    (
+        "[[library]]\nname = \"a\"\nversion = 65536\nsize = 8",
+        Some(FileFault::BadValue),
+    ),
+    (
+        "[[library]]\nname = \"a\"\nversion = -1\nsize = 8",
+        Some(FileFault::BadValue),
+    ),
+    (
+        "[[library]]\nname = \"\"\nversion = 0\nsize = 8",
+        Some(FileFault::BadValue),
+    ),
+    (
+        "[[library]]\nversion = -1\nsize = 8",
+        Some(FileFault::MissingKey),
+    ),
+    (
+        "[[library]]\nname = \"a\"\nsize = 7",
+        Some(FileFault::MissingKey),
+    ),
+    (
+        "[[library]]\nname = \"a\"\nversion = 0",
+        Some(FileFault::MissingKey),
+    ),
+    (
+        "[[library]]\nname = \"a\"\nversion = -1\nsize = 8\npri = 0",
+        Some(FileFault::UnknownKey),
+    ),
+    (
+        "library = [{ name = \"a\", version = 0, size = 8 }, { name = \"a\", version = -1, size = 8 }]",
+        Some(FileFault::NameTwice),
+    ),
+    (
+        "library = [{ name = \"a\", version = 0, size = 8 }, { name = \"A\", version = 0, size = 8 }]\n\
+            softint = [{ name = \"a\", pri = 0, code = [] }]\n\
+            server = [{ name = \"A\", source = \"PORTS\", code = [] }]",
+        None,
+    ),
+    (
+        "library = [{ name = \"a\", version = 0 }]\nregion = [{ base = 0, size = 7 }]",
+        Some(FileFault::BadRegions),
+    ),
+    (
+        "library = [{ name = \"a\", version = 0 }]\nsoftint = 1\nserver = 1\ntask = 1",
+        Some(FileFault::MissingKey),
+    ),
+];
+
 /// The fault of a machine file, if it is refused.
 fn fault_of(alloc: Global, file: &[u8]) -> Option<FileFault> {
     match read_machine(alloc, file) {
@@ -143,6 +230,15 @@ fn holds_words(rt: &impl Abort, name: &str, code: &[Command], words: &[Word]) {
     same_at(rt, name, "code", code.len(), words.len());
     for (command, word) in code.iter().zip(words) {
         same_at(rt, name, "word", command.word, *word);
+    }
+}
+
+/// The libraries are those that are wanted.
+fn holds_libraries(rt: &impl Abort, name: &str, found: &[LibraryRecord], wanted: &[Library]) {
+    same_at(rt, name, "libraries", found.len(), wanted.len());
+    for (library, (text, version, size)) in found.iter().zip(wanted) {
+        let shown = (library.name.as_str(), library.version, library.size);
+        same_at(rt, name, "library", shown, (*text, *version, *size));
     }
 }
 
@@ -196,6 +292,7 @@ fn holds(rt: &impl Abort, alloc: Global, wanted: &Machine) {
         machine.regions(),
         wanted.regions,
     );
+    holds_libraries(rt, wanted.name, machine.libraries(), wanted.libraries);
     holds_softints(rt, wanted.name, machine.softints(), wanted.softints);
     holds_servers(rt, wanted.name, machine.servers(), wanted.servers);
     holds_tasks(rt, wanted.name, machine.tasks(), wanted.tasks);
@@ -231,4 +328,40 @@ fn bytes_that_are_no_text_are_not_toml(rt: HostRuntime) {
         found,
         Some(FileFault::NotToml),
     );
+}
+
+#[test]
+fn the_first_faulty_place_of_libraries_decides(rt: HostRuntime) {
+    for (file, fault) in &LIBRARIES {
+        let found = fault_of(rt.alloc(), file.as_bytes());
+        same_at(&rt, "files of libraries", file, found, *fault);
+    }
+}
+
+/// A file with a library for each pair of these letters.
+fn libraries_named(alloc: Global, firsts: &[u8], seconds: &[u8]) -> Result<Vec<u8>, Fail> {
+    let mut file = Vec::new(alloc);
+    for first in firsts {
+        for second in seconds {
+            file.extend_from_slice(b"[[library]]\nversion = 1\nsize = 8\nname = \"")?;
+            file.extend_from_slice(&[*first, *second])?;
+            file.extend_from_slice(b"\"\n")?;
+        }
+    }
+    Ok(file)
+}
+
+#[test]
+fn a_machine_has_at_most_32_libraries(rt: HostRuntime) -> Result<(), Fail> {
+    let file = libraries_named(rt.alloc(), b"abcd", b"abcdefgh")?;
+    same_at(&rt, "libraries", "32", fault_of(rt.alloc(), &file), None);
+    let file = libraries_named(rt.alloc(), b"abc", b"abcdefghijk")?;
+    same_at(
+        &rt,
+        "libraries",
+        "33",
+        fault_of(rt.alloc(), &file),
+        Some(FileFault::TooMany),
+    );
+    Ok(())
 }

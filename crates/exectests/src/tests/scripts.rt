@@ -5,10 +5,12 @@ use std::alloc::{AllocError, Global};
 use std::process::Abort;
 use std::test::*;
 use taskscript::Variable::{self, Private, Shared};
-use taskscript::Word::{self, Interrupts, Lists, Plain, Ports, Semaphores, Signals, Tasks};
+use taskscript::Word::{
+    self, Interrupts, Libraries, Lists, Plain, Ports, Semaphores, Signals, Tasks,
+};
 use taskscript::{
-    Argument, Command, InterruptWord, ListWord, PlainWord, PortWord, SemaphoreWord, SignalWord,
-    TaskWord, read_machine,
+    Argument, Command, InterruptWord, LibraryWord, ListWord, PlainWord, PortWord, SemaphoreWord,
+    SignalWord, TaskWord, read_machine,
 };
 
 /// An argument, as a case writes it.
@@ -34,7 +36,7 @@ type Line = (
 );
 
 /// The lines that are commands, by groups, each group with its name. The target is numbered before the arguments.
-static COMMANDS: [(&str, &[Line]); 9] = [
+static COMMANDS: [(&str, &[Line]); 10] = [
     (
         "each word of lists and nodes is read",
         &[
@@ -286,6 +288,35 @@ static COMMANDS: [(&str, &[Line]); 9] = [
             None,
             &[Quoted("go")],
         )],
+    ),
+    (
+        "each word of libraries is read",
+        &[
+            (
+                "@b = OpenLibrary \"x.library\" 65535",
+                Libraries(LibraryWord::OpenLibrary),
+                Some(Shared(0)),
+                &[Quoted("x.library"), Number(65535)],
+            ),
+            (
+                "CloseLibrary @b",
+                Libraries(LibraryWord::CloseLibrary),
+                None,
+                &[Held(Shared(0))],
+            ),
+            (
+                "RemLibrary $1050",
+                Libraries(LibraryWord::RemLibrary),
+                None,
+                &[Number(0x1050)],
+            ),
+            (
+                "n = LibOpenCnt b",
+                Libraries(LibraryWord::LibOpenCnt),
+                Some(Private(0)),
+                &[Held(Private(1))],
+            ),
+        ],
     ),
     (
         "a name to find stands between quotes",
