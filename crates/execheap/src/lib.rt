@@ -1,6 +1,6 @@
 //! The memory of a machine and the objects that live in it, by address.
 //! `Heap` is what callers use. `objects` keeps the objects by number, `finding` finds them by address, and `table` tells which
-//! block is an object of which kind and number.
+//! block is an object of which kind and number, and which a loaded library.
 #![tactic(auto)]
 
 mod finding;
