@@ -9,8 +9,8 @@ ghost use Rattle.execsim.specs.Views.{call_view};
 use crate::command::Call;
 use crate::kernel::Kernel;
 use crate::ports::name_or_empty;
-use exectrace::{Name, Sink};
 use execlist::space::ListSpace;
+use exectrace::{Name, Sink};
 use taskq::TaskId;
 use taskscript::LibraryWord;
 
