@@ -7,12 +7,13 @@ use Rattle.memlist.specs.declared.region.Region.{Region}
 use Rattle.memlist.specs.Memory.{IsWellFormed}
 use Rattle.memlist.proofs.Answered.{nat_eq-same, nat_eq-other, cases_eq}
 use Rattle.execlist.specs.Order.{first}
-use Rattle.execmodel.specs.State.{Call, Object, Plain, ListHead, Node, MsgPort, Message, Semaphore, Block, Heap, Mark}
+use Rattle.execmodel.specs.State.{Call, Object, Plain, ListHead, Node, MsgPort, Message, Semaphore, Library, Block, Heap, Mark}
 use Rattle.execmodel.specs.Objects.{object_at, is_kind, replaced}
 use Rattle.execmodel.specs.Memory.{extents, block_at}
 use Rattle.execmodel.specs.Lists.{is_list, is_list_at, with_nodes, unlinked, left_by}
 use Rattle.execmodel.specs.Ports.{is_port, is_message, is_port_at, is_message_at, messages_in, messages_of_object, messages_of, is_queued, has_message, with_port, with_action, appended, taken_off}
 use Rattle.execmodel.specs.Semaphores.{is_semaphore, is_semaphore_at, with_semaphore, left_by_task, entered, queued, dropped, handed_on, released_once, awaited_by}
+use Rattle.execmodel.specs.Libraries.{is_library, is_library_at, with_library}
 use Rattle.execmodel.specs.Queues.{Turn, Came, Served}
 use Rattle.execmodel.specs.Marks.{turn_at, turns_at_port}
 use Rattle.execmodel.proofs.Queues.{Turns, Follows, IsAway}
@@ -24,7 +25,7 @@ use Rattle.sigsem.specs.declared.semaphore.Sem.{Sem}
 use Rattle.memlist.specs.Fit.{round}
 use Rattle.std.specs.Ordering.{nat_cmp, eq_by_cmp}
 use Rattle.execmodel.proofs.Commands.{Touches, remains, fills, puts, gets, none_some}
-use Rattle.execmodel.proofs.Moves.{IsNew, MayGo, leaving_marks, Moves, touches, places, frees, relists, unlinks, sets, enters, queues, hands, opens, releases, drops}
+use Rattle.execmodel.proofs.Moves.{IsNew, MayGo, leaving_marks, Moves, touches, places, frees, relists, unlinks, sets, enters, queues, hands, opens, releases, counts, expunges, drops}
 
 pub both_false : {A : Type 0} (b c : Bool) → (b || c) ≡ false → (b ≡ false → c ≡ false → A) → A
 both_false true c e f = true_is_not_false e
@@ -58,6 +59,7 @@ list_none (Node key) is = refl
 list_none (MsgPort port messages) is = true_is_not_false (sym is)
 list_none (Message content) is = refl
 list_none (Semaphore sem waiters) is = refl
+list_none (Library number count delayed) is = refl
 
 message_none : (object : Object) → is_message object ≡ true → messages_in object ≡ []
 message_none Plain is = refl
@@ -66,6 +68,7 @@ message_none (Node key) is = refl
 message_none (MsgPort port messages) is = true_is_not_false (sym is)
 message_none (Message content) is = refl
 message_none (Semaphore sem waiters) is = refl
+message_none (Library number count delayed) is = refl
 
 semaphore_none : (object : Object) → is_semaphore object ≡ true → messages_in object ≡ []
 semaphore_none Plain is = refl
@@ -74,6 +77,16 @@ semaphore_none (Node key) is = refl
 semaphore_none (MsgPort port messages) is = true_is_not_false (sym is)
 semaphore_none (Message content) is = refl
 semaphore_none (Semaphore sem waiters) is = refl
+semaphore_none (Library number count delayed) is = refl
+
+library_none : (object : Object) → is_library object ≡ true → messages_in object ≡ []
+library_none (Library number count delayed) is = refl
+library_none Plain is = refl
+library_none (ListHead nodes) is = refl
+library_none (Node key) is = refl
+library_none (MsgPort port messages) is = true_is_not_false (sym is)
+library_none (Message content) is = refl
+library_none (Semaphore sem waiters) is = refl
 
 new_none : (object : Object) → IsNew object → messages_in object ≡ []
 new_none Plain is = refl
@@ -82,6 +95,7 @@ new_none (Node key) is = refl
 new_none (MsgPort port messages) is = is
 new_none (Message content) is = refl
 new_none (Semaphore sem waiters) is = refl
+new_none (Library number count delayed) is = refl
 
 pub first_none : (messages : List ℕ) → first messages ≡ None → messages ≡ []
 first_none [] e = refl
@@ -95,6 +109,7 @@ gone_none (Some (Node key)) may = refl
 gone_none (Some (MsgPort port messages)) may = first_none messages may
 gone_none (Some (Message content)) may = refl
 gone_none (Some (Semaphore sem waiters)) may = refl
+gone_none (Some (Library number count delayed)) may = absurd may
 
 -- ---- what begins at an address becomes another
 
@@ -127,6 +142,7 @@ left_same node (Node key) = refl
 left_same node (MsgPort port messages) = refl
 left_same node (Message content) = refl
 left_same node (Semaphore sem waiters) = refl
+left_same node (Library number count delayed) = refl
 
 task_left_same : (t : ℕ) (object : Object) → messages_in (left_by_task t object) ≡ messages_in object
 task_left_same t Plain = refl
@@ -135,6 +151,7 @@ task_left_same t (Node key) = refl
 task_left_same t (MsgPort port messages) = refl
 task_left_same t (Message content) = refl
 task_left_same t (Semaphore sem waiters) = refl
+task_left_same t (Library number count delayed) = refl
 
 -- ---- what a port has
 
@@ -168,6 +185,7 @@ port_and_message (Some (Node key)) is also = true_is_not_false (sym is)
 port_and_message (Some (MsgPort port messages)) is also = true_is_not_false (sym also)
 port_and_message (Some (Message content)) is also = true_is_not_false (sym is)
 port_and_message (Some (Semaphore sem waiters)) is also = true_is_not_false (sym is)
+port_and_message (Some (Library number count delayed)) is also = true_is_not_false (sym is)
 
 -- a port stays one where a message gets another content
 pub port_stays : (port message : ℕ) (content : Content) (heap : Heap) → is_port_at port heap ≡ true → is_message_at message heap ≡ true
@@ -237,6 +255,7 @@ semaphore_kept t (Some (Node key)) = refl
 semaphore_kept t (Some (MsgPort port messages)) = refl
 semaphore_kept t (Some (Message content)) = refl
 semaphore_kept t (Some (Semaphore sem waiters)) = refl
+semaphore_kept t (Some (Library number count delayed)) = refl
 
 pub still_semaphore : (t semaphore : ℕ) (heap : Heap) → is_semaphore_at semaphore heap ≡ true → is_semaphore_at semaphore (dropped t heap) ≡ true
 unfolding is_semaphore_at dropped
@@ -272,7 +291,7 @@ touched_follow old marks new (gets port message is e) p =
 
 pub moves_follow : (regions : List Region) (t : ℕ) (call : Call) (old : Heap) (marks : List Mark) (new : Heap) → Moves regions t call old marks new
     → IsWellFormed regions (extents old) → (p : ℕ) → Follows (messages_of p old) (turns_at_port p marks) (messages_of p new)
-unfolding with_nodes unlinked with_action entered queued dropped handed_on released_once is_list_at
+unfolding with_nodes unlinked with_action with_library entered queued dropped handed_on released_once is_list_at is_library_at
 moves_follow regions t call old marks new (touches how) formed p = touched_follow old marks new how p
 moves_follow regions t call old marks new (places size reqs address object is fits) formed p =
     unfold messages_of in cases_eq p address
@@ -297,6 +316,12 @@ moves_follow regions t call old marks new (queues semaphore is e) formed p =
 moves_follow regions t call old marks new (hands semaphore owner release is last e) formed p = semaphore_still semaphore _ _ p old is
 moves_follow regions t call old marks new (opens semaphore release is last e) formed p = semaphore_still semaphore _ _ p old is
 moves_follow regions t call old marks new (releases semaphore is last) formed p = semaphore_still semaphore _ _ p old is
+moves_follow regions t call old marks new (counts base count delayed is) formed p = still_none base _ is_library p old refl library_none (is formed)
+moves_follow regions t call old marks new (expunges base is may) formed p =
+    unfold messages_of in cases_eq p base
+    (λ same. ap (λ found. messages_of_object found) (ap (λ a. object_at a new) same ∙ object_rid_here base old)
+    ∙ sym (ap (λ a. messages_of_object (object_at a old)) same ∙ no_port is_library library_none (object_at base old) is))
+    (λ apart. ap (λ found. messages_of_object found) (object_rid_there p base old apart))
 moves_follow regions t call old marks new (drops other apart) formed p =
     subst (λ turns. Follows (messages_of p old) turns (messages_of p new)) (sym (left_marks (awaited_by other old) other p))
     (all_remade (left_by_task other) (task_left_same other) p old)

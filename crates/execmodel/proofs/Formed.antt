@@ -20,9 +20,10 @@ use Rattle.execmodel.specs.Memory.{extents, block_at}
 use Rattle.execmodel.specs.Lists.{with_nodes, unlinked, left_by}
 use Rattle.execmodel.specs.Ports.{with_action, with_port, appended, taken_off}
 use Rattle.execmodel.specs.Semaphores.{with_semaphore, left_by_task, entered, queued, dropped, handed_on, released_once}
+use Rattle.execmodel.specs.Libraries.{with_library}
 use Rattle.execmodel.proofs.Heaps.{rid}
 use Rattle.execmodel.proofs.Commands.{Touches, remains, fills, puts, gets, none_some}
-use Rattle.execmodel.proofs.Moves.{Moves, touches, places, frees, relists, unlinks, sets, enters, queues, hands, opens, releases, drops}
+use Rattle.execmodel.proofs.Moves.{Moves, touches, places, frees, relists, unlinks, sets, enters, queues, hands, opens, releases, counts, expunges, drops}
 
 -- where a block lies, and how long it is
 abbrev extent : ℕ × Block → ℕ × (ℕ × ℕ)
@@ -83,7 +84,7 @@ touched_formed regions old marks new (gets port message is e) formed = same_exte
 
 pub moves_formed : (regions : List Region) (t : ℕ) (call : Call) (old : Heap) (marks : List Mark) (new : Heap) → Moves regions t call old marks new
     → IsWellFormed regions (extents old) → IsWellFormed regions (extents new)
-unfolding with_nodes unlinked with_action with_port with_semaphore entered queued dropped handed_on released_once
+unfolding with_nodes unlinked with_action with_port with_semaphore with_library entered queued dropped handed_on released_once
 moves_formed regions t call old marks new (touches how) formed = touched_formed regions old marks new how formed
 moves_formed regions t call old marks new (places size reqs address object is fits) formed =
     subst (λ bs. IsWellFormed regions bs) (sym (extents_put address (round size) object old))
@@ -103,6 +104,9 @@ moves_formed regions t call old marks new (opens semaphore release is last e) fo
     same_extents regions old new (extents_replaced semaphore _ old) formed
 moves_formed regions t call old marks new (releases semaphore is last) formed =
     same_extents regions old new (extents_replaced semaphore _ old) formed
+moves_formed regions t call old marks new (counts base count delayed is) formed = same_extents regions old new (extents_replaced base _ old) formed
+moves_formed regions t call old marks new (expunges base is may) formed =
+    subst (λ bs. IsWellFormed regions bs) (sym (extents_rid base old)) (freed_well_formed regions (extents old) base formed)
 moves_formed regions t call old marks new (drops other apart) formed =
     same_extents regions old new (extents_remade (left_by_task other) old) formed
 

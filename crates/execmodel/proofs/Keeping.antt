@@ -18,13 +18,15 @@ use Rattle.taskscript.specs.declared.word.memory.MemoryWord.TheVariants as memor
 use Rattle.taskscript.specs.declared.word.ports.PortWord.TheVariants as ports
 use Rattle.taskscript.specs.declared.word.semaphores.SemaphoreWord.TheVariants as semaphores
 use Rattle.taskscript.specs.declared.word.interrupts.InterruptWord.TheVariants as interrupts
+use Rattle.taskscript.specs.declared.word.libraries.LibraryWord.TheVariants as libraries
 use Rattle.sigsem.specs.declared.semaphore.Obtained.{Obtained}
 use Rattle.msgport.specs.declared.action.Action.{Action}
 use Rattle.msgport.specs.declared.action.Action.TheVariants as action
 use Rattle.sigsem.specs.declared.semaphore.Obtained.TheVariants.{Owner, Waits}
-use Rattle.execmodel.specs.State.{Call, Object, Plain, ListHead, Pending, Program, Scripts, State, Outcome, no_program, on_schedule, on_scripts}
+use Rattle.execmodel.specs.State.{Call, Object, Plain, ListHead, Library, Memory, Pending, Program, Scripts, State, Outcome, no_program, on_schedule, on_scripts, on_memory}
 use Rattle.execmodel.specs.Pending.{arrived, is_caused, causes, softint_named}
 use Rattle.execmodel.specs.Causing.{does_cause}
+use Rattle.execmodel.specs.Libraries.{base_of, count_of, is_delayed, library_at, library_to_open, library_opened, entered_or_loaded, opened, closed, removed as library_removed, library_alert, close_alert, does_open_library, does_close_library, does_rem_library, does_lib_open_cnt}
 use Rattle.execmodel.specs.Scheduling.{arrives, added, reprioritized, signalled}
 use Rattle.execmodel.specs.Calls.{argument, name_argument, stored, goes_on, done, answered, waiting, silent, alerted, unless}
 use Rattle.execmodel.specs.Plain.{does_set, does_add, does_sub, does_and, does_or, jumps, does_jump, does_jump_zero, does_jump_not_zero, does_print}
@@ -32,11 +34,11 @@ use Rattle.execmodel.specs.Signals.{mask_alert, free_signal_alert, signal_alert,
 use Rattle.execmodel.specs.Nesting.{counted, does_forbid, does_permit, does_disable, does_enable}
 use Rattle.execmodel.specs.Tasks.{live_task_alert, set_task_pri_alert, add_task_alert, is_caller, ends_other, does_set_task_pri, does_add_task, does_rem_task, does_find_task}
 use Rattle.execmodel.specs.Objects.{place_for_object}
-use Rattle.execmodel.specs.Memory.{allocates, place_for, alloc_alert, free_alert, avail_alert, does_alloc_mem, does_free_mem, does_avail_mem}
+use Rattle.execmodel.specs.Memory.{allocates, placed, place_for, alloc_alert, free_alert, avail_alert, does_alloc_mem, does_free_mem, does_avail_mem}
 use Rattle.execmodel.specs.Lists.{is_list, list_size, is_node, node_size, free_list_alert, new_node_alert, free_node_alert, link_alert, insert_alert, linked_alert, list_alert, find_alert, does_new_list, does_free_list, does_new_node, does_free_node, does_add_head, does_add_tail, does_enqueue, does_insert, does_remove, does_rem_head, does_rem_tail, does_first, does_last, does_succ, does_pred, does_find_name}
 use Rattle.execmodel.specs.Ports.{is_port, is_message, port_size, message_size, port_created, port_alert, message_alert, port_of, loses, messages_of, content_of, delete_alert, add_port_alert, rem_port_alert, reply_port_alert, loose_alert, put_alert, reply_alert, wait_alert, made_public, made_private, replied, delivered, performed, taken, looked, does_create_msg_port, does_delete_msg_port, does_add_port, does_rem_port, does_find_port, does_port_signal, does_port_cause, does_port_ignore, does_new_msg, does_free_msg, does_msg_word, does_set_msg_word, does_msg_type, does_put_msg, does_get_msg, does_wait_port, does_reply_msg}
 use Rattle.execmodel.specs.Semaphores.{awaited_by, free_sem_alert, heir, is_semaphore, is_tried_again, leaving_queue, obtain_alert, obtains, outcome_for, passes, release_alert, sem_of, semaphore_size, woken, does_new_sem, does_free_sem, does_obtain_semaphore, does_attempt_semaphore, does_release_semaphore}
-use Rattle.execmodel.specs.Keeping.{without_progress, without_progress_of, without_states, without_priorities, without_signals, beside_plain, beside_signals, beside_nestings, beside_memory, beside_ports, beside_interrupts, beside_semaphores, beside_tasks, without_caused, PlainWordsChangeScripts, SignalWordsChangeSignalsAndStates, NestingWordsChangeNestings, TaskWordsChangeStatesPrioritiesAndObjects, ListWordsChangeTheMemory, MemoryWordsChangeTheMemory, PortWordsChangePortsSignalsAndStates, SemaphoreWordsChangeStatesAndObjects, InterruptWordsChangeWhatIsCaused}
+use Rattle.execmodel.specs.Keeping.{without_progress, without_progress_of, without_states, without_priorities, without_signals, beside_plain, beside_signals, beside_nestings, beside_memory, beside_ports, beside_interrupts, beside_semaphores, beside_tasks, without_caused, PlainWordsChangeScripts, SignalWordsChangeSignalsAndStates, NestingWordsChangeNestings, TaskWordsChangeStatesPrioritiesAndObjects, ListWordsChangeTheMemory, MemoryWordsChangeTheMemory, PortWordsChangePortsSignalsAndStates, SemaphoreWordsChangeStatesAndObjects, InterruptWordsChangeWhatIsCaused, LibraryWordsChangeTheMemory}
 
 -- a part that both ways keep
 either : {A : Type 0} (part : State → A) (a : A) (test : Bool) (o p : Outcome) → part o.state ≡ a → part p.state ≡ a
@@ -396,3 +398,43 @@ unfolding does_cause done causes
 interrupt_words_change_what_is_caused interrupts.Cause t call s =
     ap (λ (pending : Pending). record (beside_interrupts s) { pending = pending })
     (caused_keeps (softint_named (unwrap_or (name_argument 0 call) []) s.bodies.softints) s)
+
+-- the blocks change alone, whichever of two things is done
+either_memory : (test : Bool) (m n memory : Memory) → record m { heap = [] } ≡ record memory { heap = [] } → record n { heap = [] } ≡ record memory { heap = [] }
+    → record (if test then m else n) { heap = [] } ≡ record memory { heap = [] }
+either_memory true m n memory first second = first
+either_memory false m n memory first second = second
+
+placed_keeps : (size : ℕ) (object : Object) (place : Option ℕ) (memory : Memory)
+    → record (placed size object place memory) { heap = [] } ≡ record memory { heap = [] }
+placed_keeps size object None memory = refl
+placed_keeps size object (Some address) memory = refl
+
+entered_keeps : (found : Option ℕ) (i : ℕ) (memory : Memory) → record (entered_or_loaded found i memory) { heap = [] } ≡ record memory { heap = [] }
+entered_keeps (Some base) i memory = refl
+entered_keeps None i memory = placed_keeps (library_at i memory).size (Library i 1 false) (place_for (library_at i memory).size 1 memory) memory
+
+opened_keeps : (found : Option ℕ) (memory : Memory) → record (library_opened found memory) { heap = [] } ≡ record memory { heap = [] }
+opened_keeps None memory = refl
+opened_keeps (Some i) memory = entered_keeps (base_of i memory.heap) i memory
+
+-- a state in whose memory the blocks change alone
+blocks_change : (f : Memory → Memory) (s : State) → record (f s.memory) { heap = [] } ≡ record s.memory { heap = [] }
+    → beside_memory (on_memory f s) ≡ beside_memory s
+blocks_change f s keeps = ap (λ (memory : Memory). record (beside_memory s) { memory = memory }) keeps
+
+pub library_words_change_the_memory : LibraryWordsChangeTheMemory
+unfolding does_open_library does_close_library does_rem_library does_lib_open_cnt opened closed library_removed done answered
+library_words_change_the_memory libraries.OpenLibrary t call s =
+    blocks_change (opened (unwrap_or (name_argument 0 call) []) (argument 1 call)) s
+    (opened_keeps (library_to_open (unwrap_or (name_argument 0 call) []) (argument 1 call) s.memory) s.memory)
+library_words_change_the_memory libraries.CloseLibrary t call s =
+    either beside_memory _ (nat_eq (argument 0 call) 0) _ _ refl
+    (unless_keeps beside_memory (close_alert (argument 0 call) s.memory.heap) t call _ s refl
+    (blocks_change (closed (argument 0 call)) s
+    (either_memory (nat_eq (count_of (argument 0 call) s.memory.heap) 1 && is_delayed (argument 0 call) s.memory.heap) _ _ s.memory refl refl)))
+library_words_change_the_memory libraries.RemLibrary t call s =
+    unless_keeps beside_memory (library_alert (argument 0 call) s.memory.heap) t call _ s refl
+    (blocks_change (library_removed (argument 0 call)) s (either_memory (nat_eq (count_of (argument 0 call) s.memory.heap) 0) _ _ s.memory refl refl))
+library_words_change_the_memory libraries.LibOpenCnt t call s =
+    unless_keeps beside_memory (library_alert (argument 0 call) s.memory.heap) t call _ s refl refl

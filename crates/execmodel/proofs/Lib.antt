@@ -8,6 +8,7 @@ pub mod Fifo
 pub mod FifoLaw
 pub mod Formed
 pub mod Heaps
+pub mod Loaded
 pub mod OnLiterals
 pub mod OneOwner
 pub mod Owners

@@ -1,14 +1,15 @@
 -- What a call makes of the blocks of memory and of what begins there: one of a few things, whatever the word. The laws of ports, of
 -- semaphores and of memory go by these.
-use Rattle.std.proofs.Common.{◌≡◌, ◌≢◌, ℕ, Bool, true, false, List, [], ◌∷◌, Option, None, Some, refl, sym, ap, ◌∙◌, subst}
-use Rattle.std.specs.Prelude.{◌-◌, negsuc, if◌then◌else◌, nat_eq, nat_lt, is_some, codes, ◌&&◌, ◌||◌}
+use Rattle.std.proofs.Common.{◌⊎◌, inl, inr, ◌≡◌, ◌≢◌, ℕ, Bool, true, false, List, [], ◌∷◌, Option, None, Some, refl, sym, ap, ◌∙◌, subst}
+use Rattle.std.specs.Prelude.{◌-◌, negsuc, not, unwrap_or, if◌then◌else◌, nat_eq, nat_lt, is_some, codes, ◌&&◌, ◌||◌}
 use Rattle.std.specs.Ordering.{nat_cmp}
 use Rattle.std.specs.FinMap.{put as put_entry}
 use Rattle.std.specs.Int.{cast_signed, w32}
 use Rattle.std.specs.Option.{option_map}
-use Rattle.memlist.proofs.Answered.{nat_eq-same}
+use Rattle.memlist.proofs.Answered.{nat_eq-same, nat_eq-other, cases_eq}
 use Rattle.memlist.specs.declared.region.Region.{Region}
 use Rattle.memlist.specs.Fit.{fit, round}
+use Rattle.memlist.specs.Memory.{IsWellFormed}
 use Rattle.execlist.specs.Order.{first}
 use Rattle.signals.specs.Signals.{grant}
 use Rattle.forbid.specs.Nesting.{Nesting, after_forbid, after_permit, after_disable, after_enable}
@@ -37,20 +38,24 @@ use Rattle.taskscript.specs.declared.word.semaphores.SemaphoreWord.{SemaphoreWor
 use Rattle.taskscript.specs.declared.word.semaphores.SemaphoreWord.TheVariants as semaphores
 use Rattle.taskscript.specs.declared.word.interrupts.InterruptWord.{InterruptWord}
 use Rattle.taskscript.specs.declared.word.interrupts.InterruptWord.TheVariants as interrupts
-use Rattle.execmodel.specs.State.{Call, Object, Plain, ListHead, Node, MsgPort, Message, Semaphore, Block, Heap, Memory, Mark, asked, passed, left, State, Outcome, on_schedule, on_memory, on_heap}
+use Rattle.taskscript.specs.declared.word.libraries.LibraryWord.{LibraryWord}
+use Rattle.taskscript.specs.declared.word.libraries.LibraryWord.TheVariants as libraries
+use Rattle.execmodel.specs.State.{Call, Object, Plain, ListHead, Node, MsgPort, Message, Semaphore, Library, Block, Heap, Memory, Mark, asked, passed, left, State, Outcome, on_schedule, on_memory, on_heap}
 use Rattle.execmodel.specs.Calls.{ByTask, argument, name_argument, done, answered, waiting, silent, alerted, unless}
 use Rattle.execmodel.specs.Plain.{does_plain, does_set, does_add, does_sub, does_and, does_or, jumps, does_jump, does_jump_zero, does_jump_not_zero, does_print}
 use Rattle.execmodel.specs.Signals.{mask_alert, free_signal_alert, signal_alert, waited, does_signals, does_alloc_signal, does_free_signal, does_set_signal, does_signal, does_wait}
 use Rattle.execmodel.specs.Nesting.{counted, does_nesting, does_forbid, does_permit, does_disable, does_enable}
 use Rattle.execmodel.specs.Tasks.{live_task_alert, set_task_pri_alert, add_task_alert, is_caller, ends_other, does_tasks, does_set_task_pri, does_add_task, does_rem_task, does_find_task}
 use Rattle.execmodel.specs.Objects.{object_at, is_kind, place_for_object, live}
-use Rattle.execmodel.specs.Memory.{extents, allocates, place_for, block_at, is_named, is_plain, alloc_alert, free_alert, avail_alert, does_memory, does_alloc_mem, does_free_mem, does_avail_mem}
+use Rattle.execmodel.specs.Memory.{extents, allocates, placed, freed, place_for, block_at, is_named, is_plain, alloc_alert, free_alert, avail_alert, does_memory, does_alloc_mem, does_free_mem, does_avail_mem}
 use Rattle.execmodel.specs.Lists.{is_list, list_size, is_node, node_size, is_list_at, is_node_at, with_nodes, unlinked, free_list_alert, new_node_alert, free_node_alert, link_alert, insert_alert, linked_alert, list_alert, find_alert, added_head, added_tail, enqueued, inserted, removed_head, removed_tail, does_lists, does_new_list, does_free_list, does_new_node, does_free_node, does_add_head, does_add_tail, does_enqueue, does_insert, does_remove, does_rem_head, does_rem_tail, does_first, does_last, does_succ, does_pred, does_find_name}
 use Rattle.execmodel.specs.Ports.{is_port, is_message, is_port_at, is_message_at, port_size, message_size, port_created, port_alert, message_alert, messages_of, messages_of_object, loses, with_action, with_word, delete_alert, add_port_alert, rem_port_alert, reply_port_alert, loose_alert, wait_alert, made_public, made_private, looked, does_ports, does_create_msg_port, does_delete_msg_port, does_add_port, does_rem_port, does_find_port, does_port_signal, does_port_cause, does_port_ignore, does_new_msg, does_free_msg, does_msg_word, does_set_msg_word, does_msg_type, does_put_msg, does_get_msg, does_wait_port, does_reply_msg}
 use Rattle.execmodel.specs.Semaphores.{awaited_by, dropped, entered, queued, handed_on, released_once, obtained, attempted, released, is_open, is_last, is_owned, is_owner, is_semaphore_at, waiters_of, free_sem_alert, heir, is_semaphore, is_tried_again, leaving_queue, obtain_alert, obtains, passes, release_alert, sem_of, sem_of_object, semaphore_size, does_semaphores, does_new_sem, does_free_sem, does_obtain_semaphore, does_attempt_semaphore, does_release_semaphore}
 use Rattle.execmodel.specs.Causing.{does_interrupts, does_cause}
+use Rattle.execmodel.specs.Libraries.{is_library_at, count_of, is_delayed, with_library, base_of, library_at, library_alert, library_to_open, library_opened, entered_or_loaded, opening, opened, close_alert, closed, removed, does_libraries, does_open_library, does_close_library, does_rem_library, does_lib_open_cnt}
 use Rattle.execmodel.specs.Step.{does, does_word}
 use Rattle.execmodel.proofs.Heaps.{rid, true_is_not_false}
+use Rattle.execmodel.proofs.Loaded.{base_is_loaded}
 use Rattle.execmodel.proofs.Commands.{Touches, remains, IsAltered, none_some, passed_first, passed_other, is_port_there, is_message_there, is_loose_there, gives, put_alters, get_alters, reply_alters, cause_alters}
 
 -- a new object: an empty list or port, a semaphore that no task owns and none waits for, or what has no queue
@@ -61,6 +66,7 @@ IsNew (Node key) = Unit {0}
 IsNew (MsgPort port messages) = messages ≡ []
 IsNew (Message content) = Unit {0}
 IsNew (Semaphore sem waiters) = (sem ≡ free_sem) × (waiters ≡ [])
+IsNew (Library number count delayed) = Unit {0}
 
 -- an object that may be freed: a port has to be empty, and a semaphore free
 abbrev pub MayGo : Option Object → Type 0
@@ -71,6 +77,7 @@ MayGo (Some (Node key)) = Unit {0}
 MayGo (Some (MsgPort port messages)) = first messages ≡ None
 MayGo (Some (Message content)) = Unit {0}
 MayGo (Some (Semaphore sem waiters)) = is_owned sem ≡ false
+MayGo (Some (Library number count delayed)) = ⊥
 
 -- the marks of a task that is removed
 abbrev pub leaving_marks : Option ℕ → ℕ → List Mark
@@ -82,6 +89,17 @@ pub record IsRelease (t : ℕ) (call : Call) (semaphore : ℕ) (heap : Heap) : T
   pub word : call.word ≡ group.Semaphores semaphores.ReleaseSemaphore
   pub names : argument 0 call ≡ semaphore
   pub owns : is_owner t (sem_of semaphore heap) ≡ true
+
+-- a call closes a library for the last time that is to be expunged
+pub record IsLastClosing (call : Call) (base : ℕ) (heap : Heap) : Type 0 where
+  pub word : call.word ≡ group.Libraries libraries.CloseLibrary
+  pub names : argument 0 call ≡ base
+  pub once : count_of base heap ≡ 1
+  pub delayed : is_delayed base heap ≡ true
+
+-- a library is expunged where it is not open, or closed for the last time
+abbrev pub MayExpunge : Call → ℕ → Heap → Type 0
+MayExpunge call base heap = (count_of base heap ≡ 0) ⊎ IsLastClosing call base heap
 
 -- what a call of task t may make of the blocks, and the marks that it leaves
 pub data Moves (regions : List Region) (t : ℕ) (call : Call) : Heap → List Mark → Heap → Type 0 where
@@ -102,6 +120,9 @@ pub data Moves (regions : List Region) (t : ℕ) (call : Call) : Heap → List M
       → first (waiters_of semaphore heap) ≡ None → Moves regions t call heap [] (handed_on semaphore heap)
   releases : {heap : Heap} (semaphore : ℕ) → is_semaphore_at semaphore heap ≡ true → is_last (sem_of semaphore heap) ≡ false
       → Moves regions t call heap [] (released_once semaphore heap)
+  counts : {heap : Heap} (base count : ℕ) (delayed : Bool) → (IsWellFormed regions (extents heap) → is_library_at base heap ≡ true)
+      → Moves regions t call heap [] (with_library base count delayed heap)
+  expunges : {heap : Heap} (base : ℕ) → is_library_at base heap ≡ true → MayExpunge call base heap → Moves regions t call heap [] (rid base heap)
   drops : {heap : Heap} (other : ℕ) → other ≢ t → Moves regions t call heap (leaving_marks (awaited_by other heap) other) (dropped other heap)
 
 -- an outcome makes such a thing of the blocks, and leaves the regions as they are
@@ -129,6 +150,7 @@ plain_object (Node key) b c e = tt
 plain_object (MsgPort port messages) b c e = true_is_not_false (sym e)
 plain_object (Message content) b c e = tt
 plain_object (Semaphore sem waiters) b c e = true_is_not_false (sym e)
+plain_object (Library number count delayed) b c e = true_is_not_false (sym e)
 
 -- ---- calls that may be refused
 
@@ -244,6 +266,7 @@ list_goes (Some (Node key)) is = tt
 list_goes (Some (MsgPort port messages)) is = true_is_not_false (sym is)
 list_goes (Some (Message content)) is = tt
 list_goes (Some (Semaphore sem waiters)) is = true_is_not_false (sym is)
+list_goes (Some (Library number count delayed)) is = true_is_not_false (sym is)
 
 node_goes : (found : Option Object) → is_kind is_node found ≡ true → MayGo found
 node_goes None is = tt
@@ -253,6 +276,7 @@ node_goes (Some (Node key)) is = tt
 node_goes (Some (MsgPort port messages)) is = true_is_not_false (sym is)
 node_goes (Some (Message content)) is = tt
 node_goes (Some (Semaphore sem waiters)) is = true_is_not_false (sym is)
+node_goes (Some (Library number count delayed)) is = true_is_not_false (sym is)
 
 lists_make : (word : ListWord) (t : ℕ) (call : Call) (s : State) → Makes t call s (does_lists word t call s)
 unfolding does_new_list does_free_list does_new_node does_free_node does_add_head does_add_tail does_enqueue does_insert does_remove does_rem_head does_rem_tail does_first does_last does_succ does_pred does_find_name done answered is_list_at is_node_at free_list_alert free_node_alert link_alert insert_alert list_alert added_head added_tail enqueued inserted removed_head removed_tail
@@ -348,6 +372,7 @@ port_goes (Some (MsgPort port [])) rest is e = refl
 port_goes (Some (MsgPort port (message ∷ messages))) rest is e = none_some e
 port_goes (Some (Message content)) rest is e = tt
 port_goes (Some (Semaphore sem waiters)) rest is e = true_is_not_false (sym is)
+port_goes (Some (Library number count delayed)) rest is e = true_is_not_false (sym is)
 
 deletes : (port : ℕ) (memory : Memory) → delete_alert port memory ≡ None → MayGo (object_at port memory.heap)
 unfolding delete_alert is_port_at messages_of
@@ -363,6 +388,7 @@ message_goes (Some (Node key)) is = tt
 message_goes (Some (MsgPort port messages)) is = true_is_not_false (sym is)
 message_goes (Some (Message content)) is = tt
 message_goes (Some (Semaphore sem waiters)) is = true_is_not_false (sym is)
+message_goes (Some (Library number count delayed)) is = true_is_not_false (sym is)
 
 frees_message : (message : ℕ) (heap : Heap) → loose_alert message heap ≡ None → MayGo (object_at message heap)
 unfolding is_message_at
@@ -422,6 +448,7 @@ semaphore_goes (Some (Node key)) is free = tt
 semaphore_goes (Some (MsgPort port messages)) is free = true_is_not_false (sym is)
 semaphore_goes (Some (Message content)) is free = tt
 semaphore_goes (Some (Semaphore sem waiters)) is free = free
+semaphore_goes (Some (Library number count delayed)) is free = true_is_not_false (sym is)
 
 frees_semaphore : (semaphore : ℕ) (heap : Heap) → free_sem_alert semaphore heap ≡ None → MayGo (object_at semaphore heap)
 unfolding free_sem_alert is_semaphore_at sem_of
@@ -503,6 +530,76 @@ interrupts_make : (word : InterruptWord) (t : ℕ) (call : Call) (s : State) →
 unfolding does_cause
 interrupts_make interrupts.Cause t call s = any_makes t call s (does_cause t call s) (cause_alters (ByTask t) call s)
 
+-- ---- libraries
+
+is_library_there : (test : Bool) (code : List ℕ) → (if not test then Some code else None) ≡ None → test ≡ true
+is_library_there true code e = refl
+is_library_there false code e = none_some e
+
+entered_or_loaded_makes : (found : Option ℕ) (i value t : ℕ) (call : Call) (s : State) → base_of i s.memory.heap ≡ found
+    → Makes t call s (answered t call value (on_memory (entered_or_loaded found i) s))
+unfolding answered
+entered_or_loaded_makes (Some base) i value t call s e =
+    (refl, counts base _ false (λ formed. base_is_loaded s.memory.regions i base s.memory.heap formed e))
+entered_or_loaded_makes None i value t call s e =
+    loads (place_for (library_at i s.memory).size 1 s.memory) refl
+  where
+    loads : (place : Option ℕ) → place_for (library_at i s.memory).size 1 s.memory ≡ place
+        → Makes t call s (answered t call value (on_memory (placed (library_at i s.memory).size (Library i 1 false) place) s))
+    loads None e = (refl, stays)
+    loads (Some address) e = (refl, places (library_at i s.memory).size 1 address (Library i 1 false) tt e)
+
+opened_makes : (found : Option ℕ) (value t : ℕ) (call : Call) (s : State)
+    → Makes t call s (answered t call value (on_memory (library_opened found) s))
+unfolding answered
+opened_makes None value t call s = (refl, stays)
+opened_makes (Some i) value t call s = entered_or_loaded_makes (base_of i s.memory.heap) i value t call s refl
+
+both_true : {A : Type 0} (b c : Bool) → (b && c) ≡ true → (b ≡ true → c ≡ true → A) → A
+both_true true c e f = f refl e
+both_true false c e f = true_is_not_false (sym e)
+
+number_is : (n k : ℕ) → nat_eq n k ≡ true → n ≡ k
+number_is n k e = cases_eq n k (λ same. same) (λ apart. true_is_not_false (sym e ∙ nat_eq-other n k apart))
+
+closed_makes : (test : Bool) (base t : ℕ) (call : Call) (s : State) → call.word ≡ group.Libraries libraries.CloseLibrary → argument 0 call ≡ base
+    → is_library_at base s.memory.heap ≡ true
+    → (nat_eq (count_of base s.memory.heap) 1 && is_delayed base s.memory.heap) ≡ test
+    → Makes t call s (done t call (on_memory (λ memory. if test then freed base memory
+    else on_heap (with_library base (count_of base memory.heap - 1) (is_delayed base memory.heap)) memory) s))
+unfolding done
+closed_makes true base t call s word names is e =
+    both_true (nat_eq (count_of base s.memory.heap) 1) (is_delayed base s.memory.heap) e
+    (λ one delayed. (
+      refl,
+      expunges base is (inr (record { word = word; names = names; once = number_is (count_of base s.memory.heap) 1 one; delayed = delayed })),
+    ))
+closed_makes false base t call s word names is e = (refl, counts base _ _ (λ formed. is))
+
+removed_makes : (test : Bool) (base t : ℕ) (call : Call) (s : State) → is_library_at base s.memory.heap ≡ true
+    → nat_eq (count_of base s.memory.heap) 0 ≡ test
+    → Makes t call s (done t call (on_memory (λ memory. if test then freed base memory
+    else on_heap (with_library base (count_of base memory.heap) true) memory) s))
+unfolding done
+removed_makes true base t call s is e = (refl, expunges base is (inl (number_is (count_of base s.memory.heap) 0 e)))
+removed_makes false base t call s is e = (refl, counts base _ true (λ formed. is))
+
+libraries_make : (word : LibraryWord) (t : ℕ) (call : Call) (s : State) → call.word ≡ group.Libraries word → Makes t call s (does_libraries word t call s)
+unfolding does_open_library does_close_library does_rem_library does_lib_open_cnt opened closed removed library_alert close_alert
+libraries_make libraries.OpenLibrary t call s word =
+    opened_makes (library_to_open (unwrap_or (name_argument 0 call) []) (argument 1 call) s.memory) _ t call s
+libraries_make libraries.CloseLibrary t call s word =
+    either_makes t call s (nat_eq (argument 0 call) 0) _ _ (λ is. unfold done in (refl, stays))
+    (λ is. unless_makes t call s (close_alert (argument 0 call) s.memory.heap) _
+    (λ none. closed_makes (nat_eq (count_of (argument 0 call) s.memory.heap) 1 && is_delayed (argument 0 call) s.memory.heap) (argument 0 call) t call s word refl
+    (passed_first (is_library_at (argument 0 call) s.memory.heap) _ _ none).0 refl))
+libraries_make libraries.RemLibrary t call s word =
+    unless_makes t call s (library_alert (argument 0 call) s.memory.heap) _
+    (λ none. removed_makes (nat_eq (count_of (argument 0 call) s.memory.heap) 0) (argument 0 call) t call s
+    (is_library_there (is_library_at (argument 0 call) s.memory.heap) _ none) refl)
+libraries_make libraries.LibOpenCnt t call s word =
+    unless_makes t call s (library_alert (argument 0 call) s.memory.heap) _ (λ none. unfold answered in (refl, stays))
+
 -- ---- any word
 
 word_makes : (word : Word) (t : ℕ) (call : Call) (s : State) → call.word ≡ word → Makes t call s (does_word word t call s)
@@ -515,6 +612,7 @@ word_makes (group.Memory word) t call s is = memory_makes word t call s
 word_makes (group.Ports word) t call s is = ports_make word t call s
 word_makes (group.Semaphores word) t call s is = semaphores_make word t call s is
 word_makes (group.Interrupts word) t call s is = interrupts_make word t call s
+word_makes (group.Libraries word) t call s is = libraries_make word t call s is
 
 pub call_makes : (t : ℕ) (call : Call) (s : State) → Makes t call s (does t call s)
 unfolding does

@@ -7,7 +7,7 @@ use Rattle.memlist.proofs.Tiling.{tiled}
 use Rattle.memlist.proofs.Fitting.{disjoint}
 use Rattle.taskscript.specs.File.{MachineData}
 use Rattle.taskscript.specs.declared.event.Event.{Event}
-use Rattle.execmodel.specs.State.{Call, Object, Plain, ListHead, Node, MsgPort, Message, Semaphore, Block, Mark, State, Outcome, booted, andthen, on_schedule}
+use Rattle.execmodel.specs.State.{Call, Object, Plain, ListHead, Node, MsgPort, Message, Semaphore, Library, Block, Mark, State, Outcome, booted, andthen, on_schedule}
 use Rattle.execmodel.specs.Calls.{argument, alerted, unless}
 use Rattle.execmodel.specs.Scheduling.{rescheduled}
 use Rattle.execmodel.specs.Bodies.{body_step}
@@ -85,6 +85,7 @@ not_plain (Node key) other = refl
 not_plain (MsgPort port messages) other = refl
 not_plain (Message content) other = refl
 not_plain (Semaphore sem waiters) other = refl
+not_plain (Library number count delayed) other = refl
 
 refused : (size : ℕ) (found : Option Block) (object : Object) → option_map (λ (block : Block). block.object) found ≡ Some object
     → is_plain object ≡ false → is_named size found ≡ false

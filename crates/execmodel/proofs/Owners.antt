@@ -9,17 +9,18 @@ use Rattle.memlist.proofs.Answered.{nat_eq-same, nat_eq-other, cases_eq}
 use Rattle.execlist.specs.Order.{first, without}
 use Rattle.execlist.specs.Lists.{is_at}
 use Rattle.sigsem.specs.declared.semaphore.Sem.{Sem}
-use Rattle.execmodel.specs.State.{Call, Object, Plain, ListHead, Node, MsgPort, Message, Semaphore, Block, Heap, Mark}
+use Rattle.execmodel.specs.State.{Call, Object, Plain, ListHead, Node, MsgPort, Message, Semaphore, Library, Block, Heap, Mark}
 use Rattle.execmodel.specs.Objects.{object_at, is_kind, replaced}
 use Rattle.execmodel.specs.Memory.{extents}
 use Rattle.execmodel.specs.Lists.{is_list, is_list_at, with_nodes, unlinked, left_by}
 use Rattle.execmodel.specs.Ports.{is_port, is_message, is_port_at, is_message_at, with_port, with_action, appended, taken_off}
 use Rattle.execmodel.specs.Semaphores.{is_open, is_owned, sem_in, sem_of, sem_of_object, waiters_of, waiters_of_object, owned_next, with_semaphore, left_by_task, entered, queued, dropped, handed_on, released_once}
+use Rattle.execmodel.specs.Libraries.{is_library, is_library_at, with_library}
 use Rattle.execmodel.proofs.Heaps.{filled, instead, object_replaced, object_remade, object_placed_here, object_placed_there, object_rid_here, object_rid_there, true_is_not_false}
 use Rattle.execmodel.proofs.Formed.{placed_fresh}
 use Rattle.execmodel.proofs.Fifo.{port_stays}
 use Rattle.execmodel.proofs.Commands.{Touches, remains, fills, puts, gets, none_some}
-use Rattle.execmodel.proofs.Moves.{IsRelease, IsNew, MayGo, Moves, touches, places, frees, relists, unlinks, sets, enters, queues, hands, opens, releases, drops}
+use Rattle.execmodel.proofs.Moves.{IsRelease, IsNew, MayGo, Moves, touches, places, frees, relists, unlinks, sets, enters, queues, hands, opens, releases, counts, expunges, drops}
 
 -- nobody waits for what begins at an address, unless a task owns it
 abbrev pub Idle : Option Object → Type 0
@@ -56,6 +57,7 @@ left_idle node (Node key) idle = idle
 left_idle node (MsgPort port messages) idle = idle
 left_idle node (Message content) idle = idle
 left_idle node (Semaphore sem waiters) idle = idle
+left_idle node (Library number count delayed) idle = idle
 
 task_left_idle : (t : ℕ) (object : Object) → Idle (Some object) → Idle (Some (left_by_task t object))
 task_left_idle t Plain idle = idle
@@ -64,6 +66,7 @@ task_left_idle t (Node key) idle = idle
 task_left_idle t (MsgPort port messages) idle = idle
 task_left_idle t (Message content) idle = idle
 task_left_idle t (Semaphore sem waiters) idle = λ e. ap (λ q. without t q) (idle e)
+task_left_idle t (Library number count delayed) idle = idle
 
 new_idle : (object : Object) → IsNew object → Idle (Some object)
 new_idle Plain is = λ e. refl
@@ -72,6 +75,7 @@ new_idle (Node key) is = λ e. refl
 new_idle (MsgPort port messages) is = λ e. refl
 new_idle (Message content) is = λ e. refl
 new_idle (Semaphore sem waiters) is = λ e. is.1
+new_idle (Library number count delayed) is = λ e. refl
 
 -- a semaphore that a task does not get at once has an owner
 closed_owned : (t : ℕ) (sem : Sem) → is_open t sem ≡ false → sem.owner ≡ None → ⊥
@@ -93,7 +97,7 @@ touched_idle old marks new (gets port message is e) idle = idle_replaced port _ 
 
 pub moves_idle : (regions : List Region) (t : ℕ) (call : Call) (old : Heap) (marks : List Mark) (new : Heap) → Moves regions t call old marks new
     → AllIdle old → AllIdle new
-unfolding with_nodes unlinked with_action with_port with_semaphore entered queued dropped handed_on released_once sem_of waiters_of
+unfolding with_nodes unlinked with_action with_port with_semaphore with_library entered queued dropped handed_on released_once sem_of waiters_of
 moves_idle regions t call old marks new (touches how) idle = touched_idle old marks new how idle
 moves_idle regions t call old marks new (places size reqs address object is fits) idle = λ a.
     cases_eq a address
@@ -115,6 +119,11 @@ moves_idle regions t call old marks new (hands semaphore owner release is last e
 moves_idle regions t call old marks new (opens semaphore release is last e) idle =
     idle_replaced semaphore _ old (next_idle (waiters_of semaphore old)) idle
 moves_idle regions t call old marks new (releases semaphore is last) idle = idle_replaced semaphore _ old (idle semaphore) idle
+moves_idle regions t call old marks new (counts base count delayed is) idle = idle_replaced base _ old (λ e. refl) idle
+moves_idle regions t call old marks new (expunges base is may) idle = λ a.
+    cases_eq a base
+    (λ same. subst (λ found. Idle found) (sym (ap (λ k. object_at k new) same ∙ object_rid_here base old)) (λ e. refl))
+    (λ apart. subst (λ found. Idle found) (sym (object_rid_there a base old apart)) (idle a))
 moves_idle regions t call old marks new (drops other apart) idle = idle_remade (left_by_task other) (task_left_idle other) old idle
 
 -- ---- owners
@@ -142,6 +151,7 @@ list_free (Node key) is = refl
 list_free (MsgPort port messages) is = refl
 list_free (Message content) is = refl
 list_free (Semaphore sem waiters) is = true_is_not_false (sym is)
+list_free (Library number count delayed) is = refl
 
 port_free : (object : Object) → is_port object ≡ true → (sem_in object).owner ≡ None
 port_free Plain is = refl
@@ -150,6 +160,7 @@ port_free (Node key) is = refl
 port_free (MsgPort port messages) is = refl
 port_free (Message content) is = refl
 port_free (Semaphore sem waiters) is = true_is_not_false (sym is)
+port_free (Library number count delayed) is = refl
 
 message_free : (object : Object) → is_message object ≡ true → (sem_in object).owner ≡ None
 message_free Plain is = refl
@@ -158,6 +169,16 @@ message_free (Node key) is = refl
 message_free (MsgPort port messages) is = refl
 message_free (Message content) is = refl
 message_free (Semaphore sem waiters) is = true_is_not_false (sym is)
+message_free (Library number count delayed) is = refl
+
+library_free : (object : Object) → is_library object ≡ true → (sem_in object).owner ≡ None
+library_free (Library number count delayed) is = refl
+library_free Plain is = refl
+library_free (ListHead nodes) is = refl
+library_free (Node key) is = refl
+library_free (MsgPort port messages) is = refl
+library_free (Message content) is = refl
+library_free (Semaphore sem waiters) is = true_is_not_false (sym is)
 
 pub free_owner : (sem : Sem) → is_owned sem ≡ false → sem.owner ≡ None
 free_owner sem e = none_owner sem.owner e
@@ -174,6 +195,7 @@ gone_free (Some (Node key)) may = refl
 gone_free (Some (MsgPort port messages)) may = refl
 gone_free (Some (Message content)) may = refl
 gone_free (Some (Semaphore sem waiters)) may = free_owner sem may
+gone_free (Some (Library number count delayed)) may = absurd may
 
 new_free : (object : Object) → IsNew object → (sem_in object).owner ≡ None
 new_free Plain is = refl
@@ -182,6 +204,7 @@ new_free (Node key) is = refl
 new_free (MsgPort port messages) is = refl
 new_free (Message content) is = refl
 new_free (Semaphore sem waiters) is = ap (λ (s : Sem). s.owner) is.0
+new_free (Library number count delayed) is = refl
 
 elsewhere : (a address : ℕ) (object : Object) (heap : Heap) → a ≢ address
     → object_at a (map (replaced address object) heap) ≡ object_at a heap
@@ -214,6 +237,7 @@ left_owner node (Node key) = refl
 left_owner node (MsgPort port messages) = refl
 left_owner node (Message content) = refl
 left_owner node (Semaphore sem waiters) = refl
+left_owner node (Library number count delayed) = refl
 
 task_left_owner : (t : ℕ) (object : Object) → (sem_in (left_by_task t object)).owner ≡ (sem_in object).owner
 task_left_owner t Plain = refl
@@ -222,6 +246,7 @@ task_left_owner t (Node key) = refl
 task_left_owner t (MsgPort port messages) = refl
 task_left_owner t (Message content) = refl
 task_left_owner t (Semaphore sem waiters) = refl
+task_left_owner t (Library number count delayed) = refl
 
 remade_owner : (f : Object → Object) → ((object : Object) → (sem_in (f object)).owner ≡ (sem_in object).owner) → (a : ℕ) (heap : Heap)
     → owner_in (object_at a (map (λ (entry : ℕ × Block). (entry.0, record entry.1 { object = f entry.1.object })) heap)) ≡ owner_in (object_at a heap)
@@ -270,7 +295,7 @@ touched_own old marks new (gets port message is e) a = still_unowned is_port por
 
 pub moves_own : (regions : List Region) (t : ℕ) (call : Call) (old : Heap) (marks : List Mark) (new : Heap) → Moves regions t call old marks new
     → IsWellFormed regions (extents old) → (a : ℕ) → Owns t call a old new
-unfolding with_nodes unlinked with_action with_port with_semaphore entered queued dropped handed_on released_once sem_of is_list_at is_port_at
+unfolding with_nodes unlinked with_action with_port with_semaphore with_library entered queued dropped handed_on released_once sem_of is_list_at is_port_at is_library_at
 moves_own regions t call old marks new (touches how) formed a = inl (touched_own old marks new how a)
 moves_own regions t call old marks new (places size reqs address object is fits) formed a =
     cases_eq a address
@@ -304,4 +329,9 @@ moves_own regions t call old marks new (opens semaphore release is last e) forme
 moves_own regions t call old marks new (releases semaphore is last) formed a =
     by_address t call a semaphore _ old
     (λ same. inl (subst (λ k. owner_in (object_at k new) ≡ owner_in (object_at k old)) (sym same) (same_owner semaphore _ old refl)))
+moves_own regions t call old marks new (counts base count delayed is) formed a = unowned t call is_library library_free a base _ old (is formed)
+moves_own regions t call old marks new (expunges base is may) formed a =
+    cases_eq a base
+    (λ same. inr (inl (ap (λ k. owner_in (object_at k old)) same ∙ no_owner is_library library_free (object_at base old) is)))
+    (λ apart. inl (ap (λ found. owner_in found) (object_rid_there a base old apart)))
 moves_own regions t call old marks new (drops other apart) formed a = inl (remade_owner (left_by_task other) (task_left_owner other) a old)

@@ -7,12 +7,13 @@ use Rattle.memlist.specs.declared.region.Region.{Region}
 use Rattle.memlist.specs.Memory.{IsWellFormed}
 use Rattle.memlist.proofs.Answered.{nat_eq-same, nat_eq-other, cases_eq}
 use Rattle.execlist.specs.Order.{without}
-use Rattle.execmodel.specs.State.{Call, Object, Plain, ListHead, Node, MsgPort, Message, Semaphore, Block, Heap, Mark}
+use Rattle.execmodel.specs.State.{Call, Object, Plain, ListHead, Node, MsgPort, Message, Semaphore, Library, Block, Heap, Mark}
 use Rattle.execmodel.specs.Objects.{object_at, is_kind, replaced}
 use Rattle.execmodel.specs.Memory.{extents}
 use Rattle.execmodel.specs.Lists.{is_list, is_list_at, with_nodes, unlinked, left_by}
 use Rattle.execmodel.specs.Ports.{is_port, is_message, is_port_at, is_message_at, with_port, with_action, appended, taken_off}
 use Rattle.execmodel.specs.Semaphores.{is_semaphore, is_semaphore_at, waiters_in, waiters_of, waiters_of_object, awaited_by, with_semaphore, left_by_task, entered, queued, dropped, handed_on, released_once}
+use Rattle.execmodel.specs.Libraries.{is_library, is_library_at, with_library}
 use Rattle.execmodel.specs.Queues.{Came, Served, Left}
 use Rattle.execmodel.specs.Marks.{turns_at_semaphore}
 use Rattle.execmodel.proofs.Queues.{Follows, IsAway}
@@ -25,7 +26,7 @@ use Rattle.msgport.specs.declared.message.Message.{Message as Content}
 use Rattle.sigsem.specs.declared.semaphore.Sem.{Sem}
 use Rattle.memlist.specs.Fit.{round}
 use Rattle.execmodel.proofs.Commands.{Touches, remains, fills, puts, gets}
-use Rattle.execmodel.proofs.Moves.{IsNew, MayGo, leaving_marks, Moves, touches, places, frees, relists, unlinks, sets, enters, queues, hands, opens, releases, drops}
+use Rattle.execmodel.proofs.Moves.{IsNew, MayGo, leaving_marks, Moves, touches, places, frees, relists, unlinks, sets, enters, queues, hands, opens, releases, counts, expunges, drops}
 
 -- ---- what has no messages
 
@@ -52,6 +53,7 @@ list_none (Node key) is = refl
 list_none (MsgPort port messages) is = refl
 list_none (Message content) is = refl
 list_none (Semaphore sem waiters) is = true_is_not_false (sym is)
+list_none (Library number count delayed) is = refl
 
 message_none : (object : Object) → is_message object ≡ true → waiters_in object ≡ []
 message_none Plain is = refl
@@ -60,6 +62,7 @@ message_none (Node key) is = refl
 message_none (MsgPort port messages) is = refl
 message_none (Message content) is = refl
 message_none (Semaphore sem waiters) is = true_is_not_false (sym is)
+message_none (Library number count delayed) is = refl
 
 port_none : (object : Object) → is_port object ≡ true → waiters_in object ≡ []
 port_none Plain is = refl
@@ -68,6 +71,16 @@ port_none (Node key) is = refl
 port_none (MsgPort port messages) is = refl
 port_none (Message content) is = refl
 port_none (Semaphore sem waiters) is = true_is_not_false (sym is)
+port_none (Library number count delayed) is = refl
+
+library_none : (object : Object) → is_library object ≡ true → waiters_in object ≡ []
+library_none (Library number count delayed) is = refl
+library_none Plain is = refl
+library_none (ListHead nodes) is = refl
+library_none (Node key) is = refl
+library_none (MsgPort port messages) is = refl
+library_none (Message content) is = refl
+library_none (Semaphore sem waiters) is = true_is_not_false (sym is)
 
 new_none : (object : Object) → IsNew object → waiters_in object ≡ []
 new_none Plain is = refl
@@ -76,6 +89,7 @@ new_none (Node key) is = refl
 new_none (MsgPort port messages) is = refl
 new_none (Message content) is = refl
 new_none (Semaphore sem waiters) is = is.1
+new_none (Library number count delayed) is = refl
 
 gone_none : (found : Option Object) → MayGo found → Idle found → waiters_of_object found ≡ []
 gone_none None may idle = refl
@@ -85,6 +99,7 @@ gone_none (Some (Node key)) may idle = refl
 gone_none (Some (MsgPort port messages)) may idle = refl
 gone_none (Some (Message content)) may idle = refl
 gone_none (Some (Semaphore sem waiters)) may idle = idle (free_owner sem may)
+gone_none (Some (Library number count delayed)) may idle = absurd may
 
 -- ---- what begins at an address becomes another
 
@@ -117,6 +132,7 @@ left_same node (Node key) = refl
 left_same node (MsgPort port messages) = refl
 left_same node (Message content) = refl
 left_same node (Semaphore sem waiters) = refl
+left_same node (Library number count delayed) = refl
 
 -- ---- tasks that leave
 
@@ -133,6 +149,7 @@ task_left t (Some (Node key)) = refl
 task_left t (Some (MsgPort port messages)) = refl
 task_left t (Some (Message content)) = refl
 task_left t (Some (Semaphore sem waiters)) = refl
+task_left t (Some (Library number count delayed)) = refl
 
 pub dropped_left : (t p : ℕ) (heap : Heap) → waiters_of p (dropped t heap) ≡ without t (waiters_of p heap)
 unfolding waiters_of dropped
@@ -203,7 +220,7 @@ touched_pass old marks new (gets port message is e) p = port_still port _ _ p ol
 pub moves_pass : (regions : List Region) (t : ℕ) (call : Call) (old : Heap) (marks : List Mark) (new : Heap) → Moves regions t call old marks new
     → IsWellFormed regions (extents old) → AllIdle old → IsNowhere t old → ((other : ℕ) → WaitsAtOne other old (awaited_by other old))
     → (p : ℕ) → Follows (waiters_of p old) (turns_at_semaphore p marks) (waiters_of p new)
-unfolding with_nodes unlinked with_action entered queued handed_on released_once is_list_at
+unfolding with_nodes unlinked with_action with_library entered queued handed_on released_once is_list_at is_library_at
 moves_pass regions t call old marks new (touches how) formed idle nowhere one p = touched_pass old marks new how p
 moves_pass regions t call old marks new (places size reqs address object is fits) formed idle nowhere one p =
     unfold waiters_of in cases_eq p address
@@ -244,6 +261,12 @@ moves_pass regions t call old marks new (opens semaphore release is last e) form
     ∙ ap (λ q. drop 1 q) (first_none (waiters_of semaphore old) e)
     ∙ sym (ap (λ a. waiters_of a old) same ∙ first_none (waiters_of semaphore old) e))
     (λ apart. semaphore_elsewhere p semaphore _ (drop 1 (waiters_of semaphore old)) old apart)
+moves_pass regions t call old marks new (counts base count delayed is) formed idle nowhere one p = still_none base _ is_library p old refl library_none (is formed)
+moves_pass regions t call old marks new (expunges base is may) formed idle nowhere one p =
+    unfold waiters_of in cases_eq p base
+    (λ same. ap (λ found. waiters_of_object found) (ap (λ a. object_at a new) same ∙ object_rid_here base old)
+    ∙ sym (ap (λ a. waiters_of_object (object_at a old)) same ∙ no_port is_library library_none (object_at base old) is))
+    (λ apart. ap (λ found. waiters_of_object found) (object_rid_there p base old apart))
 moves_pass regions t call old marks new (releases semaphore is last) formed idle nowhere one p =
     cases_eq p semaphore
     (λ same. ap (λ a. waiters_of a new) same ∙ semaphore_there semaphore _ (waiters_of semaphore old) old is ∙ sym (ap (λ a. waiters_of a old) same))

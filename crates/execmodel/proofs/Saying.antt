@@ -5,6 +5,7 @@ use Rattle.execmodel.specs.State.{Call, State, Outcome}
 use Rattle.execmodel.specs.Calls.{argument, done, answered, waiting, silent, alerted, unless}
 use Rattle.execmodel.specs.Interrupts.{runs_softint, interrupts}
 use Rattle.execmodel.specs.Causing.{does_interrupts, does_cause}
+use Rattle.execmodel.specs.Libraries.{library_alert, close_alert, does_libraries, does_open_library, does_close_library, does_rem_library, does_lib_open_cnt}
 use Rattle.execmodel.specs.Step.{does, does_word, ends}
 use Rattle.execmodel.specs.Laws.{OnlySwitchesSaySo, says_switch}
 use Rattle.taskscript.specs.declared.word.Word.{Word}
@@ -32,6 +33,8 @@ use Rattle.taskscript.specs.declared.word.memory.MemoryWord.TheVariants as memor
 use Rattle.taskscript.specs.declared.word.ports.PortWord.TheVariants as ports
 use Rattle.taskscript.specs.declared.word.semaphores.SemaphoreWord.TheVariants as semaphores
 use Rattle.taskscript.specs.declared.word.interrupts.InterruptWord.TheVariants as causing
+use Rattle.taskscript.specs.declared.word.libraries.LibraryWord.{LibraryWord}
+use Rattle.taskscript.specs.declared.word.libraries.LibraryWord.TheVariants as libraries
 use Rattle.sigsem.specs.declared.semaphore.Obtained.{Obtained}
 use Rattle.sigsem.specs.declared.semaphore.Obtained.TheVariants.{Owner, Waits}
 use Rattle.execmodel.specs.Plain.{does_plain, does_set, does_add, does_sub, does_and, does_or, jumps, does_jump, does_jump_zero, does_jump_not_zero, does_print}
@@ -248,6 +251,17 @@ interrupts_silent : (word : InterruptWord) (t : ℕ) (call : Call) (s : State) �
 unfolding does_cause done
 interrupts_silent causing.Cause t call s = refl
 
+libraries_silent : (word : LibraryWord) (t : ℕ) (call : Call) (s : State) → Silent (does_libraries word t call s)
+unfolding does_open_library does_close_library does_rem_library does_lib_open_cnt done answered
+libraries_silent libraries.OpenLibrary t call s = refl
+libraries_silent libraries.CloseLibrary t call s =
+    either_silent (nat_eq (argument 0 call) 0) _ _ refl
+    (unless_silent (close_alert (argument 0 call) s.memory.heap) t call _ s refl)
+libraries_silent libraries.RemLibrary t call s =
+    unless_silent (library_alert (argument 0 call) s.memory.heap) t call _ s refl
+libraries_silent libraries.LibOpenCnt t call s =
+    unless_silent (library_alert (argument 0 call) s.memory.heap) t call _ s refl
+
 word_silent : (word : Word) (t : ℕ) (call : Call) (s : State) → Silent (does_word word t call s)
 word_silent (group.Plain word) t call s = plain_silent word t call s
 word_silent (group.Signals word) t call s = signals_silent word t call s
@@ -258,6 +272,7 @@ word_silent (group.Lists word) t call s = lists_silent word t call s
 word_silent (group.Ports word) t call s = ports_silent word t call s
 word_silent (group.Semaphores word) t call s = semaphores_silent word t call s
 word_silent (group.Interrupts word) t call s = interrupts_silent word t call s
+word_silent (group.Libraries word) t call s = libraries_silent word t call s
 
 call_silent : (t : ℕ) (call : Call) (s : State) → says_switch (does t call s).lines ≡ false
 unfolding does

@@ -33,6 +33,8 @@ use Rattle.taskscript.specs.declared.word.semaphores.SemaphoreWord.{SemaphoreWor
 use Rattle.taskscript.specs.declared.word.semaphores.SemaphoreWord.TheVariants as semaphores
 use Rattle.taskscript.specs.declared.word.interrupts.InterruptWord.{InterruptWord}
 use Rattle.taskscript.specs.declared.word.interrupts.InterruptWord.TheVariants as interrupts
+use Rattle.taskscript.specs.declared.word.libraries.LibraryWord.{LibraryWord}
+use Rattle.taskscript.specs.declared.word.libraries.LibraryWord.TheVariants as libraries
 use Rattle.execmodel.specs.State.{Call, Scripts, Object, Plain, Memory, asked, passed, State, Outcome, on_schedule, on_memory, on_heap}
 use Rattle.execmodel.specs.Scheduling.{arrives, added, reprioritized}
 use Rattle.execmodel.specs.Calls.{ByTask, argument, done, answered, waiting, silent, alerted, unless, keeps}
@@ -46,6 +48,7 @@ use Rattle.execmodel.specs.Lists.{free_list_alert, new_node_alert, free_node_ale
 use Rattle.execmodel.specs.Ports.{is_port, port_size, messages_of, port_of, port_created, delete_alert, port_alert, reply_port_alert, loose_alert, message_alert, add_port_alert, rem_port_alert, wait_alert, looked, loses, made_public, made_private, does_ports, does_create_msg_port, does_delete_msg_port, does_add_port, does_rem_port, does_find_port, does_port_signal, does_port_cause, does_port_ignore, does_new_msg, does_free_msg, does_msg_word, does_set_msg_word, does_msg_type, does_put_msg, does_get_msg, does_wait_port, does_reply_msg}
 use Rattle.execmodel.specs.Semaphores.{awaited_by, dropped, sem_of, free_sem_alert, obtain_alert, release_alert, outcome_for, obtains, passes, heir, is_tried_again, leaving_queue, woken, does_semaphores, does_new_sem, does_free_sem, does_obtain_semaphore, does_attempt_semaphore, does_release_semaphore}
 use Rattle.execmodel.specs.Causing.{does_interrupts, does_cause}
+use Rattle.execmodel.specs.Libraries.{library_alert, close_alert, does_libraries, does_open_library, does_close_library, does_rem_library, does_lib_open_cnt}
 use Rattle.execmodel.specs.Step.{does, does_word}
 use Rattle.execmodel.specs.Laws.{is_own_taking}
 use Rattle.execmodel.proofs.Heaps.{true_is_not_false}
@@ -435,6 +438,19 @@ interrupts_shift : (word : InterruptWord) (t : ℕ) (call : Call) (s : State) �
 unfolding does_cause
 interrupts_shift interrupts.Cause t call s = any_shifts t call s (does_cause t call s) (cause_alters (ByTask t) call s)
 
+-- ---- libraries
+
+libraries_shift : (word : LibraryWord) (t : ℕ) (call : Call) (s : State) → Shifted t call s (does_libraries word t call s)
+unfolding does_open_library does_close_library does_rem_library does_lib_open_cnt
+libraries_shift libraries.OpenLibrary t call s = answered_stays t call _ s _
+libraries_shift libraries.CloseLibrary t call s =
+    either_shifts t call s (nat_eq (argument 0 call) 0) _ _ (λ is. done_stays t call s s.memory)
+    (λ is. unless_shifts t call s (close_alert (argument 0 call) s.memory.heap) _ (λ none. done_stays t call s _))
+libraries_shift libraries.RemLibrary t call s =
+    unless_shifts t call s (library_alert (argument 0 call) s.memory.heap) _ (λ none. done_stays t call s _)
+libraries_shift libraries.LibOpenCnt t call s =
+    unless_shifts t call s (library_alert (argument 0 call) s.memory.heap) _ (λ none. answered_stays t call _ s s.memory)
+
 -- ---- any word
 
 word_shifts : (word : Word) (t : ℕ) (call : Call) (s : State) → call.word ≡ word → Shifted t call s (does_word word t call s)
@@ -447,6 +463,7 @@ word_shifts (group.Memory word) t call s is = memory_shifts word t call s
 word_shifts (group.Ports word) t call s is = ports_shift word t call s is
 word_shifts (group.Semaphores word) t call s is = semaphores_shift word t call s
 word_shifts (group.Interrupts word) t call s is = interrupts_shift word t call s
+word_shifts (group.Libraries word) t call s is = libraries_shift word t call s
 
 pub call_shifts : (t : ℕ) (call : Call) (s : State) → Shifted t call s (does t call s)
 unfolding does

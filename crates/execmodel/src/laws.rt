@@ -1,7 +1,7 @@
 //! Laws of whole runs and of words: functions without effect whose contracts say what the definitions amount to.
 ghost use Rattle.std.specs.Prelude.{◌≡◌, true, List};
 ghost use Rattle.taskscript.specs.declared.event.Event.{Event};
-ghost use Rattle.execmodel.specs.Keeping.{PlainWordsChangeScripts, SignalWordsChangeSignalsAndStates, NestingWordsChangeNestings, TaskWordsChangeStatesPrioritiesAndObjects, ListWordsChangeTheMemory, MemoryWordsChangeTheMemory, PortWordsChangePortsSignalsAndStates, SemaphoreWordsChangeStatesAndObjects, InterruptWordsChangeWhatIsCaused};
+ghost use Rattle.execmodel.specs.Keeping.{PlainWordsChangeScripts, SignalWordsChangeSignalsAndStates, NestingWordsChangeNestings, TaskWordsChangeStatesPrioritiesAndObjects, ListWordsChangeTheMemory, MemoryWordsChangeTheMemory, PortWordsChangePortsSignalsAndStates, SemaphoreWordsChangeStatesAndObjects, InterruptWordsChangeWhatIsCaused, LibraryWordsChangeTheMemory};
 ghost use Rattle.execmodel.specs.Laws.{FirstInFirstOut, EachByteHasOneOwner, FreeMemRefusesObjects, OwnersChangeAtTheLastRelease, FreeSemaphoresHaveNoWaiters, SemaphoresPassInOrder, QueuesAgreeWithTheSchedule, EachStateIsSettled, SwitchesGoToTheChosen, OnlySwitchesSaySo, WaitersHaveReceivedNone, ReceivedSignalsStay, InterruptsKeepNestings, ThreeServingsAtMost};
 ghost use Rattle.execmodel.specs.State.{State, Outcome, quiet, andthen, unless_stopped};
 ghost use Rattle.execmodel.specs.Step.{event, events};
@@ -19,7 +19,7 @@ pub fn an_alert_ends_all()
 
 /// The words of a group change their part of the state, and leave all else as it is: plain words the shared variables, and of the
 /// programs the caller's progress alone (its place, its variables and the call that it waits in). Words of signals change signals and
-/// which tasks are ready, running or waiting; words of nesting the nestings; words of lists and memory the blocks of memory and the
+/// which tasks are ready, running or waiting; words of nesting the nestings; words of lists, memory and libraries the blocks of memory and the
 /// objects in them; words of ports these, which ports are public, signals, which tasks are ready, running or waiting, and which software
 /// interrupts are caused; words of semaphores the objects and which tasks are ready, running or waiting, words of tasks these and the
 /// priorities, and words of interrupts which software interrupts are caused. Each word may change the scripts, and an alert stops the
@@ -36,6 +36,7 @@ pub fn each_group_keeps_to_its_part()
     ensures ports { PortWordsChangePortsSignalsAndStates }
     ensures semaphores { SemaphoreWordsChangeStatesAndObjects }
     ensures interrupts { InterruptWordsChangeWhatIsCaused }
+    ensures libraries { LibraryWordsChangeTheMemory }
 {}
 
 /// Messages leave a port in the order in which they came: over every stretch of every run, the messages that the port had at first and

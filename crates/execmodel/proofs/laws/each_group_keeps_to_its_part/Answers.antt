@@ -1,4 +1,4 @@
-use Rattle.execmodel.proofs.Keeping.{plain_words_change_scripts, signal_words_change_signals_and_states, nesting_words_change_nestings, task_words_change_states_priorities_and_objects, list_words_change_the_memory, memory_words_change_the_memory, port_words_change_ports_signals_and_states, semaphore_words_change_states_and_objects, interrupt_words_change_what_is_caused}
+use Rattle.execmodel.proofs.Keeping.{plain_words_change_scripts, signal_words_change_signals_and_states, nesting_words_change_nestings, task_words_change_states_priorities_and_objects, list_words_change_the_memory, memory_words_change_the_memory, port_words_change_ports_signals_and_states, semaphore_words_change_states_and_objects, interrupt_words_change_what_is_caused, library_words_change_the_memory}
 use Rattle.execmodel.proofs.laws.each_group_keeps_to_its_part.Goals as goal
 
 pub returns-clause-plain : goal.returns-clause-plain
@@ -27,3 +27,6 @@ returns-clause-semaphores c = semaphore_words_change_states_and_objects
 
 pub returns-clause-interrupts : goal.returns-clause-interrupts
 returns-clause-interrupts c = interrupt_words_change_what_is_caused
+
+pub returns-clause-libraries : goal.returns-clause-libraries
+returns-clause-libraries c = library_words_change_the_memory
