@@ -89,7 +89,7 @@ rid address heap = where_key nat_cmp (λ other. not (nat_eq other address)) heap
 tie : (a address x : ℕ) → nat_cmp a x ≡ Equal → not (nat_eq x address) ≡ not (nat_eq a address)
 tie a address x e = ap (λ k. not (nat_eq k address)) (key_is a x (ap is_eq e))
 
-found_rid : (a address : ℕ) (heap : Heap) → block_at a (rid address heap) ≡ cond (not (nat_eq a address)) (block_at a heap) None
+pub found_rid : (a address : ℕ) (heap : Heap) → block_at a (rid address heap) ≡ cond (not (nat_eq a address)) (block_at a heap) None
 found_rid a address heap = find-where_key nat_cmp (λ other. not (nat_eq other address)) a (tie a address) heap
 
 pub object_rid_here : (a : ℕ) (heap : Heap) → object_at a (rid a heap) ≡ None

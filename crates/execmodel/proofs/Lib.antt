@@ -8,6 +8,7 @@ pub mod Fifo
 pub mod FifoLaw
 pub mod Formed
 pub mod Heaps
+pub mod Libraries
 pub mod Loaded
 pub mod OnLiterals
 pub mod OneOwner

@@ -1,0 +1,306 @@
+-- An open library keeps its base and its block, until it is closed for the last time and expunged.
+use Rattle.std.proofs.Common.{◌⊎◌, inl, inr, ◌≡◌, ◌≢◌, ℕ, ◌≤◌, Bool, true, false, List, Option, None, Some, refl, sym, ap, ◌∙◌, subst, arith}
+use Rattle.std.specs.Prelude.{not, cond, if◌then◌else◌, nat_eq, map}
+use Rattle.std.specs.Option.{option_map, option_map_or}
+use Rattle.std.specs.Ordering.{nat_cmp}
+use Rattle.std.specs.Cmp.{nat_cmp_total}
+use Rattle.std.specs.FinMap.{put as put_entry}
+use Rattle.std.specs.FinMap.Entries.{find-put}
+use Rattle.memlist.specs.declared.region.Region.{Region}
+use Rattle.memlist.specs.Memory.{IsWellFormed}
+use Rattle.memlist.proofs.Answered.{nat_eq-same, nat_eq-other, cases_eq, key_other}
+use Rattle.softint.specs.declared.source.Source.TheVariants.{Vertb}
+use Rattle.execmodel.specs.State.{Call, Object, Plain, ListHead, Node, MsgPort, Message, Semaphore, Library, Block, Heap, Mark, State, quiet, andthen, on_schedule}
+use Rattle.execmodel.specs.Calls.{next_call}
+use Rattle.execmodel.specs.Scheduling.{rescheduled}
+use Rattle.execmodel.specs.Pending.{next_softint}
+use Rattle.execmodel.specs.Bodies.{body_step}
+use Rattle.execmodel.specs.Objects.{object_at, is_kind, replaced}
+use Rattle.execmodel.specs.Memory.{extents, block_at}
+use Rattle.execmodel.specs.Lists.{is_list, is_list_at, with_nodes, unlinked, left_by}
+use Rattle.execmodel.specs.Ports.{is_port, is_message, is_port_at, is_message_at, with_port, with_action, appended, taken_off}
+use Rattle.execmodel.specs.Semaphores.{is_semaphore, is_semaphore_at, with_semaphore, left_by_task, entered, queued, dropped, handed_on, released_once}
+use Rattle.execmodel.specs.Libraries.{is_library, is_library_at, number_in, number_of, count_of, with_library}
+use Rattle.execmodel.specs.Step.{switches, settle, ends, does, call_step, task_step, softint_or_task_step, acting, acts, step, tick, run}
+use Rattle.execmodel.specs.Laws.{Action, OneStep, OneTick, OneRequest, performed, IsLastClose, StaysLoaded, OpenLibrariesStay}
+use Rattle.execmodel.proofs.Heaps.{block_remade, found_rid, rid, filled, true_is_not_false}
+use Rattle.execmodel.proofs.Formed.{placed_fresh}
+use Rattle.execmodel.proofs.Fifo.{port_stays}
+use Rattle.execmodel.proofs.Stretches.{Relation, HoldsOfInterrupts, of_softint, of_settle, of_request}
+use Rattle.execmodel.proofs.Commands.{Touches, remains, fills, puts, gets, body_alters}
+use Rattle.execmodel.proofs.Moves.{IsLastClosing, MayGo, Moves, touches, places, frees, relists, unlinks, sets, enters, queues, hands, opens, releases, counts, expunges, drops, call_makes}
+use Rattle.execmodel.proofs.FifoLaw.{FormedState, quietly, switches_quiet, formed_in_every_state}
+
+-- ---- a library is nothing else
+
+pub record IsAlone (object : Object) : Type 0 where
+  pub list : is_list object ≡ false
+  pub port : is_port object ≡ false
+  pub message : is_message object ≡ false
+  pub semaphore : is_semaphore object ≡ false
+
+alone : (object : Object) → is_library object ≡ true → IsAlone object
+alone (Library number count delayed) is = record { list = refl; port = refl; message = refl; semaphore = refl }
+alone Plain is = true_is_not_false (sym is)
+alone (ListHead nodes) is = true_is_not_false (sym is)
+alone (Node key) is = true_is_not_false (sym is)
+alone (MsgPort port messages) is = true_is_not_false (sym is)
+alone (Message content) is = true_is_not_false (sym is)
+alone (Semaphore sem waiters) is = true_is_not_false (sym is)
+
+kinds_apart : (kind : Object → Bool) → ((object : Object) → is_library object ≡ true → kind object ≡ false) → (found : Option Object)
+    → is_kind is_library found ≡ true → is_kind kind found ≡ true → ⊥
+kinds_apart kind other None is also = true_is_not_false (sym is)
+kinds_apart kind other (Some object) is also = true_is_not_false (sym also ∙ other object is)
+
+apart_from : (kind : Object → Bool) → ((object : Object) → is_library object ≡ true → kind object ≡ false) → (base address : ℕ) (heap : Heap)
+    → is_library_at base heap ≡ true → is_kind kind (object_at address heap) ≡ true → base ≢ address
+unfolding is_library_at
+apart_from kind other base address heap is also = λ same.
+    kinds_apart kind other (object_at base heap) is (subst (λ a. is_kind kind (object_at a heap) ≡ true) (sym same) also)
+
+not_gone : (found : Option Object) → MayGo found → is_kind is_library found ≡ true → ⊥
+not_gone None may is = true_is_not_false (sym is)
+not_gone (Some Plain) may is = true_is_not_false (sym is)
+not_gone (Some (ListHead nodes)) may is = true_is_not_false (sym is)
+not_gone (Some (Node key)) may is = true_is_not_false (sym is)
+not_gone (Some (MsgPort port messages)) may is = true_is_not_false (sym is)
+not_gone (Some (Message content)) may is = true_is_not_false (sym is)
+not_gone (Some (Semaphore sem waiters)) may is = true_is_not_false (sym is)
+not_gone (Some (Library number count delayed)) may is = may
+
+-- ---- the block at an address where nothing changes
+
+unchanged : (object : Object) (found : Option Block)
+    → option_map (λ (block : Block). if false then record block { object = object } else block) found ≡ found
+unchanged object None = refl
+unchanged object (Some block) = refl
+
+block_elsewhere : (a address : ℕ) (object : Object) (heap : Heap) → a ≢ address → block_at a (map (replaced address object) heap) ≡ block_at a heap
+block_elsewhere a address object heap apart =
+    block_remade (λ k block. if nat_eq k address then record block { object = object } else block) a heap
+    ∙ ap (λ test. option_map (λ (block : Block). if test then record block { object = object } else block) (block_at a heap)) (nat_eq-other a address apart)
+    ∙ unchanged object (block_at a heap)
+
+block_rid_there : (a address : ℕ) (heap : Heap) → a ≢ address → block_at a (rid address heap) ≡ block_at a heap
+block_rid_there a address heap apart =
+    found_rid a address heap ∙ ap (λ test. cond (not test) (block_at a heap) None) (nat_eq-other a address apart)
+
+block_placed_there : (a address : ℕ) (block : Block) (heap : Heap) → a ≢ address → block_at a (put_entry nat_cmp address block heap) ≡ block_at a heap
+block_placed_there a address block heap apart =
+    find-put nat_cmp nat_cmp_total a address block heap ∙ ap (λ test. cond test (Some block) (block_at a heap)) (key_other a address apart)
+
+-- a library stays where other objects change alone
+same_found : (f : Object → Object) → ((object : Object) → is_library object ≡ true → f object ≡ object) → (found : Option Block)
+    → is_kind is_library (option_map (λ (block : Block). block.object) found) ≡ true
+    → option_map (λ (block : Block). record block { object = f block.object }) found ≡ found
+same_found f same None is = refl
+same_found f same (Some block) is = ap (λ (object : Object). Some (record block { object = object })) (same block.object is)
+
+block_remade_alike : (f : Object → Object) → ((object : Object) → is_library object ≡ true → f object ≡ object) → (a : ℕ) (heap : Heap)
+    → is_library_at a heap ≡ true
+    → block_at a (map (λ (entry : ℕ × Block). (entry.0, record entry.1 { object = f entry.1.object })) heap) ≡ block_at a heap
+unfolding is_library_at
+block_remade_alike f same a heap is =
+    block_remade (λ k block. record block { object = f block.object }) a heap ∙ same_found f same (block_at a heap) is
+
+left_alone : (node : ℕ) (object : Object) → is_library object ≡ true → left_by node object ≡ object
+left_alone node (Library number count delayed) is = refl
+left_alone node Plain is = refl
+left_alone node (ListHead nodes) is = true_is_not_false (sym is)
+left_alone node (Node key) is = refl
+left_alone node (MsgPort port messages) is = refl
+left_alone node (Message content) is = refl
+left_alone node (Semaphore sem waiters) is = refl
+
+task_left_alone : (t : ℕ) (object : Object) → is_library object ≡ true → left_by_task t object ≡ object
+task_left_alone t (Library number count delayed) is = refl
+task_left_alone t Plain is = refl
+task_left_alone t (ListHead nodes) is = refl
+task_left_alone t (Node key) is = refl
+task_left_alone t (MsgPort port messages) is = refl
+task_left_alone t (Message content) is = refl
+task_left_alone t (Semaphore sem waiters) is = true_is_not_false (sym is)
+
+-- ---- what stays loaded
+
+still_library : (base : ℕ) (old new : Heap) → is_library_at base old ≡ true → block_at base new ≡ block_at base old → is_library_at base new ≡ true
+unfolding is_library_at
+still_library base old new is e = ap (λ found. is_kind is_library (option_map (λ (block : Block). block.object) found)) e ∙ is
+
+still : (base : ℕ) (old new : Heap) → is_library_at base old ≡ true → block_at base new ≡ block_at base old → StaysLoaded base old new
+unfolding number_of
+still base old new is e = record {
+  loaded = still_library base old new is e;
+  number = ap (λ found. option_map_or number_in (option_map (λ (block : Block). block.object) found) 0) e;
+  block = ap (λ found. option_map (λ (b : Block). b.size) found) e;
+}
+
+-- it stays further where its block stays
+further : (base : ℕ) (old mid new : Heap) → StaysLoaded base old mid → (is_library_at base mid ≡ true → block_at base new ≡ block_at base mid)
+    → StaysLoaded base old new
+further base old mid new one keeps =
+    let two = still base mid new one.loaded (keeps one.loaded) in
+    record { loaded = two.loaded; number = two.number ∙ one.number; block = two.block ∙ one.block }
+
+pub record IsCounted (n : ℕ) (found new : Option Block) : Type 0 where
+  pub loaded : is_kind is_library (option_map (λ (block : Block). block.object) new) ≡ true
+  pub number : option_map_or number_in (option_map (λ (block : Block). block.object) new) 0 ≡ n
+  pub size : option_map (λ (b : Block). b.size) new ≡ option_map (λ (b : Block). b.size) found
+
+counted_found : (number count : ℕ) (delayed : Bool) (found : Option Block)
+    → is_kind is_library (option_map (λ (block : Block). block.object) found) ≡ true
+    → IsCounted number found (option_map (λ (block : Block). record block { object = Library number count delayed }) found)
+counted_found number count delayed None is = true_is_not_false (sym is)
+counted_found number count delayed (Some block) is = record { loaded = refl; number = refl; size = refl }
+
+counted : (base count : ℕ) (delayed : Bool) (old : Heap) → is_library_at base old ≡ true → StaysLoaded base old (with_library base count delayed old)
+unfolding is_library_at number_of with_library
+counted base count delayed old is =
+    let object = Library (option_map_or number_in (object_at base old) 0) count delayed in
+    let there =
+        block_remade (λ k block. if nat_eq k base then record block { object = object } else block) base old
+        ∙ ap (λ test. option_map (λ (block : Block). if test then record block { object = object } else block) (block_at base old)) (nat_eq-same base) in
+    let all = subst (λ new. IsCounted (option_map_or number_in (object_at base old) 0) (block_at base old) new) (sym there)
+        (counted_found (option_map_or number_in (object_at base old) 0) count delayed (block_at base old) is) in
+    record { loaded = all.loaded; number = all.number; block = all.size }
+
+-- ---- whatever a call does
+
+-- no call of a body touches a library
+touched_keep : (old : Heap) (marks : List Mark) (new : Heap) → Touches old marks new → (base : ℕ) → is_library_at base old ≡ true
+    → block_at base new ≡ block_at base old
+unfolding with_port appended taken_off is_port_at is_message_at
+touched_keep old marks new remains base is = refl
+touched_keep old marks new (fills message content there) base is =
+    block_elsewhere base message _ old (apart_from is_message (λ object l. (alone object l).message) base message old is there)
+touched_keep old marks new (puts port message content there also loose) base is =
+    block_elsewhere base port _ (filled message content old) (apart_from is_port (λ object l. (alone object l).port) base port old is there)
+    ∙ block_elsewhere base message _ old (apart_from is_message (λ object l. (alone object l).message) base message old is also)
+touched_keep old marks new (gets port message there e) base is =
+    block_elsewhere base port _ old (apart_from is_port (λ object l. (alone object l).port) base port old is there)
+
+fresh_apart : (found : Option Object) → is_kind is_library found ≡ true → found ≡ None → ⊥
+fresh_apart None is e = true_is_not_false (sym is)
+fresh_apart (Some object) is e = let bad : true ≡ false = sym is ∙ ap (λ x. is_kind is_library x) e in true_is_not_false bad
+
+at_semaphore : (base semaphore : ℕ) (heap : Heap) → is_library_at base heap ≡ true → is_semaphore_at semaphore heap ≡ true → base ≢ semaphore
+unfolding is_semaphore_at
+at_semaphore base semaphore heap is there =
+    apart_from is_semaphore (λ object l. (alone object l).semaphore) base semaphore heap is there
+
+moves_keep : (regions : List Region) (t : ℕ) (call : Call) (old : Heap) (marks : List Mark) (new : Heap) → Moves regions t call old marks new
+    → IsWellFormed regions (extents old) → (base : ℕ) → is_library_at base old ≡ true → 1 ≤ count_of base old
+    → StaysLoaded base old new ⊎ IsLastClosing call base old
+unfolding with_nodes unlinked with_action with_port with_semaphore entered queued dropped handed_on released_once is_list_at is_port_at
+moves_keep regions t call old marks new (touches how) formed base is opened = inl (still base old new is (touched_keep old marks new how base is))
+moves_keep regions t call old marks new (places size reqs address object fresh fits) formed base is opened =
+    inl (still base old new is (block_placed_there base address _ old
+    (λ same. fresh_apart (object_at base old) (unfold is_library_at in is) (ap (λ a. object_at a old) same ∙ placed_fresh regions size reqs address old formed fits))))
+moves_keep regions t call old marks new (frees address may) formed base is opened =
+    inl (still base old new is (block_rid_there base address old
+    (λ same. not_gone (object_at address old) may (subst (λ a. is_kind is_library (object_at a old) ≡ true) same (unfold is_library_at in is)))))
+moves_keep regions t call old marks new (relists list nodes there) formed base is opened =
+    inl (still base old new is (block_elsewhere base list _ old (apart_from is_list (λ object l. (alone object l).list) base list old is there)))
+moves_keep regions t call old marks new (unlinks node) formed base is opened =
+    inl (still base old new is (block_remade_alike (left_by node) (left_alone node) base old is))
+moves_keep regions t call old marks new (sets act port there) formed base is opened =
+    inl (still base old new is (block_elsewhere base port _ old (apart_from is_port (λ object l. (alone object l).port) base port old is there)))
+moves_keep regions t call old marks new (enters semaphore there e) formed base is opened =
+    inl (still base old new is (block_elsewhere base semaphore _ old (at_semaphore base semaphore old is there)))
+moves_keep regions t call old marks new (queues semaphore there e) formed base is opened =
+    inl (still base old new is (block_elsewhere base semaphore _ (dropped t old) (at_semaphore base semaphore old is there)
+    ∙ block_remade_alike (left_by_task t) (task_left_alone t) base old is))
+moves_keep regions t call old marks new (hands semaphore owner release there last e) formed base is opened =
+    inl (still base old new is (block_elsewhere base semaphore _ old (at_semaphore base semaphore old is there)))
+moves_keep regions t call old marks new (opens semaphore release there last e) formed base is opened =
+    inl (still base old new is (block_elsewhere base semaphore _ old (at_semaphore base semaphore old is there)))
+moves_keep regions t call old marks new (releases semaphore there last) formed base is opened =
+    inl (still base old new is (block_elsewhere base semaphore _ old (at_semaphore base semaphore old is there)))
+moves_keep regions t call old marks new (counts other count delayed there) formed base is opened =
+    cases_eq base other
+    (λ same. inl (subst (λ k. StaysLoaded k old new) (sym same) (counted other count delayed old (there formed))))
+    (λ apart. inl (still base old new is (unfold with_library in block_elsewhere base other _ old apart)))
+moves_keep regions t call old marks new (expunges other there may) formed base is opened =
+    cases_eq base other
+    (λ same. elim may [
+      | inl none ↦ absurd (never (count_of base old) (ap (λ k. count_of k old) same ∙ none) opened)
+      | inr last ↦ inr (subst (λ k. IsLastClosing call k old) (sym same) last)
+    ])
+    (λ apart. inl (still base old new is (block_rid_there base other old apart)))
+  where
+    never : (n : ℕ) → n ≡ 0 → 1 ≤ n → ⊥
+    never n e opened = omega (arith, e, opened)
+moves_keep regions t call old marks new (drops other apart) formed base is opened =
+    inl (still base old new is (block_remade_alike (left_by_task other) (task_left_alone other) base old is))
+
+-- ---- over every action
+
+-- no interrupt touches a library, and no switch
+abbrev Kept : ℕ → Relation
+Kept base old marks new = is_library_at base old.memory.heap ≡ true → block_at base new.memory.heap ≡ block_at base old.memory.heap
+
+kept : (base : ℕ) → HoldsOfInterrupts (Kept base)
+kept base = record {
+  nothing = λ s is. refl;
+  joined = λ s some r more q first next is. next (still_library base s.memory.heap r.memory.heap is (first is)) ∙ first is;
+  commanding = λ name command s is.
+      touched_keep s.memory.heap (body_step name command s).marks (body_step name command s).state.memory.heap (body_alters name command s).blocks base is;
+  pending = λ f s is. refl;
+  ticking = λ s is. refl;
+  switching = λ s. quietly (Kept base) s (switches s) (on_schedule rescheduled s) (switches_quiet s) (λ is. refl);
+}
+
+-- an open library stays in that heap, or is closed for the last time
+abbrev Keeps : ℕ → State → Heap → Type 0
+Keeps base s heap = StaysLoaded base s.memory.heap heap ⊎ IsLastClose base s
+
+module _ (base : ℕ) (s : State) (formed : FormedState s) (is : is_library_at base s.memory.heap ≡ true) (opened : 1 ≤ count_of base s.memory.heap) where
+  itself : StaysLoaded base s.memory.heap s.memory.heap
+  itself = still base s.memory.heap s.memory.heap is refl
+
+  called : (t : ℕ) (call : Option Call) → next_softint s ≡ None → s.schedule.running ≡ Some t → next_call t s.scripts ≡ call
+      → Keeps base s (call_step t call s).state.memory.heap
+  unfolding ends
+  called t None first runs calls = inl itself
+  called t (Some call) first runs calls =
+      elim (moves_keep s.memory.regions t call s.memory.heap (does t call s).marks (does t call s).state.memory.heap (call_makes t call s).1 formed base is opened) [
+        | inl stays ↦ inl stays
+        | inr last ↦ inr (record {
+          t = t;
+          call = call;
+          calls = record { first = first; runs = runs; calls = calls };
+          word = last.word;
+          names = last.names;
+          once = last.once;
+          delayed = last.delayed;
+        })
+      ]
+
+  tried : (running : Option ℕ) → next_softint s ≡ None → s.schedule.running ≡ running → Keeps base s (task_step running s).state.memory.heap
+  tried None first runs = inl itself
+  tried (Some t) first runs = called t (next_call t s.scripts) first runs refl
+
+  chosen : (found : Option ℕ) → next_softint s ≡ found → Keeps base s (softint_or_task_step found s).state.memory.heap
+  chosen None first = tried s.schedule.running first refl
+  chosen (Some i) first = inl (still base s.memory.heap _ is (of_softint (Kept base) (kept base) i s is))
+
+  acted : (test : Bool) → Keeps base s (if test then quiet s else acting s).state.memory.heap
+  unfolding acting
+  acted true = inl itself
+  acted false = chosen (next_softint s) refl
+
+  settled : (r : State) → Keeps base s r.memory.heap → Keeps base s (settle r).state.memory.heap
+  settled r (inl stays) = inl (further base s.memory.heap r.memory.heap _ stays (of_settle (Kept base) (kept base) r))
+  settled r (inr last) = inr last
+
+  at_action : (action : Action) → StaysLoaded base s.memory.heap (performed action s).state.memory.heap ⊎ ((action ≡ OneStep) × IsLastClose base s)
+  unfolding step tick andthen acts
+  at_action OneStep =
+      elim (settled (acts s).state (acted s.stopped)) [ inl stays ↦ inl stays | inr last ↦ inr (refl, last) ]
+  at_action OneTick = inl (still base s.memory.heap _ is (of_request (Kept base) (kept base) Vertb s is))
+  at_action (OneRequest asks) = inl (still base s.memory.heap _ is (of_request (Kept base) (kept base) asks s is))
+
+pub open_libraries_stay : OpenLibrariesStay
+open_libraries_stay base machine list action is there opened =
+    at_action base (run machine list).state (formed_in_every_state machine list is) there opened action
