@@ -159,10 +159,10 @@ unfolding is_library_at number_of with_library
 counted base count delayed old is =
     let object = Library (option_map_or number_in (object_at base old) 0) count delayed in
     let there =
-        block_remade (λ k block. if nat_eq k base then record block { object = object } else block) base old
-        ∙ ap (λ test. option_map (λ (block : Block). if test then record block { object = object } else block) (block_at base old)) (nat_eq-same base) in
+    block_remade (λ k block. if nat_eq k base then record block { object = object } else block) base old
+    ∙ ap (λ test. option_map (λ (block : Block). if test then record block { object = object } else block) (block_at base old)) (nat_eq-same base) in
     let all = subst (λ new. IsCounted (option_map_or number_in (object_at base old) 0) (block_at base old) new) (sym there)
-        (counted_found (option_map_or number_in (object_at base old) 0) count delayed (block_at base old) is) in
+    (counted_found (option_map_or number_in (object_at base old) 0) count delayed (block_at base old) is) in
     record { loaded = all.loaded; number = all.number; block = all.size }
 
 -- ---- whatever a call does
