@@ -107,6 +107,7 @@ module _ (name : List ℕ) (call : Call) where
   keeps_word (word.Lists is) s = refl
   keeps_word (word.Memory is) s = refl
   keeps_word (word.Semaphores is) s = refl
+  keeps_word (word.Libraries is) s = refl
 
 keeps_step : (name : List ℕ) (command : CommandData) → KeepsBodies (body_step name command)
 unfolding body_step does_in_body

@@ -14,6 +14,7 @@ pub mod Keeping
 pub mod Listing
 pub mod Naming
 pub mod Obtaining
+pub mod Opening
 pub mod Ordering
 pub mod PortOrder
 pub mod Porting

@@ -4,9 +4,11 @@ ghost use Rattle.exectrace.specs.Sink.{Writes};
 ghost use Rattle.exectrace.specs.Trace.{printed};
 ghost use Rattle.exectrace.specs.declared.sinks.SinkState.{SinkState};
 ghost use Rattle.taskscript.specs.Commands.{command_view};
-ghost use Rattle.taskscript.specs.Records.{server_view, softint_view, task_view};
+ghost use Rattle.taskscript.specs.Records.{library_view, server_view, softint_view, task_view};
 ghost use Rattle.softint.specs.Interrupts.{IsPriority};
 ghost use Rattle.softint.specs.Sources.{no_latches};
+ghost use Rattle.execlib.specs.Libraries.{description_of};
+ghost use Rattle.execheap.specs.Numbered.{shown_library};
 ghost use Rattle.execmodel.specs.State.{State, booted, begun, andthen};
 ghost use Rattle.execmodel.specs.Step.{starts, event, events};
 ghost use Rattle.execsim.specs.Agreement.{Agrees};
@@ -18,7 +20,7 @@ use crate::interrupts::source_named;
 use crate::kernel::Kernel;
 use crate::program::Program;
 use crate::small::small_code;
-use execheap::Heap;
+use execheap::{Heap, LibInit};
 use execlist::space::ListSpace;
 use exectrace::sinks::written;
 use exectrace::{Sink, WriteFault};
@@ -28,7 +30,7 @@ use softint::ints::Ints;
 use std::alloc::{AllocError, Global};
 use std::marker::Model;
 use taskq::TaskInit;
-use taskscript::{Event, MachineFile, ServerRecord, SoftintRecord, TaskRecord};
+use taskscript::{Event, LibraryRecord, MachineFile, ServerRecord, SoftintRecord, TaskRecord};
 
 /// Whether a machine goes on.
 #[derive(Clone, Copy, Debug, PartialEq, Eq)]
@@ -139,6 +141,36 @@ fn ints_of<S: ListSpace>(
     Ints::new(alloc, &softs, &sources)
 }
 
+/// The libraries, in the order of the file.
+fn libraries_of(alloc: Global, libraries: &[LibraryRecord]) -> Result<Vec<LibInit>, AllocError>
+    ensures libraries { IfOk result (λ v. map shown_library (map description_of v.items) ≡ map library_view libraries.now) }
+    ensures count { IfOk result (λ v. length v.items ≡ length libraries.now) }
+{
+    let mut inits = Vec::new(alloc);
+    for library in libraries {
+        inits.push(LibInit {
+            name: library.name,
+            version: library.version,
+            size: library.size,
+        })?;
+    }
+    Ok(inits)
+}
+
+/// The memory of a file: nothing is allocated, and no library is loaded.
+fn heap_of<S: ListSpace>(alloc: Global, file: &MachineFile) -> Result<Heap<S>, AllocError>
+    ensures { IfOk result (λ heap. heap ≡ record {
+      regions = file.now.regions;
+      libraries = file.now.libraries;
+      pool = file.now.pool;
+      heap = [];
+      public = [];
+    }) }
+{
+    let inits = libraries_of(alloc, file.libraries())?;
+    Heap::new(alloc, file.regions(), file.pool(), &inits)
+}
+
 impl<S: ListSpace> Machine<S> {
     /// Makes the machine that a file states, before its start.
     ///
@@ -155,7 +187,7 @@ impl<S: ListSpace> Machine<S> {
         let inits = inits_of(alloc, tasks)?;
         let sched = Sched::new(alloc, &inits, file.quantum())?;
         let programs = programs_of(alloc, tasks)?;
-        let memory = Heap::new(alloc, file.regions(), file.pool())?;
+        let memory = heap_of(alloc, file)?;
         let bodies = Bodies::new(alloc, file.softints(), file.servers())?;
         let ints = ints_of(alloc, file.softints(), file.servers())?;
         Ok(Machine {

@@ -1,0 +1,88 @@
+-- How the machine follows the words of libraries.
+use Rattle.std.proofs.Common.{◌≡◌, ◌≢◌, ℕ, [], Bool, false, true, cond, Option, None, Some, List, refl, ap, sym}
+use Rattle.std.specs.Prelude.{Result, OnOk, OnErr, ◌-◌, ◌&&◌, nat_eq, unwrap_or}
+use Rattle.memlist.proofs.Answered.{nat_eq-other}
+use Rattle.exectrace.specs.Sink.{Tape}
+use Rattle.execmodel.specs.State.{Call, Library, Memory, on_heap, on_memory}
+use Rattle.execmodel.specs.Calls.{argument, name_argument, answered, done, unless}
+use Rattle.execmodel.specs.Memory.{freed, place_for}
+use Rattle.execmodel.specs.Objects.{public_memory}
+use Rattle.execmodel.specs.Libraries.{base_of, base_opened, base_or_place, close_alert, closed, count_of, does_close_library, does_open_library, entered_or_loaded, is_delayed, library_at, library_opened, library_to_open, opened, opening, removed, with_library}
+use Rattle.execheap.specs.declared.refusal.Refusal.{Refusal}
+use Rattle.execheap.specs.Refusals.{alert_of}
+use Rattle.execsim.specs.Agreement.{Seen, Follows, ports_in_order}
+use Rattle.execsim.specs.Endings.{done_or_alerted}
+use Rattle.execsim.proofs.Allocating.{placed-in_order}
+use Rattle.execsim.proofs.Following.{reads_memory, moves_memory, follows_as, follows_change}
+use Rattle.execsim.proofs.Listing.{heap_changed}
+
+-- ---- the order of the public ports is of no account
+
+entered-in_order : (base : Option ℕ) (i : ℕ) (y : Memory) → entered_or_loaded base i (ports_in_order y) ≡ ports_in_order (entered_or_loaded base i y)
+entered-in_order (Some base) i y = refl
+entered-in_order None i y =
+    placed-in_order (library_at i y).size (Library i 1 false) (place_for (library_at i y).size public_memory y) y
+
+found-in_order : (found : Option ℕ) (y : Memory) → library_opened found (ports_in_order y) ≡ ports_in_order (library_opened found y)
+found-in_order None y = refl
+found-in_order (Some i) y = entered-in_order (base_of i y.heap) i y
+
+pub opened-in_order : (name : List ℕ) (version : ℕ) (y : Memory) → opened name version (ports_in_order y) ≡ ports_in_order (opened name version y)
+unfolding opened
+opened-in_order name version y = found-in_order (library_to_open name version y) y
+
+pub opening-in_order : (name : List ℕ) (version : ℕ) (y : Memory) → opening name version (ports_in_order y) ≡ opening name version y
+unfolding opening
+opening-in_order name version y = based (library_to_open name version y) where
+  lies : (base : Option ℕ) (i : ℕ) → base_or_place base i (ports_in_order y) ≡ base_or_place base i y
+  lies (Some base) i = refl
+  lies None i = refl
+
+  based : (found : Option ℕ) → base_opened found (ports_in_order y) ≡ base_opened found y
+  based None = refl
+  based (Some i) = lies (base_of i y.heap) i
+
+-- a library is freed, or is open so often
+freed_or-in_order : (leaves : Bool) (base count : ℕ) (delayed : Bool) (y : Memory)
+    → cond leaves (freed base (ports_in_order y)) (on_heap (with_library base count delayed) (ports_in_order y))
+    ≡ ports_in_order (cond leaves (freed base y) (on_heap (with_library base count delayed) y))
+freed_or-in_order true base count delayed y = refl
+freed_or-in_order false base count delayed y = refl
+
+pub closed-in_order : (base : ℕ) (y : Memory) → closed base (ports_in_order y) ≡ ports_in_order (closed base y)
+unfolding closed
+closed-in_order base y =
+    freed_or-in_order (nat_eq (count_of base y.heap) 1 && is_delayed base y.heap) base (count_of base y.heap - 1) (is_delayed base y.heap) y
+
+pub removed-in_order : (base : ℕ) (y : Memory) → removed base (ports_in_order y) ≡ ports_in_order (removed base y)
+unfolding removed
+removed-in_order base y = freed_or-in_order (nat_eq (count_of base y.heap) 0) base (count_of base y.heap) true y
+
+-- ---- the words
+
+module _ {m o : Seen} {a b : Tape} (t : ℕ) (call : Call) where
+  pub open_answered : {n : Seen} (base : Option ℕ) → base ≡ opening (unwrap_or (name_argument 0 call) []) (argument 1 call) m.memory
+      → n ≡ record m { memory = opened (unwrap_or (name_argument 0 call) []) (argument 1 call) m.memory }
+      → Follows (answered t call (unwrap_or base 0)) n o a b → Follows (does_open_library t call) m o a b
+  unfolding does_open_library
+  open_answered base is changed follows =
+      let name = unwrap_or (name_argument 0 call) [] in
+      let version = argument 1 call in
+      follows_as {g = λ s. answered t call (unwrap_or base 0) (on_memory (opened name version) s)}
+      (λ s e. ap (λ found. answered t call (unwrap_or found 0) (on_memory (opened name version) s))
+      (reads_memory (opening name version) (opening-in_order name version) (sym is) s e))
+      (follows_change (moves_memory (opened name version) (opened name version) (opened-in_order name version) changed) follows)
+
+  pub close_none : argument 0 call ≡ 0 → Follows (done t call) m o a b → Follows (does_close_library t call) m o a b
+  unfolding does_close_library
+  close_none none follows = follows_as (λ s e. rw none refl) follows
+
+  pub close_tried : (x : Memory) (result : Result (Unit {0}) Refusal) → argument 0 call ≢ 0
+      → alert_of result ≡ close_alert (argument 0 call) m.memory.heap → OnOk result (x ≡ closed (argument 0 call) m.memory)
+      → OnErr result (x ≡ m.memory) → Follows (done_or_alerted result t call) (record m { memory = x }) o a b
+      → Follows (does_close_library t call) m o a b
+  unfolding does_close_library
+  close_tried x result some says changed kept follows = follows_as
+      {g = λ s. unless (close_alert (argument 0 call) s.memory.heap) t call (λ s. done t call (on_memory (closed (argument 0 call)) s)) s}
+      (λ s e. let not_none : nat_eq (argument 0 call) 0 ≡ false = nat_eq-other (argument 0 call) 0 some in rw not_none refl)
+      (heap_changed t call (close_alert (argument 0 call)) (closed (argument 0 call)) (closed-in_order (argument 0 call)) x result says changed kept follows)

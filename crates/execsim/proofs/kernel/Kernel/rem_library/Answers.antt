@@ -1,0 +1,10 @@
+use Rattle.execmodel.specs.Libraries.{does_rem_library, library_alert, removed}
+use Rattle.execsim.proofs.Opening.{removed-in_order}
+use Rattle.execsim.proofs.Listing.{heap_changed}
+use Rattle.execsim.proofs.kernel.Kernel.rem_library.Goals as goal
+
+pub returns : goal.returns
+unfolding does_rem_library
+returns g c = rw (← c.self.view_is) (heap_changed _ _ (library_alert _) (removed _) (removed-in_order _) _ _
+    (rw c.number-base.ensures at c.remove_library-tried.ensures.alert)
+    (rw c.number-base.ensures at c.remove_library-tried.ensures.next) c.remove_library-tried.ensures.kept c.concluded.ensures)

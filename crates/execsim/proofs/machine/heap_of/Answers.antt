@@ -1,0 +1,10 @@
+use Rattle.execsim.proofs.machine.heap_of.Goals as goal
+
+pub returns : goal.returns
+returns g c = rw (
+  c.deref.ensures.value,
+  c.in_ok-inits.ensures.libraries,
+  c.libraries.ensures.libraries,
+  c.regions.ensures.regions,
+  c.pool.ensures.pool,
+) at c.new.ensures
