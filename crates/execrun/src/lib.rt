@@ -13,7 +13,7 @@ mod texts;
 pub use arguments::run_on_arguments;
 pub use command_line::Paths;
 pub use ending::{Ending, Status, report};
+pub use execsim::FILE_LIMIT;
 pub use fault::Fault;
-pub use files::FILE_LIMIT;
 pub use running::{run, run_on_texts};
 pub use texts::{SystemTexts, Texts};

@@ -18,6 +18,7 @@ pub mod Opening
 pub mod Ordering
 pub mod PortOrder
 pub mod Porting
+pub mod ReadLemmas
 pub mod ServerChains
 pub mod Serving
 pub mod Signalling

@@ -2,4 +2,5 @@ pub mod Actions
 pub mod Agreement
 pub mod Endings
 pub mod Headline
+pub mod Reading
 pub mod Views

@@ -18,6 +18,7 @@ mod nesting;
 mod plain;
 mod ports;
 mod program;
+mod reading;
 mod semaphores;
 mod simulation;
 mod small;
@@ -28,4 +29,5 @@ mod tasks;
 /// Laws of every run of the abstract machine, which the machine follows.
 pub use execmodel::laws;
 pub use machine::{Flow, Machine};
+pub use reading::{FILE_LIMIT, ReadFault, read_limited};
 pub use simulation::{End, SimFault, simulate, simulate_on};

@@ -1,6 +1,6 @@
 use Rattle.std.proofs.Common.{rules, arith}
-use Rattle.execrun.proofs.ReadLemmas.{whole_within}
-use Rattle.execrun.proofs.files.read_limited.Goals as goal
+use Rattle.execsim.proofs.ReadLemmas.{whole_within}
+use Rattle.execsim.proofs.reading.read_limited.Goals as goal
 
 pub returns-clause-whole : goal.returns-clause-whole
 returns-clause-whole g c = whole_within _ 4194304 c.take.result.limit _ (omega (arith, c.take.ensures.limit))
