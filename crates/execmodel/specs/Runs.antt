@@ -2,7 +2,7 @@
 use Rattle.std.specs.Prelude.{◌≡◌, ℕ, ℤ, true, false, pos, negsuc, List, [], ◌∷◌, None, Some, codes}
 use Rattle.exectrace.specs.Trace.{printed}
 use Rattle.taskscript.specs.declared.word.Word.{Word}
-use Rattle.taskscript.specs.declared.word.Word.TheVariants.{Plain, Signals, Nesting, Tasks, Memory, Lists, Ports, Semaphores, Interrupts}
+use Rattle.taskscript.specs.declared.word.Word.TheVariants.{Plain, Signals, Nesting, Tasks, Memory, Lists, Ports, Semaphores, Interrupts, Libraries}
 use Rattle.taskscript.specs.declared.word.plain.PlainWord.TheVariants.{Set, Add, Sub, And, JumpZ, Print}
 use Rattle.taskscript.specs.declared.word.task_signals.SignalWord.TheVariants.{Signal, Wait, SetSignal}
 use Rattle.taskscript.specs.declared.word.nesting.NestingWord.TheVariants.{Forbid, Permit, Disable, Enable}
@@ -11,10 +11,12 @@ use Rattle.taskscript.specs.declared.variable.Variable.TheVariants.{Private, Sha
 use Rattle.taskscript.specs.declared.event.Event.{Event}
 use Rattle.taskscript.specs.declared.event.Event.TheVariants.{Run, Tick, Irq}
 use Rattle.taskscript.specs.Commands.{ArgumentData, number, variable, place, CommandData, quoted}
-use Rattle.taskscript.specs.File.{MachineData, SoftintData, ServerData, TaskData}
+use Rattle.taskscript.specs.File.{MachineData, LibraryData, SoftintData, ServerData, TaskData}
 use Rattle.taskscript.specs.declared.source.Source.{Source}
 use Rattle.taskscript.specs.declared.source.Source.TheVariants as source
 use Rattle.taskscript.specs.declared.word.interrupts.InterruptWord.TheVariants.{Cause}
+use Rattle.taskscript.specs.declared.word.libraries.LibraryWord.{LibraryWord}
+use Rattle.taskscript.specs.declared.word.libraries.LibraryWord.TheVariants.{OpenLibrary, CloseLibrary, RemLibrary, LibOpenCnt}
 use Rattle.memlist.specs.declared.region.Region.{Region}
 use Rattle.execmodel.specs.Step.{run}
 use Rattle.taskscript.specs.declared.word.memory.MemoryWord.TheVariants.{AllocMem, AvailMem}
@@ -89,6 +91,18 @@ its word = command (Semaphores word) (variable (Shared 0) ∷ [])
 -- the software interrupt of that name is caused
 abbrev pub causing : List ℕ → CommandData
 causing name = command (Interrupts Cause) (quoted name ∷ [])
+
+-- the only library is opened, with at least that version
+abbrev pub opens : ℕ → CommandData
+opens version = into 0 (Libraries OpenLibrary) (quoted (codes "x.library") ∷ number version ∷ [])
+
+-- a word with the base that the first variable holds
+abbrev pub its_library : LibraryWord → CommandData
+its_library word = command (Libraries word) (variable (Private 0) ∷ [])
+
+-- how much public memory is free
+abbrev pub asks_for_room : CommandData
+asks_for_room = command (Memory AvailMem) (number 1 ∷ [])
 
 abbrev pub prints : ℕ → CommandData
 prints value = command (Plain Print) (number value ∷ [])
@@ -496,3 +510,25 @@ APortMayCauseASoftint = trace takes_messages (Run 6 ∷ [])
 
 abbrev pub MarksTellWhatASoftintTook : Type 0
 MarksTellWhatASoftintTook = marks takes_messages (Run 6 ∷ []) ≡ put 4096 4136 ∷ got 4096 4136 ∷ []
+
+-- one library, and as much memory as it takes
+abbrev pub with_library : List CommandData → MachineData
+with_library code =
+    record bare { regions = room 104; libraries = record { name = codes "x.library"; version = 37; size = 100 } ∷ []; tasks = alone code }
+
+abbrev pub ARemovedLibraryGoesAtItsLastClose : Type 0
+ARemovedLibraryGoesAtItsLastClose =
+    trace
+    (with_library
+    (opens 38 ∷ opens 37 ∷ its_library RemLibrary ∷ asks_for_room ∷ its_library CloseLibrary ∷ asks_for_room ∷ its_library CloseLibrary ∷ []))
+    (Run 7 ∷ [])
+    ≡ codes "switch a\na OpenLibrary \"x.library\" $00000026 -> $00000000\na OpenLibrary \"x.library\" $00000025 -> $00001000\na RemLibrary $00001000\na AvailMem $00000001 -> $00000000\na CloseLibrary $00001000\na AvailMem $00000001 -> $00000068\nalert HANDLE a CloseLibrary\n"
+
+abbrev pub AnOpeningTakesARemovalBack : Type 0
+AnOpeningTakesARemovalBack =
+    trace
+    (with_library
+    (opens 0 ∷ its_library RemLibrary ∷ opens 0 ∷ its_library CloseLibrary ∷ its_library CloseLibrary ∷ its_library LibOpenCnt
+    ∷ its_library CloseLibrary ∷ []))
+    (Run 7 ∷ [])
+    ≡ codes "switch a\na OpenLibrary \"x.library\" $00000000 -> $00001000\na RemLibrary $00001000\na OpenLibrary \"x.library\" $00000000 -> $00001000\na CloseLibrary $00001000\na CloseLibrary $00001000\na LibOpenCnt $00001000 -> $00000000\nalert LIB a CloseLibrary\n"
