@@ -50,6 +50,8 @@ enum Habit {
     FailsAt(usize),
     /// Takes what it is given until it holds so many bytes, and then none.
     StopsAt(usize),
+    /// Takes none fifteen times, and then one byte, again and again.
+    SixteenthTime,
 }
 
 /// A writer with a habit, which counts its calls.
@@ -65,6 +67,8 @@ impl Write for Fickle {
         self.calls = self.calls.saturating_add(1);
         let most = match self.habit {
             Habit::OneByte => 1,
+            Habit::SixteenthTime if self.calls % 16 == 0 => 1,
+            Habit::SixteenthTime => 0,
             Habit::FailsAt(end) if self.held.len() >= end => {
                 return Err(io::Error::from(io::ErrorKind::BrokenPipe));
             }
@@ -134,6 +138,19 @@ fn a_writer_that_takes_one_byte_a_call_gets_the_whole_trace(rt: HostRuntime) {
         ROTATES_TRACE.len(),
     );
     assert_eq!(rt; calls, ROTATES_TRACE.len());
+}
+
+#[test]
+fn a_writer_that_takes_one_byte_at_the_sixteenth_time_gets_the_whole_trace(rt: HostRuntime) {
+    let calls = writes(
+        &rt,
+        rt.alloc(),
+        Habit::SixteenthTime,
+        Ok(End::Ran),
+        SinkState::Good,
+        ROTATES_TRACE.len(),
+    );
+    assert_eq!(rt; calls, 16 * ROTATES_TRACE.len());
 }
 
 #[test]
