@@ -1,41 +1,95 @@
 -- The memory of a machine at first: no object lives.
-use Rattle.std.proofs.Common.{◌≡◌, ℕ, List, [], map, true, false, refl, ap, sym, ◌∙◌}
-use Rattle.std.specs.Prelude.{None, Option, is_some}
+use Rattle.std.proofs.Common.{◌≡◌, ℕ, ◌+◌, ◌-◌, List, [], map, true, false, refl, ap, sym, ◌∙◌, subst, arith}
+use Rattle.std.specs.Prelude.{None, Option, is_some, unwrap_or, ◌&&◌}
 use Rattle.std.proofs.lemmas.List.{length-replicate}
 use Rattle.execlib.specs.Libraries.{Description}
 use Rattle.memlist.specs.declared.region.Region.{Region}
 use Rattle.execlist.proofs.Pools.{slot_new}
+use Rattle.execlist.specs.Lists.{home}
+use Rattle.execlist.specs.Pool.{all_free, slot}
+use Rattle.iorequest.specs.declared.request.Request.{Request}
+use Rattle.iorequest.specs.Request.{idle_request, is_under_way}
 use Rattle.sigsem.specs.declared.semaphore.Sem.{Sem}
-use Rattle.msgport.specs.declared.message.Message.{Message}
+use Rattle.msgport.specs.Ports.{MessagePorts, is_held, no_ports}
 use Rattle.msgport.specs.Port.{Port}
 use Rattle.execheap.specs.declared.kind.Kind.{Kind}
 use Rattle.execheap.specs.declared.kind.Kind.TheVariants as variant
 use Rattle.execheap.specs.Table as table
 use Rattle.execheap.specs.Table.{pool_of}
-use Rattle.execheap.specs.Numbered.{Fits, IsKept, most_tasks, own_shape, shown_heap, shown_library, shown_memory}
-use Rattle.execheap.specs.Changes.{unused}
+use Rattle.execheap.specs.Numbered.{Fits, IsInTime, IsKept, is_way_at, most_tasks, own_shape, shape, shown_heap, shown_library, shown_memory, shown_public}
+use Rattle.execheap.specs.Changes.{reserved, unused}
+use Rattle.execheap.proofs.Reserved.{IsReserved, all_reserved, front_new, reserved_beside}
 use Rattle.execheap.proofs.Stepping.{shape_new}
 
-pub kept_unused : (regions : List Region) (pool : ℕ) (known : List Description) → IsKept (unused regions pool known)
-kept_unused regions pool known = record {
+-- the messages of the requests at first
+made_unused : (pool : ℕ) → IsReserved (pool + pool) pool (reserved pool (no_ports pool (pool + pool))).messages
+made_unused pool = subst (λ k. IsReserved (pool + pool) k (reserved pool (no_ports pool (pool + pool))).messages)
+    (let same : pool + pool - pool ≡ pool = omega arith in same) (all_reserved pool pool (pool + pool) (omega arith))
+
+-- all else of the ports at first
+ports_unused : (pool : ℕ) → reserved pool (no_ports pool (pool + pool))
+    ≡ record (no_ports pool (pool + pool)) { messages = (reserved pool (no_ports pool (pool + pool))).messages }
+ports_unused pool = reserved_beside pool (no_ports pool (pool + pool))
+
+none_way : (pool r : ℕ) → is_way_at r (all_free pool) ≡ false
+none_way pool r = ap (λ o. is_some o && is_under_way (unwrap_or o (idle_request 0))) (slot_new Request pool r)
+
+nowhere : (pool m : ℕ) → home (reserved pool (no_ports pool (pool + pool))).places m ≡ None
+nowhere pool m = ap (λ (q : MessagePorts). home q.places m) (ports_unused pool) ∙ slot_new ℕ (pool + pool) m
+
+none_held : (pool m : ℕ) → is_held m (reserved pool (no_ports pool (pool + pool))) ≡ false
+none_held pool m = ap (λ (q : MessagePorts). is_held m q) (ports_unused pool)
+
+in_time_unused : (regions : List Region) (pool : ℕ) (known : List Description) (tick_micros : ℕ) → IsInTime (unused regions pool known tick_micros)
+in_time_unused regions pool known tick_micros = record {
+  each_message = (made_unused pool).size;
+  each_due = length-replicate pool 0;
+  made = λ r small. (made_unused pool).there (pool + r) (omega arith) (omega (arith, small));
+  held = λ r. none_held pool (pool + r) ∙ sym (none_way pool r);
+  none_held = λ m small. none_held pool m;
+  waits = λ r. sym (none_way pool r);
+  live = λ r p there. (let bad : false ≡ true = ap is_some (sym (nowhere pool (pool + r)) ∙ there) in cc);
+  at_reply_port = λ r p there. (let bad : false ≡ true = ap is_some (sym (nowhere pool (pool + r)) ∙ there) in cc);
+  early = omega arith;
+}
+
+pub kept_unused : (regions : List Region) (pool : ℕ) (known : List Description) (tick_micros : ℕ) → IsKept (unused regions pool known tick_micros)
+kept_unused regions pool known tick_micros = record {
   live_nodes = λ n linked. (let bad : false ≡ true = ap is_some (sym (slot_new ℕ pool n)) ∙ linked in cc);
   live_lists = λ n h linked. (let bad : false ≡ true = ap is_some (sym (slot_new ℕ pool n) ∙ linked) in cc);
   each_list = length-replicate pool [] ∙ sym (length-replicate {A = Option ℕ} pool None);
   each_node = refl;
   in_step = in_step;
   apt = record {
-    own_signals = λ p lives. (let bad : false ≡ true = ap is_some (sym (slot_new Port pool p)) ∙ lives in cc);
+    own_signals = λ p lives. (let bad : false ≡ true = ap is_some
+        (sym (ap (λ (q : MessagePorts). slot q.ports.slots p) (ports_unused pool) ∙ slot_new Port pool p)) ∙ lives in cc);
     each_task = length-replicate {A = Option ℕ} most_tasks None;
   };
+  in_time = in_time_unused regions pool known tick_micros;
 } where
-  in_step : (k : Kind) → Fits (own_shape k (unused regions pool known)) (pool_of k (table.unused regions pool known))
-  in_step variant.Port = shape_new Port pool
-  in_step variant.Message = shape_new Message pool
+  in_step : (k : Kind) → Fits (own_shape k (unused regions pool known tick_micros)) (pool_of k (table.unused regions pool known))
+  in_step variant.Port = ap (λ (q : MessagePorts). shape q.ports) (ports_unused pool) ∙ shape_new Port pool
+  in_step variant.Message = front_new pool (reserved pool (no_ports pool (pool + pool))).messages (made_unused pool)
   in_step variant.Semaphore = shape_new Sem pool
+  in_step variant.Request = shape_new Request pool
   in_step variant.List = tt
   in_step variant.Node = tt
 
-pub unused_shown : (regions : List Region) (pool : ℕ) (known : List Description) → shown_memory (unused regions pool known)
-    ≡ record { regions = regions; libraries = map shown_library known; pool = pool; heap = []; public = [] }
+pub unused_shown : (regions : List Region) (pool : ℕ) (known : List Description) (tick_micros : ℕ) → shown_memory (unused regions pool known tick_micros)
+    ≡ record {
+      regions = regions;
+      libraries = map shown_library known;
+      pool = pool;
+      heap = [];
+      public = [];
+      timer = record { clock = 0; tick_micros = tick_micros; waiting = [] };
+    }
 unfolding shown_heap
-unused_shown regions pool known = refl
+unused_shown regions pool known tick_micros = λ i. record {
+  regions = regions;
+  libraries = map shown_library known;
+  pool = pool;
+  heap = [];
+  public = map (shown_public (unused regions pool known tick_micros)) (ports_unused pool i).public;
+  timer = record { clock = 0; tick_micros = tick_micros; waiting = [] };
+}

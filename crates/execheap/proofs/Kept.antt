@@ -1,20 +1,17 @@
 -- What objects hold goes on fitting the table where an object of any kind is made or freed.
-use Rattle.std.proofs.Common.{length, ◌≡◌, ◌≢◌, ℕ, List, true, false, map, refl, ap, sym, ◌∙◌, subst}
-use Rattle.std.specs.Prelude.{Some, None, Option, is_some, if◌then◌else◌, IsSome, unwrap_or, ◌==◌}
-use Rattle.std.specs.List.{list_any}
-use Rattle.execlist.specs.Lists.{home, is_at, sequence, times}
+use Rattle.std.proofs.Common.{length, ◌≡◌, ◌≢◌, ℕ, ap, sym, ◌∙◌, subst}
+use Rattle.std.specs.Prelude.{Some, is_some, IsSome}
+use Rattle.execlist.specs.Lists.{home}
 use Rattle.execlist.specs.Pool.{IsStocked, Pooled, given, next_number, released, slot}
 use Rattle.memlist.specs.Fit.{fit}
 use Rattle.memlist.specs.Memory.{IsWellFormed, Memory}
-use Rattle.msgport.specs.Ports.{messages_of, port_at}
-use Rattle.execmodel.specs.State.{ListHead, MsgPort}
-use Rattle.execheap.proofs.Mapped.{map_agree, members, stands_by_times}
 use Rattle.execheap.specs.declared.kind.Kind.{Kind}
 use Rattle.execheap.specs.declared.kind.Kind.TheVariants as variant
 use Rattle.execheap.specs.Tags.{kind_code, size_of}
 use Rattle.execheap.specs.Table.{Tabled, IsSound, pool_of, slots_of, with_object, without_object}
-use Rattle.execheap.specs.Numbered.{Numbered, Fits, IsApt, IsKept, address_in, key_at, object_of, own_shape, places, shown_public}
-use Rattle.execheap.proofs.Matching.{cases_object, changed, freed_beside, made_beside, made_here, pool_here, pool_other, sound_freed, sound_made}
+use Rattle.execheap.specs.Numbered.{Numbered, Fits, IsApt, IsKept, message_of_request, own_shape}
+use Rattle.execheap.proofs.InTime.{IsAbout, IsAlong, in_time_kept}
+use Rattle.execheap.proofs.Matching.{cases_object, changed, freed_beside, lives_beside, made_beside, made_here, pool_here, pool_other, sound_freed, sound_made}
 use Rattle.execheap.proofs.Tagging.{cases_kind}
 
 module _ {s : Numbered} (sound : IsSound s.table) (formed : IsWellFormed s.table.memory.regions s.table.memory.blocks) (kept : IsKept s)
@@ -43,10 +40,21 @@ module _ {s : Numbered} (sound : IsSound s.table) (formed : IsWellFormed s.table
     as_many : (k : Kind) → length (slots_of k s.table) ≡ length (slots_of k made)
     as_many k = sound.each k ∙ sym ((sound_made sound formed kind number a stocked next fits).each k)
 
+    -- requests and ports that live keep their addresses
+    pub about_made : (u : Numbered) → u.table ≡ made → IsAbout s u
+    about_made u is = record {
+      pool = ap (λ (t : Tabled). t.pool) is;
+      live = λ r p there lives. ap (λ t. is_some (slot (slots_of variant.Request t) r)) is ∙ lives_on variant.Request r lives;
+      port = λ r p b there lives. ap (λ t. slot (slots_of variant.Port t) p) is
+          ∙ made_beside sound formed kind number a stocked next fits variant.Port p
+          (lives_beside sound formed kind number a stocked next fits variant.Port p b lives)
+          ∙ lives;
+    }
+
     -- where what holds the objects of other kinds gives the same numbers, and that of this kind gives one as the table does
     pub kept_made : (u : Numbered) → u.table ≡ made → u.sequences ≡ s.sequences → u.homes ≡ s.homes
-        → ((k : Kind) → kind_code k ≢ kind_code kind → own_shape k u ≡ own_shape k s) → Fits (own_shape kind u) (pool_of kind made) → IsApt u.ports u.sems → IsKept u
-    kept_made u is sequences homes same own apt = record {
+        → ((k : Kind) → kind_code k ≢ kind_code kind → own_shape k u ≡ own_shape k s) → Fits (own_shape kind u) (pool_of kind made) → IsApt u.ports u.sems → IsAlong s u → IsKept u
+    kept_made u is sequences homes same own apt along = record {
       live_nodes = λ n linked. ap (λ t. is_some (slot (slots_of variant.Node t) n)) is
           ∙ lives_on variant.Node n (kept.live_nodes n (ap (λ hs. is_some (home hs n)) (sym homes) ∙ linked));
       live_lists = λ n h linked. ap (λ t. is_some (slot (slots_of variant.List t) h)) is
@@ -55,6 +63,7 @@ module _ {s : Numbered} (sound : IsSound s.table) (formed : IsWellFormed s.table
       each_node = ap length homes ∙ kept.each_node ∙ as_many variant.Node ∙ ap (λ t. length (slots_of variant.Node t)) (sym is);
       in_step = steps (given a (pool_of kind s.table)) u made.memory is same own;
       apt = apt;
+      in_time = in_time_kept kept.in_time along (about_made u is);
     }
 
     -- objects of other kinds keep their addresses
@@ -70,12 +79,28 @@ module _ {s : Numbered} (sound : IsSound s.table) (formed : IsWellFormed s.table
     as_many_left : (k : Kind) → length (slots_of k s.table) ≡ length (slots_of k without)
     as_many_left k = sound.each k ∙ sym ((sound_freed sound formed kind number a live).each k)
 
+    -- requests and ports keep their addresses whose replies are in ports, and that have them
+    pub about_freed : (u : Numbered) → u.table ≡ without
+        → ((r p : ℕ) → home s.ports.places (message_of_request r s) ≡ Some p → variant.Request ≡ kind → r ≢ number)
+        → ((r p : ℕ) → home s.ports.places (message_of_request r s) ≡ Some p → variant.Port ≡ kind → p ≢ number) → IsAbout s u
+    about_freed u is requests ports = record {
+      pool = ap (λ (t : Tabled). t.pool) is;
+      live = λ r p there lives. ap (λ t. is_some (slot (slots_of variant.Request t) r)) is
+          ∙ ap is_some (freed_beside sound formed kind number a live variant.Request r (requests r p there)) ∙ lives;
+      port = λ r p b there lives. ap (λ t. slot (slots_of variant.Port t) p) is
+          ∙ freed_beside sound formed kind number a live variant.Port p (ports r p there) ∙ lives;
+    }
+
+    -- what is freed is neither
+    pub about_other : kind_code variant.Request ≢ kind_code kind → kind_code variant.Port ≢ kind_code kind → (u : Numbered) → u.table ≡ without → IsAbout s u
+    about_other request port u is = about_freed u is (λ r p there e. absurd (request (ap kind_code e))) (λ r p there e. absurd (port (ap kind_code e)))
+
     pub kept_freed : (u : Numbered) → u.table ≡ without → u.sequences ≡ s.sequences → u.homes ≡ s.homes
         → ((k : Kind) → kind_code k ≢ kind_code kind → own_shape k u ≡ own_shape k s) → Fits (own_shape kind u) (pool_of kind without)
         → ((n : ℕ) → IsSome (home s.homes n) → variant.Node ≡ kind → n ≢ number)
         → ((n h : ℕ) → home s.homes n ≡ Some h → variant.List ≡ kind → h ≢ number)
-        → IsApt u.ports u.sems → IsKept u
-    kept_freed u is sequences homes same own nodes lists apt = record {
+        → IsApt u.ports u.sems → IsAlong s u → IsAbout s u → IsKept u
+    kept_freed u is sequences homes same own nodes lists apt along about = record {
       live_nodes = λ n linked. let was : IsSome (home s.homes n) = ap (λ hs. is_some (home hs n)) (sym homes) ∙ linked in
           ap (λ t. is_some (slot (slots_of variant.Node t) n)) is
           ∙ ap is_some (freed_beside sound formed kind number a live variant.Node n (nodes n was)) ∙ kept.live_nodes n was;
@@ -86,6 +111,7 @@ module _ {s : Numbered} (sound : IsSound s.table) (formed : IsWellFormed s.table
       each_node = ap length homes ∙ kept.each_node ∙ as_many_left variant.Node ∙ ap (λ t. length (slots_of variant.Node t)) (sym is);
       in_step = steps (released number (pool_of kind s.table)) u without.memory is same own;
       apt = apt;
+      in_time = in_time_kept kept.in_time along about;
     }
 
   pub slots_freed : (k : Kind) → kind_code k ≢ kind_code kind → slots_of k without ≡ slots_of k s.table
@@ -98,37 +124,3 @@ module _ {t : Tabled} (sound : IsSound t) (kind : Kind) (number a : ℕ) where
 
   pub pool_freed : pool_of kind (without_object kind number a t) ≡ released number (pool_of kind t)
   pool_freed = pool_here sound kind (released number (pool_of kind t)) (without_object kind number a t).memory
-
--- ---- objects that show the addresses of others
-
--- an object shows the same where nodes and messages keep their addresses
-pub objects_kept : (s : Numbered) (t : Tabled) → slots_of variant.Node t ≡ places variant.Node s → slots_of variant.Message t ≡ places variant.Message s
-    → (k : Kind) (m : ℕ) → object_of k m (record s { table = t }) ≡ object_of k m s
-objects_kept s t nodes messages variant.List m = ap (λ all. ListHead (map (address_in all) (sequence s.sequences m))) nodes
-objects_kept s t nodes messages variant.Port m = ap (λ all. MsgPort (port_at m s.ports) (map (address_in all) (messages_of m s.ports))) messages
-objects_kept s t nodes messages _ m = refl
-
--- the public ports show the same where ports keep their addresses
-pub public_kept : (s u : Numbered) → places variant.Port u ≡ places variant.Port s → u.ports.keys ≡ s.ports.keys → u.ports.public ≡ s.ports.public
-    → map (shown_public u) u.ports.public ≡ map (shown_public s) s.ports.public
-public_kept s u ports keys public = λ i. map (λ p. record { port = address_in (ports i) p; key = key_at (keys i) p }) (public i)
-
--- objects of some numbers have the same addresses where those of these numbers do
-pub addresses_kept : (all other : List (Option ℕ)) (numbers : List ℕ)
-    → ((m : ℕ) → list_any (λ other. other == m) numbers ≡ true → slot other m ≡ slot all m)
-    → map (address_in other) numbers ≡ map (address_in all) numbers
-addresses_kept all other numbers same = map_agree (address_in other) (address_in all) numbers
-    (members (λ m. address_in other m ≡ address_in all m) numbers (λ m there. ap (λ o. unwrap_or o 0) (same m there)))
-
--- ---- the addresses of the nodes of a list
-
-pub at_home : (o : Option ℕ) (h : ℕ) → is_at o h ≡ true → IsSome o
-at_home None h e = let bad : false ≡ true = e in cc
-at_home (Some k) h e = refl
-
--- a list shows the same nodes where those that are linked keep their addresses
-pub nodes_beside : (s : Numbered) (t : Tabled) (h : ℕ) → ((n : ℕ) → times n (sequence s.sequences h) ≡ (if is_at (home s.homes n) h then 1 else 0))
-    → ((m : ℕ) → IsSome (home s.homes m) → slot (slots_of variant.Node t) m ≡ slot (places variant.Node s) m)
-    → map (address_in (slots_of variant.Node t)) (sequence s.sequences h) ≡ map (address_in (places variant.Node s)) (sequence s.sequences h)
-nodes_beside s t h stands same = addresses_kept (places variant.Node s) (slots_of variant.Node t) (sequence s.sequences h)
-    (λ m there. same m (at_home (home s.homes m) h (sym (stands_by_times m (sequence s.sequences h) (is_at (home s.homes m) h) (stands m)) ∙ there)))

@@ -11,6 +11,7 @@ use Rattle.execheap.specs.declared.kind.Kind.{Kind}
 use Rattle.execheap.specs.declared.kind.Kind.TheVariants as variant
 use Rattle.execheap.specs.Table.{pool_of}
 use Rattle.execheap.specs.Numbered.{Numbered, Fits, IsKept, own_shape, shape}
+use Rattle.execheap.proofs.InTime.{in_time_beside}
 use Rattle.execheap.proofs.Stepping.{shape_lives, shape_written}
 
 -- ---- what stays
@@ -101,9 +102,11 @@ kept_sems {s} kept q alike = record {
   each_node = kept.each_node;
   in_step = in_step;
   apt = record { own_signals = kept.apt.own_signals; each_task = alike.each_task ∙ kept.apt.each_task };
+  in_time = in_time_beside kept.in_time refl refl refl refl;
 } where
   in_step : (k : Kind) → Fits (own_shape k (record s { sems = q })) (pool_of k s.table)
   in_step variant.Port = kept.in_step variant.Port
   in_step variant.Message = kept.in_step variant.Message
   in_step variant.Semaphore = alike.same ∙ kept.in_step variant.Semaphore
+  in_step variant.Request = kept.in_step variant.Request
   in_step _ = tt

@@ -23,10 +23,10 @@ use Rattle.execheap.specs.declared.tag.Tagged.{Tagged}
 use Rattle.execheap.specs.declared.tag.Tagged.TheVariants as tag
 use Rattle.execheap.specs.Tags.{library_in, tagged}
 use Rattle.execheap.specs.Table.{IsSound, IsTagged, base_at, library_at, place_of}
-use Rattle.execheap.specs.Numbered.{Numbered, object_of, shown_block, shown_entry, shown_heap, shown_library, shown_memory, shown_public, shown_tagged}
+use Rattle.execheap.specs.Numbered.{Numbered, object_of, shown_block, shown_entry, shown_heap, shown_library, shown_memory, shown_public, shown_tagged, shown_timer}
 use Rattle.execheap.proofs.Counting.{all_freed}
 use Rattle.execheap.proofs.Entries.{IsFound, all_found, all_then, all_with, map_same, put_shown, some_same, where_key_shown}
-use Rattle.execheap.proofs.Kept.{objects_kept}
+use Rattle.execheap.proofs.Beside.{objects_kept}
 use Rattle.execheap.proofs.Loaded.{lies_known, loaded_beside, loaded_here, read_library}
 use Rattle.execheap.proofs.Matching.{tag_in}
 use Rattle.execheap.proofs.Relisted.{tagged_replaced}
@@ -46,6 +46,7 @@ numbered_shown s i (tag.Object variant.Node n) = refl
 numbered_shown s i (tag.Object variant.Port n) = refl
 numbered_shown s i (tag.Object variant.Message n) = refl
 numbered_shown s i (tag.Object variant.Semaphore n) = refl
+numbered_shown s i (tag.Object variant.Request n) = refl
 
 library_shown : (s : Numbered) (x : Tagged) → is_library (shown_tagged s x) ≡ is_some (library_in x)
 library_shown s tag.Plain = refl
@@ -55,6 +56,7 @@ library_shown s (tag.Object variant.Node n) = refl
 library_shown s (tag.Object variant.Port n) = refl
 library_shown s (tag.Object variant.Message n) = refl
 library_shown s (tag.Object variant.Semaphore n) = refl
+library_shown s (tag.Object variant.Request n) = refl
 
 -- ---- what begins at an address
 
@@ -186,7 +188,7 @@ module _ (s : Numbered) (sound : IsSound s.table) (formed : IsWellFormed s.table
       (loaded_here i s.table.libs (Some l) known)
 
   same_object : (o : Option Loaded) (k : Kind) (n : ℕ) → object_of k n (changed o) ≡ object_of k n s
-  same_object o k n = objects_kept s (changed o).table refl refl k n
+  same_object o k n = objects_kept s (changed o).table refl refl refl k n
 
   -- a library that is loaded is open more or less often
   pub library_changed : (l : Loaded) → base_at i s.table.libs ≡ Some a
@@ -198,6 +200,7 @@ module _ (s : Numbered) (sound : IsSound s.table) (formed : IsWellFormed s.table
     pool = s.table.pool;
     heap = heap_is k;
     public = map (shown_public s) s.ports.public;
+    timer = shown_timer s;
   } where
     known : i < length s.table.libs.loaded
     known = lies_known i s.table.libs a lies
@@ -231,13 +234,14 @@ module _ (s : Numbered) (sound : IsSound s.table) (formed : IsWellFormed s.table
         (map_same (shown_entry new) (shown_entry s) s.table.memory.blocks
         (all_then (λ (entry : ℕ × (ℕ × ℕ)) told. ap (λ o. (entry.0, record { size = entry.1.0; object = o })) (same (tagged entry.1.1) entry.0 told.0)) s.table.memory.blocks sound.matched.tagged))) k;
     public = map (shown_public s) s.ports.public;
+    timer = shown_timer s;
   } where
     new : Numbered
     new = record s { table = record s.table { memory = allocated size (library_tag i) (Some a) s.table.memory; libs = with_loaded i (Some l) s.table.libs } }
 
     same : (x : Tagged) (b : ℕ) → place_of x b s.table ≡ Some b → shown_tagged new x ≡ shown_tagged s x
     same tag.Plain b there = refl
-    same (tag.Object k n) b there = objects_kept s new.table refl refl k n
+    same (tag.Object k n) b there = objects_kept s new.table refl refl refl k n
     same (tag.Library j) b there = beside (Some l) j
         (λ e. let bad : true ≡ false = sym (ap is_some there) ∙ ap (λ k. is_some (base_at k s.table.libs)) e
         ∙ ap (λ o. is_some (option_map (λ (l : Loaded). l.base) o)) absent in cc)
@@ -254,13 +258,14 @@ module _ (s : Numbered) (sound : IsSound s.table) (formed : IsWellFormed s.table
         map_same (shown_entry new) (shown_entry s) (without_block a s.table.memory).blocks (all_but s.table.memory.blocks sound.matched.tagged)
         ∙ sym (where_key_shown (shown_block s) (λ other. not (nat_eq other a)) s.table.memory.blocks)) k;
     public = map (shown_public s) s.ports.public;
+    timer = shown_timer s;
   } where
     new : Numbered
     new = record s { table = record s.table { memory = without_block a s.table.memory; libs = expunged i s.table.libs } }
 
     same : (x : Tagged) (b : ℕ) → b ≢ a → place_of x b s.table ≡ Some b → shown_tagged new x ≡ shown_tagged s x
     same tag.Plain b other there = refl
-    same (tag.Object k n) b other there = objects_kept s new.table refl refl k n
+    same (tag.Object k n) b other there = objects_kept s new.table refl refl refl k n
     same (tag.Library j) b other there = beside None j (λ e. other (some_same (sym there ∙ ap (λ k. base_at k s.table.libs) e ∙ lies)))
 
     all_but : (es : Blocks) → AllByRecursion (IsTagged s.table) es

@@ -17,7 +17,7 @@ use Rattle.execheap.specs.Tags.{tag_of, tagged}
 use Rattle.execheap.specs.Table.{tag_at}
 use Rattle.execheap.specs.Numbered.{Numbered, IsSound, IsSpace, address_in, places, shown_entry, shown_heap, shown_tagged}
 use Rattle.execheap.proofs.Entries.{some_same}
-use Rattle.execheap.proofs.Kept.{at_home}
+use Rattle.execheap.proofs.Beside.{at_home}
 use Rattle.execheap.proofs.Mapped.{Alike, alike_apart, stands-map, stands_by_times}
 use Rattle.execheap.proofs.Matching.{number_same, number_small}
 use Rattle.execheap.proofs.Tagging.{either_number, read_tag}

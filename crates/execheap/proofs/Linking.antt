@@ -16,7 +16,7 @@ use Rattle.execheap.specs.declared.kind.Kind.TheVariants as variant
 use Rattle.execheap.specs.declared.tag.Tagged.{Tagged}
 use Rattle.execheap.specs.declared.tag.Tagged.TheVariants as tag
 use Rattle.execheap.specs.Tags.{tagged}
-use Rattle.execheap.specs.Numbered.{IsSound, IsSpace, Numbered, address_in, key_at, object_of, places, shown_entry, shown_heap, shown_library, shown_memory, shown_public, shown_tagged}
+use Rattle.execheap.specs.Numbered.{IsSound, IsSpace, Numbered, address_in, key_at, object_of, places, shown_entry, shown_heap, shown_library, shown_memory, shown_public, shown_tagged, shown_timer}
 use Rattle.execheap.specs.Changes as numbered
 use Rattle.execheap.proofs.Entries.{all_then}
 use Rattle.execheap.proofs.Mapped.{all_of_part_after, enqueue-map, find-map, first-map, last-map, members, part_after-map, part_before-map, put_after-map, without-map, without_absent, without_first-map, without_last-map}
@@ -38,6 +38,7 @@ heap_set s sequences homes heap is = λ i. record {
   pool = s.table.pool;
   heap = is i;
   public = map (shown_public s) s.ports.public;
+  timer = shown_timer s;
 }
 
 module _ {s : Numbered} (sound : IsSound s) (space : IsSpace s) where

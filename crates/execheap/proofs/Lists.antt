@@ -13,8 +13,11 @@ use Rattle.execheap.specs.declared.kind.Kind.{Kind}
 use Rattle.execheap.specs.declared.kind.Kind.TheVariants as variant
 use Rattle.execheap.specs.Tags.{kind_code, size_of}
 use Rattle.execheap.specs.Table.{Tabled, IsSound, object_at_next, pool_of, slots_of, with_object, without_object}
-use Rattle.execheap.specs.Numbered.{Numbered, IsKept, address_in, own_shape, object_of, places, shown_memory}
-use Rattle.execheap.proofs.Kept.{kept_freed, kept_made, objects_kept, public_kept, slots_freed, slots_made}
+use Rattle.execheap.specs.Numbered.{Numbered, IsKept, address_in, own_shape, object_of, places, shown_memory, shape}
+use Rattle.execheap.proofs.Beside.{objects_kept, public_kept, timer_kept}
+use Rattle.execheap.proofs.Kept.{kept_freed, kept_made, slots_freed, slots_made, about_other}
+use Rattle.execheap.proofs.Front.{front}
+use Rattle.execheap.proofs.InTime.{along_same}
 use Rattle.execheap.proofs.Made.{IsNew, new_parts}
 use Rattle.execheap.proofs.Matching.{next_known, next_vacant}
 use Rattle.execheap.proofs.Showing.{freed_shown, made_shown}
@@ -43,7 +46,8 @@ module _ {s : Numbered} (kept : IsKept s) (stands : Stands s) (sound : IsSound s
       → shown_memory (record s { table = t }) ≡ placed 14 (ListHead []) (Some a) (shown_memory s)
   list_made_shown n a t stocked made is =
       made_shown {u = record s { table = t }} sound variant.List n a (ListHead []) is beside small here
-      (public_kept s (record s { table = t }) (apart_from variant.Port (omega arith)) refl refl) where
+      (public_kept s (record s { table = t }) (apart_from variant.Port (omega arith)) refl refl)
+      (timer_kept s (record s { table = t }) (apart_from variant.Request (omega arith)) refl) where
         new : IsNew (next_number (pool_of variant.List s.table)) (fit s.table.memory.regions s.table.memory.blocks (size_of variant.List) 1) n a
         new = new_parts kept variant.List n a made
 
@@ -51,7 +55,7 @@ module _ {s : Numbered} (kept : IsKept s) (stands : Stands s) (sound : IsSound s
         apart_from k ne = ap (slots_of k) is ∙ slots_made sound formed kept variant.List n a stocked new.number new.address k ne
 
         beside : (k : Kind) (m b : ℕ) → slot (slots_of k s.table) m ≡ Some b → object_of k m (record s { table = t }) ≡ object_of k m s
-        beside k m b lives = objects_kept s t (apart_from variant.Node (omega arith)) (apart_from variant.Message (omega arith)) k m
+        beside k m b lives = objects_kept s t (apart_from variant.Node (omega arith)) (apart_from variant.Message (omega arith)) (apart_from variant.Request (omega arith)) k m
 
         small : n < 1024
         small = omega (arith, next_known sound formed variant.List n a stocked new.number new.address, sound.each variant.List, sound.small)
@@ -65,13 +69,14 @@ module _ {s : Numbered} (kept : IsKept s) (stands : Stands s) (sound : IsSound s
       → shown_memory (record s { table = t }) ≡ freed a (shown_memory s)
   list_freed_shown h a t live is = freed_shown {u = record s { table = t }} sound variant.List h a formed live is beside
       (public_kept s (record s { table = t }) (apart_from variant.Port (omega arith)) refl refl)
+      (timer_kept s (record s { table = t }) (apart_from variant.Request (omega arith)) refl)
     where
       apart_from : (k : Kind) → kind_code k ≢ kind_code variant.List → slots_of k t ≡ places k s
       apart_from k ne = ap (slots_of k) is ∙ slots_freed sound formed kept variant.List h a k ne
 
       beside : (k : Kind) (m b : ℕ) → (k ≡ variant.List → m ≢ h) → slot (slots_of k s.table) m ≡ Some b
           → object_of k m (record s { table = t }) ≡ object_of k m s
-      beside k m b other lives = objects_kept s t (apart_from variant.Node (omega arith)) (apart_from variant.Message (omega arith)) k m
+      beside k m b other lives = objects_kept s t (apart_from variant.Node (omega arith)) (apart_from variant.Message (omega arith)) (apart_from variant.Request (omega arith)) k m
 
   -- a list that has no node is no node's home
   apart : (h n k : ℕ) → sequence s.sequences h ≡ [] → home s.homes n ≡ Some k → k ≢ h
@@ -86,12 +91,14 @@ module _ {s : Numbered} (kept : IsKept s) (stands : Stands s) (sound : IsSound s
   list_freed_kept h a t live is empty =
       kept_freed sound formed kept variant.List h a live (record s { table = t }) is refl refl (λ k other. same k) tt
       (λ n linked e. let bad : true ≡ false = ap is_node_kind e in cc)
-      (λ n k linked e. apart h n k empty linked) kept.apt
+      (λ n k linked e. apart h n k empty linked) kept.apt (along_same refl refl refl)
+      (about_other sound formed kept variant.List h a live (omega arith) (omega arith) (record s { table = t }) is)
     where
       same : (k : Kind) → own_shape k (record s { table = t }) ≡ own_shape k s
       same variant.Port = refl
-      same variant.Message = refl
+      same variant.Message = ap (λ (u : Tabled). Some (shape (front u.pool s.ports.messages))) is
       same variant.Semaphore = refl
+      same variant.Request = refl
       same _ = refl
 
   pub list_made_kept : (n a : ℕ) (t : Tabled) → IsStocked (pool_of variant.List s.table)
@@ -100,9 +107,11 @@ module _ {s : Numbered} (kept : IsKept s) (stands : Stands s) (sound : IsSound s
   list_made_kept n a t stocked made is =
       let new = new_parts kept variant.List n a made in
       kept_made sound formed kept variant.List n a stocked new.number new.address (record s { table = t }) is refl refl (λ k other. same k) tt kept.apt
+      (along_same refl refl refl)
     where
       same : (k : Kind) → own_shape k (record s { table = t }) ≡ own_shape k s
       same variant.Port = refl
-      same variant.Message = refl
+      same variant.Message = ap (λ (u : Tabled). Some (shape (front u.pool s.ports.messages))) is
       same variant.Semaphore = refl
+      same variant.Request = refl
       same _ = refl

@@ -1,13 +1,11 @@
 -- Messages made and freed.
-use Rattle.std.proofs.Common.{◌≡◌, ◌≢◌, ℕ, ◌<◌, true, false, map, refl, ap, sym, ◌∙◌, subst, arith}
-use Rattle.std.specs.Prelude.{Some, None, is_some, if◌then◌else◌, unwrap_or, not, length, slice_set, IsTrue, ◌==◌}
-use Rattle.std.specs.List.{list_any}
+use Rattle.std.proofs.Common.{◌≡◌, ◌≢◌, ℕ, ◌<◌, map, refl, ap, sym, ◌∙◌, subst, arith}
+use Rattle.std.specs.Prelude.{Some, None, is_some, unwrap_or, length, slice_set, IsTrue}
 use Rattle.memlist.specs.Fit.{fit}
 use Rattle.memlist.specs.Memory.{IsWellFormed}
-use Rattle.execlist.specs.Lists.{home, is_at, sequence}
+use Rattle.execlist.specs.Lists.{home, sequence}
 use Rattle.execlist.specs.Pool.{IsStocked, given_at, next_number, slot}
 use Rattle.execlist.proofs.Pools.{slot_other, slot_same}
-use Rattle.msgport.specs.declared.fault.PortFault.TheVariants.{Link, Unknown}
 use Rattle.msgport.specs.Ports as ports
 use Rattle.msgport.specs.Ports.{MessagePorts, message_freed, message_made, messages_of, new_message, port_at}
 use Rattle.execmodel.specs.State.{ListHead, Message, MsgPort}
@@ -17,22 +15,22 @@ use Rattle.execheap.specs.declared.kind.Kind.TheVariants as variant
 use Rattle.execheap.specs.Tags.{kind_code, size_of}
 use Rattle.execheap.specs.Table.{Tabled, IsSound, object_at_next, pool_of, slots_of, with_object, without_object}
 use Rattle.execheap.specs.Numbered as numbered
-use Rattle.execheap.specs.Numbered.{Numbered, IsKept, address_in, object_of, own_shape, places, shape, shown_memory, shown_public}
-use Rattle.execheap.proofs.Kept.{addresses_kept, kept_freed, kept_made, pool_freed, pool_made, public_kept, slots_freed, slots_made}
+use Rattle.execheap.specs.Numbered.{Numbered, IsKept, address_in, message_places, object_of, own_shape, places, shape, shown_memory, shown_public, IsInTime}
+use Rattle.execheap.proofs.Beside.{public_kept, timer_kept}
+use Rattle.execheap.proofs.Kept.{kept_freed, kept_made, pool_freed, pool_made, slots_freed, slots_made, about_other}
+use Rattle.execheap.proofs.Front.{front, front_given, front_released, message_live, message_next_number, message_small, message_step, own_messages, slot_front}
+use Rattle.execheap.proofs.InTime.{along_message}
+use Rattle.execheap.proofs.Loose.{unheld_loose}
 use Rattle.execheap.proofs.Made.{IsNew, new_parts}
-use Rattle.execheap.proofs.Matching.{freed_beside, lives_beside, made_beside, next_known, next_vacant}
-use Rattle.execheap.proofs.Queued.{queued_lives, stands_in_port}
+use Rattle.execheap.proofs.Matching.{lives_beside, next_known, next_vacant}
+use Rattle.execheap.proofs.MessagePlaces.{loose_apart, place_message, queue_places, standing_freed, standing_made}
 use Rattle.execheap.proofs.Semaphores.{is_none}
 use Rattle.execheap.proofs.Showing.{freed_shown, made_shown}
-use Rattle.execheap.proofs.Stepping.{shape_given, shape_length, shape_lives, shape_next, shape_released}
+use Rattle.execheap.proofs.Stepping.{shape_given, shape_lives, shape_released}
 
 module _ {s : Numbered} (kept : IsKept s) (sound : IsSound s.table) (formed : IsWellFormed s.table.memory.regions s.table.memory.blocks) where
-  -- a message that stands in a port has an address
-  standing_placed : ports.IsSound s.ports → (p m : ℕ) → list_any (λ other. other == m) (messages_of p s.ports) ≡ true
-      → is_some (slot (places variant.Message s) m) ≡ true
-  standing_placed held p m stands =
-      shape_lives (pool_of variant.Message s.table) s.ports.messages (kept.in_step variant.Message) m
-      ∙ queued_lives {s = s} (record { table = sound; kept = kept }) held p m stands
+  abbrev whole : numbered.IsSound s
+  whole = record { table = sound; kept = kept }
 
   module _ (n a : ℕ) (t : Tabled) (reply word : ℕ) (q : MessagePorts) (stocked : IsStocked (pool_of variant.Message s.table))
       (made : Some (n, a) ≡ object_at_next variant.Message (next_number (pool_of variant.Message s.table)) s.table)
@@ -48,56 +46,57 @@ module _ {s : Numbered} (kept : IsKept s) (sound : IsSound s.table) (formed : Is
     same variant.Port ne = ap (λ (r : MessagePorts). Some (shape r.ports)) is_ports
     same _ ne = refl
 
-    step : shape s.ports.messages ≡ shape (pool_of variant.Message s.table)
-    step = kept.in_step variant.Message
+    step : shape (own_messages kept) ≡ shape (pool_of variant.Message s.table)
+    step = message_step kept
 
     -- the messages give the number that the table gives
     pub message_next : next_number s.ports.messages ≡ Some n
-    message_next = shape_next (pool_of variant.Message s.table) s.ports.messages step ∙ parts.number
+    message_next = message_next_number kept ∙ parts.number
 
-    pub message_made_kept : IsKept new
-    message_made_kept = kept_made sound formed kept variant.Message n a stocked parts.number parts.address new is refl refl same
-        (ap (λ (r : MessagePorts). shape r.messages) is_ports ∙ shape_given (pool_of variant.Message s.table) s.ports.messages step a (new_message reply word)
-        ∙ ap shape (sym (pool_made sound variant.Message n a)))
-        (subst (λ r. numbered.IsApt r s.sems) (sym is_ports) (record { own_signals = kept.apt.own_signals; each_task = kept.apt.each_task }))
-
-    vacant : slot s.ports.messages.slots n ≡ None
-    vacant = is_none (slot s.ports.messages.slots n)
-        (sym (shape_lives (pool_of variant.Message s.table) s.ports.messages step n)
-        ∙ ap is_some (next_vacant sound formed variant.Message n a stocked parts.number parts.address))
-
-    known : n < length s.ports.messages.slots
-    known = omega (
-      arith,
-      next_known sound formed variant.Message n a stocked parts.number parts.address,
-      shape_length (pool_of variant.Message s.table) s.ports.messages step,
-    )
+    small : n < s.table.pool
+    small = omega (arith, next_known sound formed variant.Message n a stocked parts.number parts.address, sound.each variant.Message)
 
     slots : q.messages.slots ≡ slice_set s.ports.messages.slots n (Some (new_message reply word))
     slots =
         ap (λ (r : MessagePorts). r.messages.slots) is_ports
         ∙ ap (λ o. (given_at o (new_message reply word) s.ports.messages).slots) message_next
 
+    pub message_made_kept : IsKept new
+    message_made_kept = kept_made sound formed kept variant.Message n a stocked parts.number parts.address new is refl refl same
+        ((λ i. shape (front (is i).pool (is_ports i).messages)) ∙ ap shape (front_given s.table.pool (new_message reply word) s.ports.messages)
+        ∙ shape_given (pool_of variant.Message s.table) (own_messages kept) step a (new_message reply word)
+        ∙ ap shape (sym (pool_made sound variant.Message n a)))
+        (subst (λ r. numbered.IsApt r s.sems) (sym is_ports) (record { own_signals = kept.apt.own_signals; each_task = kept.apt.each_task }))
+        (along_message n (Some (new_message reply word)) small slots (ap (λ (r : MessagePorts). r.places) is_ports) (ap (λ (r : MessagePorts). r.holding) is_ports) refl refl)
+
+    vacant : slot s.ports.messages.slots n ≡ None
+    vacant = sym (slot_front s.table.pool s.ports.messages.slots n small)
+        ∙ is_none (slot (own_messages kept).slots n)
+        (sym (shape_lives (pool_of variant.Message s.table) (own_messages kept) step n)
+        ∙ ap is_some (next_vacant sound formed variant.Message n a stocked parts.number parts.address))
+
+    known : n < length s.ports.messages.slots
+    known = omega (arith, small, kept.in_time.each_message)
+
     pub message_made_shown : ports.IsSound s.ports → shown_memory new ≡ placed 24 (Message (new_message reply word)) (Some a) (shown_memory s)
     message_made_shown held = made_shown {u = new} sound variant.Message n a (Message (new_message reply word)) is beside
         (omega (arith, next_known sound formed variant.Message n a stocked parts.number parts.address, sound.each variant.Message, sound.small)) here
         (public_kept s new (apart_from variant.Port (omega arith)) (ap (λ (r : MessagePorts). r.keys) is_ports) (ap (λ (r : MessagePorts). r.public) is_ports))
+        (timer_kept s new (apart_from variant.Request (omega arith)) refl)
       where
         apart_from : (k : Kind) → kind_code k ≢ kind_code variant.Message → slots_of k t ≡ places k s
         apart_from k ne = ap (slots_of k) is ∙ slots_made sound formed kept variant.Message n a stocked parts.number parts.address k ne
 
-        -- the messages of a port keep their addresses
-        messages_beside : (p : ℕ) → map (address_in (slots_of variant.Message t)) (messages_of p s.ports) ≡ map (address_in (places variant.Message s)) (messages_of p s.ports)
-        messages_beside p = addresses_kept (places variant.Message s) (slots_of variant.Message t) (messages_of p s.ports) (λ m stands.
-            ap (λ u. slot (slots_of variant.Message u) m) is
-            ∙ made_beside sound formed variant.Message n a stocked parts.number parts.address variant.Message m (λ e same.
-            let bad : true ≡ false = sym (standing_placed held p m stands) ∙ ap (λ r. is_some (slot (places variant.Message s) r)) same
-            ∙ ap is_some (next_vacant sound formed variant.Message n a stocked parts.number parts.address) in cc))
+        -- what stands in a port keeps its address
+        messages_beside : (p : ℕ) → map (address_in (queue_places t)) (messages_of p s.ports) ≡ map (address_in (message_places s)) (messages_of p s.ports)
+        messages_beside p =
+            ap (λ u. map (address_in (queue_places u)) (messages_of p s.ports)) is
+            ∙ standing_made whole held formed variant.Message n a stocked parts.number parts.address p
 
         beside : (k : Kind) (m b : ℕ) → slot (slots_of k s.table) m ≡ Some b → object_of k m new ≡ object_of k m s
         beside variant.List m b lives = ap (λ all. ListHead (map (address_in all) (sequence s.sequences m))) (apart_from variant.Node (omega arith))
         beside variant.Port m b lives =
-            ap (λ (r : MessagePorts). MsgPort (port_at m r) (map (address_in (slots_of variant.Message t)) (messages_of m r))) is_ports
+            ap (λ (r : MessagePorts). MsgPort (port_at m r) (map (address_in (queue_places t)) (messages_of m r))) is_ports
             ∙ ap (MsgPort (port_at m s.ports)) (messages_beside m)
         beside variant.Message m b lives = λ i. Message
             (unwrap_or ((ap (λ xs. slot xs m) slots ∙ slot_other s.ports.messages.slots n m (Some (new_message reply word))
@@ -110,11 +109,14 @@ module _ {s : Numbered} (kept : IsKept s) (sound : IsSound s.table) (formed : Is
 
   module _ (n a : ℕ) (live : slot (slots_of variant.Message s.table) n ≡ Some a) where
     pub message_lives : IsTrue (ports.is_message n s.ports)
-    message_lives = sym (shape_lives (pool_of variant.Message s.table) s.ports.messages (kept.in_step variant.Message) n) ∙ ap is_some live
+    message_lives = message_live kept sound n (ap is_some live)
+
+    below : n < s.table.pool
+    below = message_small kept sound n (ap is_some live)
 
     -- one that is in no port may be freed
     pub message_loose : home s.ports.places n ≡ None → ports.loose_fault n s.ports ≡ None
-    message_loose loose = λ i. if not (message_lives i) then Some Unknown else (if is_some (loose i) then Some Link else None)
+    message_loose loose = unheld_loose kept.in_time n below message_lives loose
 
     module _ (t : Tabled) (q : MessagePorts) (is : t ≡ without_object variant.Message n a s.table) (is_ports : q ≡ message_freed n s.ports) where
       abbrev without : Numbered
@@ -122,11 +124,14 @@ module _ {s : Numbered} (kept : IsKept s) (sound : IsSound s.table) (formed : Is
 
       pub message_freed_kept : IsKept without
       message_freed_kept = kept_freed sound formed kept variant.Message n a live without is refl refl left
-          (ap (λ (r : MessagePorts). shape r.messages) is_ports
-          ∙ shape_released (pool_of variant.Message s.table) s.ports.messages (kept.in_step variant.Message) n ∙ ap shape (sym (pool_freed sound variant.Message n a)))
+          ((λ i. shape (front (is i).pool (is_ports i).messages)) ∙ ap shape (front_released s.table.pool n s.ports.messages)
+          ∙ shape_released (pool_of variant.Message s.table) (own_messages kept) (message_step kept) n ∙ ap shape (sym (pool_freed sound variant.Message n a)))
           (λ m linked e. let code : kind_code variant.Node ≡ kind_code variant.Message = ap kind_code e in absurd (omega (arith, code)))
           (λ m h linked e. let code : kind_code variant.List ≡ kind_code variant.Message = ap kind_code e in absurd (omega (arith, code)))
           (subst (λ r. numbered.IsApt r s.sems) (sym is_ports) (record { own_signals = kept.apt.own_signals; each_task = kept.apt.each_task }))
+          (along_message n None below (ap (λ (r : MessagePorts). r.messages.slots) is_ports) (ap (λ (r : MessagePorts). r.places) is_ports)
+          (ap (λ (r : MessagePorts). r.holding) is_ports) refl refl)
+          (about_other sound formed kept variant.Message n a live (omega arith) (omega arith) without is)
         where
           left : (k : Kind) → kind_code k ≢ kind_code variant.Message → own_shape k without ≡ own_shape k s
           left variant.Message ne = absurd (ne refl)
@@ -136,21 +141,21 @@ module _ {s : Numbered} (kept : IsKept s) (sound : IsSound s.table) (formed : Is
       pub message_freed_shown : ports.IsSound s.ports → home s.ports.places n ≡ None → shown_memory without ≡ freed a (shown_memory s)
       message_freed_shown held loose = freed_shown {u = without} sound variant.Message n a formed live is beside
           (public_kept s without (apart_from variant.Port (omega arith)) (ap (λ (r : MessagePorts). r.keys) is_ports) (ap (λ (r : MessagePorts). r.public) is_ports))
+          (timer_kept s without (apart_from variant.Request (omega arith)) refl)
         where
           apart_from : (k : Kind) → kind_code k ≢ kind_code variant.Message → slots_of k t ≡ places k s
           apart_from k ne = ap (slots_of k) is ∙ slots_freed sound formed kept variant.Message n a k ne
 
-          messages_beside : (p : ℕ) → map (address_in (slots_of variant.Message t)) (messages_of p s.ports) ≡ map (address_in (places variant.Message s)) (messages_of p s.ports)
-          messages_beside p = addresses_kept (places variant.Message s) (slots_of variant.Message t) (messages_of p s.ports) (λ m stands.
-              ap (λ u. slot (slots_of variant.Message u) m) is
-              ∙ freed_beside sound formed variant.Message n a live variant.Message m (λ e same.
-              let bad : true ≡ false = sym stands ∙ stands_in_port {s = s} (record { table = sound; kept = kept }) held p m
-              ∙ ap (λ r. is_at (home s.ports.places r) p) same ∙ ap (λ o. is_at o p) loose in cc))
+          messages_beside : (p : ℕ) → map (address_in (queue_places t)) (messages_of p s.ports) ≡ map (address_in (message_places s)) (messages_of p s.ports)
+          messages_beside p =
+              ap (λ u. map (address_in (queue_places u)) (messages_of p s.ports)) is
+              ∙ standing_freed whole held formed variant.Message n a live
+              (loose_apart whole held n a (place_message sound n a live) loose) p
 
           beside : (k : Kind) (m b : ℕ) → (k ≡ variant.Message → m ≢ n) → slot (slots_of k s.table) m ≡ Some b → object_of k m without ≡ object_of k m s
           beside variant.List m b other lives = ap (λ all. ListHead (map (address_in all) (sequence s.sequences m))) (apart_from variant.Node (omega arith))
           beside variant.Port m b other lives =
-              ap (λ (r : MessagePorts). MsgPort (port_at m r) (map (address_in (slots_of variant.Message t)) (messages_of m r))) is_ports
+              ap (λ (r : MessagePorts). MsgPort (port_at m r) (map (address_in (queue_places t)) (messages_of m r))) is_ports
               ∙ ap (MsgPort (port_at m s.ports)) (messages_beside m)
           beside variant.Message m b other lives =
               ap (λ (r : MessagePorts). Message (ports.message_at m r)) is_ports

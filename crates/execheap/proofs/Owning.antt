@@ -10,7 +10,7 @@ use Rattle.execmodel.specs.Semaphores as model
 use Rattle.execheap.specs.declared.kind.Kind.{Kind}
 use Rattle.execheap.specs.declared.kind.Kind.TheVariants as variant
 use Rattle.execheap.specs.Tags.{is_same}
-use Rattle.execheap.specs.Numbered.{Numbered, object_of, places, shown_heap, shown_library, shown_memory, shown_public}
+use Rattle.execheap.specs.Numbered.{Numbered, object_of, places, shown_heap, shown_library, shown_memory, shown_public, shown_timer}
 use Rattle.execheap.specs.Table.{number_at}
 use Rattle.execheap.specs.Changes.{on_semaphores}
 use Rattle.execheap.proofs.Posted.{item_known, none_left, same_at, written_at}
@@ -27,6 +27,7 @@ heap_owned s q heap is = λ i. record {
   pool = s.table.pool;
   heap = is i;
   public = map (shown_public s) s.ports.public;
+  timer = shown_timer s;
 }
 
 module _ (s : Numbered) (q : Semaphores) where

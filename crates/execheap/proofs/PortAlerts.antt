@@ -1,17 +1,20 @@
 -- The alerts of the calls on ports and messages by address, told by number.
-use Rattle.std.proofs.Common.{◌≡◌, ℕ, zero, suc, List, Bool, true, false, refl, ap, ◌∙◌, arith}
-use Rattle.std.specs.Prelude.{Option, None, Some, codes, is_some, nat_eq, if◌then◌else◌}
+use Rattle.std.proofs.Common.{◌≡◌, ℕ, zero, suc, List, Bool, true, false, refl, ap, sym, ◌∙◌, arith}
+use Rattle.std.specs.Prelude.{Option, None, Some, codes, is_some, nat_eq, if◌then◌else◌, ◌||◌}
 use Rattle.memlist.proofs.Answered.{nat_eq-other}
 use Rattle.execmodel.specs.State.{Heap}
-use Rattle.execmodel.specs.Ports.{content_of, is_message_at, is_port_at, is_queued, loose_alert, message_alert, port_alert, port_of, put_alert, reply_alert, reply_port_alert, wait_alert}
+use Rattle.execmodel.specs.Ports.{content_of, is_message_at, is_port_at, loose_alert, message_alert, port_alert, port_of, put_alert, reply_alert, reply_port_alert, wait_alert}
+use Rattle.execmodel.specs.Ports as model
 use Rattle.msgport.specs.Port.{wait_bit}
 use Rattle.msgport.specs.Ports as ports
-use Rattle.msgport.specs.Ports.{is_linked, message_at, port_at}
+use Rattle.msgport.specs.Ports.{is_linked, is_queued, message_at, port_at}
 use Rattle.execlist.specs.Pool.{slot}
 use Rattle.execheap.specs.declared.kind.Kind.TheVariants as variant
 use Rattle.execheap.specs.Numbered.{Numbered, IsSound, shown_heap, places}
 use Rattle.execheap.specs.Table.{number_at}
 use Rattle.execheap.proofs.Alerts.{handle_unless, is_there, link_if, refused_first}
+use Rattle.execheap.proofs.Front.{message_small}
+use Rattle.execheap.proofs.MessagePlaces.{place_message}
 use Rattle.execheap.proofs.Queued.{is_queued_shown}
 use Rattle.execheap.proofs.Matching.{number_live}
 use Rattle.execheap.proofs.Shown.{content_shown, message_at_shown, port_at_shown, port_shown}
@@ -50,15 +53,15 @@ reply_port_some (suc reply) heap some = ap (λ b. if b then None else port_alert
 module _ (message : ℕ) (heap : Heap) where
   pub loose_by_handle : {why : List ℕ} → message_alert message heap ≡ Some why → loose_alert message heap ≡ Some why
   unfolding loose_alert message_alert
-  loose_by_handle refused = refused_first (is_message_at message heap) (link_if (is_queued message heap) None) refused
+  loose_by_handle refused = refused_first (is_message_at message heap) (link_if (model.is_queued message heap) None) refused
 
-  past_message : message_alert message heap ≡ None → loose_alert message heap ≡ link_if (is_queued message heap) None
+  past_message : message_alert message heap ≡ None → loose_alert message heap ≡ link_if (model.is_queued message heap) None
   unfolding loose_alert message_alert
-  past_message there = ap (λ b. handle_unless b (link_if (is_queued message heap) None)) (is_there (is_message_at message heap) there)
+  past_message there = ap (λ b. handle_unless b (link_if (model.is_queued message heap) None)) (is_there (is_message_at message heap) there)
 
   -- the tests of ReplyMsg after the one of the message
   abbrev after_message : Option (List ℕ)
-  after_message = link_if (is_queued message heap) (reply_port_alert (content_of message heap).reply heap)
+  after_message = link_if (model.is_queued message heap) (reply_port_alert (content_of message heap).reply heap)
 
   -- a message that is refused is so by ReplyMsg
   replied_by_handle : (there linked : Bool) {why : List ℕ} (next : Option (List ℕ)) → handle_unless there (link_if linked None) ≡ Some why
@@ -76,12 +79,12 @@ module _ (message : ℕ) (heap : Heap) where
   pub reply_by_loose : {why : List ℕ} → loose_alert message heap ≡ Some why → reply_alert message heap ≡ Some why
   unfolding reply_alert loose_alert
   reply_by_loose refused =
-      replied_by_handle (is_message_at message heap) (is_queued message heap) (reply_port_alert (content_of message heap).reply heap) refused
+      replied_by_handle (is_message_at message heap) (model.is_queued message heap) (reply_port_alert (content_of message heap).reply heap) refused
 
   pub reply_by_port : loose_alert message heap ≡ None → reply_alert message heap ≡ reply_port_alert (content_of message heap).reply heap
   unfolding reply_alert loose_alert
   reply_by_port loose =
-      replied_past (is_message_at message heap) (is_queued message heap) (reply_port_alert (content_of message heap).reply heap) loose
+      replied_past (is_message_at message heap) (model.is_queued message heap) (reply_port_alert (content_of message heap).reply heap) loose
 
   module _ (port : ℕ) where
     pub put_by_port : {why : List ℕ} → port_alert port heap ≡ Some why → put_alert port message heap ≡ Some why
@@ -92,11 +95,22 @@ module _ (message : ℕ) (heap : Heap) where
     unfolding put_alert port_alert
     put_by_message there = ap (λ b. handle_unless b (loose_alert message heap)) (is_there (is_port_at port heap) there)
 
+or_false : (b : Bool) → b || false ≡ b
+or_false true = refl
+or_false false = refl
+
 module _ {s : Numbered} (sound : IsSound s) (held : ports.IsSound s.ports) (m message : ℕ) (here : slot (places variant.Message s) m ≡ Some message) where
+  -- a message that is none of a request is linked where a port has it
+  pub message_linked : is_linked m s.ports ≡ is_queued m s.ports
+  message_linked =
+      ap (λ b. is_queued m s.ports || b) (sound.kept.in_time.none_held m (message_small sound.kept sound.table m (ap is_some here))) ∙ or_false (is_queued m s.ports)
+
   pub loose_found : {linked : Bool} → message_alert message (shown_heap s) ≡ None → is_linked m s.ports ≡ linked
       → loose_alert message (shown_heap s) ≡ link_if linked None
   loose_found there is =
-      past_message message (shown_heap s) there ∙ ap (λ b. link_if b None) (is_queued_shown sound held m message here ∙ is)
+      past_message message (shown_heap s) there
+      ∙ ap (λ b. link_if b None)
+      (is_queued_shown sound held m message (place_message sound.table m message here) ∙ sym message_linked ∙ is)
 
 -- ---- what begins at an address that has an alert no more
 

@@ -1,6 +1,6 @@
 -- Ports made and freed.
 use Rattle.std.proofs.Common.{◌≡◌, ◌≢◌, ℕ, ◌<◌, ◌≤◌, [], Bool, true, false, map, refl, ap, sym, ◌∙◌, subst, arith}
-use Rattle.std.specs.Prelude.{Some, None, Option, is_some, if◌then◌else◌, unwrap_or, not, length, slice_set, IsTrue, ◌==◌}
+use Rattle.std.specs.Prelude.{Some, None, Option, is_some, if◌then◌else◌, unwrap_or, not, length, slice_set, IsTrue, ◌==◌, ◌++◌}
 use Rattle.std.specs.List.{list_any}
 use Rattle.memlist.specs.Fit.{fit}
 use Rattle.memlist.specs.Memory.{IsWellFormed}
@@ -8,6 +8,7 @@ use Rattle.memlist.proofs.Headers.{from_eq}
 use Rattle.execlist.specs.Lists.{home, is_at, sequence}
 use Rattle.execlist.specs.Pool.{IsStocked, given_at, next_number, slot}
 use Rattle.execlist.proofs.Pools.{slot_known, slot_other, slot_same}
+use Rattle.msgport.proofs.Linking.{nobody_at}
 use Rattle.msgport.specs.Port.{new_port}
 use Rattle.msgport.specs.declared.fault.PortFault.TheVariants.{Link, NotEmpty, Unknown}
 use Rattle.msgport.specs.Ports as ports
@@ -19,8 +20,11 @@ use Rattle.execheap.specs.declared.kind.Kind.TheVariants as variant
 use Rattle.execheap.specs.Tags.{kind_code, size_of}
 use Rattle.execheap.specs.Table.{Tabled, IsSound, object_at_next, pool_of, slots_of, with_object, without_object}
 use Rattle.execheap.specs.Numbered as numbered
-use Rattle.execheap.specs.Numbered.{Numbered, IsKept, address_in, object_of, own_shape, places, shape, shown_memory, shown_public}
-use Rattle.execheap.proofs.Kept.{kept_freed, kept_made, pool_freed, pool_made, slots_freed, slots_made}
+use Rattle.execheap.specs.Numbered.{Numbered, IsKept, address_in, object_of, own_shape, message_places, places, shape, shown_memory, shown_public, message_of_request}
+use Rattle.execheap.proofs.Beside.{timer_kept}
+use Rattle.execheap.proofs.Kept.{kept_freed, kept_made, pool_freed, pool_made, slots_freed, slots_made, about_freed}
+use Rattle.execheap.proofs.Front.{front}
+use Rattle.execheap.proofs.InTime.{along_messages}
 use Rattle.execheap.proofs.KeptPorts.{IsOwn, own_set}
 use Rattle.execheap.proofs.Lists.{none_there}
 use Rattle.execheap.proofs.Made.{IsNew, new_parts}
@@ -77,7 +81,7 @@ module _ {s : Numbered} (kept : IsKept s) (sound : IsSound s.table) (formed : Is
 
     same : (k : Kind) → kind_code k ≢ kind_code variant.Port → own_shape k new ≡ own_shape k s
     same variant.Port ne = absurd (ne refl)
-    same variant.Message ne = ap (λ (r : MessagePorts). Some (shape r.messages)) is_ports
+    same variant.Message ne = λ i. Some (shape (front (is i).pool (is_ports i).messages))
     same _ ne = refl
 
     step : shape s.ports.ports ≡ shape (pool_of variant.Port s.table)
@@ -111,6 +115,8 @@ module _ {s : Numbered} (kept : IsKept s) (sound : IsSound s.table) (formed : Is
               (own_set s.ports.ports.slots n (Some (new_port task bit)) known (λ lives. own) kept.apt.own_signals p);
           each_task = kept.apt.each_task;
         })
+        (along_messages (ap (λ (r : MessagePorts). r.messages) is_ports) (ap (λ (r : MessagePorts). r.places) is_ports)
+        (ap (λ (r : MessagePorts). r.holding) is_ports) refl refl)
 
     pub port_made_shown : ports.IsSound s.ports → shown_memory new ≡ placed 34 (MsgPort (new_port task bit) []) (Some a) (shown_memory s)
     port_made_shown held = made_shown {u = new} sound variant.Port n a (MsgPort (new_port task bit) []) is beside
@@ -120,18 +126,19 @@ module _ {s : Numbered} (kept : IsKept s) (sound : IsSound s.table) (formed : Is
         ∙ made_beside sound formed variant.Port n a stocked parts.number parts.address variant.Port p (λ e same.
         let bad : true ≡ false = sym (public_placed held p stands) ∙ ap (λ r. is_some (slot (places variant.Port s) r)) same
         ∙ ap is_some (next_vacant sound formed variant.Port n a stocked parts.number parts.address) in cc)))
+        (timer_kept s new (apart_from variant.Request (omega arith)) refl)
       where
         apart_from : (k : Kind) → kind_code k ≢ kind_code variant.Port → slots_of k t ≡ places k s
         apart_from k ne = ap (slots_of k) is ∙ slots_made sound formed kept variant.Port n a stocked parts.number parts.address k ne
 
         shown : (m : ℕ) → object_of variant.Port m new
-            ≡ MsgPort (unwrap_or (slot (slice_set s.ports.ports.slots n (Some (new_port task bit))) m) (new_port 0 0)) (map (address_in (places variant.Message s)) (messages_of m s.ports))
+            ≡ MsgPort (unwrap_or (slot (slice_set s.ports.ports.slots n (Some (new_port task bit))) m) (new_port 0 0)) (map (address_in (message_places s)) (messages_of m s.ports))
         shown m = λ i. MsgPort (unwrap_or (slot (slots i) m) (new_port 0 0))
-            (map (address_in (apart_from variant.Message (omega arith) i)) (messages_of m (is_ports i)))
+            (map (address_in (apart_from variant.Message (omega arith) i ++ apart_from variant.Request (omega arith) i)) (messages_of m (is_ports i)))
 
         beside : (k : Kind) (m b : ℕ) → slot (slots_of k s.table) m ≡ Some b → object_of k m new ≡ object_of k m s
         beside variant.List m b lives = ap (λ all. ListHead (map (address_in all) (sequence s.sequences m))) (apart_from variant.Node (omega arith))
-        beside variant.Port m b lives = shown m ∙ ap (λ o. MsgPort (unwrap_or o (new_port 0 0)) (map (address_in (places variant.Message s)) (messages_of m s.ports)))
+        beside variant.Port m b lives = shown m ∙ ap (λ o. MsgPort (unwrap_or o (new_port 0 0)) (map (address_in (message_places s)) (messages_of m s.ports)))
             (slot_other s.ports.ports.slots n m (Some (new_port task bit))
             (lives_beside sound formed variant.Port n a stocked parts.number parts.address variant.Port m b lives refl))
         beside variant.Message m b lives = ap (λ (r : MessagePorts). Message (ports.message_at m r)) is_ports
@@ -139,7 +146,7 @@ module _ {s : Numbered} (kept : IsKept s) (sound : IsSound s.table) (formed : Is
 
         here : object_of variant.Port n new ≡ MsgPort (new_port task bit) []
         here = shown n ∙ (λ i. MsgPort (unwrap_or (slot_same s.ports.ports.slots n (Some (new_port task bit)) known i) (new_port 0 0))
-            (map (address_in (places variant.Message s)) (no_messages s held n vacant i)))
+            (map (address_in (message_places s)) (no_messages s held n vacant i)))
 
   module _ (n a : ℕ) (live : slot (slots_of variant.Port s.table) n ≡ Some a) where
     pub port_lives : IsTrue (ports.is_port n s.ports)
@@ -160,8 +167,8 @@ module _ {s : Numbered} (kept : IsKept s) (sound : IsSound s.table) (formed : Is
         shape_length (pool_of variant.Port s.table) s.ports.ports (kept.in_step variant.Port),
       )
 
-      pub port_freed_kept : IsKept without
-      port_freed_kept = kept_freed sound formed kept variant.Port n a live without is refl refl left
+      pub port_freed_kept : ports.IsSound s.ports → IsTrue (not (ports.has_messages n s.ports)) → IsKept without
+      port_freed_kept held empty = kept_freed sound formed kept variant.Port n a live without is refl refl left
           (ap (λ (r : MessagePorts). shape r.ports) is_ports
           ∙ shape_released (pool_of variant.Port s.table) s.ports.ports (kept.in_step variant.Port) n ∙ ap shape (sym (pool_freed sound variant.Port n a)))
           (λ m linked e. let code : kind_code variant.Node ≡ kind_code variant.Port = ap kind_code e in absurd (omega (arith, code)))
@@ -171,10 +178,16 @@ module _ {s : Numbered} (kept : IsKept s) (sound : IsSound s.table) (formed : Is
                 (own_set s.ports.ports.slots n None known_port (λ lives. (let bad : false ≡ true = lives in cc)) kept.apt.own_signals p);
             each_task = kept.apt.each_task;
           })
+          (along_messages (ap (λ (r : MessagePorts). r.messages) is_ports) (ap (λ (r : MessagePorts). r.places) is_ports)
+          (ap (λ (r : MessagePorts). r.holding) is_ports) refl refl)
+          (about_freed sound formed kept variant.Port n a live without is
+          (λ r p there e. let code : kind_code variant.Request ≡ kind_code variant.Port = ap kind_code e in absurd (omega (arith, code)))
+          (λ r p there e same. nobody_at s.ports.queues (message_of_request r s) n (home s.ports.places (message_of_request r s))
+          (held.stands n (message_of_request r s)) empty (there ∙ ap Some same)))
         where
           left : (k : Kind) → kind_code k ≢ kind_code variant.Port → own_shape k without ≡ own_shape k s
           left variant.Port ne = absurd (ne refl)
-          left variant.Message ne = ap (λ (r : MessagePorts). Some (shape r.messages)) is_ports
+          left variant.Message ne = λ i. Some (shape (front (is i).pool (is_ports i).messages))
           left _ ne = refl
 
       pub port_freed_shown : ports.IsSound s.ports → IsTrue (not (ports.is_public n s.ports)) → shown_memory without ≡ freed a (shown_memory s)
@@ -182,6 +195,7 @@ module _ {s : Numbered} (kept : IsKept s) (sound : IsSound s.table) (formed : Is
           (public_beside s without (ap (λ (r : MessagePorts). r.keys) is_ports) (ap (λ (r : MessagePorts). r.public) is_ports) (λ p stands.
           ap (λ u. slot (slots_of variant.Port u) p) is
           ∙ freed_beside sound formed variant.Port n a live variant.Port p (λ e. no_public {s = s} (record { table = sound; kept = kept }) held n private p stands)))
+          (timer_kept s without (apart_from variant.Request (omega arith)) refl)
         where
           apart_from : (k : Kind) → kind_code k ≢ kind_code variant.Port → slots_of k t ≡ places k s
           apart_from k ne = ap (slots_of k) is ∙ slots_freed sound formed kept variant.Port n a k ne
@@ -189,8 +203,8 @@ module _ {s : Numbered} (kept : IsKept s) (sound : IsSound s.table) (formed : Is
           beside : (k : Kind) (m b : ℕ) → (k ≡ variant.Port → m ≢ n) → slot (slots_of k s.table) m ≡ Some b → object_of k m without ≡ object_of k m s
           beside variant.List m b other lives = ap (λ all. ListHead (map (address_in all) (sequence s.sequences m))) (apart_from variant.Node (omega arith))
           beside variant.Port m b other lives =
-              (λ i. MsgPort (port_at m (is_ports i)) (map (address_in (apart_from variant.Message (omega arith) i)) (messages_of m (is_ports i))))
-              ∙ ap (λ o. MsgPort (unwrap_or o (new_port 0 0)) (map (address_in (places variant.Message s)) (messages_of m s.ports)))
+              (λ i. MsgPort (port_at m (is_ports i)) (map (address_in (apart_from variant.Message (omega arith) i ++ apart_from variant.Request (omega arith) i)) (messages_of m (is_ports i))))
+              ∙ ap (λ o. MsgPort (unwrap_or o (new_port 0 0)) (map (address_in (message_places s)) (messages_of m s.ports)))
               (slot_other s.ports.ports.slots n m None (other refl))
           beside variant.Message m b other lives = ap (λ (r : MessagePorts). Message (ports.message_at m r)) is_ports
           beside _ m b other lives = refl

@@ -21,13 +21,14 @@ use Rattle.execheap.specs.declared.kind.Kind.TheVariants as variant
 use Rattle.execheap.specs.declared.tag.Tagged.{Tagged}
 use Rattle.execheap.specs.declared.tag.Tagged.TheVariants as tag
 use Rattle.execheap.specs.Tags.{is_same, tagged}
-use Rattle.execheap.specs.Numbered.{IsSound, Numbered, address_in, object_of, places, shown_heap, shown_library, shown_memory, shown_public, shown_tagged}
+use Rattle.execheap.specs.Numbered.{IsSound, Numbered, address_in, message_places, object_of, places, shown_heap, shown_library, shown_memory, shown_public, shown_tagged, shown_timer}
 use Rattle.execheap.specs.Table.{number_at}
 use Rattle.execheap.specs.Changes.{on_ports}
 use Rattle.execheap.proofs.Linked.{some_is}
 use Rattle.execheap.proofs.Mapped.{first-map}
 use Rattle.execheap.proofs.Relisted.{Tells, item_set, object_replaced}
 use Rattle.execheap.proofs.Matching.{number_live}
+use Rattle.execheap.proofs.MessagePlaces.{place_message}
 use Rattle.execheap.proofs.Shown.{content_shown, message_at_shown, messages_shown, port_shown, tells}
 use Rattle.execheap.proofs.Tagging.{either_number}
 
@@ -35,8 +36,8 @@ use Rattle.execheap.proofs.Tagging.{either_number}
 
 pub heap_beside : (s : Numbered) (q : MessagePorts) (heap : Heap) {public : List _} → shown_heap (record s { ports = q }) ≡ heap
     → map (shown_public (record s { ports = q })) q.public ≡ public
-    → shown_memory (record s { ports = q }) ≡ record { regions = s.table.memory.regions; libraries = map shown_library s.table.libs.known; pool = s.table.pool; heap = heap; public = public }
-heap_beside s q heap is listed = λ i. record { regions = s.table.memory.regions; libraries = map shown_library s.table.libs.known; pool = s.table.pool; heap = is i; public = listed i }
+    → shown_memory (record s { ports = q }) ≡ record { regions = s.table.memory.regions; libraries = map shown_library s.table.libs.known; pool = s.table.pool; heap = heap; public = public; timer = shown_timer s }
+heap_beside s q heap is listed = λ i. record { regions = s.table.memory.regions; libraries = map shown_library s.table.libs.known; pool = s.table.pool; heap = is i; public = listed i; timer = shown_timer s }
 
 module _ (s : Numbered) (q : MessagePorts) where
   abbrev beside : Numbered
@@ -46,7 +47,7 @@ module _ (s : Numbered) (q : MessagePorts) where
   module _ (ports : q.ports ≡ s.ports.ports) (queues : q.queues ≡ s.ports.queues) (messages : q.messages ≡ s.ports.messages) where
     object_same : (k : Kind) (m : ℕ) → object_of k m beside ≡ object_of k m s
     object_same variant.Port m =
-        λ i. MsgPort (unwrap_or (slot (ports i).slots m) (new_port 0 0)) (map (address_in (places variant.Message s)) (sequence (queues i) m))
+        λ i. MsgPort (unwrap_or (slot (ports i).slots m) (new_port 0 0)) (map (address_in (message_places s)) (sequence (queues i) m))
     object_same variant.Message m = λ i. Message (unwrap_or (slot (messages i).slots m) (new_message 0 0))
     object_same _ m = refl
 
@@ -66,23 +67,23 @@ module _ (s : Numbered) (q : MessagePorts) where
       (ports : (m : ℕ) → port_at m q ≡ (if nat_eq m p then port else port_at m s.ports))
       (queues : (m : ℕ) → messages_of m q ≡ (if nat_eq m p then queue else messages_of m s.ports)) where
     abbrev replaced_port : Object
-    replaced_port = MsgPort port (map (address_in (places variant.Message s)) queue)
+    replaced_port = MsgPort port (map (address_in (message_places s)) queue)
 
     either_port : (b : Bool) (port other : Port) (queue rest : List ℕ)
-        → MsgPort (if b then port else other) (map (address_in (places variant.Message s)) (if b then queue else rest))
-        ≡ (if b then MsgPort port (map (address_in (places variant.Message s)) queue) else MsgPort other (map (address_in (places variant.Message s)) rest))
+        → MsgPort (if b then port else other) (map (address_in (message_places s)) (if b then queue else rest))
+        ≡ (if b then MsgPort port (map (address_in (message_places s)) queue) else MsgPort other (map (address_in (message_places s)) rest))
     either_port true port other queue rest = refl
     either_port false port other queue rest = refl
 
     port_set : (k : Kind) (m : ℕ) → object_of k m beside ≡ (if is_same k variant.Port && nat_eq m p then replaced_port else object_of k m s)
     port_set variant.Port m =
-        (λ i. MsgPort (ports m i) (map (address_in (places variant.Message s)) (queues m i)))
+        (λ i. MsgPort (ports m i) (map (address_in (message_places s)) (queues m i)))
         ∙ either_port (nat_eq m p) port (port_at m s.ports) queue (messages_of m s.ports)
     port_set variant.Message m = λ i. Message (unwrap_or (slot (messages i).slots m) (new_message 0 0))
     port_set _ m = refl
 
     pub with_port_shown : Tells s address variant.Port p
-        → shown_heap beside ≡ model.with_port address port (map (address_in (places variant.Message s)) queue) (shown_heap s)
+        → shown_heap beside ≡ model.with_port address port (map (address_in (message_places s)) queue) (shown_heap s)
     unfolding model.with_port
     with_port_shown told = object_replaced s beside address replaced_port variant.Port p port_set told refl
 
@@ -96,7 +97,7 @@ module _ (s : Numbered) (q : MessagePorts) where
 
     content_set : (k : Kind) (n : ℕ) → object_of k n beside ≡ (if is_same k variant.Message && nat_eq n m then Message content else object_of k n s)
     content_set variant.Port n =
-        λ i. MsgPort (unwrap_or (slot (ports i).slots n) (new_port 0 0)) (map (address_in (places variant.Message s)) (sequence (queues i) n))
+        λ i. MsgPort (unwrap_or (slot (ports i).slots n) (new_port 0 0)) (map (address_in (message_places s)) (sequence (queues i) n))
     content_set variant.Message n = ap Message (messages n) ∙ either_content (nat_eq n m) content (message_at n s.ports)
     content_set _ n = refl
 
@@ -141,7 +142,7 @@ module _ (s : Numbered) (p port : ℕ) (found : number_at variant.Port port s.ta
       ∙ (λ i. model.with_port port (record (sym (port_shown s port p found) i) { action = act }) (sym (messages_shown s port p found) i) (shown_heap s))
 
   module _ (queued : p < length s.ports.queues) where
-    pub appended_heap : (m message : ℕ) → address_in (places variant.Message s) m ≡ message
+    pub appended_heap : (m message : ℕ) → address_in (message_places s) m ≡ message
         → shown_heap (on_ports (ports.appended p m) s) ≡ model.appended port message (shown_heap s)
     unfolding model.appended
     appended_heap m message is =
@@ -149,10 +150,10 @@ module _ (s : Numbered) (p port : ℕ) (found : number_at variant.Port port s.ta
         (same_at (λ k. port_at k s.ports) p) (λ k. item_set s.ports.queues p (messages_of p s.ports ++ m ∷ []) [] k queued) told
         ∙ (λ i. model.with_port port (sym (port_shown s port p found) i) (more i) (shown_heap s))
       where
-        more : map (address_in (places variant.Message s)) (messages_of p s.ports ++ m ∷ []) ≡ model.messages_of port (shown_heap s) ++ message ∷ []
+        more : map (address_in (message_places s)) (messages_of p s.ports ++ m ∷ []) ≡ model.messages_of port (shown_heap s) ++ message ∷ []
         more =
-            map-append (address_in (places variant.Message s)) (messages_of p s.ports) (m ∷ [])
-            ∙ ap (λ a. map (address_in (places variant.Message s)) (messages_of p s.ports) ++ a ∷ []) is
+            map-append (address_in (message_places s)) (messages_of p s.ports) (m ∷ [])
+            ∙ ap (λ a. map (address_in (message_places s)) (messages_of p s.ports) ++ a ∷ []) is
             ∙ ap (λ queue. queue ++ message ∷ []) (sym (messages_shown s port p found))
 
     -- the first message is taken off, if there is one
@@ -162,15 +163,15 @@ module _ (s : Numbered) (p port : ℕ) (found : number_at variant.Port port s.ta
         off o is
         ∙ (λ i. model.with_port port (sym (port_shown s port p found) i) (fewer i) (shown_heap s))
       where
-        fewer : map (address_in (places variant.Message s)) (drop 1 (messages_of p s.ports)) ≡ drop 1 (model.messages_of port (shown_heap s))
-        fewer = sym (ap (drop 1) (messages_shown s port p found) ∙ drop-map (address_in (places variant.Message s)) 1 (messages_of p s.ports))
+        fewer : map (address_in (message_places s)) (drop 1 (messages_of p s.ports)) ≡ drop 1 (model.messages_of port (shown_heap s))
+        fewer = sym (ap (drop 1) (messages_shown s port p found) ∙ drop-map (address_in (message_places s)) 1 (messages_of p s.ports))
 
         off : (o : Option ℕ) → first (messages_of p s.ports) ≡ o
-            → shown_heap (on_ports (ports.taken_off p o) s) ≡ model.with_port port (port_at p s.ports) (map (address_in (places variant.Message s)) (drop 1 (messages_of p s.ports))) (shown_heap s)
+            → shown_heap (on_ports (ports.taken_off p o) s) ≡ model.with_port port (port_at p s.ports) (map (address_in (message_places s)) (drop 1 (messages_of p s.ports))) (shown_heap s)
         off None none =
             with_port_shown s s.ports p port (port_at p s.ports) (messages_of p s.ports) refl
             (same_at (λ k. port_at k s.ports) p) (same_at (λ k. messages_of k s.ports) p) told
-            ∙ ap (λ queue. model.with_port port (port_at p s.ports) (map (address_in (places variant.Message s)) queue) (shown_heap s)) (none_left (messages_of p s.ports) none)
+            ∙ ap (λ queue. model.with_port port (port_at p s.ports) (map (address_in (message_places s)) queue) (shown_heap s)) (none_left (messages_of p s.ports) none)
         off (Some m) is =
             with_port_shown s (ports.taken_off p (Some m) s.ports) p port (port_at p s.ports) (drop 1 (messages_of p s.ports)) refl
             (same_at (λ k. port_at k s.ports) p) (λ k. item_set s.ports.queues p (drop 1 (messages_of p s.ports)) [] k queued) told
@@ -226,7 +227,8 @@ module _ {s : Numbered} (sound : IsSound s) (held : ports.IsSound s.ports) (form
       posted_shown kind =
           let typed : Numbered = on_ports (ports.typed kind m) s in
           heap_beside s (ports.posted kind p m s.ports) (model.posted kind port message (shown_heap s))
-          (appended_heap typed p port port_begins port_told live has_queue m message (ap (λ o. unwrap_or o 0) there)
+          (appended_heap typed p port port_begins port_told live has_queue m message
+          (ap (λ o. unwrap_or o 0) (place_message sound.table m message there))
           ∙ ap (model.appended port message) (typed_heap s m message (number_live sound.table variant.Message m message there) (tells sound.table formed variant.Message m message there) lives kind)) refl
 
   module _ (m message : ℕ) (there : slot (places variant.Message s) m ≡ Some message) (lives : IsTrue (ports.is_message m s.ports)) where
@@ -248,9 +250,9 @@ module _ {s : Numbered} (sound : IsSound s) (held : ports.IsSound s.ports) (form
 
 module _ {s : Numbered} (sound : IsSound s) where
   pub first_message_shown : (p port : ℕ) → slot (places variant.Port s) p ≡ Some port
-      → first (model.messages_of port (shown_heap s)) ≡ option_map (address_in (places variant.Message s)) (first (messages_of p s.ports))
+      → first (model.messages_of port (shown_heap s)) ≡ option_map (address_in (message_places s)) (first (messages_of p s.ports))
   first_message_shown p port here =
-      ap first (messages_shown s port p (number_live sound.table variant.Port p port here)) ∙ first-map (address_in (places variant.Message s)) (messages_of p s.ports)
+      ap first (messages_shown s port p (number_live sound.table variant.Port p port here)) ∙ first-map (address_in (message_places s)) (messages_of p s.ports)
 
   pub port_of_shown : (p port : ℕ) → slot (places variant.Port s) p ≡ Some port → model.port_of port (shown_heap s) ≡ port_at p s.ports
   port_of_shown p port here = port_shown s port p (number_live sound.table variant.Port p port here)

@@ -15,9 +15,11 @@ use Rattle.execmodel.specs.Ports as model
 use Rattle.execmodel.specs.Tasks.{is_priority}
 use Rattle.execlist.specs.Pool.{slot}
 use Rattle.execheap.specs.declared.kind.Kind.TheVariants as variant
-use Rattle.execheap.specs.Numbered.{Numbered, IsSound, address_in, shown_heap, shown_memory, shown_public, places}
+use Rattle.execheap.specs.Numbered.{Numbered, IsSound, address_in, message_places, shown_heap, shown_memory, shown_public, places}
 use Rattle.execheap.specs.Changes.{on_ports}
 use Rattle.execheap.specs.Listing.{listed}
+use Rattle.iorequest.specs.Requests.{is_under_way_at}
+use Rattle.execheap.proofs.AwaitedPorts.{awaited_shown}
 use Rattle.execheap.proofs.Alerts.{handle_unless, is_some_map, is_there, link_if, refused_first}
 use Rattle.execheap.proofs.Mapped.{Alike, alike_apart, cond-map, enqueue-map, find-map, first-map, map_agree, members, stands_by_times}
 use Rattle.execheap.proofs.Posted.{heap_beside, objects_beside}
@@ -28,7 +30,7 @@ use Rattle.execheap.proofs.Shown.{messages_shown}
 -- ---- sequences
 
 -- those that pass a test of what stands for them
-filter-map : {A B : Type 0} (f : A → B) (other : B → Bool) (wanted : A → Bool) (xs : List A) → AllByRecursion (λ x. other (f x) ≡ wanted x) xs
+pub filter-map : {A B : Type 0} (f : A → B) (other : B → Bool) (wanted : A → Bool) (xs : List A) → AllByRecursion (λ x. other (f x) ≡ wanted x) xs
     → filter other (map f xs) ≡ map f (filter wanted xs)
 filter-map f other wanted [] same = refl
 filter-map f other wanted (x ∷ xs) same =
@@ -40,7 +42,7 @@ any-map : {A B : Type 0} (f : A → B) (other : B → Bool) (wanted : A → Bool
 any-map f other wanted [] same = refl
 any-map f other wanted (x ∷ xs) same = λ i. same.0 i || any-map f other wanted xs same.1 i
 
-each : {A : Type 0} (P : A → Type 0) → ((x : A) → P x) → (xs : List A) → AllByRecursion P xs
+pub each : {A : Type 0} (P : A → Type 0) → ((x : A) → P x) → (xs : List A) → AllByRecursion P xs
 each P all [] = tt
 each P all (x ∷ xs) = (all x, each P all xs)
 
@@ -52,11 +54,13 @@ port_if used next = if used then Some (codes "PORT") else next
 
 -- the tests of a port that is to be freed
 abbrev in_use : ℕ → Memory → Option (List ℕ)
-in_use port memory = port_if (is_some (first (model.messages_of port memory.heap))) (port_if (is_public port memory) None)
+in_use port memory =
+    port_if (is_some (first (model.messages_of port memory.heap))) (port_if (is_public port memory) (port_if (model.is_awaited_at port memory.heap) None))
 
-either_use : (has public : Bool) → port_if has (port_if public None) ≡ port_if (has || public) None
-either_use true public = refl
-either_use false public = refl
+either_use : (has public awaited : Bool) → port_if has (port_if public (port_if awaited None)) ≡ port_if (has || (public || awaited)) None
+either_use true public awaited = refl
+either_use false true awaited = refl
+either_use false false awaited = refl
 
 -- a priority is to be one, and then come the other tests
 abbrev value_unless : Bool → Option (List ℕ) → Option (List ℕ)
@@ -151,19 +155,21 @@ module _ {s : Numbered} (sound : IsSound s) (held : ports.IsSound s.ports) where
       unfolding port_alert
       begins = is_there (is_port_at port (shown_heap s)) there
 
-      pub delete_found : {used : Bool} → (ports.has_messages p s.ports || ports.is_public p s.ports) ≡ used
+      pub delete_found : {used : Bool}
+          → (ports.has_messages p s.ports || (ports.is_public p s.ports || list_any (is_under_way_at port) s.requests.slots)) ≡ used
           → delete_alert port (shown_memory s) ≡ port_if used None
       unfolding delete_alert
       delete_found is =
           ap (λ b. handle_unless b (in_use port (shown_memory s))) begins
-          ∙ (λ i. port_if (has_shown i) (port_if (is_public_shown i) None))
-          ∙ either_use (ports.has_messages p s.ports) (ports.is_public p s.ports) ∙ ap (λ b. port_if b None) is
+          ∙ (λ i. port_if (has_shown i) (port_if (is_public_shown i) (port_if (awaited_shown sound port i) None)))
+          ∙ either_use (ports.has_messages p s.ports) (ports.is_public p s.ports) (list_any (is_under_way_at port) s.requests.slots)
+          ∙ ap (λ b. port_if b None) is
         where
           has_shown : is_some (first (model.messages_of port (shown_heap s))) ≡ ports.has_messages p s.ports
           has_shown =
               ap (λ messages. is_some (first messages)) (messages_shown s port p (number_live sound.table variant.Port p port here))
-              ∙ ap is_some (first-map (address_in (places variant.Message s)) (ports.messages_of p s.ports))
-              ∙ is_some_map (address_in (places variant.Message s)) (first (ports.messages_of p s.ports))
+              ∙ ap is_some (first-map (address_in (message_places s)) (ports.messages_of p s.ports))
+              ∙ is_some_map (address_in (message_places s)) (first (ports.messages_of p s.ports))
 
       pub private_found : (pri : ℤ) {public : Bool} → is_priority pri ≡ true → ports.is_public p s.ports ≡ public
           → add_port_alert port pri (shown_memory s) ≡ link_if public None

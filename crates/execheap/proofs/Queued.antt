@@ -1,13 +1,12 @@
--- A message that is in a port: by number it has a place, by address one port has it.
+-- What is in a port, a message or a request: by number it has a place, by address one port has it.
 use Rattle.std.proofs.Common.{◌≡◌, ℕ, [], ◌∷◌, Bool, true, false, map, refl, ap, sym, ◌∙◌}
-use Rattle.std.specs.Prelude.{Some, None, Option, is_some, ◌==◌, ◌||◌, unwrap_or, IsTrue}
+use Rattle.std.specs.Prelude.{Some, None, is_some, ◌==◌, ◌||◌, unwrap_or, IsTrue}
 use Rattle.std.specs.List.{list_any}
 use Rattle.execlist.specs.Lists.{home, is_at}
 use Rattle.memlist.specs.Blocks.{Blocks}
 use Rattle.memlist.proofs.Answered.{nat_eq-same}
-use Rattle.memlist.proofs.Headers.{from_eq}
 use Rattle.msgport.specs.Ports as ports
-use Rattle.msgport.specs.Ports.{is_linked, is_message, messages_of}
+use Rattle.msgport.specs.Ports.{messages_of}
 use Rattle.execmodel.specs.Ports.{has_message, is_queued, messages_in}
 use Rattle.execlist.specs.Pool.{slot}
 use Rattle.execheap.specs.declared.kind.Kind.TheVariants as variant
@@ -15,11 +14,12 @@ use Rattle.execheap.specs.declared.tag.Tagged.{Tagged}
 use Rattle.execheap.specs.declared.tag.Tagged.TheVariants as tag
 use Rattle.execheap.specs.Tags.{tag_of, tagged}
 use Rattle.execheap.specs.Table.{pool_of}
-use Rattle.execheap.specs.Numbered.{Numbered, IsSound, address_in, shown_entry, shown_heap, shown_tagged, places}
+use Rattle.execheap.specs.Numbered.{Numbered, IsSound, address_in, message_places, shown_entry, shown_heap, shown_tagged, places}
 use Rattle.execheap.proofs.Linked.{any_found, some_is}
 use Rattle.execheap.proofs.Stepping.{shape_lives}
-use Rattle.execheap.proofs.Mapped.{Alike, alike_apart, stands-map, stands_by_times}
-use Rattle.execheap.proofs.Matching.{number_same, number_small}
+use Rattle.execheap.proofs.Mapped.{stands-map}
+use Rattle.execheap.proofs.Matching.{number_small}
+use Rattle.execheap.proofs.MessagePlaces.{messages_apart, stands_in_port}
 use Rattle.execheap.proofs.Tagging.{read_tag}
 
 -- ---- the port that has an address, among entries
@@ -40,49 +40,17 @@ in_none test none (e ∷ es) = ap (λ b. b || list_any (λ (f : ℕ × (ℕ × �
 at_self : (p : ℕ) → is_at (Some p) p ≡ true
 at_self p = nat_eq-same p
 
-home_is : (o : Option ℕ) (p : ℕ) → is_at o p ≡ true → o ≡ Some p
-home_is None p at = let bad : false ≡ true = at in cc
-home_is (Some q) p at = ap Some (from_eq q p at)
-
 module _ {s : Numbered} (sound : IsSound s) (held : ports.IsSound s.ports) where
-  -- ---- messages by number
-
-  -- what lives has an address
-  pub message_placed : (m : ℕ) → IsTrue (is_message m s.ports) → (a : ℕ) × (slot (places variant.Message s) m ≡ Some a)
-  message_placed m live = some_is (slot (places variant.Message s) m) (shape_lives (pool_of variant.Message s.table) s.ports.messages (sound.kept.in_step variant.Message) m ∙ live)
-
+  -- a port that lives has an address
   pub port_placed : (p : ℕ) → IsTrue (ports.is_port p s.ports) → (a : ℕ) × (slot (places variant.Port s) p ≡ Some a)
   port_placed p live = some_is (slot (places variant.Port s) p) (shape_lives (pool_of variant.Port s.table) s.ports.ports (sound.kept.in_step variant.Port) p ∙ live)
 
-  -- a message that stands in a port has that place
-  pub stands_in_port : (p m : ℕ) → list_any (λ other. other == m) (messages_of p s.ports) ≡ is_at (home s.ports.places m) p
-  stands_in_port p m = stands_by_times m (messages_of p s.ports) (is_at (home s.ports.places m) p) (held.stands p m)
-
-  -- and lives
-  pub queued_lives : (p m : ℕ) → list_any (λ other. other == m) (messages_of p s.ports) ≡ true → IsTrue (is_message m s.ports)
-  queued_lives p m stands = held.live_message m p (home_is (home s.ports.places m) p (sym (stands_in_port p m) ∙ stands))
-
-  -- the address of a live message is that of no other message that lives
-  apart : (n m a : ℕ) → slot (places variant.Message s) n ≡ Some a → IsTrue (is_message m s.ports)
-      → address_in (places variant.Message s) m ≡ address_in (places variant.Message s) n → m ≡ n
-  apart n m a here there same =
-      let other = message_placed m there in
-      number_same sound.table variant.Message m n a
-      (other.1 ∙ ap Some (ap (λ o. unwrap_or o 0) (sym other.1) ∙ same ∙ ap (λ o. unwrap_or o 0) here)) here
-
-  -- the messages of a port are told from a live message by their addresses
-  pub messages_apart : (p m a : ℕ) → slot (places variant.Message s) m ≡ Some a → Alike (address_in (places variant.Message s)) m (messages_of p s.ports)
-  messages_apart p m a here = alike_apart (address_in (places variant.Message s)) m (messages_of p s.ports)
-      (λ n stands same. apart m n a here (queued_lives p n stands) same)
-
-  -- ---- messages by address
-
-  module _ (m a : ℕ) (here : slot (places variant.Message s) m ≡ Some a) where
-    -- an address stands in the messages of a port where the message's place is that port
-    has_shown : (p : ℕ) → list_any (λ other. other == a) (map (address_in (places variant.Message s)) (messages_of p s.ports)) ≡ is_at (home s.ports.places m) p
+  module _ (m a : ℕ) (here : slot (message_places s) m ≡ Some a) where
+    -- an address stands in the messages of a port where its number has that port
+    has_shown : (p : ℕ) → list_any (λ other. other == a) (map (address_in (message_places s)) (messages_of p s.ports)) ≡ is_at (home s.ports.places m) p
     has_shown p =
-        ap (λ x. list_any (λ other. other == x) (map (address_in (places variant.Message s)) (messages_of p s.ports))) (sym (ap (λ o. unwrap_or o 0) here))
-        ∙ stands-map (address_in (places variant.Message s)) m (messages_of p s.ports) (messages_apart p m a here) ∙ stands_in_port p m
+        ap (λ x. list_any (λ other. other == x) (map (address_in (message_places s)) (messages_of p s.ports))) (sym (ap (λ o. unwrap_or o 0) here))
+        ∙ stands-map (address_in (message_places s)) m (messages_of p s.ports) (messages_apart sound held p m a here) ∙ stands_in_port sound held p m
 
     has_nowhere : home s.ports.places m ≡ None → (x : Tagged) → Has a s x ≡ false
     has_nowhere none (tag.Object variant.Port j) = has_shown j ∙ ap (λ o. is_at o j) none
@@ -102,8 +70,8 @@ module _ {s : Numbered} (sound : IsSound s) (held : ports.IsSound s.ports) where
     unfolding shown_heap is_queued
     queued_nowhere none = in_entries s a s.table.memory.blocks ∙ in_none (Has a s) (has_nowhere none) s.table.memory.blocks
 
-    -- a message is queued by address where it is linked by number
-    pub is_queued_shown : is_queued a (shown_heap s) ≡ is_linked m s.ports
+    -- it is queued by address where it is by number
+    pub is_queued_shown : is_queued a (shown_heap s) ≡ ports.is_queued m s.ports
     is_queued_shown = elim (home s.ports.places m) as (λ o. home s.ports.places m ≡ o → is_queued a (shown_heap s) ≡ is_some o) [
       | None ↦ λ none. queued_nowhere none
       | Some p ↦ λ there. queued_there p there

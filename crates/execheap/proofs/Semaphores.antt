@@ -14,7 +14,10 @@ use Rattle.execheap.specs.declared.kind.Kind.TheVariants as variant
 use Rattle.execheap.specs.Tags.{kind_code, size_of}
 use Rattle.execheap.specs.Table.{Tabled, IsSound, object_at_next, pool_of, slots_of, with_object, without_object}
 use Rattle.execheap.specs.Numbered.{Numbered, IsKept, object_of, own_shape, places, shape, shown_memory}
-use Rattle.execheap.proofs.Kept.{kept_freed, kept_made, objects_kept, pool_freed, pool_made, public_kept, slots_freed, slots_made}
+use Rattle.execheap.proofs.Beside.{objects_kept, public_kept, timer_kept}
+use Rattle.execheap.proofs.Kept.{kept_freed, kept_made, pool_freed, pool_made, slots_freed, slots_made, about_other}
+use Rattle.execheap.proofs.Front.{front}
+use Rattle.execheap.proofs.InTime.{along_same}
 use Rattle.execheap.proofs.Made.{IsNew, new_parts}
 use Rattle.execheap.proofs.Matching.{lives_beside, next_known, next_vacant}
 use Rattle.execheap.proofs.Showing.{freed_shown, made_shown}
@@ -37,6 +40,7 @@ module _ {s : Numbered} (kept : IsKept s) (sound : IsSound s.table) (formed : Is
     -- only semaphores have numbers of their own that change
     same : (k : Kind) → kind_code k ≢ kind_code variant.Semaphore → own_shape k new ≡ own_shape k s
     same variant.Semaphore ne = absurd (ne refl)
+    same variant.Message ne = ap (λ (u : Tabled). Some (shape (front u.pool s.ports.messages))) is
     same _ ne = refl
 
     step : shape s.sems.sems ≡ shape (pool_of variant.Semaphore s.table)
@@ -50,6 +54,7 @@ module _ {s : Numbered} (kept : IsKept s) (sound : IsSound s.table) (formed : Is
     sem_made_kept = kept_made sound formed kept variant.Semaphore n a stocked parts.number parts.address new is refl refl same
         (ap (λ (r : sems.Semaphores). shape r.sems) is_sems ∙ shape_given (pool_of variant.Semaphore s.table) s.sems.sems step a free_sem ∙ ap shape (sym (pool_made sound variant.Semaphore n a)))
         (record { own_signals = kept.apt.own_signals; each_task = ap (λ (r : sems.Semaphores). length r.places) is_sems ∙ kept.apt.each_task })
+        (along_same refl refl refl)
 
     vacant : slot s.sems.sems.slots n ≡ None
     vacant = is_none (slot s.sems.sems.slots n)
@@ -64,7 +69,7 @@ module _ {s : Numbered} (kept : IsKept s) (sound : IsSound s.table) (formed : Is
     pub sem_made_shown : sems.IsSound s.sems → shown_memory new ≡ placed 46 (Semaphore free_sem []) (Some a) (shown_memory s)
     sem_made_shown held = made_shown {u = new} sound variant.Semaphore n a (Semaphore free_sem []) is beside
         (omega (arith, next_known sound formed variant.Semaphore n a stocked parts.number parts.address, sound.each variant.Semaphore, sound.small)) here
-        (public_kept s new (apart_from variant.Port (omega arith)) refl refl)
+        (public_kept s new (apart_from variant.Port (omega arith)) refl refl) (timer_kept s new (apart_from variant.Request (omega arith)) refl)
       where
         apart_from : (k : Kind) → kind_code k ≢ kind_code variant.Semaphore → slots_of k t ≡ places k s
         apart_from k ne = ap (slots_of k) is ∙ slots_made sound formed kept variant.Semaphore n a stocked parts.number parts.address k ne
@@ -76,8 +81,8 @@ module _ {s : Numbered} (kept : IsKept s) (sound : IsSound s.table) (formed : Is
         beside variant.Semaphore m b lives = λ i. Semaphore
             (unwrap_or ((ap (λ xs. slot xs m) slots ∙ slot_other s.sems.sems.slots n m (Some free_sem)
             (lives_beside sound formed variant.Semaphore n a stocked parts.number parts.address variant.Semaphore m b lives refl)) i) free_sem) (waiters m i)
-        beside variant.List m b lives = objects_kept s t (apart_from variant.Node (omega arith)) (apart_from variant.Message (omega arith)) variant.List m
-        beside variant.Port m b lives = objects_kept s t (apart_from variant.Node (omega arith)) (apart_from variant.Message (omega arith)) variant.Port m
+        beside variant.List m b lives = objects_kept s t (apart_from variant.Node (omega arith)) (apart_from variant.Message (omega arith)) (apart_from variant.Request (omega arith)) variant.List m
+        beside variant.Port m b lives = objects_kept s t (apart_from variant.Node (omega arith)) (apart_from variant.Message (omega arith)) (apart_from variant.Request (omega arith)) variant.Port m
         beside _ m b lives = refl
 
         here : object_of variant.Semaphore n new ≡ Semaphore free_sem []
@@ -95,22 +100,26 @@ module _ {s : Numbered} (kept : IsKept s) (sound : IsSound s.table) (formed : Is
         (λ m linked e. let code : kind_code variant.Node ≡ kind_code variant.Semaphore = ap kind_code e in absurd (omega (arith, code)))
         (λ m h linked e. let code : kind_code variant.List ≡ kind_code variant.Semaphore = ap kind_code e in absurd (omega (arith, code)))
         (record { own_signals = kept.apt.own_signals; each_task = ap (λ (r : sems.Semaphores). length r.places) is_sems ∙ kept.apt.each_task })
+        (along_same refl refl refl)
+        (about_other sound formed kept variant.Semaphore n a live (omega arith) (omega arith) (record s { table = t; sems = q }) is)
       where
         left : (k : Kind) → kind_code k ≢ kind_code variant.Semaphore → own_shape k (record s { table = t; sems = q }) ≡ own_shape k s
         left variant.Semaphore ne = absurd (ne refl)
+        left variant.Message ne = ap (λ (u : Tabled). Some (shape (front u.pool s.ports.messages))) is
         left _ ne = refl
 
     pub sem_freed_shown : (t : Tabled) (q : sems.Semaphores) → t ≡ without_object variant.Semaphore n a s.table → q ≡ sem_freed n s.sems
         → shown_memory (record s { table = t; sems = q }) ≡ freed a (shown_memory s)
     sem_freed_shown t q is is_sems = freed_shown {u = record s { table = t; sems = q }} sound variant.Semaphore n a formed live is beside
-        (public_kept s (record s { table = t; sems = q }) (apart_from variant.Port (omega arith)) refl refl) where
+        (public_kept s (record s { table = t; sems = q }) (apart_from variant.Port (omega arith)) refl refl)
+        (timer_kept s (record s { table = t; sems = q }) (apart_from variant.Request (omega arith)) refl) where
           apart_from : (k : Kind) → kind_code k ≢ kind_code variant.Semaphore → slots_of k t ≡ places k s
           apart_from k ne = ap (slots_of k) is ∙ slots_freed sound formed kept variant.Semaphore n a k ne
 
           beside : (k : Kind) (m b : ℕ) → (k ≡ variant.Semaphore → m ≢ n) → slot (slots_of k s.table) m ≡ Some b
               → object_of k m (record s { table = t; sems = q }) ≡ object_of k m s
-          beside variant.List m b other lives = objects_kept s t (apart_from variant.Node (omega arith)) (apart_from variant.Message (omega arith)) variant.List m
-          beside variant.Port m b other lives = objects_kept s t (apart_from variant.Node (omega arith)) (apart_from variant.Message (omega arith)) variant.Port m
+          beside variant.List m b other lives = objects_kept s t (apart_from variant.Node (omega arith)) (apart_from variant.Message (omega arith)) (apart_from variant.Request (omega arith)) variant.List m
+          beside variant.Port m b other lives = objects_kept s t (apart_from variant.Node (omega arith)) (apart_from variant.Message (omega arith)) (apart_from variant.Request (omega arith)) variant.Port m
           beside variant.Semaphore m b other lives =
               ap (λ r. Semaphore (sem_at m r) (waiters_of m r)) is_sems
               ∙ ap (λ o. Semaphore (unwrap_or o free_sem) (waiters_of m s.sems)) (slot_other s.sems.sems.slots n m None (other refl))

@@ -24,7 +24,7 @@ use Rattle.execheap.specs.declared.tag.Tagged.{Tagged}
 use Rattle.execheap.specs.declared.tag.Tagged.TheVariants as tag
 use Rattle.execheap.specs.Tags.{is_of, is_same, number_in, size_of, tag_of, tagged}
 use Rattle.execheap.specs.Table.{Tabled, IsSound, IsTagged, counted, number_at, object_at_next, place_of, pool_of, slots_of, with_object, without_object}
-use Rattle.execheap.specs.Numbered.{Numbered, object_of, shown_block, shown_entry, shown_heap, shown_library, shown_memory, shown_public, shown_tagged, test_of}
+use Rattle.execheap.specs.Numbered.{Numbered, object_of, shown_block, shown_entry, shown_heap, shown_library, shown_memory, shown_public, shown_tagged, shown_timer, test_of}
 use Rattle.execheap.proofs.Counting.{all_freed}
 use Rattle.execheap.proofs.Matching.{number_small, other_object}
 use Rattle.execheap.proofs.Tagging.{cases_kind, read_tag, same_other, same_self}
@@ -38,6 +38,7 @@ test_told kind.Node kind.Node n s = refl
 test_told kind.Port kind.Port n s = refl
 test_told kind.Message kind.Message n s = refl
 test_told kind.Semaphore kind.Semaphore n s = refl
+test_told kind.Request kind.Request n s = refl
 test_told _ _ n s = refl
 
 test_plain : (k : Kind) → test_of k Plain ≡ false
@@ -46,6 +47,7 @@ test_plain kind.Node = refl
 test_plain kind.Port = refl
 test_plain kind.Message = refl
 test_plain kind.Semaphore = refl
+test_plain kind.Request = refl
 
 -- ---- what begins at an address
 
@@ -55,6 +57,7 @@ test_library kind.Node i count delayed = refl
 test_library kind.Port i count delayed = refl
 test_library kind.Message i count delayed = refl
 test_library kind.Semaphore i count delayed = refl
+test_library kind.Request i count delayed = refl
 
 pub test_shown : (s : Numbered) (k : Kind) (x : Tagged) → test_of k (shown_tagged s x) ≡ is_of k x
 test_shown s k (tag.Object j n) = test_told k j n s
@@ -173,9 +176,10 @@ module _ {s u : Numbered} (sound : IsSound s.table) (kind : Kind) (number a : �
   pub made_shown : (object : Object) → u.table ≡ with_object kind (Some (number, a)) s.table
       → ((k : Kind) (m b : ℕ) → slot (slots_of k s.table) m ≡ Some b → object_of k m u ≡ object_of k m s)
       → number < 1024 → object_of kind number u ≡ object → map (shown_public u) u.ports.public ≡ map (shown_public s) s.ports.public
+      → shown_timer u ≡ shown_timer s
       → shown_memory u ≡ placed (size_of kind) object (Some a) (shown_memory s)
   unfolding shown_heap
-  made_shown object is beside small here public = λ i. record {
+  made_shown object is beside small here public timer = λ i. record {
     regions = (is i).memory.regions;
     libraries = map shown_library (is i).libs.known;
     pool = (is i).pool;
@@ -188,6 +192,7 @@ module _ {s u : Numbered} (sound : IsSound s.table) (kind : Kind) (number a : �
         (map_same (shown_entry u) (shown_entry s) s.table.memory.blocks
         (all_then (λ (entry : ℕ × (ℕ × ℕ)) told. ap (λ o. (entry.0, record { size = entry.1.0; object = o })) (same (tagged entry.1.1) entry.0 told.0)) s.table.memory.blocks sound.matched.tagged))) i;
     public = public i;
+    timer = timer i;
   } where
     same : (x : Tagged) (b : ℕ) → place_of x b s.table ≡ Some b → shown_tagged u x ≡ shown_tagged s x
     same tag.Plain b told = refl
@@ -197,10 +202,10 @@ module _ {s u : Numbered} (sound : IsSound s.table) (kind : Kind) (number a : �
   pub freed_shown : IsWellFormed s.table.memory.regions s.table.memory.blocks → slot (slots_of kind s.table) number ≡ Some a
       → u.table ≡ without_object kind number a s.table
       → ((k : Kind) (m b : ℕ) → (k ≡ kind → m ≢ number) → slot (slots_of k s.table) m ≡ Some b → object_of k m u ≡ object_of k m s)
-      → map (shown_public u) u.ports.public ≡ map (shown_public s) s.ports.public
+      → map (shown_public u) u.ports.public ≡ map (shown_public s) s.ports.public → shown_timer u ≡ shown_timer s
       → shown_memory u ≡ freed a (shown_memory s)
   unfolding shown_heap
-  freed_shown formed live is beside public = λ i. record {
+  freed_shown formed live is beside public timer = λ i. record {
     regions = (is i).memory.regions;
     libraries = map shown_library (is i).libs.known;
     pool = (is i).pool;
@@ -209,6 +214,7 @@ module _ {s u : Numbered} (sound : IsSound s.table) (kind : Kind) (number a : �
         ∙ map_same (shown_entry u) (shown_entry s) (without_block a s.table.memory).blocks (all_but s.table.memory.blocks sound.matched.tagged)
         ∙ sym (where_key_shown (shown_block s) (λ other. not (nat_eq other a)) s.table.memory.blocks)) i;
     public = public i;
+    timer = timer i;
   } where
     same : (x : Tagged) (b : ℕ) → b ≢ a → place_of x b s.table ≡ Some b → shown_tagged u x ≡ shown_tagged s x
     same tag.Plain b other told = refl

@@ -20,7 +20,7 @@ use Rattle.execheap.specs.declared.tag.Tagged.{Tagged}
 use Rattle.execheap.specs.declared.tag.Tagged.TheVariants as tag
 use Rattle.execheap.specs.Tags.{tag_of, tagged}
 use Rattle.execheap.specs.Table.{Tabled, IsSound, IsTagged, number_at, place_of, slots_of}
-use Rattle.execheap.specs.Numbered.{Numbered, address_in, key_at, places, shown_heap}
+use Rattle.execheap.specs.Numbered.{Numbered, address_in, key_at, message_places, places, shown_heap}
 use Rattle.execheap.proofs.Entries.{IsFound, all_found, all_with, some_same}
 use Rattle.execheap.proofs.Matching.{number_small}
 use Rattle.execheap.proofs.Showing.{kind_shown, object_numbered}
@@ -65,7 +65,7 @@ module _ (s : Numbered) (a : ℕ) where
     port_shown is = ap port_of_object (object_numbered s variant.Port a n is)
 
     pub messages_shown : number_at variant.Port a s.table ≡ Some n
-        → messages_of a (shown_heap s) ≡ map (address_in (places variant.Message s)) (queue.messages_of n s.ports)
+        → messages_of a (shown_heap s) ≡ map (address_in (message_places s)) (queue.messages_of n s.ports)
     unfolding messages_of
     messages_shown is = ap messages_of_object (object_numbered s variant.Port a n is)
 

@@ -9,6 +9,7 @@ use Rattle.execheap.specs.declared.kind.Kind.TheVariants as variant
 use Rattle.execheap.specs.Table.{pool_of}
 use Rattle.execheap.specs.Numbered.{Numbered, Fits, IsKept, own_shape, places}
 use Rattle.execheap.proofs.Entries.{some_same}
+use Rattle.execheap.proofs.InTime.{in_time_beside}
 use Rattle.execheap.proofs.Linked.{some_is}
 use Rattle.execlist.proofs.Pools.{slot_known}
 use Rattle.execheap.proofs.Tagging.{either_number}
@@ -49,11 +50,13 @@ module _ {s : Numbered} (kept : IsKept s) where
     each_node = nodes ∙ kept.each_node;
     in_step = in_step;
     apt = kept.apt;
+    in_time = in_time_beside kept.in_time refl refl refl refl;
   } where
     in_step : (k : Kind) → Fits (own_shape k (relinked s sequences homes keys)) (pool_of k s.table)
     in_step variant.Port = kept.in_step variant.Port
     in_step variant.Message = kept.in_step variant.Message
     in_step variant.Semaphore = kept.in_step variant.Semaphore
+    in_step variant.Request = kept.in_step variant.Request
     in_step _ = tt
 
   -- ---- nodes linked and unlinked

@@ -6,7 +6,7 @@ use Rattle.memlist.proofs.Answered.{cases_eq, nat_eq-other, nat_eq-same}
 use Rattle.memlist.proofs.Headers.{from_eq}
 use Rattle.execheap.proofs.Entries.{some_same}
 use Rattle.execheap.specs.declared.kind.Kind.{Kind}
-use Rattle.execheap.specs.declared.kind.Kind.TheVariants.{List, Node, Port, Message, Semaphore}
+use Rattle.execheap.specs.declared.kind.Kind.TheVariants.{List, Node, Port, Message, Semaphore, Request}
 use Rattle.execheap.specs.declared.tag.Tagged.{Tagged}
 use Rattle.execheap.specs.declared.tag.Tagged.TheVariants.{Plain, Object, Library}
 use Rattle.execheap.specs.Tags.{is_same, kind_code, kinds, libraries, object_or_plain, object_tagged, tag_of, tagged}
@@ -20,6 +20,7 @@ kind_named Node = refl
 kind_named Port = refl
 kind_named Message = refl
 kind_named Semaphore = refl
+kind_named Request = refl
 
 pub kind_few : (kind : Kind) → kind_code kind < length kinds
 kind_few List = omega arith
@@ -27,6 +28,7 @@ kind_few Node = omega arith
 kind_few Port = omega arith
 kind_few Message = omega arith
 kind_few Semaphore = omega arith
+kind_few Request = omega arith
 
 -- two kinds are one, or their numbers differ
 pub cases_kind : {C : Type 0} (k j : Kind) → (k ≡ j → C) → (kind_code k ≢ kind_code j → C) → C

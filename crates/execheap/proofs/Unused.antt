@@ -18,6 +18,7 @@ pool_unused kind.Node regions pool known = refl
 pool_unused kind.Port regions pool known = refl
 pool_unused kind.Message regions pool known = refl
 pool_unused kind.Semaphore regions pool known = refl
+pool_unused kind.Request regions pool known = refl
 
 pub sound_unused : (regions : List Region) (pool : ℕ) (known : List Description) → pool ≤ 1024 → IsSound (unused regions pool known)
 sound_unused regions pool known small = record {

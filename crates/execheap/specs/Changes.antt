@@ -1,23 +1,32 @@
 -- What the calls on objects by number make of them.
-use Rattle.std.specs.Prelude.{ℕ, ℤ, ◌-◌, if◌then◌else◌, List, [], ◌∷◌, ◌++◌, drop, length, replicate, slice_set, take, Option, None, Some}
+use Rattle.std.specs.Prelude.{ℕ, zero, suc, ℤ, ◌+◌, ◌-◌, if◌then◌else◌, List, [], ◌∷◌, ◌++◌, drop, length, replicate, slice_set, take, Option, None, Some}
 use Rattle.execlist.specs.Order.{enqueue, first, without}
 use Rattle.execlist.specs.Lists.{Key, blank, home, last, pri_of, put_after, sequence}
 use Rattle.execlib.specs.Libraries.{Description}
 use Rattle.memlist.specs.declared.region.Region.{Region}
-use Rattle.msgport.specs.Ports.{MessagePorts, no_ports}
+use Rattle.msgport.specs.Ports.{MessagePorts, message_made, no_ports}
+use Rattle.execlist.specs.Pool.{all_free}
+use Rattle.timerdev.specs.Timing.{no_requests}
 use Rattle.sigsem.specs.Semaphores.{Semaphores, no_sems, is_open, entered, queued as sem_queued, dropped}
 use Rattle.execheap.specs.Table as table
 use Rattle.execheap.specs.Numbered.{Numbered, most_tasks}
 
--- no block, no object of a pool of so many of each kind, and none of these libraries loaded
-abbrev pub unused : List Region → ℕ → List Description → Numbered
-unused regions pool known = record {
+-- so many messages are made, one for each request
+abbrev pub reserved : ℕ → MessagePorts → MessagePorts
+reserved zero ports = ports
+reserved (suc n) ports = message_made 0 0 (reserved n ports)
+
+-- no block, no object of a pool of so many of each kind, none of these libraries loaded, and a clock at 0 with ticks of so many microseconds
+abbrev pub unused : List Region → ℕ → List Description → ℕ → Numbered
+unused regions pool known tick_micros = record {
   table = table.unused regions pool known;
   sequences = replicate pool [];
   homes = replicate pool None;
   keys = replicate pool blank;
-  ports = no_ports pool pool;
+  ports = reserved pool (no_ports pool (pool + pool));
   sems = no_sems pool most_tasks;
+  requests = all_free pool;
+  timing = no_requests pool tick_micros;
 }
 
 -- the key of a node with that priority, and that name or none

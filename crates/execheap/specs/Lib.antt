@@ -4,3 +4,4 @@ pub mod Numbered
 pub mod Changes
 pub mod Refusals
 pub mod Listing
+pub mod Requesting

@@ -1,18 +1,23 @@
 -- Objects by number, and the memory that they stand for: the objects by address.
-use Rattle.std.specs.Prelude.{◌≡◌, ℕ, ◌≤◌, if◌then◌else◌, Bool, IsSome, IsTrue, is_some, List, length, map, slice_index_or, Option, None, Some, unwrap_or}
+use Rattle.std.specs.Prelude.{◌≡◌, ℕ, ◌+◌, ◌^◌, ◌<◌, ◌≤◌, ◌&&◌, ◌++◌, false, take, if◌then◌else◌, Bool, IsSome, IsTrue, is_some, List, length, map, slice_index_or, Option, None, Some, unwrap_or}
 use Rattle.execlist.specs.Lists.{Key, blank, sequence, home, is_at, times}
 use Rattle.execlist.specs.Pool.{Pooled, slot}
 use Rattle.execlib.specs.Libraries.{Description, count_of, is_delayed}
 use Rattle.memlist.specs.Memory.{IsWellFormed}
 use Rattle.msgport.specs.Ports as ports
-use Rattle.msgport.specs.Ports.{MessagePorts, is_port, port_at, message_at, messages_of}
+use Rattle.msgport.specs.Ports.{MessagePorts, is_held, is_message, is_port, port_at, message_at, messages_of}
 use Rattle.sigsem.specs.Semaphores as sems
 use Rattle.sigsem.specs.Semaphores.{Semaphores, sem_at, waiters_of}
+use Rattle.iorequest.specs.declared.request.Request.{Request as TimerRequest}
+use Rattle.iorequest.specs.Request.{is_under_way}
+use Rattle.iorequest.specs.Requests.{is_request, request_at}
+use Rattle.timerdev.specs.Timing.{Timing, due_at, is_queued}
 use Rattle.taskscript.specs.File.{LibraryData}
-use Rattle.execmodel.specs.State.{Object, Plain, ListHead, Node, MsgPort, Message, Semaphore, Library, Block, Heap, PublicPort, Memory}
+use Rattle.execmodel.specs.State.{Object, Plain, ListHead, Node, MsgPort, Message, Semaphore, Library, Request, Block, Heap, PublicPort, Waiting, Timer, Memory}
 use Rattle.execmodel.specs.Lists.{is_list, is_node}
 use Rattle.execmodel.specs.Ports as model
 use Rattle.execmodel.specs.Semaphores.{is_semaphore}
+use Rattle.execmodel.specs.Requests.{is_request as is_request_object}
 use Rattle.execheap.specs.declared.kind.Kind.{Kind}
 use Rattle.execheap.specs.declared.kind.Kind.TheVariants as variant
 use Rattle.execheap.specs.declared.tag.Tagged.{Tagged}
@@ -29,6 +34,8 @@ pub record Numbered : Type 0 where
   pub keys : List Key
   pub ports : MessagePorts
   pub sems : Semaphores
+  pub requests : Pooled TimerRequest
+  pub timing : Timing
 
 -- the addresses of the objects of a kind, by number
 abbrev pub places : Kind → Numbered → List (Option ℕ)
@@ -40,6 +47,15 @@ places kind s = slots_of kind s.table
 abbrev pub address_in : List (Option ℕ) → ℕ → ℕ
 address_in all n = unwrap_or (slot all n) 0
 
+-- The addresses of the messages by the numbers of the ports. Each request is a message too, from the beginning on: their numbers stand behind
+-- those of the messages.
+abbrev pub message_places : Numbered → List (Option ℕ)
+message_places s = places variant.Message s ++ places variant.Request s
+
+-- the number of request r as a message
+abbrev pub message_of_request : ℕ → Numbered → ℕ
+message_of_request r s = s.table.pool + r
+
 -- the key of a node, by its number
 abbrev pub key_at : List Key → ℕ → Key
 key_at keys n = slice_index_or keys n blank
@@ -48,9 +64,10 @@ key_at keys n = slice_index_or keys n blank
 abbrev pub object_of : Kind → ℕ → Numbered → Object
 object_of variant.List h s = ListHead (map (address_in (places variant.Node s)) (sequence s.sequences h))
 object_of variant.Node n s = Node (key_at s.keys n)
-object_of variant.Port p s = MsgPort (port_at p s.ports) (map (address_in (places variant.Message s)) (messages_of p s.ports))
+object_of variant.Port p s = MsgPort (port_at p s.ports) (map (address_in (message_places s)) (messages_of p s.ports))
 object_of variant.Message m s = Message (message_at m s.ports)
 object_of variant.Semaphore n s = Semaphore (sem_at n s.sems) (waiters_of n s.sems)
+object_of variant.Request r s = Request (request_at r s.requests)
 
 -- whether an object is of a kind
 abbrev pub test_of : Kind → Object → Bool
@@ -59,6 +76,7 @@ test_of variant.Node object = is_node object
 test_of variant.Port object = model.is_port object
 test_of variant.Message object = model.is_message object
 test_of variant.Semaphore object = is_semaphore object
+test_of variant.Request object = is_request_object object
 
 abbrev pub shown_tagged : Numbered → Tagged → Object
 shown_tagged s (tag.Object kind number) = object_of kind number s
@@ -82,7 +100,18 @@ shown_public s p = record { port = address_in (places variant.Port s) p; key = k
 abbrev pub shown_library : Description → LibraryData
 shown_library library = record { name = library.name; version = library.version; size = library.size }
 
--- The memory that objects by number stand for. Its public ports stand in the order in which they are kept.
+-- a request that waits, by its number
+abbrev pub shown_waiting : Numbered → ℕ → Waiting
+shown_waiting s r = record { request = address_in (places variant.Request s) r; due = due_at s.timing.dues r }
+
+abbrev pub shown_timer : Numbered → Timer
+shown_timer s = record {
+  clock = s.timing.clock;
+  tick_micros = s.timing.tick_micros;
+  waiting = map (shown_waiting s) s.timing.queue;
+}
+
+-- The memory that objects by number stand for. Its public ports, and the requests that wait, stand in the order in which they are kept.
 abbrev pub shown_memory : Numbered → Memory
 shown_memory s = record {
   regions = s.table.memory.regions;
@@ -90,9 +119,14 @@ shown_memory s = record {
   pool = s.table.pool;
   heap = shown_heap s;
   public = map (shown_public s) s.ports.public;
+  timer = shown_timer s;
 }
 
 -- ---- what always holds
+
+-- a number holds a request that is under way
+abbrev pub is_way_at : ℕ → Pooled TimerRequest → Bool
+is_way_at r requests = is_request r requests && is_under_way (request_at r requests)
 
 -- which numbers of a pool hold an item, and in what order the free ones are given
 pub record Shape : Type 0 where
@@ -105,8 +139,9 @@ shape pool = record { held = map is_some pool.slots; free = pool.free }
 -- the numbers that what holds the objects of a kind gives itself, if it does
 abbrev pub own_shape : Kind → Numbered → Option Shape
 own_shape variant.Port s = Some (shape s.ports.ports)
-own_shape variant.Message s = Some (shape s.ports.messages)
+own_shape variant.Message s = Some (shape (record { slots = take s.table.pool s.ports.messages.slots; free = s.ports.messages.free }))
 own_shape variant.Semaphore s = Some (shape s.sems.sems)
+own_shape variant.Request s = Some (shape s.requests)
 own_shape _ s = None
 
 abbrev pub Fits : Option Shape → Pooled ℕ → Type 0
@@ -122,6 +157,20 @@ pub record IsApt (ports : MessagePorts) (sems : Semaphores) : Type 0 where
   pub own_signals : (p : ℕ) → IsTrue (is_port p ports) → 16 ≤ (port_at p ports).bit
   pub each_task : length sems.places ≡ most_tasks
 
+-- Each request has its message from the beginning on. Just a request that is under way is held as a message and waits for the timer; one whose
+-- reply is queued lives, and the port that has it is its reply port. The clock has room for the longest time of a request.
+pub record IsInTime (s : Numbered) : Type 0 where
+  pub each_message : length s.ports.messages.slots ≡ s.table.pool + s.table.pool
+  pub each_due : length s.timing.dues ≡ s.table.pool
+  pub made : (r : ℕ) → r < s.table.pool → IsTrue (is_message (message_of_request r s) s.ports)
+  pub held : (r : ℕ) → is_held (message_of_request r s) s.ports ≡ is_way_at r s.requests
+  pub none_held : (m : ℕ) → m < s.table.pool → is_held m s.ports ≡ false
+  pub waits : (r : ℕ) → is_queued r s.timing ≡ is_way_at r s.requests
+  pub live : (r p : ℕ) → home s.ports.places (message_of_request r s) ≡ Some p → IsSome (slot (places variant.Request s) r)
+  pub at_reply_port : (r p : ℕ) → home s.ports.places (message_of_request r s) ≡ Some p
+      → slot (places variant.Port s) p ≡ Some (request_at r s.requests).port
+  pub early : s.timing.clock < 2 ^ 63
+
 -- A linked node and its list are objects that live, and what holds the objects of a kind gives the numbers that the table gives.
 pub record IsKept (s : Numbered) : Type 0 where
   pub live_nodes : (n : ℕ) → IsSome (home s.homes n) → IsSome (slot (places variant.Node s) n)
@@ -130,6 +179,7 @@ pub record IsKept (s : Numbered) : Type 0 where
   pub each_node : length s.homes ≡ length (places variant.Node s)
   pub in_step : (kind : Kind) → Fits (own_shape kind s) (pool_of kind s.table)
   pub apt : IsApt s.ports s.sems
+  pub in_time : IsInTime s
 
 -- that, and that a number stands for one object and an object for one block
 pub record IsSound (s : Numbered) : Type 0 where

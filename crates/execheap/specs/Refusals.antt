@@ -3,7 +3,7 @@ use Rattle.std.specs.Prelude.{ℕ, Bool, true, codes, List, Option, None, Some, 
 use Rattle.execlist.specs.Lists.{home, is_at}
 use Rattle.sigsem.specs.declared.fault.SemFault.{SemFault}
 use Rattle.execheap.specs.declared.refusal.Refusal.{Refusal}
-use Rattle.execheap.specs.declared.refusal.Refusal.TheVariants.{Handle, Link, Port, Sem, Lib}
+use Rattle.execheap.specs.declared.refusal.Refusal.TheVariants.{Handle, Link, Port, Sem, Lib, Io}
 
 abbrev pub code_of : Refusal → List ℕ
 code_of Handle = codes "HANDLE"
@@ -11,6 +11,7 @@ code_of Link = codes "LINK"
 code_of Port = codes "PORT"
 code_of Sem = codes "SEM"
 code_of Lib = codes "LIB"
+code_of Io = codes "IO"
 
 -- the alert of an answer: none where the call was not refused
 abbrev pub alert_of : {T : Type 0} → Result T Refusal → Option (List ℕ)

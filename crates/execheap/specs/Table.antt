@@ -48,7 +48,8 @@ library_at address t = option_and_then (λ (block : ℕ × ℕ). library_in (tag
 
 -- a pool for each kind, by its code, of which none is given
 abbrev pub free_pools : ℕ → List (Pooled ℕ)
-free_pools pool = all_free pool ∷ all_free pool ∷ all_free pool ∷ all_free pool ∷ all_free pool ∷ []
+free_pools pool =
+    all_free pool ∷ all_free pool ∷ all_free pool ∷ all_free pool ∷ all_free pool ∷ all_free pool ∷ []
 
 -- nothing is allocated, of each kind so many objects may live, and none of these libraries is loaded
 abbrev pub unused : List Region → ℕ → List Description → Tabled

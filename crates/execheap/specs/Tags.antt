@@ -13,10 +13,11 @@ kind_code kind.Node = 1
 kind_code kind.Port = 2
 kind_code kind.Message = 3
 kind_code kind.Semaphore = 4
+kind_code kind.Request = 5
 
 -- the kinds by number
 abbrev pub kinds : List Kind
-kinds = kind.List ∷ kind.Node ∷ kind.Port ∷ kind.Message ∷ kind.Semaphore ∷ []
+kinds = kind.List ∷ kind.Node ∷ kind.Port ∷ kind.Message ∷ kind.Semaphore ∷ kind.Request ∷ []
 
 -- the bytes of an object of a kind
 abbrev pub size_of : Kind → ℕ
@@ -25,6 +26,7 @@ size_of kind.Node = 14
 size_of kind.Port = 34
 size_of kind.Message = 24
 size_of kind.Semaphore = 46
+size_of kind.Request = 40
 
 -- whether two kinds are one
 abbrev pub is_same : Kind → Kind → Bool

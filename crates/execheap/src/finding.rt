@@ -11,6 +11,7 @@ ghost use Rattle.execheap.specs.Refusals.{alert_of, is_none_or_in};
 
 mod libraries;
 mod ports;
+mod requests;
 mod semaphores;
 
 use crate::kind::Kind;

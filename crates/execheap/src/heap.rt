@@ -14,6 +14,7 @@ ghost use Rattle.execheap.specs.Refusals.{alert_of};
 
 mod libraries;
 mod ports;
+mod requests;
 mod semaphores;
 
 use crate::objects::Objects;
@@ -25,8 +26,8 @@ use memlist::Region;
 use std::alloc::{AllocError, Global};
 use std::marker::Model;
 
-/// The memory of a machine and the objects that live in it: lists and nodes, ports and messages, semaphores, and the libraries that are
-/// loaded, over list spaces of the type S.
+/// The memory of a machine and the objects that live in it: lists and nodes, ports and messages, semaphores, the libraries that are
+/// loaded, and requests with the timer that finishes them, over list spaces of the type S.
 ///
 /// An object is named by the address of its block. No method takes memory of the host: `new` makes room for all that can ever live.
 #[derive(Drop)]
@@ -45,19 +46,20 @@ impl<S: ListSpace> Model for Heap<S> {
 
 impl<S: ListSpace> Heap<S> {
     /// The memory of these regions with nothing allocated, and these libraries, at most 32, none of them loaded; of each kind as many objects
-    /// may live as `pool` says. An error means that memory of the host is lacking, or that `check_regions` refuses the regions, which no
-    /// machine file's are.
+    /// may live as `pool` says, and the clock stands at 0 and gains `tick_micros` microseconds at each tick. An error means that memory of the
+    /// host is lacking, or that `check_regions` refuses the regions, which no machine file's are.
     pub fn new(
         alloc: Global,
         regions: &[Region],
         pool: u32,
         libraries: &[LibInit],
+        tick_micros: u32,
     ) -> Result<Self, AllocError>
         requires pool { pool ≤ 1024 }
         requires few { length libraries.now ≤ 32 }
-        ensures { IfOk result (λ h. h ≡ record { regions = regions.now; libraries = map shown_library (map description_of libraries.now); pool = pool; heap = []; public = [] }) }
+        ensures { IfOk result (λ h. h ≡ record { regions = regions.now; libraries = map shown_library (map description_of libraries.now); pool = pool; heap = []; public = []; timer = record { clock = 0; tick_micros = tick_micros; waiting = [] } }) }
     {
-        let objects = Objects::new(alloc, regions, pool, libraries)?;
+        let objects = Objects::new(alloc, regions, pool, libraries, tick_micros)?;
         Ok(Heap { objects })
     }
 

@@ -15,6 +15,8 @@ pub enum Kind {
     Message,
     /// A semaphore (RKM Libraries, Exec Semaphores).
     Semaphore,
+    /// A timer request (RKM Devices, Introduction to Amiga System Devices).
+    Request,
 }
 
 impl Kind {
@@ -28,6 +30,7 @@ impl Kind {
             Kind::Port => 2,
             Kind::Message => 3,
             Kind::Semaphore => 4,
+            Kind::Request => 5,
         }
     }
 
@@ -41,12 +44,13 @@ impl Kind {
             2 => Some(Kind::Port),
             3 => Some(Kind::Message),
             4 => Some(Kind::Semaphore),
+            5 => Some(Kind::Request),
             _ => None,
         }
     }
 
-    /// The bytes of an object of the kind, by the include files exec/lists.h, exec/nodes.h, exec/ports.h and exec/semaphores.h; a message has
-    /// its word too (own choice).
+    /// The bytes of an object of the kind, by the include files exec/lists.h, exec/nodes.h, exec/ports.h, exec/semaphores.h and
+    /// devices/timer.h; a message has its word too (own choice).
     pub fn size(self) -> u32
         ensures { result ≡ size_of self }
     {
@@ -56,6 +60,7 @@ impl Kind {
             Kind::Port => 34,
             Kind::Message => 24,
             Kind::Semaphore => 46,
+            Kind::Request => 40,
         }
     }
 }

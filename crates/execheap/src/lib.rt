@@ -3,6 +3,7 @@
 //! block is an object of which kind and number, and which a loaded library.
 #![tactic(auto)]
 
+mod awaited;
 mod finding;
 mod heap;
 mod kind;
@@ -11,6 +12,7 @@ mod refusal;
 mod table;
 mod tag;
 
+pub use awaited::Awaited;
 pub use execlib::library::LibInit;
 pub use execlist::key::Name;
 pub use execlist::space::ListSpace;

@@ -18,6 +18,7 @@ ghost use Rattle.execheap.specs.Changes.{unused, key_with, at_head, at_tail, que
 
 mod libraries;
 mod ports;
+mod requests;
 mod semaphores;
 
 use crate::kind::Kind;
@@ -25,23 +26,28 @@ use crate::table::Table;
 use execlib::library::LibInit;
 use execlist::key::Name;
 use execlist::space::{HeaderId, ListSpace, NodeId};
+use iorequest::requests::Requests;
 use memlist::Region;
 use msgport::ports::Ports;
 use sigsem::sems::Sems;
 use std::alloc::{AllocError, Global};
 use std::marker::Model;
+use timerdev::timer::Timer;
 
 /// The most tasks that a machine has: each may wait at a semaphore.
 const MOST_TASKS: usize = 4096;
 
-/// The blocks of a memory, and the objects that live in them by number. The table tells where each object is; the list space, the ports
-/// and the semaphores keep what they hold, and give the numbers that the table gives.
+/// The blocks of a memory, and the objects that live in them by number. The table tells where each object is; the list space, the ports,
+/// the semaphores and the requests keep what they hold, and give the numbers that the table gives; the timer knows which requests wait.
+/// Each request is a message of the ports too, from the beginning on: their numbers stand behind those of the messages.
 #[derive(Drop)]
 pub struct Objects<S: ListSpace> {
     table: Table<S>,
     space: S,
     ports: Ports<S>,
     sems: Sems<S>,
+    requests: Requests,
+    timer: Timer<S>,
 }
 
 impl<S: ListSpace> Model for Objects<S> {
@@ -56,6 +62,8 @@ impl<S: ListSpace> Model for Objects<S> {
       keys = S.keys o.space;
       ports = o.ports;
       sems = o.sems;
+      requests = o.requests;
+      timing = o.timer;
     } };
 
     ghost invariant = { λ o. IsKept (record {
@@ -65,31 +73,39 @@ impl<S: ListSpace> Model for Objects<S> {
       keys = S.keys o.space;
       ports = o.ports;
       sems = o.sems;
+      requests = o.requests;
+      timing = o.timer;
     }) };
 }
 
 impl<S: ListSpace> Objects<S> {
-    /// Memory of these regions in which nothing is allocated, room for so many objects of each kind, and these libraries, none of them loaded.
+    /// Memory of these regions in which nothing is allocated, room for so many objects of each kind, these libraries, none of them loaded, and a
+    /// clock at 0 that gains so many microseconds at each tick.
     pub fn new(
         alloc: Global,
         regions: &[Region],
         pool: u32,
         libraries: &[LibInit],
+        tick_micros: u32,
     ) -> Result<Self, AllocError>
         requires pool { pool ≤ 1024 }
         requires few { length libraries.now ≤ 32 }
-        ensures { IfOk result (λ o. o ≡ unused regions.now pool (map description_of libraries.now)) }
+        ensures { IfOk result (λ o. o ≡ unused regions.now pool (map description_of libraries.now) tick_micros) }
     {
         let pool = pool as usize;
         let table = Table::new(alloc, regions, pool, libraries)?;
         let space = S::new(alloc, pool, pool)?;
-        let ports = Ports::new(alloc, pool, pool)?;
+        let ports = requests::with_requests(Ports::new(alloc, pool, pool + pool)?, pool);
         let sems = Sems::new(alloc, pool, MOST_TASKS)?;
+        let held = Requests::new(alloc, pool)?;
+        let timer = Timer::new(alloc, pool, tick_micros)?;
         Ok(Objects {
             table,
             space,
             ports,
             sems,
+            requests: held,
+            timer,
         })
     }
 
@@ -101,6 +117,7 @@ impl<S: ListSpace> Objects<S> {
         self.table.facts();
         self.ports.facts();
         self.sems.facts();
+        self.requests.facts();
     }
 
     // ---- plain blocks

@@ -23,6 +23,9 @@ pub enum Refusal {
     /// A library that is to be closed is not open.
     #[error("a library that is not open")]
     Lib,
+    /// A request is under way where it must not be, or not begun or not open where it must be.
+    #[error("a request under way, not begun or not open")]
+    Io,
 }
 
 impl Refusal {
@@ -36,6 +39,7 @@ impl Refusal {
             Refusal::Port => "PORT",
             Refusal::Sem => "SEM",
             Refusal::Lib => "LIB",
+            Refusal::Io => "IO",
         }
     }
 }

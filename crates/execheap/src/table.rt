@@ -24,7 +24,7 @@ const MEMF_PUBLIC: u32 = 1;
 #[derive(Drop)]
 pub struct Table<S: ListSpace> {
     memory: MemList,
-    pools: [Pool<u32>; 5],
+    pools: [Pool<u32>; 6],
     pool: usize,
     libs: Libs<S>,
 }
@@ -97,6 +97,13 @@ impl<S: ListSpace> Table<S> {
         ensures { result ≡ avail self.now.memory.regions self.now.memory.blocks reqs }
     {
         self.memory.avail(reqs)
+    }
+
+    /// How many objects of each kind may live.
+    pub fn pool(&self) -> usize
+        ensures { result ≡ self.now.pool }
+    {
+        self.pool
     }
 
     // ---- objects
@@ -217,14 +224,14 @@ fn memory_of(alloc: Global, regions: &[Region]) -> Result<MemList, AllocError>
 }
 
 /// A pool for each kind, by its code. Pools are made two by two, since each part that can fail multiplies the proof.
-fn pools_of(alloc: Global, pool: usize) -> Result<[Pool<u32>; 5], AllocError>
+fn pools_of(alloc: Global, pool: usize) -> Result<[Pool<u32>; 6], AllocError>
     requires { pool ≤ 1024 }
     ensures { IfOk result (λ pools. pools ≡ free_pools pool) }
 {
     let (list, node) = two_pools(alloc, pool)?;
     let (port, message) = two_pools(alloc, pool)?;
-    let semaphore = Pool::new(alloc, pool)?;
-    Ok([list, node, port, message, semaphore])
+    let (semaphore, request) = two_pools(alloc, pool)?;
+    Ok([list, node, port, message, semaphore, request])
 }
 
 /// Two pools with room for so many items each.

@@ -1,7 +1,7 @@
 -- What the body of an interrupt leaves as it is, and what it prints.
-use Rattle.std.proofs.Common.{◌≡◌, ℕ, Bool, true, false, List, [], ◌∷◌, ◌++◌, Option, None, Some, refl, ap, ◌∙◌}
+use Rattle.std.proofs.Common.{◌≡◌, ℕ, zero, suc, ℤ, pos, Bool, true, false, List, [], ◌∷◌, ◌++◌, Option, None, Some, refl, ap, ◌∙◌}
 use Rattle.std.specs.Prelude.{◌-◌, not, ◌&&◌, if◌then◌else◌, nat_eq, nat_lt, length, unwrap_or}
-use Rattle.exectrace.specs.Trace.{TraceLine, Call as CallLine, Server, Softint, Alert}
+use Rattle.exectrace.specs.Trace.{TraceLine, Call as CallLine, Server, Softint, Alert, Timer}
 use Rattle.execlist.specs.Order.{first}
 use Rattle.forbid.specs.Nesting.{Nesting}
 use Rattle.taskq.specs.Tasks.{is_live}
@@ -20,14 +20,18 @@ use Rattle.taskscript.specs.declared.word.ports.PortWord.TheVariants as ports
 use Rattle.taskscript.specs.declared.word.interrupts.InterruptWord.{InterruptWord}
 use Rattle.taskscript.specs.declared.word.interrupts.InterruptWord.TheVariants as interrupts
 use Rattle.taskscript.specs.Commands.{CommandData}
-use Rattle.execmodel.specs.State.{Call, Pending, State, Outcome, quiet, says, andthen, unless_stopped, on_schedule, on_pending}
+use Rattle.execmodel.specs.State.{Call, Pending, State, Outcome, quiet, says, andthen, unless_stopped, on_schedule, on_memory, on_pending}
 use Rattle.execmodel.specs.Scheduling.{arrives, signalled}
 use Rattle.execmodel.specs.Calls.{ByBody, argument, name_argument, unless_by, call_in_body}
 use Rattle.execmodel.specs.Signals.{signal_alert}
 use Rattle.execmodel.specs.Pending.{arrived, is_caused, causes, softint_named, taken_off}
 use Rattle.execmodel.specs.Ports.{performed, delivered, put_alert, port_alert, reply_alert, content_of, messages_of, taken_by, replied_by}
 use Rattle.execmodel.specs.Bodies.{does_plain_by, does_signals_by, does_ports_by, does_interrupts_by, does_word_by, does_in_body, body_step, runs_body}
-use Rattle.execmodel.specs.Interrupts.{softint_at, server_at, runs_softint, runs_server, runs_chain}
+use Rattle.softint.specs.declared.source.Source.{Source}
+use Rattle.softint.specs.declared.source.Source.TheVariants as source
+use Rattle.execmodel.specs.Timing.{due_next}
+use Rattle.execmodel.specs.Requests.{answering_port, acting_at, with_reply, ended, ends_with, finishes, finishes_due, finishes_all_due}
+use Rattle.execmodel.specs.Interrupts.{softint_at, server_at, runs_softint, runs_server, runs_chain, finishes_for}
 
 -- ---- what bodies leave
 
@@ -41,12 +45,13 @@ steady s = (s.schedule.running, s.schedule.nestings, s.pending.latches)
 
 -- ---- what bodies print
 
--- the line of a call or an alert, or one with which a body begins
+-- the line of a call or an alert, one with which a body begins, or that of a request that is done
 abbrev pub IsOfBody : TraceLine → Type 0
 IsOfBody (CallLine name word arguments outcome) = Unit {0}
 IsOfBody (Server name) = Unit {0}
 IsOfBody (Softint name) = Unit {0}
 IsOfBody (Alert code name word) = Unit {0}
+IsOfBody (Timer request) = Unit {0}
 IsOfBody _ = ⊥
 
 abbrev pub AreOfBodies : List TraceLine → Type 0
@@ -206,3 +211,43 @@ chain_bodily (k ∷ others) s =
     let claim = (server_at k s.bodies).claim in
     then_bodily (runs_server k) (unless_stopped (if claim then quiet else runs_chain others)) s (server_bodily k s)
     (going_bodily (if claim then quiet else runs_chain others) (claimed_bodily claim (runs_chain others) (chain_bodily others)))
+
+-- ---- requests that are due
+
+ended_steady : (error : ℤ) (request : ℕ) (s : State) → steady (ends_with error request s) ≡ steady s
+ended_steady error request s =
+    performed_steady (acting_at (answering_port request s.memory.heap) s.memory.heap) (on_memory (ended error request) s)
+
+reply_bodily : (port : Option ℕ) (request : ℕ) (s : State) (o : Outcome) → Bodily s o → Bodily s (with_reply port request o)
+reply_bodily None request s o one = one
+reply_bodily (Some port) request s o one = record { same = one.same; told = one.told }
+
+finished_bodily : (request : ℕ) (s : State) → Bodily s (finishes request s)
+unfolding finishes
+finished_bodily request s =
+    reply_bodily (answering_port request s.memory.heap) request s _
+    (record { same = ended_steady (pos 0) request s; told = (tt, tt) })
+
+-- the request that is found finishes, and then what comes next
+abbrev pub finishes_found : (State → Outcome) → Option ℕ → State → Outcome
+finishes_found next found s =
+    elim found as (λ (x : Option ℕ). Outcome) [ None ↦ quiet s | Some request ↦ andthen (finishes request) next s ]
+
+found_bodily : (next : State → Outcome) → ((r : State) → Bodily r (next r)) → (found : Option ℕ) (s : State) → Bodily s (finishes_found next found s)
+found_bodily next one None s = quiet_bodily s
+found_bodily next one (Some request) s = then_bodily (finishes request) next s (finished_bodily request s) one
+
+due_bodily : (n : ℕ) (s : State) → Bodily s (finishes_due n s)
+unfolding finishes_due
+due_bodily zero s = quiet_bodily s
+due_bodily (suc n) s = found_bodily (finishes_due n) (due_bodily n) (due_next s.memory.timer) s
+
+pub finishing_bodily : (asks : Source) (s : State) → Bodily s (finishes_for asks s)
+unfolding finishes_all_due
+finishing_bodily source.Ports s = quiet_bodily s
+finishing_bodily source.Vertb s = due_bodily _ s
+finishing_bodily source.Exter s = quiet_bodily s
+
+-- a serving: what is due finishes, and then the chain of servers runs
+pub served_bodily : (asks : Source) (chain : List ℕ) (s : State) → Bodily s (andthen (finishes_for asks) (runs_chain chain) s)
+served_bodily asks chain s = then_bodily (finishes_for asks) (runs_chain chain) s (finishing_bodily asks s) (chain_bodily chain)

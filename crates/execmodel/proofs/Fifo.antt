@@ -7,14 +7,17 @@ use Rattle.memlist.specs.declared.region.Region.{Region}
 use Rattle.memlist.specs.Memory.{IsWellFormed}
 use Rattle.memlist.proofs.Answered.{nat_eq-same, nat_eq-other, cases_eq}
 use Rattle.execlist.specs.Order.{first}
-use Rattle.execmodel.specs.State.{Call, Object, Plain, ListHead, Node, MsgPort, Message, Semaphore, Library, Block, Heap, Mark}
+use Rattle.execlist.specs.Order.{without}
+use Rattle.iorequest.specs.declared.request.Request.{Request as TimerRequest}
+use Rattle.execmodel.specs.State.{Call, Object, Plain, ListHead, Node, MsgPort, Message, Semaphore, Library, Request, Block, Heap, Waiting as Queued, Mark, out, State}
+use Rattle.execmodel.specs.Requests.{with_request}
 use Rattle.execmodel.specs.Objects.{object_at, is_kind, replaced}
 use Rattle.execmodel.specs.Memory.{extents, block_at}
 use Rattle.execmodel.specs.Lists.{is_list, is_list_at, with_nodes, unlinked, left_by}
 use Rattle.execmodel.specs.Ports.{is_port, is_message, is_port_at, is_message_at, messages_in, messages_of_object, messages_of, is_queued, has_message, with_port, with_action, appended, taken_off}
 use Rattle.execmodel.specs.Semaphores.{is_semaphore, is_semaphore_at, with_semaphore, left_by_task, entered, queued, dropped, handed_on, released_once, awaited_by}
 use Rattle.execmodel.specs.Libraries.{is_library, is_library_at, with_library}
-use Rattle.execmodel.specs.Queues.{Turn, Came, Served}
+use Rattle.execmodel.specs.Queues.{Turn, Came, Served, Left}
 use Rattle.execmodel.specs.Marks.{turn_at, turns_at_port}
 use Rattle.execmodel.proofs.Queues.{Turns, Follows, IsAway}
 use Rattle.execmodel.proofs.Heaps.{filled, instead, object_replaced, object_remade, object_placed_here, object_placed_there, object_rid_here, object_rid_there, true_is_not_false}
@@ -25,6 +28,8 @@ use Rattle.sigsem.specs.declared.semaphore.Sem.{Sem}
 use Rattle.memlist.specs.Fit.{round}
 use Rattle.std.specs.Ordering.{nat_cmp, eq_by_cmp}
 use Rattle.execmodel.proofs.Commands.{Touches, remains, fills, puts, gets, none_some}
+use Rattle.execmodel.proofs.Posts.{IsTidy, messages_are}
+use Rattle.execmodel.proofs.Asking.{Asks, writes, answers, messages_written, ports_written, without_reply}
 use Rattle.execmodel.proofs.Moves.{IsNew, MayGo, leaving_marks, Moves, touches, places, frees, relists, unlinks, sets, enters, queues, hands, opens, releases, counts, expunges, drops}
 
 pub both_false : {A : Type 0} (b c : Bool) → (b || c) ≡ false → (b ≡ false → c ≡ false → A) → A
@@ -60,6 +65,7 @@ list_none (MsgPort port messages) is = true_is_not_false (sym is)
 list_none (Message content) is = refl
 list_none (Semaphore sem waiters) is = refl
 list_none (Library number count delayed) is = refl
+list_none (Request content) is = refl
 
 message_none : (object : Object) → is_message object ≡ true → messages_in object ≡ []
 message_none Plain is = refl
@@ -69,6 +75,7 @@ message_none (MsgPort port messages) is = true_is_not_false (sym is)
 message_none (Message content) is = refl
 message_none (Semaphore sem waiters) is = refl
 message_none (Library number count delayed) is = refl
+message_none (Request content) is = refl
 
 semaphore_none : (object : Object) → is_semaphore object ≡ true → messages_in object ≡ []
 semaphore_none Plain is = refl
@@ -78,9 +85,11 @@ semaphore_none (MsgPort port messages) is = true_is_not_false (sym is)
 semaphore_none (Message content) is = refl
 semaphore_none (Semaphore sem waiters) is = refl
 semaphore_none (Library number count delayed) is = refl
+semaphore_none (Request content) is = refl
 
 library_none : (object : Object) → is_library object ≡ true → messages_in object ≡ []
 library_none (Library number count delayed) is = refl
+library_none (Request content) is = refl
 library_none Plain is = refl
 library_none (ListHead nodes) is = refl
 library_none (Node key) is = refl
@@ -96,6 +105,7 @@ new_none (MsgPort port messages) is = is
 new_none (Message content) is = refl
 new_none (Semaphore sem waiters) is = refl
 new_none (Library number count delayed) is = refl
+new_none (Request content) is = refl
 
 pub first_none : (messages : List ℕ) → first messages ≡ None → messages ≡ []
 first_none [] e = refl
@@ -110,6 +120,7 @@ gone_none (Some (MsgPort port messages)) may = first_none messages may
 gone_none (Some (Message content)) may = refl
 gone_none (Some (Semaphore sem waiters)) may = refl
 gone_none (Some (Library number count delayed)) may = absurd may
+gone_none (Some (Request content)) may = refl
 
 -- ---- what begins at an address becomes another
 
@@ -143,6 +154,7 @@ left_same node (MsgPort port messages) = refl
 left_same node (Message content) = refl
 left_same node (Semaphore sem waiters) = refl
 left_same node (Library number count delayed) = refl
+left_same node (Request content) = refl
 
 task_left_same : (t : ℕ) (object : Object) → messages_in (left_by_task t object) ≡ messages_in object
 task_left_same t Plain = refl
@@ -152,6 +164,7 @@ task_left_same t (MsgPort port messages) = refl
 task_left_same t (Message content) = refl
 task_left_same t (Semaphore sem waiters) = refl
 task_left_same t (Library number count delayed) = refl
+task_left_same t (Request content) = refl
 
 -- ---- what a port has
 
@@ -186,6 +199,7 @@ port_and_message (Some (MsgPort port messages)) is also = true_is_not_false (sym
 port_and_message (Some (Message content)) is also = true_is_not_false (sym is)
 port_and_message (Some (Semaphore sem waiters)) is also = true_is_not_false (sym is)
 port_and_message (Some (Library number count delayed)) is also = true_is_not_false (sym is)
+port_and_message (Some (Request content)) is also = true_is_not_false (sym is)
 
 -- a port stays one where a message gets another content
 pub port_stays : (port message : ℕ) (content : Content) (heap : Heap) → is_port_at port heap ≡ true → is_message_at message heap ≡ true
@@ -228,7 +242,7 @@ queued_nowhere message p (entry ∷ rest) e =
     both_false (has_message message entry) (list_any (has_message message) rest) e
     (λ here there. entry_away message (eq_by_cmp nat_cmp p entry.0) entry.1 (block_at p rest) here (queued_nowhere message p rest there))
 
-is_away : (message port : ℕ) (heap : Heap) → is_queued message heap ≡ false → IsAway message (messages_of port heap)
+pub is_away : (message port : ℕ) (heap : Heap) → is_queued message heap ≡ false → IsAway message (messages_of port heap)
 unfolding is_queued messages_of
 is_away message port heap e = queued_nowhere message port heap e
 
@@ -256,6 +270,7 @@ semaphore_kept t (Some (MsgPort port messages)) = refl
 semaphore_kept t (Some (Message content)) = refl
 semaphore_kept t (Some (Semaphore sem waiters)) = refl
 semaphore_kept t (Some (Library number count delayed)) = refl
+semaphore_kept t (Some (Request content)) = refl
 
 pub still_semaphore : (t semaphore : ℕ) (heap : Heap) → is_semaphore_at semaphore heap ≡ true → is_semaphore_at semaphore (dropped t heap) ≡ true
 unfolding is_semaphore_at dropped
@@ -299,7 +314,7 @@ moves_follow regions t call old marks new (places size reqs address object is fi
     ∙ new_none object is
     ∙ sym (ap (λ found. messages_of_object found) (ap (λ a. object_at a old) same ∙ placed_fresh regions size reqs address old formed fits)))
     (λ apart. ap (λ found. messages_of_object found) (object_placed_there p address _ old apart))
-moves_follow regions t call old marks new (frees address may) formed p =
+moves_follow regions t call old marks new (frees address may unneeded) formed p =
     unfold messages_of in cases_eq p address
     (λ same. ap (λ found. messages_of_object found) (ap (λ a. object_at a new) same ∙ object_rid_here address old)
     ∙ sym (ap (λ a. messages_of_object (object_at a old)) same ∙ gone_none (object_at address old) may))
@@ -325,3 +340,35 @@ moves_follow regions t call old marks new (expunges base is may) formed p =
 moves_follow regions t call old marks new (drops other apart) formed p =
     subst (λ turns. Follows (messages_of p old) turns (messages_of p new)) (sym (left_marks (awaited_by other old) other p))
     (all_remade (left_by_task other) (task_left_same other) p old)
+
+-- ---- each thing that a call makes of requests, and the clock
+
+written_messages : (request : ℕ) (content : TimerRequest) (p : ℕ) (heap : Heap) → messages_of p (with_request request content heap) ≡ messages_of p heap
+written_messages request content p heap =
+    messages_are p (with_request request content heap) ∙ messages_written request content heap p ∙ sym (messages_are p heap)
+
+pub asked_follow : (s : State) (marks : List Mark) (new : Heap) (later : List Queued) → Asks s marks new later → IsTidy s
+    → (p : ℕ) → Follows (messages_of p s.memory.heap) (turns_at_port p marks) (messages_of p new)
+unfolding appended
+asked_follow s marks new later (writes request content waiting rewritten) tidy p = written_messages request content p s.memory.heap
+asked_follow s marks new later (answers port request content waiting is rewritten reply) tidy p =
+    let old = s.memory.heap in
+    let mid = with_request request content old in
+    turned p port (Came request) (messages_of p old) (messages_of p new)
+    (λ same. (
+      (reply tidy).loose p,
+      ap (λ a. messages_of a new) same
+          ∙ port_there port _ (messages_of port mid ++ request ∷ []) mid (ports_written request content old port ∙ is)
+          ∙ ap (λ q. q ++ request ∷ []) (written_messages request content port old ∙ sym (ap (λ a. messages_of a old) same)),
+    ))
+    (λ apart. port_elsewhere p port _ (messages_of port mid ++ request ∷ []) mid apart ∙ written_messages request content p old)
+
+-- a reply that is taken out of its port leaves it unserved
+pub taken_follow : (port request : ℕ) (heap : Heap) → is_port_at port heap ≡ true
+    → (p : ℕ) → Follows (messages_of p heap) (turns_at_port p (out port request ∷ [])) (messages_of p (without_reply port request heap))
+taken_follow port request heap is p =
+    let new = without_reply port request heap in
+    turned p port (Left request) (messages_of p heap) (messages_of p new)
+    (λ same. ap (λ a. messages_of a new) same ∙ port_there port _ (without request (messages_of port heap)) heap is
+    ∙ ap (λ a. without request (messages_of a heap)) (sym same))
+    (λ apart. port_elsewhere p port _ (without request (messages_of port heap)) heap apart)

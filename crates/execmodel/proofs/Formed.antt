@@ -14,7 +14,9 @@ use Rattle.memlist.specs.Memory.{IsWellFormed}
 use Rattle.memlist.proofs.Fitting.{fitted_well_formed}
 use Rattle.memlist.proofs.Keeping.{freed_well_formed}
 use Rattle.memlist.proofs.Addresses.{fitted_fresh}
-use Rattle.execmodel.specs.State.{Call, Object, Block, Heap, Mark}
+use Rattle.iorequest.specs.declared.request.Request.{Request as TimerRequest}
+use Rattle.execmodel.specs.State.{Call, Object, Request, Block, Heap, Waiting as Queued, Mark, State}
+use Rattle.execmodel.specs.Requests.{with_request}
 use Rattle.execmodel.specs.Objects.{object_at, replaced}
 use Rattle.execmodel.specs.Memory.{extents, block_at}
 use Rattle.execmodel.specs.Lists.{with_nodes, unlinked, left_by}
@@ -23,6 +25,7 @@ use Rattle.execmodel.specs.Semaphores.{with_semaphore, left_by_task, entered, qu
 use Rattle.execmodel.specs.Libraries.{with_library}
 use Rattle.execmodel.proofs.Heaps.{rid}
 use Rattle.execmodel.proofs.Commands.{Touches, remains, fills, puts, gets, none_some}
+use Rattle.execmodel.proofs.Asking.{Asks, writes, answers, written, without_reply}
 use Rattle.execmodel.proofs.Moves.{Moves, touches, places, frees, relists, unlinks, sets, enters, queues, hands, opens, releases, counts, expunges, drops}
 
 -- where a block lies, and how long it is
@@ -89,7 +92,7 @@ moves_formed regions t call old marks new (touches how) formed = touched_formed 
 moves_formed regions t call old marks new (places size reqs address object is fits) formed =
     subst (λ bs. IsWellFormed regions bs) (sym (extents_put address (round size) object old))
     (fitted_well_formed regions (extents old) size reqs 0 address formed fits)
-moves_formed regions t call old marks new (frees address may) formed =
+moves_formed regions t call old marks new (frees address may unneeded) formed =
     subst (λ bs. IsWellFormed regions bs) (sym (extents_rid address old)) (freed_well_formed regions (extents old) address formed)
 moves_formed regions t call old marks new (relists list nodes is) formed =
     same_extents regions old new (extents_replaced list _ old) formed
@@ -109,6 +112,25 @@ moves_formed regions t call old marks new (expunges base is may) formed =
     subst (λ bs. IsWellFormed regions bs) (sym (extents_rid base old)) (freed_well_formed regions (extents old) base formed)
 moves_formed regions t call old marks new (drops other apart) formed =
     same_extents regions old new (extents_remade (left_by_task other) old) formed
+
+-- whatever a call does on a request, and the clock
+written_extents : (request : ℕ) (content : TimerRequest) (heap : Heap) → extents (with_request request content heap) ≡ extents heap
+written_extents request content heap =
+    written (λ h. extents h ≡ extents heap) request content heap refl (λ is. extents_replaced request (Request content) heap)
+
+pub asked_formed : (regions : List Region) (s : State) (marks : List Mark) (new : Heap) (later : List Queued) → Asks s marks new later
+    → IsWellFormed regions (extents s.memory.heap) → IsWellFormed regions (extents new)
+unfolding with_port appended
+asked_formed regions s marks new later (writes request content waiting rewritten) formed =
+    same_extents regions s.memory.heap new (written_extents request content s.memory.heap) formed
+asked_formed regions s marks new later (answers port request content waiting is rewritten reply) formed =
+    same_extents regions s.memory.heap new (extents_replaced port _ _ ∙ written_extents request content s.memory.heap) formed
+
+pub taken_formed : (regions : List Region) (port request : ℕ) (heap : Heap) → IsWellFormed regions (extents heap)
+    → IsWellFormed regions (extents (without_reply port request heap))
+unfolding with_port
+taken_formed regions port request heap formed =
+    same_extents regions heap (without_reply port request heap) (extents_replaced port _ heap) formed
 
 -- ---- an object is placed where none begins
 

@@ -19,11 +19,17 @@ use Rattle.taskscript.specs.declared.word.ports.PortWord.TheVariants as ports
 use Rattle.taskscript.specs.declared.word.semaphores.SemaphoreWord.TheVariants as semaphores
 use Rattle.taskscript.specs.declared.word.interrupts.InterruptWord.TheVariants as interrupts
 use Rattle.taskscript.specs.declared.word.libraries.LibraryWord.TheVariants as libraries
+use Rattle.taskscript.specs.declared.word.requests.RequestWord.TheVariants as requests
+use Rattle.iorequest.specs.declared.request.ReqState.{ReqState}
+use Rattle.iorequest.specs.declared.request.ReqState.TheVariants.{Idle, UnderWay, Quick, Replied}
+use Rattle.iorequest.specs.declared.request.Begun.{Begun}
+use Rattle.iorequest.specs.declared.request.Begun.TheVariants.{Finish, Queue}
+use Rattle.iorequest.specs.Request.{idle_request, is_under_way}
 use Rattle.sigsem.specs.declared.semaphore.Obtained.{Obtained}
 use Rattle.msgport.specs.declared.action.Action.{Action}
 use Rattle.msgport.specs.declared.action.Action.TheVariants as action
 use Rattle.sigsem.specs.declared.semaphore.Obtained.TheVariants.{Owner, Waits}
-use Rattle.execmodel.specs.State.{Call, Object, Plain, ListHead, Library, Memory, Pending, Program, Scripts, State, Outcome, no_program, on_schedule, on_scripts, on_memory}
+use Rattle.execmodel.specs.State.{Call, Object, Plain, ListHead, Library, Request, Timer, Memory, Pending, Program, Scripts, State, Outcome, no_program, on_schedule, on_scripts, on_memory}
 use Rattle.execmodel.specs.Pending.{arrived, is_caused, causes, softint_named}
 use Rattle.execmodel.specs.Causing.{does_cause}
 use Rattle.execmodel.specs.Libraries.{base_of, count_of, is_delayed, library_at, library_to_open, library_opened, entered_or_loaded, opened, closed, removed as library_removed, library_alert, close_alert, does_open_library, does_close_library, does_rem_library, does_lib_open_cnt}
@@ -38,7 +44,8 @@ use Rattle.execmodel.specs.Memory.{allocates, placed, place_for, alloc_alert, fr
 use Rattle.execmodel.specs.Lists.{is_list, list_size, is_node, node_size, free_list_alert, new_node_alert, free_node_alert, link_alert, insert_alert, linked_alert, list_alert, find_alert, does_new_list, does_free_list, does_new_node, does_free_node, does_add_head, does_add_tail, does_enqueue, does_insert, does_remove, does_rem_head, does_rem_tail, does_first, does_last, does_succ, does_pred, does_find_name}
 use Rattle.execmodel.specs.Ports.{is_port, is_message, port_size, message_size, port_created, port_alert, message_alert, port_of, loses, messages_of, content_of, delete_alert, add_port_alert, rem_port_alert, reply_port_alert, loose_alert, put_alert, reply_alert, wait_alert, made_public, made_private, replied, delivered, performed, taken, looked, does_create_msg_port, does_delete_msg_port, does_add_port, does_rem_port, does_find_port, does_port_signal, does_port_cause, does_port_ignore, does_new_msg, does_free_msg, does_msg_word, does_set_msg_word, does_msg_type, does_put_msg, does_get_msg, does_wait_port, does_reply_msg}
 use Rattle.execmodel.specs.Semaphores.{awaited_by, free_sem_alert, heir, is_semaphore, is_tried_again, leaving_queue, obtain_alert, obtains, outcome_for, passes, release_alert, sem_of, semaphore_size, woken, does_new_sem, does_free_sem, does_obtain_semaphore, does_attempt_semaphore, does_release_semaphore}
-use Rattle.execmodel.specs.Keeping.{without_progress, without_progress_of, without_states, without_priorities, without_signals, beside_plain, beside_signals, beside_nestings, beside_memory, beside_ports, beside_interrupts, beside_semaphores, beside_tasks, without_caused, PlainWordsChangeScripts, SignalWordsChangeSignalsAndStates, NestingWordsChangeNestings, TaskWordsChangeStatesPrioritiesAndObjects, ListWordsChangeTheMemory, MemoryWordsChangeTheMemory, PortWordsChangePortsSignalsAndStates, SemaphoreWordsChangeStatesAndObjects, InterruptWordsChangeWhatIsCaused, LibraryWordsChangeTheMemory}
+use Rattle.execmodel.specs.Requests.{is_request, request_size, request_of, request_alert, resting_alert, delete_request_alert, send_alert, do_alert, wait_io_alert, set_io_alert, answering_port, acting_at, with_reply, ended, outcome_at, timer_begun, begun_at, replying_port, looks_for, aborts, does_create_io_request, does_delete_io_request, does_open_device, does_close_device, does_set_io, does_do_io, does_send_io, does_check_io, does_wait_io, does_abort_io, does_io_secs, does_io_micros, does_io_error, does_io_flags}
+use Rattle.execmodel.specs.Keeping.{without_progress, without_progress_of, without_states, without_priorities, without_signals, beside_plain, beside_signals, beside_nestings, beside_memory, beside_ports, beside_interrupts, beside_semaphores, beside_tasks, beside_requests, without_caused, without_waiting, without_blocks_and_waiting, PlainWordsChangeScripts, SignalWordsChangeSignalsAndStates, NestingWordsChangeNestings, TaskWordsChangeStatesPrioritiesAndObjects, ListWordsChangeTheMemory, MemoryWordsChangeTheMemory, PortWordsChangePortsSignalsAndStates, SemaphoreWordsChangeStatesAndObjects, InterruptWordsChangeWhatIsCaused, LibraryWordsChangeTheMemory, RequestWordsChangeRequestsPortsSignalsAndStates}
 
 -- a part that both ways keep
 either : {A : Type 0} (part : State → A) (a : A) (test : Bool) (o p : Outcome) → part o.state ≡ a → part p.state ≡ a
@@ -438,3 +445,102 @@ library_words_change_the_memory libraries.RemLibrary t call s =
     (blocks_change (library_removed (argument 0 call)) s (either_memory (nat_eq (count_of (argument 0 call) s.memory.heap) 0) _ _ s.memory refl refl))
 library_words_change_the_memory libraries.LibOpenCnt t call s =
     unless_keeps beside_memory (library_alert (argument 0 call) s.memory.heap) t call _ s refl refl
+
+-- ---- requests
+
+-- a state in whose schedule signals and the tasks' states change alone, or in whose memory the blocks and the requests that wait
+request_signals_change : (f : Schedule → Schedule) (s : State) → beside_waits (f s.schedule) ≡ beside_waits s.schedule
+    → beside_requests (on_schedule f s) ≡ beside_requests s
+request_signals_change f s keeps = ap (λ (r : Schedule). record (beside_requests s) { schedule = r }) keeps
+
+waiting_change : (f : Memory → Memory) (s : State) → without_blocks_and_waiting (f s.memory) ≡ without_blocks_and_waiting s.memory
+    → beside_requests (on_memory f s) ≡ beside_requests s
+waiting_change f s keeps = ap (λ (memory : Memory). record (beside_requests s) { memory = memory }) keeps
+
+acted_keeps : (act : Action) (s : State) → beside_requests (performed act s) ≡ beside_requests s
+unfolding causes
+acted_keeps (action.Signal task mask) s = request_signals_change (signalled task mask) s (signalled_keeps task mask s.schedule)
+acted_keeps (action.Cause i) s = ap (λ (pending : Pending). record (beside_requests s) { pending = pending }) (caused_keeps i s)
+acted_keeps action.Nothing s = refl
+
+-- a mark is all that a reply leaves beside what it does
+reply_keeps : (port : Option ℕ) (request : ℕ) (o : Outcome) (s : State) → beside_requests o.state ≡ beside_requests s
+    → beside_requests (with_reply port request o).state ≡ beside_requests s
+reply_keeps None request o s keeps = keeps
+reply_keeps (Some port) request o s keeps = keeps
+
+timer_keeps : (how : Begun) (request : ℕ) (timer : Timer) → without_waiting (timer_begun how request timer) ≡ without_waiting timer
+timer_keeps (Queue due) request timer = refl
+timer_keeps (Finish error) request timer = refl
+
+begun_keeps : (quick : Bool) (request : ℕ) (s : State) → beside_requests (on_memory (begun_at quick request) s) ≡ beside_requests s
+unfolding begun_at
+begun_keeps quick request s =
+    waiting_change (begun_at quick request) s
+    (ap (λ (timer : Timer). record s.memory { heap = []; timer = timer }) (timer_keeps (outcome_at request s.memory) request s.memory.timer))
+
+looks_keeps : (how : ReqState) (request t : ℕ) (call : Call) (s r : State) → beside_requests r ≡ beside_requests s
+    → beside_requests (looks_for how request t call r).state ≡ beside_requests s
+unfolding waiting answered
+looks_keeps Idle request t call s r keeps = keeps
+looks_keeps UnderWay request t call s r keeps = request_signals_change (clears_and_waits t _) r (clears_keeps t _ r.schedule) ∙ keeps
+looks_keeps Quick request t call s r keeps = keeps
+looks_keeps Replied request t call s r keeps = keeps
+
+wait_io_keeps : (t : ℕ) (call : Call) (s : State) → beside_requests (does_wait_io t call s).state ≡ beside_requests s
+unfolding does_wait_io
+wait_io_keeps t call s =
+    unless_keeps beside_requests (wait_io_alert t (argument 0 call) s.memory.heap) t call _ s refl
+    (looks_keeps (request_of (argument 0 call) s.memory.heap).state (argument 0 call) t call s _
+    (request_signals_change (loses t call.awaited) s (sets_keeps t 0 call.awaited s.schedule)))
+
+aborts_keeps : (test : Bool) (request t : ℕ) (call : Call) (s : State) → beside_requests (aborts test request t call s).state ≡ beside_requests s
+unfolding answered ended
+aborts_keeps true request t call s =
+    let act = acting_at (answering_port request s.memory.heap) s.memory.heap in
+    let next = on_memory (ended (negsuc 1) request) s in
+    reply_keeps (answering_port request s.memory.heap) request (answered t call 0 (performed act next)) s
+    (acted_keeps act next ∙ waiting_change (ended (negsuc 1) request) s refl)
+aborts_keeps false request t call s = refl
+
+pub request_words_change_requests_ports_signals_and_states : RequestWordsChangeRequestsPortsSignalsAndStates
+unfolding does_create_io_request does_delete_io_request does_open_device does_close_device does_set_io does_do_io does_send_io does_check_io does_abort_io does_io_secs does_io_micros does_io_error does_io_flags done answered
+request_words_change_requests_ports_signals_and_states requests.CreateIORequest t call s =
+    either beside_requests _ (nat_eq (argument 0 call) 0) _ _ refl
+    (unless_keeps beside_requests (port_alert (argument 0 call) s.memory.heap) t call _ s refl
+    (allocates_keeps beside_requests request_size (Request (idle_request (argument 0 call))) (place_for_object is_request request_size s.memory) t call s refl
+    (λ address. refl)))
+request_words_change_requests_ports_signals_and_states requests.DeleteIORequest t call s =
+    either beside_requests _ (nat_eq (argument 0 call) 0) _ _ refl
+    (unless_keeps beside_requests (delete_request_alert (argument 0 call) s.memory.heap) t call _ s refl refl)
+request_words_change_requests_ports_signals_and_states requests.OpenDevice t call s =
+    unless_keeps beside_requests (resting_alert (argument 2 call) s.memory.heap) t call _ s refl refl
+request_words_change_requests_ports_signals_and_states requests.CloseDevice t call s =
+    unless_keeps beside_requests (resting_alert (argument 0 call) s.memory.heap) t call _ s refl refl
+request_words_change_requests_ports_signals_and_states requests.SetIO t call s =
+    unless_keeps beside_requests (set_io_alert (argument 1 call) (argument 0 call) s.memory.heap) t call _ s refl refl
+request_words_change_requests_ports_signals_and_states requests.DoIO t call s =
+    let next = on_memory (begun_at true (argument 0 call)) s in
+    either beside_requests _ (is_tried_again t s.scripts) _ _ (wait_io_keeps t call s)
+    (unless_keeps beside_requests (do_alert t (argument 0 call) s.memory.heap) t call _ s refl
+    (looks_keeps (request_of (argument 0 call) next.memory.heap).state (argument 0 call) t call s next (begun_keeps true (argument 0 call) s)))
+request_words_change_requests_ports_signals_and_states requests.SendIO t call s =
+    let port = replying_port false (argument 0 call) s.memory in
+    let act = acting_at port s.memory.heap in
+    let next = on_memory (begun_at false (argument 0 call)) s in
+    unless_keeps beside_requests (send_alert (argument 0 call) s.memory.heap) t call _ s refl
+    (reply_keeps port (argument 0 call) (done t call (performed act next)) s (acted_keeps act next ∙ begun_keeps false (argument 0 call) s))
+request_words_change_requests_ports_signals_and_states requests.CheckIO t call s =
+    unless_keeps beside_requests (request_alert (argument 0 call) s.memory.heap) t call _ s refl refl
+request_words_change_requests_ports_signals_and_states requests.WaitIO t call s = wait_io_keeps t call s
+request_words_change_requests_ports_signals_and_states requests.AbortIO t call s =
+    unless_keeps beside_requests (request_alert (argument 0 call) s.memory.heap) t call _ s refl
+    (aborts_keeps (is_under_way (request_of (argument 0 call) s.memory.heap)) (argument 0 call) t call s)
+request_words_change_requests_ports_signals_and_states requests.IOSecs t call s =
+    unless_keeps beside_requests (request_alert (argument 0 call) s.memory.heap) t call _ s refl refl
+request_words_change_requests_ports_signals_and_states requests.IOMicros t call s =
+    unless_keeps beside_requests (request_alert (argument 0 call) s.memory.heap) t call _ s refl refl
+request_words_change_requests_ports_signals_and_states requests.IOError t call s =
+    unless_keeps beside_requests (request_alert (argument 0 call) s.memory.heap) t call _ s refl refl
+request_words_change_requests_ports_signals_and_states requests.IOFlags t call s =
+    unless_keeps beside_requests (request_alert (argument 0 call) s.memory.heap) t call _ s refl refl

@@ -1,7 +1,9 @@
 pub mod Agreement
+pub mod Asking
 pub mod Bits
 pub mod BodyActions
 pub mod Chains
+pub mod ClockLaw
 pub mod Commands
 pub mod Keeping
 pub mod Fifo
@@ -17,8 +19,10 @@ pub mod OwnersLaw
 pub mod Moments
 pub mod Moves
 pub mod Passing
+pub mod Posts
 pub mod Queues
 pub mod Received
+pub mod RequestsLaw
 pub mod Saying
 pub mod Servings
 pub mod Settled
@@ -26,5 +30,8 @@ pub mod Shifts
 pub mod Stopped
 pub mod Stretches
 pub mod Switching
+pub mod Tidy
+pub mod TidyLaw
 pub mod Waiting
 pub mod WaitingLaw
+pub mod Works

@@ -9,8 +9,9 @@ use Rattle.std.specs.FinMap.Entries.{find-put}
 use Rattle.memlist.specs.declared.region.Region.{Region}
 use Rattle.memlist.specs.Memory.{IsWellFormed}
 use Rattle.memlist.proofs.Answered.{nat_eq-same, nat_eq-other, cases_eq, key_other}
-use Rattle.softint.specs.declared.source.Source.TheVariants.{Vertb}
-use Rattle.execmodel.specs.State.{Call, Object, Plain, ListHead, Node, MsgPort, Message, Semaphore, Library, Block, Heap, Mark, State, quiet, andthen, on_schedule}
+use Rattle.iorequest.specs.declared.request.Request.{Request as TimerRequest}
+use Rattle.execmodel.specs.Requests.{is_request, is_request_at, with_request}
+use Rattle.execmodel.specs.State.{Call, Object, Plain, ListHead, Node, MsgPort, Message, Semaphore, Library, Request, Block, Heap, Waiting as Queued, Mark, State, Outcome, quiet, andthen, on_schedule}
 use Rattle.execmodel.specs.Calls.{next_call}
 use Rattle.execmodel.specs.Scheduling.{rescheduled}
 use Rattle.execmodel.specs.Pending.{next_softint}
@@ -25,11 +26,14 @@ use Rattle.execmodel.specs.Step.{switches, settle, ends, does, call_step, task_s
 use Rattle.execmodel.specs.Laws.{Action, OneStep, OneTick, OneRequest, performed, IsLastClose, StaysLoaded, OpenLibrariesStay}
 use Rattle.execmodel.proofs.Heaps.{block_remade, found_rid, rid, filled, true_is_not_false}
 use Rattle.execmodel.proofs.Formed.{placed_fresh}
-use Rattle.execmodel.proofs.Fifo.{port_stays}
-use Rattle.execmodel.proofs.Stretches.{Relation, HoldsOfInterrupts, of_softint, of_settle, of_request}
+use Rattle.execmodel.proofs.Stretches.{Relation, HoldsOfInterrupts, of_softint, of_settle, of_request, ticked}
 use Rattle.execmodel.proofs.Commands.{Touches, remains, fills, puts, gets, body_alters}
-use Rattle.execmodel.proofs.Moves.{IsLastClosing, MayGo, Moves, touches, places, frees, relists, unlinks, sets, enters, queues, hands, opens, releases, counts, expunges, drops, call_makes}
-use Rattle.execmodel.proofs.FifoLaw.{FormedState, quietly, switches_quiet, formed_in_every_state}
+use Rattle.execmodel.proofs.Moves.{IsLastClosing, MayGo, Moves, touches, places, frees, relists, unlinks, sets, enters, queues, hands, opens, releases, counts, expunges, drops}
+use Rattle.execmodel.specs.Requests.{finishes}
+use Rattle.execmodel.proofs.Posts.{IsTidy}
+use Rattle.execmodel.proofs.Asking.{Asks, writes, answers, written, without_reply, finishing}
+use Rattle.execmodel.proofs.Works.{Works, by_moves, by_asking, by_taking, call_works}
+use Rattle.execmodel.proofs.TidyLaw.{quietly, switches_quiet, tidy_in_every_state}
 
 -- ---- a library is nothing else
 
@@ -38,9 +42,11 @@ pub record IsAlone (object : Object) : Type 0 where
   pub port : is_port object ≡ false
   pub message : is_message object ≡ false
   pub semaphore : is_semaphore object ≡ false
+  pub request : is_request object ≡ false
 
 alone : (object : Object) → is_library object ≡ true → IsAlone object
-alone (Library number count delayed) is = record { list = refl; port = refl; message = refl; semaphore = refl }
+alone (Library number count delayed) is = record { list = refl; port = refl; message = refl; semaphore = refl; request = refl }
+alone (Request content) is = true_is_not_false (sym is)
 alone Plain is = true_is_not_false (sym is)
 alone (ListHead nodes) is = true_is_not_false (sym is)
 alone (Node key) is = true_is_not_false (sym is)
@@ -68,6 +74,7 @@ not_gone (Some (MsgPort port messages)) may is = true_is_not_false (sym is)
 not_gone (Some (Message content)) may is = true_is_not_false (sym is)
 not_gone (Some (Semaphore sem waiters)) may is = true_is_not_false (sym is)
 not_gone (Some (Library number count delayed)) may is = may
+not_gone (Some (Request content)) may is = true_is_not_false (sym is)
 
 -- ---- the block at an address where nothing changes
 
@@ -106,6 +113,7 @@ block_remade_alike f same a heap is =
 
 left_alone : (node : ℕ) (object : Object) → is_library object ≡ true → left_by node object ≡ object
 left_alone node (Library number count delayed) is = refl
+left_alone node (Request content) is = refl
 left_alone node Plain is = refl
 left_alone node (ListHead nodes) is = true_is_not_false (sym is)
 left_alone node (Node key) is = refl
@@ -115,6 +123,7 @@ left_alone node (Semaphore sem waiters) is = refl
 
 task_left_alone : (t : ℕ) (object : Object) → is_library object ≡ true → left_by_task t object ≡ object
 task_left_alone t (Library number count delayed) is = refl
+task_left_alone t (Request content) is = refl
 task_left_alone t Plain is = refl
 task_left_alone t (ListHead nodes) is = refl
 task_left_alone t (Node key) is = refl
@@ -180,6 +189,29 @@ touched_keep old marks new (puts port message content there also loose) base is 
 touched_keep old marks new (gets port message there e) base is =
     block_elsewhere base port _ old (apart_from is_port (λ object l. (alone object l).port) base port old is there)
 
+-- nor does what a call makes of requests, or the clock
+written_block : (request : ℕ) (content : TimerRequest) (base : ℕ) (heap : Heap) → is_library_at base heap ≡ true
+    → block_at base (with_request request content heap) ≡ block_at base heap
+unfolding is_request_at
+written_block request content base heap is =
+    written (λ h. block_at base h ≡ block_at base heap) request content heap refl
+    (λ there. block_elsewhere base request (Request content) heap (apart_from is_request (λ object l. (alone object l).request) base request heap is there))
+
+pub asked_keep : (s : State) (marks : List Mark) (new : Heap) (later : List Queued) → Asks s marks new later → (base : ℕ)
+    → is_library_at base s.memory.heap ≡ true → block_at base new ≡ block_at base s.memory.heap
+unfolding with_port appended is_port_at
+asked_keep s marks new later (writes request content waiting rewritten) base is = written_block request content base s.memory.heap is
+asked_keep s marks new later (answers port request content waiting there rewritten reply) base is =
+    block_elsewhere base port _ (with_request request content s.memory.heap)
+    (apart_from is_port (λ object l. (alone object l).port) base port s.memory.heap is there)
+    ∙ written_block request content base s.memory.heap is
+
+taken_keep : (port request : ℕ) (heap : Heap) → is_port_at port heap ≡ true → (base : ℕ) → is_library_at base heap ≡ true
+    → block_at base (without_reply port request heap) ≡ block_at base heap
+unfolding with_port is_port_at
+taken_keep port request heap there base is =
+    block_elsewhere base port _ heap (apart_from is_port (λ object l. (alone object l).port) base port heap is there)
+
 fresh_apart : (found : Option Object) → is_kind is_library found ≡ true → found ≡ None → ⊥
 fresh_apart None is e = true_is_not_false (sym is)
 fresh_apart (Some object) is e = let bad : true ≡ false = sym is ∙ ap (λ x. is_kind is_library x) e in true_is_not_false bad
@@ -197,7 +229,7 @@ moves_keep regions t call old marks new (touches how) formed base is opened = in
 moves_keep regions t call old marks new (places size reqs address object fresh fits) formed base is opened =
     inl (still base old new is (block_placed_there base address _ old
     (λ same. fresh_apart (object_at base old) (unfold is_library_at in is) (ap (λ a. object_at a old) same ∙ placed_fresh regions size reqs address old formed fits))))
-moves_keep regions t call old marks new (frees address may) formed base is opened =
+moves_keep regions t call old marks new (frees address may unneeded) formed base is opened =
     inl (still base old new is (block_rid_there base address old
     (λ same. not_gone (object_at address old) may (subst (λ a. is_kind is_library (object_at a old) ≡ true) same (unfold is_library_at in is)))))
 moves_keep regions t call old marks new (relists list nodes there) formed base is opened =
@@ -247,6 +279,8 @@ kept base = record {
   commanding = λ name command s is.
       touched_keep s.memory.heap (body_step name command s).marks (body_step name command s).state.memory.heap (body_alters name command s).blocks base is;
   pending = λ f s is. refl;
+  finishing = λ request s due is.
+      asked_keep s _ (finishes request s).state.memory.heap (finishes request s).state.memory.timer.waiting (finishing request s due).asks base is;
   ticking = λ s is. refl;
   switching = λ s. quietly (Kept base) s (switches s) (on_schedule rescheduled s) (switches_quiet s) (λ is. refl);
 }
@@ -255,16 +289,26 @@ kept base = record {
 abbrev Keeps : ℕ → State → Heap → Type 0
 Keeps base s heap = StaysLoaded base s.memory.heap heap ⊎ IsLastClose base s
 
-module _ (base : ℕ) (s : State) (formed : FormedState s) (is : is_library_at base s.memory.heap ≡ true) (opened : 1 ≤ count_of base s.memory.heap) where
+module _ (base : ℕ) (s : State) (tidy : IsTidy s) (is : is_library_at base s.memory.heap ≡ true) (opened : 1 ≤ count_of base s.memory.heap) where
   itself : StaysLoaded base s.memory.heap s.memory.heap
   itself = still base s.memory.heap s.memory.heap is refl
+
+  called_keep : (t : ℕ) (call : Call) (o : Outcome) → Works t call s o
+      → StaysLoaded base s.memory.heap o.state.memory.heap ⊎ IsLastClosing call base s.memory.heap
+  called_keep t call o (by_moves makes same) =
+      moves_keep s.memory.regions t call s.memory.heap o.marks o.state.memory.heap makes.1 tidy.formed base is opened
+  called_keep t call o (by_asking regions asks) =
+      inl (still base s.memory.heap o.state.memory.heap is (asked_keep s o.marks o.state.memory.heap o.state.memory.timer.waiting asks base is))
+  called_keep t call o (by_taking port request regions same marks heap lives) =
+      inl (still base s.memory.heap o.state.memory.heap is
+      (ap (λ h. block_at base h) heap ∙ taken_keep port request s.memory.heap (lives tidy) base is))
 
   called : (t : ℕ) (call : Option Call) → next_softint s ≡ None → s.schedule.running ≡ Some t → next_call t s.scripts ≡ call
       → Keeps base s (call_step t call s).state.memory.heap
   unfolding ends
   called t None first runs calls = inl itself
   called t (Some call) first runs calls =
-      elim (moves_keep s.memory.regions t call s.memory.heap (does t call s).marks (does t call s).state.memory.heap (call_makes t call s).1 formed base is opened) [
+      elim (called_keep t call (does t call s) (call_works t call s)) [
         | inl stays ↦ inl stays
         | inr last ↦ inr (record {
           t = t;
@@ -298,9 +342,9 @@ module _ (base : ℕ) (s : State) (formed : FormedState s) (is : is_library_at b
   unfolding step tick andthen acts
   at_action OneStep =
       elim (settled (acts s).state (acted s.stopped)) [ inl stays ↦ inl stays | inr last ↦ inr (refl, last) ]
-  at_action OneTick = inl (still base s.memory.heap _ is (of_request (Kept base) (kept base) Vertb s is))
+  at_action OneTick = inl (still base s.memory.heap _ is (ticked (Kept base) (kept base) (λ r there. refl) s is))
   at_action (OneRequest asks) = inl (still base s.memory.heap _ is (of_request (Kept base) (kept base) asks s is))
 
 pub open_libraries_stay : OpenLibrariesStay
 open_libraries_stay base machine list action is there opened =
-    at_action base (run machine list).state (formed_in_every_state machine list is) there opened action
+    at_action base (run machine list).state (tidy_in_every_state machine list is) there opened action

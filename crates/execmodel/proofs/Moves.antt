@@ -18,7 +18,6 @@ use Rattle.msgport.specs.Port.{new_port}
 use Rattle.msgport.specs.declared.action.PortAction.{PortAction}
 use Rattle.sigsem.specs.declared.semaphore.Obtained.TheVariants.{Owner, Waits}
 use Rattle.sigsem.specs.Semaphores.{free_sem}
-use Rattle.taskscript.specs.declared.word.Word.{Word}
 use Rattle.taskscript.specs.declared.word.Word.TheVariants as group
 use Rattle.taskscript.specs.declared.word.plain.PlainWord.{PlainWord}
 use Rattle.taskscript.specs.declared.word.plain.PlainWord.TheVariants as plain
@@ -40,7 +39,8 @@ use Rattle.taskscript.specs.declared.word.interrupts.InterruptWord.{InterruptWor
 use Rattle.taskscript.specs.declared.word.interrupts.InterruptWord.TheVariants as interrupts
 use Rattle.taskscript.specs.declared.word.libraries.LibraryWord.{LibraryWord}
 use Rattle.taskscript.specs.declared.word.libraries.LibraryWord.TheVariants as libraries
-use Rattle.execmodel.specs.State.{Call, Object, Plain, ListHead, Node, MsgPort, Message, Semaphore, Library, Block, Heap, Memory, Mark, asked, passed, left, State, Outcome, on_schedule, on_memory, on_heap}
+use Rattle.iorequest.specs.Request.{is_under_way}
+use Rattle.execmodel.specs.State.{Call, Object, Plain, ListHead, Node, MsgPort, Message, Semaphore, Library, Request, Block, Heap, Memory, Mark, asked, passed, left, State, Outcome, on_schedule, on_memory, on_heap}
 use Rattle.execmodel.specs.Calls.{ByTask, argument, name_argument, done, answered, waiting, silent, alerted, unless}
 use Rattle.execmodel.specs.Plain.{does_plain, does_set, does_add, does_sub, does_and, does_or, jumps, does_jump, does_jump_zero, does_jump_not_zero, does_print}
 use Rattle.execmodel.specs.Signals.{mask_alert, free_signal_alert, signal_alert, waited, does_signals, does_alloc_signal, does_free_signal, does_set_signal, does_signal, does_wait}
@@ -49,16 +49,16 @@ use Rattle.execmodel.specs.Tasks.{live_task_alert, set_task_pri_alert, add_task_
 use Rattle.execmodel.specs.Objects.{object_at, is_kind, place_for_object, live}
 use Rattle.execmodel.specs.Memory.{extents, allocates, placed, freed, place_for, block_at, is_named, is_plain, alloc_alert, free_alert, avail_alert, does_memory, does_alloc_mem, does_free_mem, does_avail_mem}
 use Rattle.execmodel.specs.Lists.{is_list, list_size, is_node, node_size, is_list_at, is_node_at, with_nodes, unlinked, free_list_alert, new_node_alert, free_node_alert, link_alert, insert_alert, linked_alert, list_alert, find_alert, added_head, added_tail, enqueued, inserted, removed_head, removed_tail, does_lists, does_new_list, does_free_list, does_new_node, does_free_node, does_add_head, does_add_tail, does_enqueue, does_insert, does_remove, does_rem_head, does_rem_tail, does_first, does_last, does_succ, does_pred, does_find_name}
-use Rattle.execmodel.specs.Ports.{is_port, is_message, is_port_at, is_message_at, port_size, message_size, port_created, port_alert, message_alert, messages_of, messages_of_object, loses, with_action, with_word, delete_alert, add_port_alert, rem_port_alert, reply_port_alert, loose_alert, wait_alert, made_public, made_private, looked, does_ports, does_create_msg_port, does_delete_msg_port, does_add_port, does_rem_port, does_find_port, does_port_signal, does_port_cause, does_port_ignore, does_new_msg, does_free_msg, does_msg_word, does_set_msg_word, does_msg_type, does_put_msg, does_get_msg, does_wait_port, does_reply_msg}
+use Rattle.execmodel.specs.Ports.{is_port, is_message, is_port_at, is_message_at, port_size, message_size, port_created, port_alert, message_alert, messages_of, messages_of_object, loses, with_action, with_word, is_queued, is_public, is_awaited_at, delete_alert, add_port_alert, rem_port_alert, reply_port_alert, loose_alert, wait_alert, made_public, made_private, looked, does_ports, does_create_msg_port, does_delete_msg_port, does_add_port, does_rem_port, does_find_port, does_port_signal, does_port_cause, does_port_ignore, does_new_msg, does_free_msg, does_msg_word, does_set_msg_word, does_msg_type, does_put_msg, does_get_msg, does_wait_port, does_reply_msg}
 use Rattle.execmodel.specs.Semaphores.{awaited_by, dropped, entered, queued, handed_on, released_once, obtained, attempted, released, is_open, is_last, is_owned, is_owner, is_semaphore_at, waiters_of, free_sem_alert, heir, is_semaphore, is_tried_again, leaving_queue, obtain_alert, obtains, passes, release_alert, sem_of, sem_of_object, semaphore_size, does_semaphores, does_new_sem, does_free_sem, does_obtain_semaphore, does_attempt_semaphore, does_release_semaphore}
 use Rattle.execmodel.specs.Causing.{does_interrupts, does_cause}
-use Rattle.execmodel.specs.Libraries.{is_library_at, count_of, is_delayed, with_library, base_of, library_at, library_alert, library_to_open, library_opened, entered_or_loaded, opening, opened, close_alert, closed, removed, does_libraries, does_open_library, does_close_library, does_rem_library, does_lib_open_cnt}
-use Rattle.execmodel.specs.Step.{does, does_word}
+use Rattle.execmodel.specs.Libraries.{is_library_at, count_of, is_delayed, with_library, base_of, library_at, library_alert, library_to_open, library_opened, entered_or_loaded, opened, close_alert, closed, removed, does_libraries, does_open_library, does_close_library, does_rem_library, does_lib_open_cnt}
 use Rattle.execmodel.proofs.Heaps.{rid, true_is_not_false}
+use Rattle.execmodel.proofs.Posts.{Other, post_in, post_of_object, post_at, is_a_port, is_mail, port_there, message_there}
 use Rattle.execmodel.proofs.Loaded.{base_is_loaded}
 use Rattle.execmodel.proofs.Commands.{Touches, remains, IsAltered, none_some, passed_first, passed_other, is_port_there, is_message_there, is_loose_there, gives, put_alters, get_alters, reply_alters, cause_alters}
 
--- a new object: an empty list or port, a semaphore that no task owns and none waits for, or what has no queue
+-- a new object: an empty list or port, a semaphore that no task owns and none waits for, a request that is not under way, or what has no queue
 abbrev pub IsNew : Object → Type 0
 IsNew Plain = Unit {0}
 IsNew (ListHead nodes) = nodes ≡ []
@@ -67,8 +67,9 @@ IsNew (MsgPort port messages) = messages ≡ []
 IsNew (Message content) = Unit {0}
 IsNew (Semaphore sem waiters) = (sem ≡ free_sem) × (waiters ≡ [])
 IsNew (Library number count delayed) = Unit {0}
+IsNew (Request content) = is_under_way content ≡ false
 
--- an object that may be freed: a port has to be empty, and a semaphore free
+-- an object that may be freed: a port has to be empty, a semaphore free, and a request not under way
 abbrev pub MayGo : Option Object → Type 0
 MayGo None = Unit {0}
 MayGo (Some Plain) = Unit {0}
@@ -78,6 +79,12 @@ MayGo (Some (MsgPort port messages)) = first messages ≡ None
 MayGo (Some (Message content)) = Unit {0}
 MayGo (Some (Semaphore sem waiters)) = is_owned sem ≡ false
 MayGo (Some (Library number count delayed)) = ⊥
+MayGo (Some (Request content)) = is_under_way content ≡ false
+
+-- nothing needs what begins at an address: no request under way has it as reply port, and no port has it
+pub record IsUnneeded (address : ℕ) (heap : Heap) : Type 0 where
+  pub unawaited : is_a_port (post_at heap address) ≡ true → is_awaited_at address heap ≡ false
+  pub unqueued : is_mail (post_at heap address) ≡ true → is_queued address heap ≡ false
 
 -- the marks of a task that is removed
 abbrev pub leaving_marks : Option ℕ → ℕ → List Mark
@@ -106,7 +113,7 @@ pub data Moves (regions : List Region) (t : ℕ) (call : Call) : Heap → List M
   touches : {old new : Heap} {marks : List Mark} → Touches old marks new → Moves regions t call old marks new
   places : {heap : Heap} (size reqs address : ℕ) (object : Object) → IsNew object → fit regions (extents heap) size reqs ≡ Some address
       → Moves regions t call heap [] (put_entry nat_cmp address (record { size = round size; object = object }) heap)
-  frees : {heap : Heap} (address : ℕ) → MayGo (object_at address heap) → Moves regions t call heap [] (rid address heap)
+  frees : {heap : Heap} (address : ℕ) → MayGo (object_at address heap) → IsUnneeded address heap → Moves regions t call heap [] (rid address heap)
   relists : {heap : Heap} (list : ℕ) (nodes : List ℕ) → is_list_at list heap ≡ true → Moves regions t call heap [] (with_nodes list nodes heap)
   unlinks : {heap : Heap} (node : ℕ) → Moves regions t call heap [] (unlinked node heap)
   sets : {heap : Heap} (act : PortAction) (port : ℕ) → is_port_at port heap ≡ true → Moves regions t call heap [] (with_action act port heap)
@@ -130,12 +137,50 @@ abbrev pub Makes : ℕ → Call → State → Outcome → Type 0
 Makes t call s o = (o.state.memory.regions ≡ s.memory.regions) × Moves s.memory.regions t call s.memory.heap o.marks o.state.memory.heap
 
 -- nothing changes
-stays : {regions : List Region} {t : ℕ} {call : Call} {heap : Heap} → Moves regions t call heap [] heap
+pub stays : {regions : List Region} {t : ℕ} {call : Call} {heap : Heap} → Moves regions t call heap [] heap
 stays = touches remains
 
 -- what any caller may make of the blocks
 any_makes : (t : ℕ) (call : Call) (s : State) (o : Outcome) → IsAltered s o → Makes t call s o
 any_makes t call s o alters = (alters.regions, touches alters.blocks)
+
+-- ---- what is freed is needed by nobody
+
+other_unneeded : (address : ℕ) (heap : Heap) → post_at heap address ≡ Other → IsUnneeded address heap
+other_unneeded address heap e = record {
+  unawaited = λ is. true_is_not_false (sym is ∙ ap is_a_port e);
+  unqueued = λ is. true_is_not_false (sym is ∙ ap is_mail e);
+}
+
+pub mail_unneeded : (address : ℕ) (heap : Heap) → is_a_port (post_at heap address) ≡ false → is_queued address heap ≡ false → IsUnneeded address heap
+mail_unneeded address heap e loose = record { unawaited = λ is. true_is_not_false (sym is ∙ e); unqueued = λ is. loose }
+
+port_unneeded : (port : ℕ) (heap : Heap) → is_port_at port heap ≡ true → is_awaited_at port heap ≡ false → IsUnneeded port heap
+port_unneeded port heap is none =
+    record { unawaited = λ same. none; unqueued = λ mail. true_is_not_false (sym mail ∙ ap is_mail (port_there port heap is)) }
+
+pub list_other : (found : Option Object) → is_kind is_list found ≡ true → post_of_object found ≡ Other
+list_other None is = refl
+list_other (Some (ListHead nodes)) is = refl
+list_other (Some _) is = true_is_not_false (sym is)
+
+node_other : (found : Option Object) → is_kind is_node found ≡ true → post_of_object found ≡ Other
+node_other None is = refl
+node_other (Some (Node key)) is = refl
+node_other (Some _) is = true_is_not_false (sym is)
+
+pub semaphore_other : (found : Option Object) → is_kind is_semaphore found ≡ true → post_of_object found ≡ Other
+semaphore_other None is = refl
+semaphore_other (Some (Semaphore sem waiters)) is = refl
+semaphore_other (Some _) is = true_is_not_false (sym is)
+
+plain_other : (size : ℕ) (found : Option Block) → is_named size found ≡ true → post_of_object (option_map (λ (block : Block). block.object) found) ≡ Other
+plain_other size None is = refl
+plain_other size (Some block) is = of_object block.object _ _ is
+  where
+    of_object : (object : Object) (b c : Bool) → (is_plain object && b && c) ≡ true → post_in object ≡ Other
+    of_object Plain b c e = refl
+    of_object _ b c e = true_is_not_false (sym e)
 
 -- ---- tests that alerts rest on
 
@@ -151,15 +196,16 @@ plain_object (MsgPort port messages) b c e = true_is_not_false (sym e)
 plain_object (Message content) b c e = tt
 plain_object (Semaphore sem waiters) b c e = true_is_not_false (sym e)
 plain_object (Library number count delayed) b c e = true_is_not_false (sym e)
+plain_object (Request content) b c e = true_is_not_false (sym e)
 
 -- ---- calls that may be refused
 
-either_makes : (t : ℕ) (call : Call) (s : State) (test : Bool) (o p : Outcome) → (test ≡ true → Makes t call s o) → (test ≡ false → Makes t call s p)
+pub either_makes : (t : ℕ) (call : Call) (s : State) (test : Bool) (o p : Outcome) → (test ≡ true → Makes t call s o) → (test ≡ false → Makes t call s p)
     → Makes t call s (if test then o else p)
 either_makes t call s true o p one other = one refl
 either_makes t call s false o p one other = other refl
 
-unless_makes : (t : ℕ) (call : Call) (s : State) (alert : Option (List ℕ)) (effect : State → Outcome)
+pub unless_makes : (t : ℕ) (call : Call) (s : State) (alert : Option (List ℕ)) (effect : State → Outcome)
     → (alert ≡ None → Makes t call s (effect s)) → Makes t call s (unless alert t call effect s)
 unfolding alerted
 unless_makes t call s None effect makes = makes refl
@@ -177,7 +223,7 @@ fits_there : (test : Bool) (place : Option ℕ) (address : ℕ) → (if test the
 fits_there true place address e = e
 fits_there false place address e = none_some (sym e)
 
-object_makes : (t : ℕ) (call : Call) (s : State) (kind : Object → Bool) (size : ℕ) (object : Object) → IsNew object
+pub object_makes : (t : ℕ) (call : Call) (s : State) (kind : Object → Bool) (size : ℕ) (object : Object) → IsNew object
     → Makes t call s (allocates t call size object (place_for_object kind size s.memory) s)
 unfolding place_for_object
 object_makes t call s kind size object new =
@@ -186,7 +232,7 @@ object_makes t call s kind size object new =
 
 -- ---- plain words, signals, nesting
 
-plain_makes : (word : PlainWord) (t : ℕ) (call : Call) (s : State) → Makes t call s (does_plain word t call s)
+pub plain_makes : (word : PlainWord) (t : ℕ) (call : Call) (s : State) → Makes t call s (does_plain word t call s)
 unfolding does_set does_add does_sub does_and does_or jumps does_jump does_jump_zero does_jump_not_zero does_print done silent
 plain_makes plain.Set t call s = (refl, stays)
 plain_makes plain.Add t call s = (refl, stays)
@@ -203,7 +249,7 @@ unfolding waiting answered
 waited_makes t call None f s = (refl, stays)
 waited_makes t call (Some bits) f s = (refl, stays)
 
-signals_make : (word : SignalWord) (t : ℕ) (call : Call) (s : State) → Makes t call s (does_signals word t call s)
+pub signals_make : (word : SignalWord) (t : ℕ) (call : Call) (s : State) → Makes t call s (does_signals word t call s)
 unfolding does_alloc_signal does_free_signal does_set_signal does_signal does_wait done answered
 signals_make signals.AllocSignal t call s = (refl, stays)
 signals_make signals.FreeSignal t call s =
@@ -221,7 +267,7 @@ unfolding done alerted
 counted_makes t call None s = (refl, stays)
 counted_makes t call (Some nesting) s = (refl, stays)
 
-nesting_makes : (word : NestingWord) (t : ℕ) (call : Call) (s : State) → Makes t call s (does_nesting word t call s)
+pub nesting_makes : (word : NestingWord) (t : ℕ) (call : Call) (s : State) → Makes t call s (does_nesting word t call s)
 unfolding does_forbid does_permit does_disable does_enable
 nesting_makes nesting.Forbid t call s = counted_makes t call (after_forbid (nesting_of s.schedule t)) s
 nesting_makes nesting.Permit t call s = counted_makes t call (after_permit (nesting_of s.schedule t)) s
@@ -245,7 +291,7 @@ ended_makes : (t other : ℕ) (call : Call) (s : State) → other ≢ t → Make
 unfolding done
 ended_makes t other call s apart = leaves_queue t other call s (awaited_by other s.memory.heap) _ refl refl (drops other apart)
 
-tasks_make : (word : TaskWord) (t : ℕ) (call : Call) (s : State) → Makes t call s (does_tasks word t call s)
+pub tasks_make : (word : TaskWord) (t : ℕ) (call : Call) (s : State) → Makes t call s (does_tasks word t call s)
 unfolding does_set_task_pri does_add_task does_rem_task does_find_task done answered leaves
 tasks_make tasks.SetTaskPri t call s =
     unless_makes t call s (set_task_pri_alert (argument 0 call) (cast_signed w32 (argument 1 call)) s.scripts s.schedule) _ (λ none. (refl, stays))
@@ -267,6 +313,7 @@ list_goes (Some (MsgPort port messages)) is = true_is_not_false (sym is)
 list_goes (Some (Message content)) is = tt
 list_goes (Some (Semaphore sem waiters)) is = true_is_not_false (sym is)
 list_goes (Some (Library number count delayed)) is = true_is_not_false (sym is)
+list_goes (Some (Request content)) is = true_is_not_false (sym is)
 
 node_goes : (found : Option Object) → is_kind is_node found ≡ true → MayGo found
 node_goes None is = tt
@@ -277,8 +324,9 @@ node_goes (Some (MsgPort port messages)) is = true_is_not_false (sym is)
 node_goes (Some (Message content)) is = tt
 node_goes (Some (Semaphore sem waiters)) is = true_is_not_false (sym is)
 node_goes (Some (Library number count delayed)) is = true_is_not_false (sym is)
+node_goes (Some (Request content)) is = true_is_not_false (sym is)
 
-lists_make : (word : ListWord) (t : ℕ) (call : Call) (s : State) → Makes t call s (does_lists word t call s)
+pub lists_make : (word : ListWord) (t : ℕ) (call : Call) (s : State) → Makes t call s (does_lists word t call s)
 unfolding does_new_list does_free_list does_new_node does_free_node does_add_head does_add_tail does_enqueue does_insert does_remove does_rem_head does_rem_tail does_first does_last does_succ does_pred does_find_name done answered is_list_at is_node_at free_list_alert free_node_alert link_alert insert_alert list_alert added_head added_tail enqueued inserted removed_head removed_tail
 lists_make lists.NewList t call s = object_makes t call s is_list list_size (ListHead []) refl
 lists_make lists.FreeList t call s =
@@ -286,7 +334,9 @@ lists_make lists.FreeList t call s =
     (λ none. (
       refl,
       frees (argument 0 call) (list_goes (object_at (argument 0 call) s.memory.heap)
-          (passed_first (is_list_at (argument 0 call) s.memory.heap) _ _ none).0),
+          (passed_first (is_list_at (argument 0 call) s.memory.heap) _ _ none).0)
+          (other_unneeded (argument 0 call) s.memory.heap (list_other (object_at (argument 0 call) s.memory.heap)
+          (passed_first (is_list_at (argument 0 call) s.memory.heap) _ _ none).0)),
     ))
 lists_make lists.NewNode t call s =
     unless_makes t call s (new_node_alert (cast_signed w32 (argument 0 call))) _
@@ -296,7 +346,9 @@ lists_make lists.FreeNode t call s =
     (λ none. (
       refl,
       frees (argument 0 call) (node_goes (object_at (argument 0 call) s.memory.heap)
-          (passed_first (is_node_at (argument 0 call) s.memory.heap) _ _ none).0),
+          (passed_first (is_node_at (argument 0 call) s.memory.heap) _ _ none).0)
+          (other_unneeded (argument 0 call) s.memory.heap (node_other (object_at (argument 0 call) s.memory.heap)
+          (passed_first (is_node_at (argument 0 call) s.memory.heap) _ _ none).0)),
     ))
 lists_make lists.AddHead t call s =
     unless_makes t call s (link_alert (argument 0 call) (argument 1 call) s.memory.heap) _
@@ -330,7 +382,7 @@ plain_goes : (size : ℕ) (found : Option Block) → is_named size found ≡ tru
 plain_goes size None is = tt
 plain_goes size (Some block) is = plain_object block.object _ _ is
 
-memory_makes : (word : MemoryWord) (t : ℕ) (call : Call) (s : State) → Makes t call s (does_memory word t call s)
+pub memory_makes : (word : MemoryWord) (t : ℕ) (call : Call) (s : State) → Makes t call s (does_memory word t call s)
 unfolding does_alloc_mem does_free_mem does_avail_mem done answered
 memory_makes memory.AllocMem t call s =
     unless_makes t call s (alloc_alert (argument 1 call)) _
@@ -341,7 +393,9 @@ memory_makes memory.FreeMem t call s =
     (λ none. (
       refl,
       frees (argument 0 call)
-          (plain_goes (argument 1 call) (block_at (argument 0 call) s.memory.heap) (passed_first _ _ _ none).0),
+          (plain_goes (argument 1 call) (block_at (argument 0 call) s.memory.heap) (passed_first _ _ _ none).0)
+          (other_unneeded (argument 0 call) s.memory.heap
+          (plain_other (argument 1 call) (block_at (argument 0 call) s.memory.heap) (passed_first _ _ _ none).0)),
     ))
 memory_makes memory.AvailMem t call s = unless_makes t call s (avail_alert (argument 0 call)) _ (λ none. (refl, stays))
 
@@ -373,12 +427,21 @@ port_goes (Some (MsgPort port (message ∷ messages))) rest is e = none_some e
 port_goes (Some (Message content)) rest is e = tt
 port_goes (Some (Semaphore sem waiters)) rest is e = true_is_not_false (sym is)
 port_goes (Some (Library number count delayed)) rest is e = true_is_not_false (sym is)
+port_goes (Some (Request content)) rest is e = true_is_not_false (sym is)
 
 deletes : (port : ℕ) (memory : Memory) → delete_alert port memory ≡ None → MayGo (object_at port memory.heap)
 unfolding delete_alert is_port_at messages_of
 deletes port memory none =
     let first = passed_first (is_kind is_port (object_at port memory.heap)) _ _ none in
     port_goes (object_at port memory.heap) _ first.0 first.1
+
+unneeded_port : (port : ℕ) (memory : Memory) → delete_alert port memory ≡ None → IsUnneeded port memory.heap
+unfolding delete_alert
+unneeded_port port memory none =
+    let there = passed_first (is_port_at port memory.heap) _ _ none in
+    let empty = passed_other (is_some (first (messages_of port memory.heap))) _ _ there.1 in
+    let private = passed_other (is_public port memory) _ _ empty.1 in
+    port_unneeded port memory.heap there.0 (passed_other (is_awaited_at port memory.heap) _ _ private.1).0
 
 message_goes : (found : Option Object) → is_kind is_message found ≡ true → MayGo found
 message_goes None is = tt
@@ -389,10 +452,16 @@ message_goes (Some (MsgPort port messages)) is = true_is_not_false (sym is)
 message_goes (Some (Message content)) is = tt
 message_goes (Some (Semaphore sem waiters)) is = true_is_not_false (sym is)
 message_goes (Some (Library number count delayed)) is = true_is_not_false (sym is)
+message_goes (Some (Request content)) is = true_is_not_false (sym is)
 
 frees_message : (message : ℕ) (heap : Heap) → loose_alert message heap ≡ None → MayGo (object_at message heap)
 unfolding is_message_at
 frees_message message heap none = message_goes (object_at message heap) (is_loose_there message heap none).0
+
+unneeded_message : (message : ℕ) (heap : Heap) → loose_alert message heap ≡ None → IsUnneeded message heap
+unneeded_message message heap none =
+    let loose = is_loose_there message heap none in
+    mail_unneeded message heap (ap is_a_port (message_there message heap loose.0)) loose.1
 
 looked_makes : (message : Option ℕ) (mask t : ℕ) (call : Call) (f : Schedule → Schedule) (s : State)
     → Makes t call s (looked message mask t call (on_schedule f s))
@@ -400,13 +469,16 @@ unfolding waiting answered
 looked_makes None mask t call f s = (refl, stays)
 looked_makes (Some message) mask t call f s = (refl, stays)
 
-ports_make : (word : PortWord) (t : ℕ) (call : Call) (s : State) → Makes t call s (does_ports word t call s)
+pub ports_make : (word : PortWord) (t : ℕ) (call : Call) (s : State) → Makes t call s (does_ports word t call s)
 unfolding does_create_msg_port does_delete_msg_port does_add_port does_rem_port does_find_port does_port_signal does_port_cause does_port_ignore does_new_msg does_free_msg does_msg_word does_set_msg_word does_msg_type does_put_msg does_get_msg does_wait_port does_reply_msg made_public made_private with_word done answered
 ports_make ports.CreateMsgPort t call s = port_created_makes t call (grant (negsuc 0) (signals_of s.schedule t)) s
 ports_make ports.DeleteMsgPort t call s =
     either_makes t call s (nat_eq (argument 0 call) 0) _ _ (λ is. (refl, stays))
     (λ is. unless_makes t call s (delete_alert (argument 0 call) s.memory) _
-    (λ none. (refl, frees (argument 0 call) (deletes (argument 0 call) s.memory none))))
+    (λ none. (
+      refl,
+      frees (argument 0 call) (deletes (argument 0 call) s.memory none) (unneeded_port (argument 0 call) s.memory none),
+    )))
 ports_make ports.AddPort t call s =
     unless_makes t call s (add_port_alert (argument 0 call) (cast_signed w32 (argument 2 call)) s.memory) _ (λ none. (refl, stays))
 ports_make ports.RemPort t call s = unless_makes t call s (rem_port_alert (argument 0 call) s.memory) _ (λ none. (refl, stays))
@@ -425,7 +497,10 @@ ports_make ports.NewMsg t call s =
     (λ none. object_makes t call s is_message message_size _ tt)
 ports_make ports.FreeMsg t call s =
     unless_makes t call s (loose_alert (argument 0 call) s.memory.heap) _
-    (λ none. (refl, frees (argument 0 call) (frees_message (argument 0 call) s.memory.heap none)))
+    (λ none. (
+      refl,
+      frees (argument 0 call) (frees_message (argument 0 call) s.memory.heap none) (unneeded_message (argument 0 call) s.memory.heap none),
+    ))
 ports_make ports.MsgWord t call s = unless_makes t call s (message_alert (argument 0 call) s.memory.heap) _ (λ none. (refl, stays))
 ports_make ports.SetMsgWord t call s =
     unless_makes t call s (message_alert (argument 0 call) s.memory.heap) _
@@ -449,12 +524,19 @@ semaphore_goes (Some (MsgPort port messages)) is free = true_is_not_false (sym i
 semaphore_goes (Some (Message content)) is free = tt
 semaphore_goes (Some (Semaphore sem waiters)) is free = free
 semaphore_goes (Some (Library number count delayed)) is free = true_is_not_false (sym is)
+semaphore_goes (Some (Request content)) is free = true_is_not_false (sym is)
 
 frees_semaphore : (semaphore : ℕ) (heap : Heap) → free_sem_alert semaphore heap ≡ None → MayGo (object_at semaphore heap)
 unfolding free_sem_alert is_semaphore_at sem_of
 frees_semaphore semaphore heap none =
     let first = passed_first (is_kind is_semaphore (object_at semaphore heap)) _ _ none in
     semaphore_goes (object_at semaphore heap) first.0 (passed_other (is_owned (sem_of_object (object_at semaphore heap))) _ _ first.1).0
+
+unneeded_semaphore : (semaphore : ℕ) (heap : Heap) → free_sem_alert semaphore heap ≡ None → IsUnneeded semaphore heap
+unfolding free_sem_alert is_semaphore_at
+unneeded_semaphore semaphore heap none =
+    other_unneeded semaphore heap
+    (semaphore_other (object_at semaphore heap) (passed_first (is_kind is_semaphore (object_at semaphore heap)) _ _ none).0)
 
 is_semaphore_there : (t semaphore : ℕ) (heap : Heap) → obtain_alert t semaphore heap ≡ None → is_semaphore_at semaphore heap ≡ true
 unfolding obtain_alert
@@ -503,12 +585,15 @@ unfolding done
 releasing true semaphore t call s release is e = handing (first (waiters_of semaphore s.memory.heap)) semaphore t call s release is e refl
 releasing false semaphore t call s release is e = (refl, releases semaphore is e)
 
-semaphores_make : (word : SemaphoreWord) (t : ℕ) (call : Call) (s : State) → call.word ≡ group.Semaphores word → Makes t call s (does_semaphores word t call s)
+pub semaphores_make : (word : SemaphoreWord) (t : ℕ) (call : Call) (s : State) → call.word ≡ group.Semaphores word → Makes t call s (does_semaphores word t call s)
 unfolding does_new_sem does_free_sem does_obtain_semaphore does_attempt_semaphore does_release_semaphore obtained attempted released heir done
 semaphores_make semaphores.NewSem t call s word = object_makes t call s is_semaphore semaphore_size (Semaphore free_sem []) (refl, refl)
 semaphores_make semaphores.FreeSem t call s word =
     unless_makes t call s (free_sem_alert (argument 0 call) s.memory.heap) _
-    (λ none. (refl, frees (argument 0 call) (frees_semaphore (argument 0 call) s.memory.heap none)))
+    (λ none. (
+      refl,
+      frees (argument 0 call) (frees_semaphore (argument 0 call) s.memory.heap none) (unneeded_semaphore (argument 0 call) s.memory.heap none),
+    ))
 semaphores_make semaphores.ObtainSemaphore t call s word =
     either_makes t call s (is_tried_again t s.scripts) _ _ (λ is. (refl, stays))
     (λ is. unless_makes t call s (obtain_alert t (argument 0 call) s.memory.heap) _
@@ -526,7 +611,7 @@ semaphores_make semaphores.ReleaseSemaphore t call s word =
 
 -- ---- interrupts
 
-interrupts_make : (word : InterruptWord) (t : ℕ) (call : Call) (s : State) → Makes t call s (does_interrupts word t call s)
+pub interrupts_make : (word : InterruptWord) (t : ℕ) (call : Call) (s : State) → Makes t call s (does_interrupts word t call s)
 unfolding does_cause
 interrupts_make interrupts.Cause t call s = any_makes t call s (does_cause t call s) (cause_alters (ByTask t) call s)
 
@@ -555,7 +640,7 @@ unfolding answered
 opened_makes None value t call s = (refl, stays)
 opened_makes (Some i) value t call s = entered_or_loaded_makes (base_of i s.memory.heap) i value t call s refl
 
-both_true : {A : Type 0} (b c : Bool) → (b && c) ≡ true → (b ≡ true → c ≡ true → A) → A
+pub both_true : {A : Type 0} (b c : Bool) → (b && c) ≡ true → (b ≡ true → c ≡ true → A) → A
 both_true true c e f = f refl e
 both_true false c e f = true_is_not_false (sym e)
 
@@ -584,7 +669,7 @@ unfolding done
 removed_makes true base t call s is e = (refl, expunges base is (inl (number_is (count_of base s.memory.heap) 0 e)))
 removed_makes false base t call s is e = (refl, counts base _ true (λ formed. is))
 
-libraries_make : (word : LibraryWord) (t : ℕ) (call : Call) (s : State) → call.word ≡ group.Libraries word → Makes t call s (does_libraries word t call s)
+pub libraries_make : (word : LibraryWord) (t : ℕ) (call : Call) (s : State) → call.word ≡ group.Libraries word → Makes t call s (does_libraries word t call s)
 unfolding does_open_library does_close_library does_rem_library does_lib_open_cnt opened closed removed library_alert close_alert
 libraries_make libraries.OpenLibrary t call s word =
     opened_makes (library_to_open (unwrap_or (name_argument 0 call) []) (argument 1 call) s.memory) _ t call s
@@ -599,21 +684,3 @@ libraries_make libraries.RemLibrary t call s word =
     (is_library_there (is_library_at (argument 0 call) s.memory.heap) _ none) refl)
 libraries_make libraries.LibOpenCnt t call s word =
     unless_makes t call s (library_alert (argument 0 call) s.memory.heap) _ (λ none. unfold answered in (refl, stays))
-
--- ---- any word
-
-word_makes : (word : Word) (t : ℕ) (call : Call) (s : State) → call.word ≡ word → Makes t call s (does_word word t call s)
-word_makes (group.Plain word) t call s is = plain_makes word t call s
-word_makes (group.Signals word) t call s is = signals_make word t call s
-word_makes (group.Nesting word) t call s is = nesting_makes word t call s
-word_makes (group.Tasks word) t call s is = tasks_make word t call s
-word_makes (group.Lists word) t call s is = lists_make word t call s
-word_makes (group.Memory word) t call s is = memory_makes word t call s
-word_makes (group.Ports word) t call s is = ports_make word t call s
-word_makes (group.Semaphores word) t call s is = semaphores_make word t call s is
-word_makes (group.Interrupts word) t call s is = interrupts_make word t call s
-word_makes (group.Libraries word) t call s is = libraries_make word t call s is
-
-pub call_makes : (t : ℕ) (call : Call) (s : State) → Makes t call s (does t call s)
-unfolding does
-call_makes t call s = word_makes call.word t call s refl

@@ -7,7 +7,7 @@ use Rattle.memlist.proofs.Tiling.{tiled}
 use Rattle.memlist.proofs.Fitting.{disjoint}
 use Rattle.taskscript.specs.File.{MachineData}
 use Rattle.taskscript.specs.declared.event.Event.{Event}
-use Rattle.execmodel.specs.State.{Call, Object, Plain, ListHead, Node, MsgPort, Message, Semaphore, Library, Block, Mark, State, Outcome, booted, andthen, on_schedule}
+use Rattle.execmodel.specs.State.{Call, Object, Plain, ListHead, Node, MsgPort, Message, Semaphore, Library, Request, Block, State, Outcome, booted, andthen, on_schedule}
 use Rattle.execmodel.specs.Calls.{argument, alerted, unless}
 use Rattle.execmodel.specs.Scheduling.{rescheduled}
 use Rattle.execmodel.specs.Bodies.{body_step}
@@ -16,10 +16,11 @@ use Rattle.execmodel.specs.Step.{switches, ends, does, starts, run}
 use Rattle.execmodel.specs.Laws.{EachByteHasOneOwner, FreeMemRefusesObjects}
 use Rattle.execmodel.proofs.Heaps.{true_is_not_false}
 use Rattle.execmodel.proofs.Stretches.{Relation, HoldsOfEach, of_starts, of_events}
-use Rattle.execmodel.proofs.Commands.{none_some, Alters, body_alters}
-use Rattle.execmodel.proofs.Moves.{Makes, call_makes}
-use Rattle.execmodel.proofs.Formed.{touched_formed, moves_formed}
-use Rattle.execmodel.proofs.FifoLaw.{FormedState, booted_formed, quietly, switches_quiet}
+use Rattle.execmodel.proofs.Commands.{none_some, body_alters}
+use Rattle.execmodel.specs.Requests.{finishes}
+use Rattle.execmodel.proofs.Asking.{finishing}
+use Rattle.execmodel.proofs.Works.{call_works}
+use Rattle.execmodel.proofs.TidyLaw.{FormedState, works_regions, works_formed, altered_formed, finished_formed, booted_formed, quietly, switches_quiet}
 
 -- the regions stay, and the blocks stay well formed
 abbrev Memories : Relation
@@ -31,36 +32,31 @@ memories = record {
   interrupting = record {
     nothing = λ s formed. (formed, refl);
     joined = λ s some r more q first next formed. let mid = first formed in let end = next mid.0 in (end.0, end.1 ∙ mid.1);
-    commanding = λ name command s formed.
-        commanding s (body_step name command s).marks (body_step name command s).state (body_alters name command s) formed;
+    commanding = λ name command s formed. (
+      altered_formed s _ (body_step name command s).state (body_alters name command s) formed,
+      (body_alters name command s).regions,
+    );
     pending = λ f s formed. (formed, refl);
+    finishing = λ request s due formed. (
+      finished_formed s _ (finishes request s).state (finishing request s due) formed,
+      (finishing request s due).regions,
+    );
     ticking = λ s formed. (formed, refl);
     switching = λ s. quietly Memories s (switches s) (on_schedule rescheduled s) (switches_quiet s) (λ formed. (formed, refl));
   };
   adding = λ t s less formed. (formed, refl);
-  calling = λ t call s runs is formed. calling t call s (does t call s) (call_makes t call s) formed;
+  calling = λ t call s runs is formed. (
+    works_formed t call s (does t call s) (call_works t call s) formed,
+    works_regions t call s (does t call s) (call_works t call s),
+  );
   ending = λ t s runs formed. (formed, refl);
 }
-  where
-    calling : (t : ℕ) (call : Call) (s : State) (o : Outcome) → Makes t call s o → Memories s o.marks o.state
-    calling t call s o makes formed = (
-      subst (λ regions. IsWellFormed regions (extents o.state.memory.heap)) (sym makes.0)
-          (moves_formed s.memory.regions t call s.memory.heap o.marks o.state.memory.heap makes.1 formed),
-      makes.0,
-    )
-
-    commanding : (s : State) (marks : List Mark) (r : State) → Alters s marks r → Memories s marks r
-    commanding s marks r alters formed = (
-      subst (λ regions. IsWellFormed regions (extents r.memory.heap)) (sym alters.regions)
-          (touched_formed s.memory.regions s.memory.heap marks r.memory.heap alters.blocks formed),
-      alters.regions,
-    )
 
 run_memories : (machine : MachineData) (list : List Event) → Memories (booted machine) (run machine list).marks (run machine list).state
 unfolding run andthen
 run_memories machine list formed =
     let mid = of_starts Memories memories (booted machine) formed in
-    let end = of_events Memories memories list (starts (booted machine)).state mid.0 in
+    let end = of_events Memories memories (λ s formed. (formed, refl)) list (starts (booted machine)).state mid.0 in
     (end.0, end.1 ∙ mid.1)
 
 booted_regions : (machine : MachineData) → (booted machine).memory.regions ≡ machine.regions
@@ -86,6 +82,7 @@ not_plain (MsgPort port messages) other = refl
 not_plain (Message content) other = refl
 not_plain (Semaphore sem waiters) other = refl
 not_plain (Library number count delayed) other = refl
+not_plain (Request content) other = refl
 
 refused : (size : ℕ) (found : Option Block) (object : Object) → option_map (λ (block : Block). block.object) found ≡ Some object
     → is_plain object ≡ false → is_named size found ≡ false

@@ -9,7 +9,9 @@ use Rattle.memlist.proofs.Answered.{nat_eq-same, nat_eq-other, cases_eq}
 use Rattle.execlist.specs.Order.{first, without}
 use Rattle.execlist.specs.Lists.{is_at}
 use Rattle.sigsem.specs.declared.semaphore.Sem.{Sem}
-use Rattle.execmodel.specs.State.{Call, Object, Plain, ListHead, Node, MsgPort, Message, Semaphore, Library, Block, Heap, Mark}
+use Rattle.iorequest.specs.declared.request.Request.{Request as TimerRequest}
+use Rattle.execmodel.specs.State.{Call, Object, Plain, ListHead, Node, MsgPort, Message, Semaphore, Library, Request, Block, Heap, Waiting as Queued, Mark, State}
+use Rattle.execmodel.specs.Requests.{is_request, is_request_at, with_request}
 use Rattle.execmodel.specs.Objects.{object_at, is_kind, replaced}
 use Rattle.execmodel.specs.Memory.{extents}
 use Rattle.execmodel.specs.Lists.{is_list, is_list_at, with_nodes, unlinked, left_by}
@@ -20,6 +22,7 @@ use Rattle.execmodel.proofs.Heaps.{filled, instead, object_replaced, object_rema
 use Rattle.execmodel.proofs.Formed.{placed_fresh}
 use Rattle.execmodel.proofs.Fifo.{port_stays}
 use Rattle.execmodel.proofs.Commands.{Touches, remains, fills, puts, gets, none_some}
+use Rattle.execmodel.proofs.Asking.{Asks, writes, answers, written, ports_written, without_reply}
 use Rattle.execmodel.proofs.Moves.{IsRelease, IsNew, MayGo, Moves, touches, places, frees, relists, unlinks, sets, enters, queues, hands, opens, releases, counts, expunges, drops}
 
 -- nobody waits for what begins at an address, unless a task owns it
@@ -58,6 +61,7 @@ left_idle node (MsgPort port messages) idle = idle
 left_idle node (Message content) idle = idle
 left_idle node (Semaphore sem waiters) idle = idle
 left_idle node (Library number count delayed) idle = idle
+left_idle node (Request content) idle = idle
 
 task_left_idle : (t : ℕ) (object : Object) → Idle (Some object) → Idle (Some (left_by_task t object))
 task_left_idle t Plain idle = idle
@@ -67,6 +71,7 @@ task_left_idle t (MsgPort port messages) idle = idle
 task_left_idle t (Message content) idle = idle
 task_left_idle t (Semaphore sem waiters) idle = λ e. ap (λ q. without t q) (idle e)
 task_left_idle t (Library number count delayed) idle = idle
+task_left_idle t (Request content) idle = idle
 
 new_idle : (object : Object) → IsNew object → Idle (Some object)
 new_idle Plain is = λ e. refl
@@ -76,6 +81,7 @@ new_idle (MsgPort port messages) is = λ e. refl
 new_idle (Message content) is = λ e. refl
 new_idle (Semaphore sem waiters) is = λ e. is.1
 new_idle (Library number count delayed) is = λ e. refl
+new_idle (Request content) is = λ e. refl
 
 -- a semaphore that a task does not get at once has an owner
 closed_owned : (t : ℕ) (sem : Sem) → is_open t sem ≡ false → sem.owner ≡ None → ⊥
@@ -103,7 +109,7 @@ moves_idle regions t call old marks new (places size reqs address object is fits
     cases_eq a address
     (λ same. subst (λ found. Idle found) (sym (ap (λ k. object_at k new) same ∙ object_placed_here address (round size) object old)) (new_idle object is))
     (λ apart. subst (λ found. Idle found) (sym (object_placed_there a address _ old apart)) (idle a))
-moves_idle regions t call old marks new (frees address may) idle = λ a.
+moves_idle regions t call old marks new (frees address may unneeded) idle = λ a.
     cases_eq a address
     (λ same. subst (λ found. Idle found) (sym (ap (λ k. object_at k new) same ∙ object_rid_here address old)) (λ e. refl))
     (λ apart. subst (λ found. Idle found) (sym (object_rid_there a address old apart)) (idle a))
@@ -152,6 +158,7 @@ list_free (MsgPort port messages) is = refl
 list_free (Message content) is = refl
 list_free (Semaphore sem waiters) is = true_is_not_false (sym is)
 list_free (Library number count delayed) is = refl
+list_free (Request content) is = refl
 
 port_free : (object : Object) → is_port object ≡ true → (sem_in object).owner ≡ None
 port_free Plain is = refl
@@ -161,6 +168,7 @@ port_free (MsgPort port messages) is = refl
 port_free (Message content) is = refl
 port_free (Semaphore sem waiters) is = true_is_not_false (sym is)
 port_free (Library number count delayed) is = refl
+port_free (Request content) is = refl
 
 message_free : (object : Object) → is_message object ≡ true → (sem_in object).owner ≡ None
 message_free Plain is = refl
@@ -170,9 +178,11 @@ message_free (MsgPort port messages) is = refl
 message_free (Message content) is = refl
 message_free (Semaphore sem waiters) is = true_is_not_false (sym is)
 message_free (Library number count delayed) is = refl
+message_free (Request content) is = refl
 
 library_free : (object : Object) → is_library object ≡ true → (sem_in object).owner ≡ None
 library_free (Library number count delayed) is = refl
+library_free (Request content) is = refl
 library_free Plain is = refl
 library_free (ListHead nodes) is = refl
 library_free (Node key) is = refl
@@ -196,6 +206,7 @@ gone_free (Some (MsgPort port messages)) may = refl
 gone_free (Some (Message content)) may = refl
 gone_free (Some (Semaphore sem waiters)) may = free_owner sem may
 gone_free (Some (Library number count delayed)) may = absurd may
+gone_free (Some (Request content)) may = refl
 
 new_free : (object : Object) → IsNew object → (sem_in object).owner ≡ None
 new_free Plain is = refl
@@ -205,6 +216,7 @@ new_free (MsgPort port messages) is = refl
 new_free (Message content) is = refl
 new_free (Semaphore sem waiters) is = ap (λ (s : Sem). s.owner) is.0
 new_free (Library number count delayed) is = refl
+new_free (Request content) is = refl
 
 elsewhere : (a address : ℕ) (object : Object) (heap : Heap) → a ≢ address
     → object_at a (map (replaced address object) heap) ≡ object_at a heap
@@ -238,6 +250,7 @@ left_owner node (MsgPort port messages) = refl
 left_owner node (Message content) = refl
 left_owner node (Semaphore sem waiters) = refl
 left_owner node (Library number count delayed) = refl
+left_owner node (Request content) = refl
 
 task_left_owner : (t : ℕ) (object : Object) → (sem_in (left_by_task t object)).owner ≡ (sem_in object).owner
 task_left_owner t Plain = refl
@@ -247,6 +260,7 @@ task_left_owner t (MsgPort port messages) = refl
 task_left_owner t (Message content) = refl
 task_left_owner t (Semaphore sem waiters) = refl
 task_left_owner t (Library number count delayed) = refl
+task_left_owner t (Request content) = refl
 
 remade_owner : (f : Object → Object) → ((object : Object) → (sem_in (f object)).owner ≡ (sem_in object).owner) → (a : ℕ) (heap : Heap)
     → owner_in (object_at a (map (λ (entry : ℕ × Block). (entry.0, record entry.1 { object = f entry.1.object })) heap)) ≡ owner_in (object_at a heap)
@@ -301,7 +315,7 @@ moves_own regions t call old marks new (places size reqs address object is fits)
     cases_eq a address
     (λ same. inr (inl (ap (λ found. owner_in found) (ap (λ k. object_at k old) same ∙ placed_fresh regions size reqs address old formed fits))))
     (λ apart. inl (ap (λ found. owner_in found) (object_placed_there a address _ old apart)))
-moves_own regions t call old marks new (frees address may) formed a =
+moves_own regions t call old marks new (frees address may unneeded) formed a =
     cases_eq a address
     (λ same. inr (inl (ap (λ k. owner_in (object_at k old)) same ∙ gone_free (object_at address old) may)))
     (λ apart. inl (ap (λ found. owner_in found) (object_rid_there a address old apart)))
@@ -335,3 +349,42 @@ moves_own regions t call old marks new (expunges base is may) formed a =
     (λ same. inr (inl (ap (λ k. owner_in (object_at k old)) same ∙ no_owner is_library library_free (object_at base old) is)))
     (λ apart. inl (ap (λ found. owner_in found) (object_rid_there a base old apart)))
 moves_own regions t call old marks new (drops other apart) formed a = inl (remade_owner (left_by_task other) (task_left_owner other) a old)
+
+-- ---- requests, and the clock
+
+request_free : (object : Object) → is_request object ≡ true → (sem_in object).owner ≡ None
+request_free (Request content) is = refl
+request_free _ is = true_is_not_false (sym is)
+
+written_owner : (request : ℕ) (content : TimerRequest) (a : ℕ) (heap : Heap)
+    → owner_in (object_at a (with_request request content heap)) ≡ owner_in (object_at a heap)
+unfolding is_request_at
+written_owner request content a heap =
+    written (λ h. owner_in (object_at a h) ≡ owner_in (object_at a heap)) request content heap refl
+    (λ is. still_unowned is_request request_free a request (Request content) heap refl is)
+
+pub asked_own : (s : State) (marks : List Mark) (new : Heap) (later : List Queued) → Asks s marks new later
+    → (a : ℕ) → owner_in (object_at a new) ≡ owner_in (object_at a s.memory.heap)
+unfolding with_port appended
+asked_own s marks new later (writes request content waiting rewritten) a = written_owner request content a s.memory.heap
+asked_own s marks new later (answers port request content waiting is rewritten reply) a =
+    still_unowned is_port port_free a port _ (with_request request content s.memory.heap) refl
+    (unfold is_port_at in (ports_written request content s.memory.heap port ∙ is))
+    ∙ written_owner request content a s.memory.heap
+
+pub taken_own : (port request : ℕ) (heap : Heap) → is_port_at port heap ≡ true
+    → (a : ℕ) → owner_in (object_at a (without_reply port request heap)) ≡ owner_in (object_at a heap)
+unfolding with_port is_port_at
+taken_own port request heap is a = still_unowned is_port port_free a port _ heap refl is
+
+pub asked_idle : (s : State) (marks : List Mark) (new : Heap) (later : List Queued) → Asks s marks new later → AllIdle s.memory.heap → AllIdle new
+unfolding with_port appended
+asked_idle s marks new later (writes request content waiting rewritten) idle =
+    written AllIdle request content s.memory.heap idle (λ is. idle_replaced request (Request content) s.memory.heap (λ e. refl) idle)
+asked_idle s marks new later (answers port request content waiting is rewritten reply) idle =
+    idle_replaced port _ (with_request request content s.memory.heap) (λ e. refl)
+    (written AllIdle request content s.memory.heap idle (λ is. idle_replaced request (Request content) s.memory.heap (λ e. refl) idle))
+
+pub taken_idle : (port request : ℕ) (heap : Heap) → AllIdle heap → AllIdle (without_reply port request heap)
+unfolding with_port
+taken_idle port request heap idle = idle_replaced port _ heap (λ e. refl) idle

@@ -3,9 +3,8 @@ use Rattle.std.proofs.Common.{◌⊎◌, inl, inr, ◌≡◌, ℕ, Bool, true, f
 use Rattle.std.specs.Prelude.{if◌then◌else◌}
 use Rattle.execlist.specs.Lists.{is_at}
 use Rattle.memlist.proofs.Answered.{nat_eq-other, cases_eq}
-use Rattle.softint.specs.declared.source.Source.TheVariants.{Vertb}
 use Rattle.taskscript.specs.File.{MachineData}
-use Rattle.execmodel.specs.State.{Call, State, Memory, quiet, booted, andthen, on_schedule}
+use Rattle.execmodel.specs.State.{Call, State, Outcome, Memory, quiet, booted, andthen, on_schedule}
 use Rattle.execmodel.specs.Calls.{next_call}
 use Rattle.execmodel.specs.Scheduling.{rescheduled}
 use Rattle.execmodel.specs.Pending.{next_softint}
@@ -15,16 +14,25 @@ use Rattle.execmodel.specs.Semaphores.{sem_of, waiters_of}
 use Rattle.execmodel.specs.Step.{switches, settle, ends, does, call_step, task_step, softint_or_task_step, acting, acts, step, tick, starts, run}
 use Rattle.execmodel.specs.Laws.{Action, OneStep, OneTick, OneRequest, performed, IsLastRelease, OwnersChangeAtTheLastRelease, FreeSemaphoresHaveNoWaiters}
 use Rattle.execmodel.proofs.Heaps.{true_is_not_false}
-use Rattle.execmodel.proofs.Stretches.{Relation, HoldsOfInterrupts, HoldsOfEach, of_softint, of_settle, of_request, of_starts, of_events}
+use Rattle.execmodel.proofs.Stretches.{Relation, HoldsOfInterrupts, HoldsOfEach, of_softint, of_settle, of_request, ticked, of_starts, of_events}
 use Rattle.execmodel.proofs.Commands.{body_alters}
-use Rattle.execmodel.proofs.Moves.{call_makes}
-use Rattle.execmodel.proofs.FifoLaw.{FormedState, quietly, switches_quiet, formed_in_every_state}
-use Rattle.execmodel.proofs.Owners.{AllIdle, owner_in, touched_idle, moves_idle, touched_own, moves_own}
+use Rattle.execmodel.specs.Requests.{finishes}
+use Rattle.execmodel.proofs.Posts.{IsTidy}
+use Rattle.execmodel.proofs.Asking.{finishing}
+use Rattle.execmodel.proofs.Works.{Works, by_moves, by_asking, by_taking, call_works}
+use Rattle.execmodel.proofs.TidyLaw.{quietly, switches_quiet, tidy_in_every_state}
+use Rattle.execmodel.proofs.Owners.{AllIdle, Owns, owner_in, touched_idle, moves_idle, asked_idle, taken_idle, touched_own, moves_own, asked_own, taken_own}
 
 -- ---- nobody waits for a free semaphore
 
 abbrev IdleStays : Relation
 IdleStays old marks new = AllIdle old.memory.heap → AllIdle new.memory.heap
+
+pub called_idle : (t : ℕ) (call : Call) (s : State) (o : Outcome) → Works t call s o → AllIdle s.memory.heap → AllIdle o.state.memory.heap
+called_idle t call s o (by_moves makes same) idle = moves_idle s.memory.regions t call s.memory.heap o.marks o.state.memory.heap makes.1 idle
+called_idle t call s o (by_asking regions asks) idle = asked_idle s o.marks o.state.memory.heap o.state.memory.timer.waiting asks idle
+called_idle t call s o (by_taking port request regions same marks heap lives) idle =
+    subst (λ h. AllIdle h) (sym heap) (taken_idle port request s.memory.heap idle)
 
 idle_stays : HoldsOfEach IdleStays
 unfolding ends
@@ -35,11 +43,13 @@ idle_stays = record {
     commanding = λ name command s idle.
         touched_idle s.memory.heap (body_step name command s).marks (body_step name command s).state.memory.heap (body_alters name command s).blocks idle;
     pending = λ f s idle. idle;
+    finishing = λ request s due.
+        asked_idle s _ (finishes request s).state.memory.heap (finishes request s).state.memory.timer.waiting (finishing request s due).asks;
     ticking = λ s idle. idle;
     switching = λ s. quietly IdleStays s (switches s) (on_schedule rescheduled s) (switches_quiet s) (λ idle. idle);
   };
   adding = λ t s less idle. idle;
-  calling = λ t call s runs is idle. moves_idle s.memory.regions t call s.memory.heap (does t call s).marks (does t call s).state.memory.heap (call_makes t call s).1 idle;
+  calling = λ t call s runs is. called_idle t call s (does t call s) (call_works t call s);
   ending = λ t s runs idle. idle;
 }
 
@@ -50,7 +60,7 @@ booted_idle machine a = λ e. refl
 pub free_semaphores_have_no_waiters : FreeSemaphoresHaveNoWaiters
 unfolding run andthen sem_of waiters_of
 free_semaphores_have_no_waiters semaphore machine list is =
-    of_events IdleStays idle_stays list (starts (booted machine)).state
+    of_events IdleStays idle_stays (λ s idle. idle) list (starts (booted machine)).state
     (of_starts IdleStays idle_stays (booted machine) (booted_idle machine)) semaphore
 
 -- ---- owners
@@ -67,6 +77,8 @@ kept a = record {
   commanding = λ name command s.
       touched_own s.memory.heap (body_step name command s).marks (body_step name command s).state.memory.heap (body_alters name command s).blocks a;
   pending = λ f s. refl;
+  finishing = λ request s due.
+      asked_own s _ (finishes request s).state.memory.heap (finishes request s).state.memory.timer.waiting (finishing request s due).asks a;
   ticking = λ s. refl;
   switching = λ s. quietly (Kept a) s (switches s) (on_schedule rescheduled s) (switches_quiet s) refl;
 }
@@ -82,12 +94,19 @@ is_owner_some : (t : ℕ) (owner : Option ℕ) → is_at owner t ≡ true → ow
 is_owner_some t None e = true_is_not_false (sym e)
 is_owner_some t (Some o) e = cases_eq o t (λ same. ap (λ k. Some k) same) (λ apart. true_is_not_false (sym e ∙ nat_eq-other o t apart))
 
-called : (t : ℕ) (call : Option Call) (a : ℕ) (s : State) → FormedState s → next_softint s ≡ None → s.schedule.running ≡ Some t
+called_own : (t : ℕ) (call : Call) (s : State) (o : Outcome) → Works t call s o → IsTidy s → (a : ℕ) → Owns t call a s.memory.heap o.state.memory.heap
+called_own t call s o (by_moves makes same) tidy a =
+    moves_own s.memory.regions t call s.memory.heap o.marks o.state.memory.heap makes.1 tidy.formed a
+called_own t call s o (by_asking regions asks) tidy a = inl (asked_own s o.marks o.state.memory.heap o.state.memory.timer.waiting asks a)
+called_own t call s o (by_taking port request regions same marks heap lives) tidy a =
+    inl (ap (λ h. owner_in (object_at a h)) heap ∙ taken_own port request s.memory.heap (lives tidy) a)
+
+called : (t : ℕ) (call : Option Call) (a : ℕ) (s : State) → IsTidy s → next_softint s ≡ None → s.schedule.running ≡ Some t
     → next_call t s.scripts ≡ call → Changes a s (call_step t call s).state.memory
 unfolding ends Changes
-called t None a s formed first runs is = inl refl
-called t (Some call) a s formed first runs is =
-    elim (moves_own s.memory.regions t call s.memory.heap (does t call s).marks (does t call s).state.memory.heap (call_makes t call s).1 formed a) [
+called t None a s tidy first runs is = inl refl
+called t (Some call) a s tidy first runs is =
+    elim (called_own t call s (does t call s) (call_works t call s) tidy a) [
       | inl same ↦ inl same
       | inr (inl none) ↦ inr (inl none)
       | inr (inr last) ↦ inr (inr (record {
@@ -101,21 +120,21 @@ called t (Some call) a s formed first runs is =
       }))
     ]
 
-tried : (running : Option ℕ) (a : ℕ) (s : State) → FormedState s → next_softint s ≡ None → s.schedule.running ≡ running
+tried : (running : Option ℕ) (a : ℕ) (s : State) → IsTidy s → next_softint s ≡ None → s.schedule.running ≡ running
     → Changes a s (task_step running s).state.memory
 unfolding Changes
-tried None a s formed first runs = inl refl
-tried (Some t) a s formed first runs = called t (next_call t s.scripts) a s formed first runs refl
+tried None a s tidy first runs = inl refl
+tried (Some t) a s tidy first runs = called t (next_call t s.scripts) a s tidy first runs refl
 
-chosen : (found : Option ℕ) (a : ℕ) (s : State) → FormedState s → next_softint s ≡ found → Changes a s (softint_or_task_step found s).state.memory
+chosen : (found : Option ℕ) (a : ℕ) (s : State) → IsTidy s → next_softint s ≡ found → Changes a s (softint_or_task_step found s).state.memory
 unfolding Changes
-chosen None a s formed first = tried s.schedule.running a s formed first refl
-chosen (Some i) a s formed first = inl (of_softint (Kept a) (kept a) i s)
+chosen None a s tidy first = tried s.schedule.running a s tidy first refl
+chosen (Some i) a s tidy first = inl (of_softint (Kept a) (kept a) i s)
 
-acted : (test : Bool) (a : ℕ) (s : State) → FormedState s → Changes a s (if test then quiet s else acting s).state.memory
+acted : (test : Bool) (a : ℕ) (s : State) → IsTidy s → Changes a s (if test then quiet s else acting s).state.memory
 unfolding Changes acting
-acted true a s formed = inl refl
-acted false a s formed = chosen (next_softint s) a s formed refl
+acted true a s tidy = inl refl
+acted false a s tidy = chosen (next_softint s) a s tidy refl
 
 settled : (a : ℕ) (s r : State) → Changes a s r.memory → Changes a s (settle r).state.memory
 unfolding Changes
@@ -124,18 +143,18 @@ settled a s r changes =
     subst (λ owner. (owner ≡ owner_in (object_at a s.memory.heap)) ⊎ (owner_in (object_at a s.memory.heap) ≡ None) ⊎ IsLastRelease a s) (sym same)
     changes
 
-at_action : (action : Action) (a : ℕ) (s : State) → FormedState s
+at_action : (action : Action) (a : ℕ) (s : State) → IsTidy s
     → (owner_in (object_at a (performed action s).state.memory.heap) ≡ owner_in (object_at a s.memory.heap))
     ⊎ (owner_in (object_at a s.memory.heap) ≡ None)
     ⊎ ((action ≡ OneStep) × IsLastRelease a s)
 unfolding step tick andthen acts Changes
-at_action OneStep a s formed =
-    elim (settled a s (acts s).state (acted s.stopped a s formed))
+at_action OneStep a s tidy =
+    elim (settled a s (acts s).state (acted s.stopped a s tidy))
     [ inl same ↦ inl same | inr (inl none) ↦ inr (inl none) | inr (inr last) ↦ inr (inr (refl, last)) ]
-at_action OneTick a s formed = inl (of_request (Kept a) (kept a) Vertb s)
-at_action (OneRequest asks) a s formed = inl (of_request (Kept a) (kept a) asks s)
+at_action OneTick a s tidy = inl (ticked (Kept a) (kept a) (λ r. refl) s)
+at_action (OneRequest asks) a s tidy = inl (of_request (Kept a) (kept a) asks s)
 
 pub owners_change_at_the_last_release : OwnersChangeAtTheLastRelease
 unfolding sem_of
 owners_change_at_the_last_release semaphore machine list action is =
-    at_action action semaphore (run machine list).state (formed_in_every_state machine list is)
+    at_action action semaphore (run machine list).state (tidy_in_every_state machine list is)

@@ -7,7 +7,9 @@ use Rattle.memlist.specs.declared.region.Region.{Region}
 use Rattle.memlist.specs.Memory.{IsWellFormed}
 use Rattle.memlist.proofs.Answered.{nat_eq-same, nat_eq-other, cases_eq}
 use Rattle.execlist.specs.Order.{without}
-use Rattle.execmodel.specs.State.{Call, Object, Plain, ListHead, Node, MsgPort, Message, Semaphore, Library, Block, Heap, Mark}
+use Rattle.iorequest.specs.declared.request.Request.{Request as TimerRequest}
+use Rattle.execmodel.specs.State.{Call, Object, Plain, ListHead, Node, MsgPort, Message, Semaphore, Library, Request, Block, Heap, Waiting as Queued, Mark, out, State}
+use Rattle.execmodel.specs.Requests.{is_request, is_request_at, with_request}
 use Rattle.execmodel.specs.Objects.{object_at, is_kind, replaced}
 use Rattle.execmodel.specs.Memory.{extents}
 use Rattle.execmodel.specs.Lists.{is_list, is_list_at, with_nodes, unlinked, left_by}
@@ -26,6 +28,7 @@ use Rattle.msgport.specs.declared.message.Message.{Message as Content}
 use Rattle.sigsem.specs.declared.semaphore.Sem.{Sem}
 use Rattle.memlist.specs.Fit.{round}
 use Rattle.execmodel.proofs.Commands.{Touches, remains, fills, puts, gets}
+use Rattle.execmodel.proofs.Asking.{Asks, writes, answers, written, ports_written, without_reply}
 use Rattle.execmodel.proofs.Moves.{IsNew, MayGo, leaving_marks, Moves, touches, places, frees, relists, unlinks, sets, enters, queues, hands, opens, releases, counts, expunges, drops}
 
 -- ---- what has no messages
@@ -54,6 +57,7 @@ list_none (MsgPort port messages) is = refl
 list_none (Message content) is = refl
 list_none (Semaphore sem waiters) is = true_is_not_false (sym is)
 list_none (Library number count delayed) is = refl
+list_none (Request content) is = refl
 
 message_none : (object : Object) → is_message object ≡ true → waiters_in object ≡ []
 message_none Plain is = refl
@@ -63,6 +67,7 @@ message_none (MsgPort port messages) is = refl
 message_none (Message content) is = refl
 message_none (Semaphore sem waiters) is = true_is_not_false (sym is)
 message_none (Library number count delayed) is = refl
+message_none (Request content) is = refl
 
 port_none : (object : Object) → is_port object ≡ true → waiters_in object ≡ []
 port_none Plain is = refl
@@ -72,9 +77,11 @@ port_none (MsgPort port messages) is = refl
 port_none (Message content) is = refl
 port_none (Semaphore sem waiters) is = true_is_not_false (sym is)
 port_none (Library number count delayed) is = refl
+port_none (Request content) is = refl
 
 library_none : (object : Object) → is_library object ≡ true → waiters_in object ≡ []
 library_none (Library number count delayed) is = refl
+library_none (Request content) is = refl
 library_none Plain is = refl
 library_none (ListHead nodes) is = refl
 library_none (Node key) is = refl
@@ -90,6 +97,7 @@ new_none (MsgPort port messages) is = refl
 new_none (Message content) is = refl
 new_none (Semaphore sem waiters) is = is.1
 new_none (Library number count delayed) is = refl
+new_none (Request content) is = refl
 
 gone_none : (found : Option Object) → MayGo found → Idle found → waiters_of_object found ≡ []
 gone_none None may idle = refl
@@ -100,6 +108,7 @@ gone_none (Some (MsgPort port messages)) may idle = refl
 gone_none (Some (Message content)) may idle = refl
 gone_none (Some (Semaphore sem waiters)) may idle = idle (free_owner sem may)
 gone_none (Some (Library number count delayed)) may idle = absurd may
+gone_none (Some (Request content)) may idle = refl
 
 -- ---- what begins at an address becomes another
 
@@ -133,6 +142,7 @@ left_same node (MsgPort port messages) = refl
 left_same node (Message content) = refl
 left_same node (Semaphore sem waiters) = refl
 left_same node (Library number count delayed) = refl
+left_same node (Request content) = refl
 
 -- ---- tasks that leave
 
@@ -150,6 +160,7 @@ task_left t (Some (MsgPort port messages)) = refl
 task_left t (Some (Message content)) = refl
 task_left t (Some (Semaphore sem waiters)) = refl
 task_left t (Some (Library number count delayed)) = refl
+task_left t (Some (Request content)) = refl
 
 pub dropped_left : (t p : ℕ) (heap : Heap) → waiters_of p (dropped t heap) ≡ without t (waiters_of p heap)
 unfolding waiters_of dropped
@@ -228,7 +239,7 @@ moves_pass regions t call old marks new (places size reqs address object is fits
     ∙ new_none object is
     ∙ sym (ap (λ found. waiters_of_object found) (ap (λ a. object_at a old) same ∙ placed_fresh regions size reqs address old formed fits)))
     (λ apart. ap (λ found. waiters_of_object found) (object_placed_there p address _ old apart))
-moves_pass regions t call old marks new (frees address may) formed idle nowhere one p =
+moves_pass regions t call old marks new (frees address may unneeded) formed idle nowhere one p =
     unfold waiters_of in cases_eq p address
     (λ same. ap (λ found. waiters_of_object found) (ap (λ a. object_at a new) same ∙ object_rid_here address old)
     ∙ sym (ap (λ a. waiters_of_object (object_at a old)) same ∙ gone_none (object_at address old) may (idle address)))
@@ -272,3 +283,27 @@ moves_pass regions t call old marks new (releases semaphore is last) formed idle
     (λ same. ap (λ a. waiters_of a new) same ∙ semaphore_there semaphore _ (waiters_of semaphore old) old is ∙ sym (ap (λ a. waiters_of a old) same))
     (λ apart. semaphore_elsewhere p semaphore _ (waiters_of semaphore old) old apart)
 moves_pass regions t call old marks new (drops other apart) formed idle nowhere one p = removed_pass (awaited_by other old) other p old (one other)
+
+-- ---- each thing that a call makes of requests, and the clock
+
+request_none : (object : Object) → is_request object ≡ true → waiters_in object ≡ []
+request_none (Request content) is = refl
+request_none _ is = true_is_not_false (sym is)
+
+written_waiters : (request : ℕ) (content : TimerRequest) (p : ℕ) (heap : Heap) → waiters_of p (with_request request content heap) ≡ waiters_of p heap
+unfolding is_request_at
+written_waiters request content p heap =
+    written (λ h. waiters_of p h ≡ waiters_of p heap) request content heap refl
+    (λ is. still_none request (Request content) is_request p heap refl request_none is)
+
+pub asked_pass : (s : State) (marks : List Mark) (new : Heap) (later : List Queued) → Asks s marks new later
+    → (p : ℕ) → Follows (waiters_of p s.memory.heap) (turns_at_semaphore p marks) (waiters_of p new)
+unfolding appended
+asked_pass s marks new later (writes request content waiting rewritten) p = written_waiters request content p s.memory.heap
+asked_pass s marks new later (answers port request content waiting is rewritten reply) p =
+    port_still port _ _ p (with_request request content s.memory.heap) (ports_written request content s.memory.heap port ∙ is)
+    ∙ written_waiters request content p s.memory.heap
+
+pub taken_pass : (port request : ℕ) (heap : Heap) → is_port_at port heap ≡ true
+    → (p : ℕ) → Follows (waiters_of p heap) (turns_at_semaphore p (out port request ∷ [])) (waiters_of p (without_reply port request heap))
+taken_pass port request heap is p = port_still port _ _ p heap is

@@ -1,6 +1,6 @@
 -- A queue that takes each arrival last, serves the first, and may lose any: it serves in order of arrival.
 use Rattle.std.proofs.Common.{◌≡◌, ◌≢◌, ℕ, Bool, true, false, List, [], ◌∷◌, ◌++◌, refl, sym, ap, ◌∙◌, subst, append-nil, append_assoc}
-use Rattle.std.specs.Prelude.{not, cond, if◌then◌else◌, nat_eq, filter}
+use Rattle.std.specs.Prelude.{not, cond, if◌then◌else◌, nat_eq, filter, drop}
 use Rattle.memlist.proofs.Answered.{nat_eq-same, nat_eq-other}
 use Rattle.std.proofs.lemmas.List.Elements.{filter-append}
 use Rattle.execlist.specs.Order.{without}
@@ -34,7 +34,7 @@ follows_more old (turn ∷ some) mid more new f g = (f.0, f.1, follows_more f.0 
 
 -- ---- nobody stands twice
 
-away_more : (who other : ℕ) (q : List ℕ) → IsAway who q → who ≢ other → IsAway who (q ++ other ∷ [])
+pub away_more : (who other : ℕ) (q : List ℕ) → IsAway who q → who ≢ other → IsAway who (q ++ other ∷ [])
 away_more who other [] away apart = (apart, tt)
 away_more who other (x ∷ q) away apart = (away.0, away_more who other q away.1 apart)
 
@@ -53,6 +53,10 @@ away_without who other (x ∷ q) away = away_cond (not (nat_eq x other)) who x (
 once_cond : (b : Bool) (x : ℕ) (q : List ℕ) → IsAway x q → IsOnce q → IsOnce (cond b (x ∷ q) q)
 once_cond true x q away once = (away, once)
 once_cond false x q away once = once
+
+pub away_drop : (who : ℕ) (q : List ℕ) → IsAway who q → IsAway who (drop 1 q)
+away_drop who [] away = tt
+away_drop who (x ∷ q) away = away.1
 
 pub once_without : (other : ℕ) (q : List ℕ) → IsOnce q → IsOnce (without other q)
 once_without other [] once = tt

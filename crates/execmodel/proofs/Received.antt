@@ -11,7 +11,6 @@ use Rattle.taskq.specs.declared.Why.TheVariants.{Signals, Sem}
 use Rattle.scheduler.specs.Schedule.{Schedule, status_of, signals_of, is_absent, is_at_semaphore, awaits, begins, renewed, is_switching_allowed, is_quantum_over, leaves as leaves_for_good, removed, ticked, ticked_for, waits_for, waits_at_semaphore, with_signals}
 use Rattle.scheduler.specs.declared.Switch.{Switch}
 use Rattle.scheduler.specs.declared.Switch.TheVariants.{To, Idle}
-use Rattle.softint.specs.declared.source.Source.TheVariants.{Vertb}
 use Rattle.taskscript.specs.File.{MachineData}
 use Rattle.execmodel.specs.State.{Call, Mark, State, Outcome, quiet, booted, andthen, on_schedule}
 use Rattle.execmodel.specs.Scheduling.{arrives, added, displaced, after_switch, rescheduled, switch_of, signalled}
@@ -23,12 +22,14 @@ use Rattle.execmodel.specs.Step.{switches, does, ends, call_step, task_step, sof
 use Rattle.execmodel.specs.Laws.{OneStep, OneTick, OneRequest, IsToCall, is_own_taking, WaitersHaveReceivedNone, ReceivedSignalsStay}
 use Rattle.execmodel.proofs.Bits.{signal_joined}
 use Rattle.execmodel.proofs.Heaps.{true_is_not_false}
-use Rattle.execmodel.proofs.Stretches.{Relation, HoldsOfInterrupts, HoldsOfEach, of_softint, of_settle, of_request, of_starts, of_events}
-use Rattle.execmodel.proofs.FifoLaw.{quietly, switches_quiet}
+use Rattle.execmodel.proofs.Stretches.{Relation, HoldsOfInterrupts, HoldsOfEach, of_softint, of_settle, of_request, ticked as ticked_stretch, of_starts, of_events}
+use Rattle.execmodel.proofs.TidyLaw.{quietly, switches_quiet}
+use Rattle.execmodel.specs.Requests.{finishes}
+use Rattle.execmodel.proofs.Asking.{finishing}
 use Rattle.execmodel.proofs.Commands.{Reaches, rests, posts, body_alters}
 use Rattle.execmodel.proofs.Shifts.{Shifts, call_shifts, reaches, rearrives, adds, takes, sleeps, asks, wakes, leaves, removes}
 use Rattle.execmodel.proofs.Agreement.{running_state, set_there, set_here, in_range, set_state, all_absent, got}
-use Rattle.execmodel.proofs.WaitingLaw.{IsSound, waits, booted_sound}
+use Rattle.execmodel.proofs.WaitingLaw.{IsSound, waits, clocked, booted_sound}
 
 -- ---- what a task has received
 
@@ -227,6 +228,10 @@ sleep = record {
       reached_none (body_step name command s).marks s.schedule (body_step name command s).state.schedule (body_alters name command s).tasks h.1,
     );
     pending = λ f s h. ((waits.interrupting.pending f s h.0).0, h.1);
+    finishing = λ request s due h. (
+      (waits.interrupting.finishing request s due h.0).0,
+      reached_none (finishes request s).marks s.schedule (finishes request s).state.schedule (finishing request s due).tasks h.1,
+    );
     ticking = λ s h. ((waits.interrupting.ticking s h.0).0, ticked_none s.schedule h.1);
     switching = λ s h. (
       (waits.interrupting.switching s h.0).0,
@@ -248,7 +253,7 @@ booted_none machine t = silent_state t (booted machine).schedule (ap is_listenin
 pub waiters_have_received_none : WaitersHaveReceivedNone
 unfolding run andthen
 waiters_have_received_none t mask machine list is =
-    (of_events Sleeps sleep list (starts (booted machine)).state
+    (of_events Sleeps sleep (λ s h. ((clocked s h.0).0, h.1)) list (starts (booted machine)).state
     (of_starts Sleeps sleep (booted machine) (booted_sound machine is, booted_none machine))).1 t mask
 
 -- ---- received signals stay
@@ -347,6 +352,8 @@ still t n = record {
   commanding = λ name command s.
       reached_keeps t n (body_step name command s).marks s.schedule (body_step name command s).state.schedule (body_alters name command s).tasks;
   pending = λ f s h. h;
+  finishing = λ request s due.
+      reached_keeps t n (finishes request s).marks s.schedule (finishes request s).state.schedule (finishing request s due).tasks;
   ticking = λ s. ticked_keeps t n s.schedule;
   switching = λ s. quietly (Still t n) s (switches s) (on_schedule rescheduled s) (switches_quiet s) (rescheduled_keeps t n s.schedule);
 }
@@ -397,5 +404,5 @@ received_signals_stay t n machine list OneStep is h =
       | inl keeps ↦ inl (of_settle (Still t n) (still t n) (acts s).state keeps)
       | inr own ↦ inr (refl, own)
     ]
-received_signals_stay t n machine list OneTick is h = inl (of_request (Still t n) (still t n) Vertb (run machine list).state h)
+received_signals_stay t n machine list OneTick is h = inl (ticked_stretch (Still t n) (still t n) (λ s e. e) (run machine list).state h)
 received_signals_stay t n machine list (OneRequest source) is h = inl (of_request (Still t n) (still t n) source (run machine list).state h)

@@ -1,11 +1,12 @@
 -- No word says the line of a switch, nor does a task that ends, a software interrupt, or what is served.
 use Rattle.std.proofs.Common.{◌≡◌, ℕ, Bool, true, false, List, Option, None, Some, refl}
 use Rattle.std.specs.Prelude.{◌-◌, negsuc, if◌then◌else◌, nat_eq}
-use Rattle.execmodel.specs.State.{Call, State, Outcome}
+use Rattle.execmodel.specs.State.{Call, State, Outcome, on_memory}
 use Rattle.execmodel.specs.Calls.{argument, done, answered, waiting, silent, alerted, unless}
 use Rattle.execmodel.specs.Interrupts.{runs_softint, interrupts}
 use Rattle.execmodel.specs.Causing.{does_interrupts, does_cause}
 use Rattle.execmodel.specs.Libraries.{library_alert, close_alert, does_libraries, does_open_library, does_close_library, does_rem_library, does_lib_open_cnt}
+use Rattle.execmodel.specs.Requests.{does_requests, request_of, request_alert, resting_alert, delete_request_alert, send_alert, do_alert, wait_io_alert, set_io_alert, answering_port, with_reply, begun_at, replying_port, looks_for, aborts, does_create_io_request, does_delete_io_request, does_open_device, does_close_device, does_set_io, does_do_io, does_send_io, does_check_io, does_wait_io, does_abort_io, does_io_secs, does_io_micros, does_io_error, does_io_flags}
 use Rattle.execmodel.specs.Step.{does, does_word, ends}
 use Rattle.execmodel.specs.Laws.{OnlySwitchesSaySo, says_switch}
 use Rattle.taskscript.specs.declared.word.Word.{Word}
@@ -35,6 +36,11 @@ use Rattle.taskscript.specs.declared.word.semaphores.SemaphoreWord.TheVariants a
 use Rattle.taskscript.specs.declared.word.interrupts.InterruptWord.TheVariants as causing
 use Rattle.taskscript.specs.declared.word.libraries.LibraryWord.{LibraryWord}
 use Rattle.taskscript.specs.declared.word.libraries.LibraryWord.TheVariants as libraries
+use Rattle.taskscript.specs.declared.word.requests.RequestWord.{RequestWord}
+use Rattle.taskscript.specs.declared.word.requests.RequestWord.TheVariants as requests
+use Rattle.iorequest.specs.declared.request.ReqState.{ReqState}
+use Rattle.iorequest.specs.declared.request.ReqState.TheVariants.{Idle, UnderWay, Quick, Replied}
+use Rattle.iorequest.specs.Request.{is_under_way}
 use Rattle.sigsem.specs.declared.semaphore.Obtained.{Obtained}
 use Rattle.sigsem.specs.declared.semaphore.Obtained.TheVariants.{Owner, Waits}
 use Rattle.execmodel.specs.Plain.{does_plain, does_set, does_add, does_sub, does_and, does_or, jumps, does_jump, does_jump_zero, does_jump_not_zero, does_print}
@@ -262,6 +268,65 @@ libraries_silent libraries.RemLibrary t call s =
 libraries_silent libraries.LibOpenCnt t call s =
     unless_silent (library_alert (argument 0 call) s.memory.heap) t call _ s refl
 
+replying_silent : (port : Option ℕ) (request : ℕ) (o : Outcome) → Silent o → Silent (with_reply port request o)
+replying_silent None request o says = says
+replying_silent (Some port) request o says = says
+
+looks_silent : (how : ReqState) (request t : ℕ) (call : Call) (s : State) → Silent (looks_for how request t call s)
+unfolding waiting answered
+looks_silent Idle request t call s = refl
+looks_silent UnderWay request t call s = refl
+looks_silent Quick request t call s = refl
+looks_silent Replied request t call s = refl
+
+wait_io_silent : (t : ℕ) (call : Call) (s : State) → Silent (does_wait_io t call s)
+unfolding does_wait_io
+wait_io_silent t call s =
+    unless_silent (wait_io_alert t (argument 0 call) s.memory.heap) t call _ s
+    (looks_silent (request_of (argument 0 call) s.memory.heap).state (argument 0 call) t call _)
+
+aborts_silent : (test : Bool) (request t : ℕ) (call : Call) (s : State) → Silent (aborts test request t call s)
+unfolding answered
+aborts_silent true request t call s = replying_silent (answering_port request s.memory.heap) request _ refl
+aborts_silent false request t call s = refl
+
+requests_silent : (word : RequestWord) (t : ℕ) (call : Call) (s : State) → Silent (does_requests word t call s)
+unfolding does_create_io_request does_delete_io_request does_open_device does_close_device does_set_io does_do_io does_send_io does_check_io does_abort_io does_io_secs does_io_micros does_io_error does_io_flags done answered
+requests_silent requests.CreateIORequest t call s =
+    either_silent (nat_eq (argument 0 call) 0) _ _ refl
+    (unless_silent (port_alert (argument 0 call) s.memory.heap) t call _ s refl)
+requests_silent requests.DeleteIORequest t call s =
+    either_silent (nat_eq (argument 0 call) 0) _ _ refl
+    (unless_silent (delete_request_alert (argument 0 call) s.memory.heap) t call _ s refl)
+requests_silent requests.OpenDevice t call s =
+    unless_silent (resting_alert (argument 2 call) s.memory.heap) t call _ s refl
+requests_silent requests.CloseDevice t call s =
+    unless_silent (resting_alert (argument 0 call) s.memory.heap) t call _ s refl
+requests_silent requests.SetIO t call s =
+    unless_silent (set_io_alert (argument 1 call) (argument 0 call) s.memory.heap) t call _ s refl
+requests_silent requests.DoIO t call s =
+    let next = on_memory (begun_at true (argument 0 call)) s in
+    either_silent (is_tried_again t s.scripts) _ _ (wait_io_silent t call s)
+    (unless_silent (do_alert t (argument 0 call) s.memory.heap) t call _ s
+    (looks_silent (request_of (argument 0 call) next.memory.heap).state (argument 0 call) t call next))
+requests_silent requests.SendIO t call s =
+    unless_silent (send_alert (argument 0 call) s.memory.heap) t call _ s
+    (replying_silent (replying_port false (argument 0 call) s.memory) (argument 0 call) _ refl)
+requests_silent requests.CheckIO t call s =
+    unless_silent (request_alert (argument 0 call) s.memory.heap) t call _ s refl
+requests_silent requests.WaitIO t call s = wait_io_silent t call s
+requests_silent requests.AbortIO t call s =
+    unless_silent (request_alert (argument 0 call) s.memory.heap) t call _ s
+    (aborts_silent (is_under_way (request_of (argument 0 call) s.memory.heap)) (argument 0 call) t call s)
+requests_silent requests.IOSecs t call s =
+    unless_silent (request_alert (argument 0 call) s.memory.heap) t call _ s refl
+requests_silent requests.IOMicros t call s =
+    unless_silent (request_alert (argument 0 call) s.memory.heap) t call _ s refl
+requests_silent requests.IOError t call s =
+    unless_silent (request_alert (argument 0 call) s.memory.heap) t call _ s refl
+requests_silent requests.IOFlags t call s =
+    unless_silent (request_alert (argument 0 call) s.memory.heap) t call _ s refl
+
 word_silent : (word : Word) (t : ℕ) (call : Call) (s : State) → Silent (does_word word t call s)
 word_silent (group.Plain word) t call s = plain_silent word t call s
 word_silent (group.Signals word) t call s = signals_silent word t call s
@@ -273,6 +338,7 @@ word_silent (group.Ports word) t call s = ports_silent word t call s
 word_silent (group.Semaphores word) t call s = semaphores_silent word t call s
 word_silent (group.Interrupts word) t call s = interrupts_silent word t call s
 word_silent (group.Libraries word) t call s = libraries_silent word t call s
+word_silent (group.Requests word) t call s = requests_silent word t call s
 
 call_silent : (t : ℕ) (call : Call) (s : State) → says_switch (does t call s).lines ≡ false
 unfolding does

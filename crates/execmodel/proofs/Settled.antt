@@ -13,7 +13,8 @@ use Rattle.scheduler.specs.declared.Switch.{Switch}
 use Rattle.scheduler.specs.declared.Switch.TheVariants.{To, Idle}
 use Rattle.taskscript.specs.declared.event.Event.{Event}
 use Rattle.taskscript.specs.declared.event.Event.TheVariants.{Run, Tick, Irq}
-use Rattle.execmodel.specs.State.{State, Outcome, quiet, on_schedule, on_pending, andthen, unless_stopped, booted}
+use Rattle.execmodel.specs.State.{State, Outcome, quiet, on_schedule, on_memory, on_timer, on_pending, andthen, unless_stopped, booted}
+use Rattle.execmodel.specs.Timing.{ticked}
 use Rattle.execmodel.specs.Scheduling.{arrives, displaced, after_switch, switch_of, rescheduled}
 use Rattle.execmodel.specs.Pending.{source_named, with_latch_of, allows_interrupts}
 use Rattle.execmodel.specs.Interrupts.{interrupts}
@@ -23,7 +24,7 @@ use Rattle.softint.specs.declared.source.Source.TheVariants.{Vertb}
 use Rattle.softint.specs.Sources.{is_latched}
 use Rattle.execmodel.specs.Laws.{IsSettled, EachStateIsSettled}
 use Rattle.execmodel.proofs.Heaps.{true_is_not_false}
-use Rattle.execmodel.proofs.FifoLaw.{switches_quiet}
+use Rattle.execmodel.proofs.TidyLaw.{switches_quiet}
 use Rattle.execmodel.proofs.Servings.{interrupts_blocked}
 
 announced_state : (c : Option Switch) (s : State) → (announced c s).state ≡ s
@@ -281,25 +282,26 @@ unfolding steps andthen
 steps_rest zero s rests = rests
 steps_rest (suc n) s rests = step_rests (steps n s).state
 
-request_rests : (asks : Source) (s : State) → Rests s → Rests (request asks s).state
+request_rests : (asks : Source) (s : State) → Rests (request asks s).state
 unfolding request
-request_rests asks s rests =
+request_rests asks s =
     either_rests s.stopped s (settle (on_pending (with_latch_of asks true) s)) refl (λ going. settle_rests (on_pending (with_latch_of asks true) s))
 
-tick_rests : (s : State) → Rests s → Rests (tick s).state
+tick_rests : (s : State) → Rests (tick s).state
 unfolding tick
-tick_rests s rests = request_rests Vertb s rests
+tick_rests s =
+    either_rests s.stopped s (request Vertb (on_memory (on_timer ticked) s)) refl (λ going. request_rests Vertb (on_memory (on_timer ticked) s))
 
 ticks_rest : (n : ℕ) (s : State) → Rests s → Rests (ticks n s).state
 unfolding ticks andthen
 ticks_rest zero s rests = rests
-ticks_rest (suc n) s rests = tick_rests (ticks n s).state (ticks_rest n s rests)
+ticks_rest (suc n) s rests = tick_rests (ticks n s).state
 
 event_rests : (e : Event) (s : State) → Rests s → Rests (event e s).state
 unfolding event
 event_rests (Run n) s rests = steps_rest n s rests
 event_rests (Tick n) s rests = ticks_rest n s rests
-event_rests (Irq name) s rests = request_rests (source_named name) s rests
+event_rests (Irq name) s rests = request_rests (source_named name) s
 
 events_rest : (list : List Event) (s : State) → Rests s → Rests (events list s).state
 unfolding events andthen

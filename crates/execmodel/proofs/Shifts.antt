@@ -35,6 +35,12 @@ use Rattle.taskscript.specs.declared.word.interrupts.InterruptWord.{InterruptWor
 use Rattle.taskscript.specs.declared.word.interrupts.InterruptWord.TheVariants as interrupts
 use Rattle.taskscript.specs.declared.word.libraries.LibraryWord.{LibraryWord}
 use Rattle.taskscript.specs.declared.word.libraries.LibraryWord.TheVariants as libraries
+use Rattle.taskscript.specs.declared.word.requests.RequestWord.{RequestWord}
+use Rattle.taskscript.specs.declared.word.requests.RequestWord.TheVariants as requests
+use Rattle.iorequest.specs.declared.request.ReqState.{ReqState}
+use Rattle.iorequest.specs.declared.request.ReqState.TheVariants.{Idle, UnderWay, Quick, Replied}
+use Rattle.iorequest.specs.Request.{is_under_way}
+use Rattle.msgport.specs.declared.action.Action.{Action}
 use Rattle.execmodel.specs.State.{Call, Scripts, Object, Plain, Memory, asked, passed, State, Outcome, on_schedule, on_memory, on_heap}
 use Rattle.execmodel.specs.Scheduling.{arrives, added, reprioritized}
 use Rattle.execmodel.specs.Calls.{ByTask, argument, done, answered, waiting, silent, alerted, unless, keeps}
@@ -45,14 +51,15 @@ use Rattle.execmodel.specs.Tasks.{live_task_alert, set_task_pri_alert, add_task_
 use Rattle.execmodel.specs.Objects.{place_for_object}
 use Rattle.execmodel.specs.Memory.{allocates, place_for, alloc_alert, free_alert, avail_alert, does_memory, does_alloc_mem, does_free_mem, does_avail_mem}
 use Rattle.execmodel.specs.Lists.{free_list_alert, new_node_alert, free_node_alert, link_alert, insert_alert, linked_alert, list_alert, find_alert, does_lists, does_new_list, does_free_list, does_new_node, does_free_node, does_add_head, does_add_tail, does_enqueue, does_insert, does_remove, does_rem_head, does_rem_tail, does_first, does_last, does_succ, does_pred, does_find_name}
-use Rattle.execmodel.specs.Ports.{is_port, port_size, messages_of, port_of, port_created, delete_alert, port_alert, reply_port_alert, loose_alert, message_alert, add_port_alert, rem_port_alert, wait_alert, looked, loses, made_public, made_private, does_ports, does_create_msg_port, does_delete_msg_port, does_add_port, does_rem_port, does_find_port, does_port_signal, does_port_cause, does_port_ignore, does_new_msg, does_free_msg, does_msg_word, does_set_msg_word, does_msg_type, does_put_msg, does_get_msg, does_wait_port, does_reply_msg}
+use Rattle.execmodel.specs.Ports.{is_port, port_size, messages_of, port_of, port_created, delete_alert, port_alert, reply_port_alert, loose_alert, message_alert, add_port_alert, rem_port_alert, wait_alert, looked, loses, made_public, made_private, performed, does_ports, does_create_msg_port, does_delete_msg_port, does_add_port, does_rem_port, does_find_port, does_port_signal, does_port_cause, does_port_ignore, does_new_msg, does_free_msg, does_msg_word, does_set_msg_word, does_msg_type, does_put_msg, does_get_msg, does_wait_port, does_reply_msg}
 use Rattle.execmodel.specs.Semaphores.{awaited_by, dropped, sem_of, free_sem_alert, obtain_alert, release_alert, outcome_for, obtains, passes, heir, is_tried_again, leaving_queue, woken, does_semaphores, does_new_sem, does_free_sem, does_obtain_semaphore, does_attempt_semaphore, does_release_semaphore}
 use Rattle.execmodel.specs.Causing.{does_interrupts, does_cause}
 use Rattle.execmodel.specs.Libraries.{library_alert, close_alert, does_libraries, does_open_library, does_close_library, does_rem_library, does_lib_open_cnt}
+use Rattle.execmodel.specs.Requests.{does_requests, request_of, request_alert, resting_alert, delete_request_alert, send_alert, do_alert, wait_io_alert, set_io_alert, answering_port, acting_at, with_reply, ended, begun_at, replying_port, looks_for, aborts, does_create_io_request, does_delete_io_request, does_open_device, does_close_device, does_set_io, does_do_io, does_send_io, does_check_io, does_wait_io, does_abort_io, does_io_secs, does_io_micros, does_io_error, does_io_flags}
 use Rattle.execmodel.specs.Step.{does, does_word}
 use Rattle.execmodel.specs.Laws.{is_own_taking}
 use Rattle.execmodel.proofs.Heaps.{true_is_not_false}
-use Rattle.execmodel.proofs.Commands.{IsCalm, IsAlike, same, Reaches, rests, IsAltered, passed_first, goes_count, answered_count, signal_alters, put_alters, get_alters, reply_alters, cause_alters}
+use Rattle.execmodel.proofs.Commands.{IsCalm, IsAlike, same, Reaches, rests, IsAltered, performed_reaches, performed_scripts, passed_first, goes_count, answered_count, signal_alters, put_alters, get_alters, reply_alters, cause_alters}
 use Rattle.execmodel.proofs.Moves.{no_caller}
 use Rattle.execmodel.proofs.Bits.{nothing_left}
 
@@ -451,6 +458,104 @@ libraries_shift libraries.RemLibrary t call s =
 libraries_shift libraries.LibOpenCnt t call s =
     unless_shifts t call s (library_alert (argument 0 call) s.memory.heap) _ (λ none. answered_stays t call _ s s.memory)
 
+-- ---- requests
+
+-- a call after which a port acts where a reply arrived, if there is one
+acted_count : (act : Action) (s : State) → length (performed act s).scripts.programs ≡ length s.scripts.programs
+acted_count act s = ap (λ (scripts : Scripts). length scripts.programs) (performed_scripts act s)
+
+sends_shift : (port : Option ℕ) (request t : ℕ) (call : Call) (act : Action) (s : State) (memory : Memory)
+    → Shifted t call s (with_reply port request (done t call (performed act (record s { memory = memory }))))
+unfolding done
+sends_shift None request t call act s memory =
+    let next = record s { memory = memory } in
+    (goes_count t call.next (performed act next).scripts ∙ acted_count act next, reaches (performed_reaches act [] next (λ p. refl)))
+sends_shift (Some port) request t call act s memory =
+    let next = record s { memory = memory } in
+    (goes_count t call.next (performed act next).scripts ∙ acted_count act next, reaches (performed_reaches act _ next (λ p. refl)))
+
+ends_shift : (port : Option ℕ) (request t : ℕ) (call : Call) (act : Action) (s : State) (memory : Memory)
+    → Shifted t call s (with_reply port request (answered t call 0 (performed act (record s { memory = memory }))))
+unfolding answered
+ends_shift None request t call act s memory =
+    let next = record s { memory = memory } in (
+      answered_count t call.next call.target 0 (performed act next).scripts ∙ acted_count act next,
+      reaches (performed_reaches act [] next (λ p. refl)),
+    )
+ends_shift (Some port) request t call act s memory =
+    let next = record s { memory = memory } in (
+      answered_count t call.next call.target 0 (performed act next).scripts ∙ acted_count act next,
+      reaches (performed_reaches act _ next (λ p. refl)),
+    )
+
+aborts_shift : (test : Bool) (request t : ℕ) (call : Call) (s : State) → Shifted t call s (aborts test request t call s)
+aborts_shift true request t call s =
+    ends_shift (answering_port request s.memory.heap) request t call (acting_at (answering_port request s.memory.heap) s.memory.heap) s
+    (ended (negsuc 1) request s.memory)
+aborts_shift false request t call s = answered_stays t call _ s s.memory
+
+-- a task looks for a request, after it has changed what it received itself, or the memory
+looks_shift : (how : ReqState) (request t : ℕ) (call : Call) (s r : State) → is_own_taking call.word ≡ true
+    → length r.scripts.programs ≡ length s.scripts.programs → IsOwn t s.schedule r.schedule → Shifted t call s (looks_for how request t call r)
+unfolding waiting answered takes_signals
+looks_shift Idle request t call s r taking count mine =
+    (answered_count t call.next call.target _ r.scripts ∙ count, takes (λ p. refl) taking mine)
+looks_shift UnderWay request t call s r taking count mine = (
+  kept_count t _ r.scripts ∙ count,
+  sleeps _ (takes_signals t _ r.schedule) (λ p. refl) taking (own_more t s.schedule r.schedule _ mine (own_signals t _ r.schedule))
+      (none_received t _ r.schedule.signals _ refl) refl,
+)
+looks_shift Quick request t call s r taking count mine =
+    (answered_count t call.next call.target _ r.scripts ∙ count, takes (λ p. refl) taking mine)
+looks_shift Replied request t call s r taking count mine =
+    (answered_count t call.next call.target _ r.scripts ∙ count, takes (λ p. refl) taking mine)
+
+wait_io_shifts : (t : ℕ) (call : Call) (s : State) → is_own_taking call.word ≡ true → Shifted t call s (does_wait_io t call s)
+unfolding does_wait_io sets_signals
+wait_io_shifts t call s taking =
+    unless_shifts t call s (wait_io_alert t (argument 0 call) s.memory.heap) _
+    (λ none. looks_shift (request_of (argument 0 call) s.memory.heap).state (argument 0 call) t call s
+    (on_schedule (loses t call.awaited) s) taking refl (own_signals t _ s.schedule))
+
+requests_shift : (word : RequestWord) (t : ℕ) (call : Call) (s : State) → call.word ≡ group.Requests word → Shifted t call s (does_requests word t call s)
+unfolding does_create_io_request does_delete_io_request does_open_device does_close_device does_set_io does_do_io does_send_io does_check_io does_abort_io does_io_secs does_io_micros does_io_error does_io_flags
+requests_shift requests.CreateIORequest t call s word =
+    either_shifts t call s (nat_eq (argument 0 call) 0) _ _ (λ is. answered_stays t call _ s s.memory)
+    (λ is. unless_shifts t call s (port_alert (argument 0 call) s.memory.heap) _ (λ none. answered_stays t call _ s _))
+requests_shift requests.DeleteIORequest t call s word =
+    either_shifts t call s (nat_eq (argument 0 call) 0) _ _ (λ is. done_stays t call s s.memory)
+    (λ is. unless_shifts t call s (delete_request_alert (argument 0 call) s.memory.heap) _ (λ none. done_stays t call s _))
+requests_shift requests.OpenDevice t call s word =
+    unless_shifts t call s (resting_alert (argument 2 call) s.memory.heap) _ (λ none. answered_stays t call _ s _)
+requests_shift requests.CloseDevice t call s word =
+    unless_shifts t call s (resting_alert (argument 0 call) s.memory.heap) _ (λ none. done_stays t call s _)
+requests_shift requests.SetIO t call s word =
+    unless_shifts t call s (set_io_alert (argument 1 call) (argument 0 call) s.memory.heap) _ (λ none. done_stays t call s _)
+requests_shift requests.DoIO t call s word =
+    let next = on_memory (begun_at true (argument 0 call)) s in
+    either_shifts t call s (is_tried_again t s.scripts) _ _ (λ is. wait_io_shifts t call s (ap is_own_taking word))
+    (λ is. unless_shifts t call s (do_alert t (argument 0 call) s.memory.heap) _
+    (λ none. looks_shift (request_of (argument 0 call) next.memory.heap).state (argument 0 call) t call s next (ap is_own_taking word) refl
+    (own t s.schedule)))
+requests_shift requests.SendIO t call s word =
+    unless_shifts t call s (send_alert (argument 0 call) s.memory.heap) _
+    (λ none. let port = replying_port false (argument 0 call) s.memory in
+    sends_shift port (argument 0 call) t call (acting_at port s.memory.heap) s (begun_at false (argument 0 call) s.memory))
+requests_shift requests.CheckIO t call s word =
+    unless_shifts t call s (request_alert (argument 0 call) s.memory.heap) _ (λ none. answered_stays t call _ s s.memory)
+requests_shift requests.WaitIO t call s word = wait_io_shifts t call s (ap is_own_taking word)
+requests_shift requests.AbortIO t call s word =
+    unless_shifts t call s (request_alert (argument 0 call) s.memory.heap) _
+    (λ none. aborts_shift (is_under_way (request_of (argument 0 call) s.memory.heap)) (argument 0 call) t call s)
+requests_shift requests.IOSecs t call s word =
+    unless_shifts t call s (request_alert (argument 0 call) s.memory.heap) _ (λ none. answered_stays t call _ s s.memory)
+requests_shift requests.IOMicros t call s word =
+    unless_shifts t call s (request_alert (argument 0 call) s.memory.heap) _ (λ none. answered_stays t call _ s s.memory)
+requests_shift requests.IOError t call s word =
+    unless_shifts t call s (request_alert (argument 0 call) s.memory.heap) _ (λ none. answered_stays t call _ s s.memory)
+requests_shift requests.IOFlags t call s word =
+    unless_shifts t call s (request_alert (argument 0 call) s.memory.heap) _ (λ none. answered_stays t call _ s s.memory)
+
 -- ---- any word
 
 word_shifts : (word : Word) (t : ℕ) (call : Call) (s : State) → call.word ≡ word → Shifted t call s (does_word word t call s)
@@ -464,6 +569,7 @@ word_shifts (group.Ports word) t call s is = ports_shift word t call s is
 word_shifts (group.Semaphores word) t call s is = semaphores_shift word t call s
 word_shifts (group.Interrupts word) t call s is = interrupts_shift word t call s
 word_shifts (group.Libraries word) t call s is = libraries_shift word t call s
+word_shifts (group.Requests word) t call s is = requests_shift word t call s is
 
 pub call_shifts : (t : ℕ) (call : Call) (s : State) → Shifted t call s (does t call s)
 unfolding does

@@ -8,7 +8,6 @@ use Rattle.execmodel.specs.State.{State, Outcome, quiet, andthen, unless_stopped
 use Rattle.execmodel.specs.Pending.{source_named}
 use Rattle.execmodel.specs.Step.{acts, settle, step, steps, request, tick, ticks, event, events}
 use Rattle.softint.specs.declared.source.Source.{Source}
-use Rattle.softint.specs.declared.source.Source.TheVariants.{Vertb}
 
 -- an outcome, and then another action
 abbrev after : (State → Outcome) → Outcome → Outcome
@@ -28,7 +27,7 @@ settle_stopped : (s : State) → s.stopped ≡ true → settle s ≡ quiet s
 unfolding settle
 settle_stopped s h = rw h refl
 
-step_stopped : (s : State) → s.stopped ≡ true → step s ≡ quiet s
+pub step_stopped : (s : State) → s.stopped ≡ true → step s ≡ quiet s
 unfolding step
 step_stopped s h = both_quiet acts settle s (acts_stopped s h) (settle_stopped s h)
 
@@ -37,13 +36,13 @@ unfolding steps
 steps_stopped zero s h = refl
 steps_stopped (suc n) s h = both_quiet (steps n) step s (steps_stopped n s h) (step_stopped s h)
 
-request_stopped : (asks : Source) (s : State) → s.stopped ≡ true → request asks s ≡ quiet s
+pub request_stopped : (asks : Source) (s : State) → s.stopped ≡ true → request asks s ≡ quiet s
 unfolding request
 request_stopped asks s h = rw h refl
 
-tick_stopped : (s : State) → s.stopped ≡ true → tick s ≡ quiet s
+pub tick_stopped : (s : State) → s.stopped ≡ true → tick s ≡ quiet s
 unfolding tick
-tick_stopped s h = request_stopped Vertb s h
+tick_stopped s h = rw h refl
 
 ticks_stopped : (n : ℕ) (s : State) → s.stopped ≡ true → ticks n s ≡ quiet s
 unfolding ticks

@@ -5,15 +5,18 @@ use Rattle.exectrace.specs.Trace.{Serve, Server, Softint, TraceLine}
 use Rattle.taskscript.specs.Commands.{CommandData}
 use Rattle.taskscript.specs.declared.event.Event.{Event}
 use Rattle.taskscript.specs.declared.event.Event.TheVariants.{Run, Tick, Irq}
-use Rattle.scheduler.specs.Schedule.{ticked}
+use Rattle.scheduler.specs.Schedule.{ticked as quantum_ticked}
 use Rattle.softint.specs.declared.source.Source.{Source}
 use Rattle.softint.specs.declared.source.Source.TheVariants as source
-use Rattle.execmodel.specs.State.{Call, Pending, State, Mark, Outcome, quiet, says, andthen, unless_stopped, on_schedule, on_pending}
+use Rattle.execmodel.specs.State.{Call, Pending, State, Mark, Outcome, quiet, says, andthen, unless_stopped, on_schedule, on_memory, on_timer, on_pending}
 use Rattle.execmodel.specs.Scheduling.{added}
 use Rattle.execmodel.specs.Calls.{next_call}
 use Rattle.execmodel.specs.Pending.{source_named, taken_off, with_latch_of, next_softint, next_source}
 use Rattle.execmodel.specs.Bodies.{body_step, runs_body}
-use Rattle.execmodel.specs.Interrupts.{softint_at, runs_softint, server_at, chain_of, runs_server, runs_chain, text_of_source, counted, serves, servings, interrupts}
+use Rattle.execmodel.specs.Timing.{ticked as clock_ticked, due_next}
+use Rattle.execmodel.specs.Requests.{finishes, finishes_due, finishes_all_due}
+use Rattle.execmodel.specs.Interrupts.{softint_at, runs_softint, server_at, chain_of, runs_server, runs_chain, text_of_source, counted, finishes_for, serves, servings, interrupts}
+use Rattle.execmodel.proofs.BodyActions.{finishes_found}
 use Rattle.execmodel.specs.Step.{switches, settle, does, ends, task_step, call_step, softint_or_task_step, acting, acts, step, steps, request, tick, ticks, all_added, starts, event, events}
 
 -- a relation of the state before, the marks that are left, and the state after
@@ -25,16 +28,19 @@ abbrev pub HoldsOf : Relation → (State → Outcome) → Type 0
 HoldsOf R next = (s : State) → R s (next s).marks (next s).state
 
 -- What holds of each thing that is done beside a task's commands: one command of the body of a software interrupt or a server; other
--- interrupts are pending; the quantum loses one serving; and a switch. It holds where nothing is done, and of one thing after another.
+-- interrupts are pending; a request that is due finishes; the quantum loses one serving; and a switch. It holds where nothing is done, and of
+-- one thing after another.
 pub record HoldsOfInterrupts (R : Relation) : Type 0 where
   pub nothing : (s : State) → R s [] s
   pub joined : (s : State) (some : List Mark) (r : State) (more : List Mark) (q : State) → R s some r → R r more q → R s (some ++ more) q
   pub commanding : (name : List ℕ) (command : CommandData) → HoldsOf R (body_step name command)
   pub pending : (f : Pending → Pending) (s : State) → R s [] (on_pending f s)
-  pub ticking : (s : State) → R s [] (on_schedule ticked s)
+  pub finishing : (request : ℕ) (s : State) → due_next s.memory.timer ≡ Some request → R s (finishes request s).marks (finishes request s).state
+  pub ticking : (s : State) → R s [] (on_schedule quantum_ticked s)
   pub switching : HoldsOf R switches
 
--- What holds of each thing that a machine does: that, and of the running task's call, or its end; and that a task is added at the start.
+-- What holds of each thing that a machine does, but that a tick moves the clock: that, and of the running task's call, or its end; and that a task
+-- is added at the start.
 pub record HoldsOfEach (R : Relation) : Type 0 where
   pub interrupting : HoldsOfInterrupts R
   pub adding : (t : ℕ) (s : State) → t < length s.scripts.programs → R s [] (on_schedule (added t) s)
@@ -102,15 +108,34 @@ module _ (R : Relation) (each : HoldsOfInterrupts R) where
   of_counting source.Vertb s = each.ticking s
   of_counting source.Exter s = each.nothing s
 
+  of_found : (next : State → Outcome) → HoldsOf R next → (found : Option ℕ) (s : State) → due_next s.memory.timer ≡ found
+      → R s (finishes_found next found s).marks (finishes_found next found s).state
+  unfolding andthen
+  of_found next holds None s due = each.nothing s
+  of_found next holds (Some request) s due =
+      each.joined s (finishes request s).marks (finishes request s).state _ _ (each.finishing request s due) (holds (finishes request s).state)
+
+  of_due : (n : ℕ) → HoldsOf R (finishes_due n)
+  unfolding finishes_due
+  of_due zero s = each.nothing s
+  of_due (suc n) s = of_found (finishes_due n) (of_due n) (due_next s.memory.timer) s refl
+
+  of_finishing : (asks : Source) → HoldsOf R (finishes_for asks)
+  unfolding finishes_all_due
+  of_finishing source.Ports s = each.nothing s
+  of_finishing source.Vertb s = of_due _ s
+  of_finishing source.Exter s = each.nothing s
+
   of_serves : (asks : Source) → HoldsOf R (serves asks)
   unfolding serves
   of_serves asks s =
       let cleared = on_pending (with_latch_of asks false) s in
       let begun = on_schedule (counted asks) cleared in
+      let chain = chain_of asks s.bodies.servers in
       each.joined s [] begun _ _
       (each.joined s [] cleared [] begun (each.pending (with_latch_of asks false) s) (of_counting asks cleared))
-      (both (says (Serve (text_of_source asks))) (runs_chain (chain_of asks s.bodies.servers)) (of_saying (Serve (text_of_source asks)))
-      (of_chain (chain_of asks s.bodies.servers)) begun)
+      (both (says (Serve (text_of_source asks))) (andthen (finishes_for asks) (runs_chain chain)) (of_saying (Serve (text_of_source asks)))
+      (both (finishes_for asks) (runs_chain chain) (of_finishing asks) (of_chain chain)) begun)
 
   serving : (next : State → Outcome) → HoldsOf R next → (found : Option Source) → HoldsOf R (serves_found next found)
   serving next holds None s = each.nothing s
@@ -138,7 +163,7 @@ module _ (R : Relation) (each : HoldsOfInterrupts R) where
       (λ s. each.joined s [] (on_pending (with_latch_of asks true) s) _ _ (each.pending (with_latch_of asks true) s)
       (of_settle (on_pending (with_latch_of asks true) s))) s
 
--- ---- whole runs
+-- ---- steps, and the start
 
 module _ (R : Relation) (each : HoldsOfEach R) where
   joins : (first next : State → Outcome) → HoldsOf R first → HoldsOf R next → HoldsOf R (andthen first next)
@@ -168,35 +193,14 @@ module _ (R : Relation) (each : HoldsOfEach R) where
   unfolding acts
   of_acts s = unless R each.interrupting acting of_acting s
 
-  of_step : HoldsOf R step
+  pub of_step : HoldsOf R step
   unfolding step
   of_step s = joins acts settle of_acts (of_settle R each.interrupting) s
 
-  of_steps : (n : ℕ) → HoldsOf R (steps n)
+  pub of_steps : (n : ℕ) → HoldsOf R (steps n)
   unfolding steps
   of_steps zero s = nothing s
   of_steps (suc n) s = joins (steps n) step (of_steps n) of_step s
-
-  of_tick : HoldsOf R tick
-  unfolding tick
-  of_tick s = of_request R each.interrupting source.Vertb s
-
-  of_ticks : (n : ℕ) → HoldsOf R (ticks n)
-  unfolding ticks
-  of_ticks zero s = nothing s
-  of_ticks (suc n) s = joins (ticks n) tick (of_ticks n) of_tick s
-
-  of_event : (e : Event) → HoldsOf R (event e)
-  unfolding event
-  of_event (Run n) s = of_steps n s
-  of_event (Tick n) s = of_ticks n s
-  of_event (Irq name) s = of_request R each.interrupting (source_named name) s
-
-  -- what holds of each thing that is done holds over every stretch
-  pub of_events : (list : List Event) → HoldsOf R (events list)
-  unfolding events
-  of_events [] s = nothing s
-  of_events (e ∷ rest) s = joins (event e) (events rest) (of_event e) (of_events rest) s
 
   starting : (b : Bool) (t : ℕ) (s : State) → t < length s.scripts.programs → R s [] (on_schedule (λ r. if b then added t r else r) s)
   starting true t s less = each.adding t s less
@@ -215,3 +219,36 @@ module _ (R : Relation) (each : HoldsOfEach R) where
       each.interrupting.joined s [] (on_schedule (all_added s.scripts (length s.scripts.programs)) s) _ _
       (of_adding (length s.scripts.programs) s (omega arith))
       (of_settle R each.interrupting (on_schedule (all_added s.scripts (length s.scripts.programs)) s))
+
+-- ---- whole runs
+
+-- the clock gains a tick
+abbrev pub clock_gains : State → State
+clock_gains s = on_memory (on_timer clock_ticked) s
+
+pub ticked : (R : Relation) → HoldsOfInterrupts R → ((s : State) → R s [] (clock_gains s)) → HoldsOf R tick
+unfolding tick
+ticked R each clocked s =
+    unless R each (λ s. request source.Vertb (clock_gains s))
+    (λ s. each.joined s [] (clock_gains s) _ _ (clocked s) (of_request R each source.Vertb (clock_gains s))) s
+
+module _ (R : Relation) (each : HoldsOfEach R) (clocked : (s : State) → R s [] (clock_gains s)) where
+  of_tick : HoldsOf R tick
+  of_tick s = ticked R each.interrupting clocked s
+
+  of_ticks : (n : ℕ) → HoldsOf R (ticks n)
+  unfolding ticks
+  of_ticks zero s = each.interrupting.nothing s
+  of_ticks (suc n) s = both R each.interrupting (ticks n) tick (of_ticks n) of_tick s
+
+  of_event : (e : Event) → HoldsOf R (event e)
+  unfolding event
+  of_event (Run n) s = of_steps R each n s
+  of_event (Tick n) s = of_ticks n s
+  of_event (Irq name) s = of_request R each.interrupting (source_named name) s
+
+  -- what holds of each thing that is done holds over every stretch
+  pub of_events : (list : List Event) → HoldsOf R (events list)
+  unfolding events
+  of_events [] s = each.interrupting.nothing s
+  of_events (e ∷ rest) s = both R each.interrupting (event e) (events rest) (of_event e) (of_events rest) s

@@ -13,7 +13,7 @@ use Rattle.execmodel.specs.Scheduling.{arrives, displaced, after_switch, switch_
 use Rattle.execmodel.specs.Step.{announced, switches}
 use Rattle.execmodel.specs.Laws.{SwitchesGoToTheChosen}
 use Rattle.execmodel.proofs.Heaps.{true_is_not_false}
-use Rattle.execmodel.proofs.FifoLaw.{switches_quiet}
+use Rattle.execmodel.proofs.TidyLaw.{switches_quiet}
 use Rattle.std.proofs.lemmas.Int.{ints}
 use Rattle.memlist.proofs.Answered.{nat_eq-other, cases_eq}
 use Rattle.execlist.specs.Order.{chosen, chosen_or}

@@ -3,7 +3,6 @@ use Rattle.std.proofs.Common.{◌≡◌, ℕ, suc, ◌<◌, Bool, true, false, L
 use Rattle.std.specs.Prelude.{not, if◌then◌else◌, ◌&&◌, map, replicate, slice_set}
 use Rattle.std.proofs.lemmas.List.{length-set}
 use Rattle.std.proofs.lemmas.Grind.{flat_map-append}
-use Rattle.memlist.specs.Memory.{IsWellFormed}
 use Rattle.signals.specs.Signals.{after_post}
 use Rattle.taskq.specs.Tasks.{Tasks, is_live}
 use Rattle.taskq.specs.declared.TaskState.{TaskState}
@@ -17,22 +16,27 @@ use Rattle.taskscript.specs.Machines.{IsMachine}
 use Rattle.taskscript.specs.declared.event.Event.{Event}
 use Rattle.execmodel.specs.State.{Call, Mark, State, Outcome, on_schedule, begun, booted, andthen}
 use Rattle.execmodel.specs.Scheduling.{arrives, added, displaced, after_switch, rescheduled, switch_of, signalled}
+use Rattle.taskscript.specs.Commands.{CommandData}
+use Rattle.execmodel.specs.Calls.{next_call}
+use Rattle.execmodel.specs.Timing.{due_next}
 use Rattle.execmodel.specs.Bodies.{body_step}
-use Rattle.execmodel.specs.Memory.{extents}
 use Rattle.execmodel.specs.Semaphores.{waiters_of, woken}
 use Rattle.execmodel.specs.Step.{switches, does, ends, starts, events, run}
 use Rattle.execmodel.specs.Marks.{semaphore_turn, turns_at_semaphore}
 use Rattle.execmodel.specs.Agreement.{times}
 use Rattle.execmodel.specs.Laws.{QueuesAgreeWithTheSchedule, SemaphoresPassInOrder}
 use Rattle.execmodel.proofs.Queues.{Follows, IsOnce, follows_more, follows_once, in_order}
-use Rattle.execmodel.proofs.Stretches.{Relation, HoldsOfEach, of_starts, of_events}
-use Rattle.execmodel.proofs.Commands.{IsCalm, Reaches, rests, posts, Alters, body_alters}
-use Rattle.execmodel.proofs.Moves.{Makes, call_makes}
-use Rattle.execmodel.proofs.Formed.{touched_formed, moves_formed}
-use Rattle.execmodel.proofs.FifoLaw.{FormedState, quietly, switches_quiet, booted_formed}
-use Rattle.execmodel.proofs.Owners.{AllIdle, touched_idle, moves_idle}
-use Rattle.execmodel.proofs.Passing.{dropped_left, touched_pass, moves_pass}
-use Rattle.execmodel.proofs.Shifts.{Shifted, Shifts, call_shifts, reaches, rearrives, adds, takes, sleeps, asks, wakes, leaves, removes}
+use Rattle.execmodel.proofs.Stretches.{Relation, HoldsOfEach, clock_gains, of_starts, of_events}
+use Rattle.execmodel.proofs.Commands.{IsCalm, Reaches, rests, posts, body_alters}
+use Rattle.execmodel.specs.Requests.{finishes}
+use Rattle.execmodel.proofs.Posts.{IsTidy}
+use Rattle.execmodel.proofs.Asking.{finishing, without_reply}
+use Rattle.execmodel.proofs.Works.{Works, by_moves, by_asking, by_taking, call_works}
+use Rattle.execmodel.proofs.TidyLaw.{tidies, rescheduled_tidy, booted_tidy, quietly, switches_quiet}
+use Rattle.execmodel.proofs.OwnersLaw.{called_idle}
+use Rattle.execmodel.proofs.Owners.{AllIdle, touched_idle, asked_idle}
+use Rattle.execmodel.proofs.Passing.{dropped_left, touched_pass, moves_pass, asked_pass, taken_pass}
+use Rattle.execmodel.proofs.Shifts.{Shifts, call_shifts, reaches, rearrives, adds, takes, sleeps, asks, wakes, leaves, removes}
 use Rattle.execmodel.proofs.Agreement.{AllAgree, all_absent, absent_agrees, alike_agrees, rearrives_agrees, added_agrees, signalled_agrees, stops_agrees, asks_agrees, wakes_agrees, removed_agrees, rescheduled_agrees, waits_at, running_state}
 use Rattle.execmodel.proofs.Waiting.{waits_at_one, runs_nowhere}
 
@@ -183,10 +187,10 @@ shifts_agree t call s o (removes other apart heap e) runs count follows old =
 
 -- ---- every stretch
 
--- what holds in every state: the blocks are well formed, nobody waits for a free semaphore, each program has a task, and the queues agree
+-- what holds in every state: the blocks are well formed and the requests in order, nobody waits for a free semaphore, each program has a task, and the queues agree
 -- with the schedule
 pub record IsSound (s : State) : Type 0 where
-  pub formed : FormedState s
+  pub tidy : IsTidy s
   pub idle : AllIdle s.memory.heap
   pub counted : length s.scripts.programs ≡ length s.schedule.queue.states
   pub agrees : StateAgrees s
@@ -212,35 +216,70 @@ joined s some r more q first next sound =
 pub rescheduling : (s : State) (f : Schedule → Schedule) → length (f s.schedule).queue.states ≡ length s.schedule.queue.states
     → (IsSound s → AllAgree (f s.schedule) (λ a. waiters_of a s.memory.heap)) → Waits s [] (on_schedule f s)
 rescheduling s f count agrees sound = (
-  record { formed = sound.formed; idle = sound.idle; counted = sound.counted ∙ sym count; agrees = agrees sound },
+  record {
+    tidy = rescheduled_tidy s (on_schedule f s) refl sound.tidy;
+    idle = sound.idle;
+    counted = sound.counted ∙ sym count;
+    agrees = agrees sound;
+  },
   λ a. refl,
 )
 
-called : (t : ℕ) (call : Call) (s : State) (o : Outcome) → s.schedule.running ≡ Some t → Makes t call s o → Shifted t call s o → Waits s o.marks o.state
-called t call s o runs makes shifts sound =
-    let follows =
-    moves_pass s.memory.regions t call s.memory.heap o.marks o.state.memory.heap makes.1 sound.formed sound.idle
+-- each queue follows the marks of a call
+called_pass : (t : ℕ) (call : Call) (s : State) (o : Outcome) → Works t call s o → s.schedule.running ≡ Some t → IsSound s
+    → (a : ℕ) → Follows (waiters_of a s.memory.heap) (turns_at_semaphore a o.marks) (waiters_of a o.state.memory.heap)
+called_pass t call s o (by_moves makes same) runs sound =
+    moves_pass s.memory.regions t call s.memory.heap o.marks o.state.memory.heap makes.1 sound.tidy.formed sound.idle
     (runs_nowhere t s.schedule s.memory.heap runs (sound.agrees t))
-    (λ other. waits_at_one s.memory.regions other s.schedule s.memory.heap sound.formed (sound.agrees other)) in (
+    (λ other. waits_at_one s.memory.regions other s.schedule s.memory.heap sound.tidy.formed (sound.agrees other))
+called_pass t call s o (by_asking regions how) runs sound =
+    asked_pass s o.marks o.state.memory.heap o.state.memory.timer.waiting how
+called_pass t call s o (by_taking port request regions same marks heap lives) runs sound = λ a.
+    subst (λ h. Follows (waiters_of a s.memory.heap) (turns_at_semaphore a o.marks) (waiters_of a h)) (sym heap)
+    (subst (λ ms. Follows (waiters_of a s.memory.heap) (turns_at_semaphore a ms) (waiters_of a (without_reply port request s.memory.heap))) (sym marks)
+    (taken_pass port request s.memory.heap (lives sound.tidy) a))
+
+called : (t : ℕ) (call : Call) (s : State) → s.schedule.running ≡ Some t → next_call t s.scripts ≡ Some call
+    → Waits s (does t call s).marks (does t call s).state
+called t call s runs is sound =
+    let o = does t call s in
+    let shifts = call_shifts t call s in
+    let follows = called_pass t call s o (call_works t call s) runs sound in (
       record {
-        formed = subst (λ regions. IsWellFormed regions (extents o.state.memory.heap)) (sym makes.0)
-            (moves_formed s.memory.regions t call s.memory.heap o.marks o.state.memory.heap makes.1 sound.formed);
-        idle = moves_idle s.memory.regions t call s.memory.heap o.marks o.state.memory.heap makes.1 sound.idle;
+        tidy = tidies.calling t call s runs is sound.tidy;
+        idle = called_idle t call s o (call_works t call s) sound.idle;
         counted = shifts.0 ∙ sound.counted ∙ sym (shifts_count t call s o shifts.1);
         agrees = shifts_agree t call s o shifts.1 runs sound.counted follows sound.agrees;
       },
       follows,
     )
 
-commanded : (s : State) (marks : List Mark) (r : State) → Alters s marks r → Waits s marks r
-commanded s marks r alters sound =
+commanded : (name : List ℕ) (command : CommandData) (s : State) → Waits s (body_step name command s).marks (body_step name command s).state
+commanded name command s sound =
+    let marks = (body_step name command s).marks in
+    let r = (body_step name command s).state in
+    let alters = body_alters name command s in
     let follows = touched_pass s.memory.heap marks r.memory.heap alters.blocks in (
       record {
-        formed = subst (λ regions. IsWellFormed regions (extents r.memory.heap)) (sym alters.regions)
-            (touched_formed s.memory.regions s.memory.heap marks r.memory.heap alters.blocks sound.formed);
+        tidy = tidies.interrupting.commanding name command s sound.tidy;
         idle = touched_idle s.memory.heap marks r.memory.heap alters.blocks sound.idle;
         counted = alters.programs ∙ sound.counted ∙ sym (reached_count marks s.schedule r.schedule alters.tasks);
         agrees = reached_agrees marks s.schedule r.schedule (queues_of s) (queues_of r) alters.tasks follows sound.agrees;
+      },
+      follows,
+    )
+
+finished : (request : ℕ) (s : State) → due_next s.memory.timer ≡ Some request → Waits s (finishes request s).marks (finishes request s).state
+finished request s due sound =
+    let marks = (finishes request s).marks in
+    let r = (finishes request s).state in
+    let ends = finishing request s due in
+    let follows = asked_pass s marks r.memory.heap r.memory.timer.waiting ends.asks in (
+      record {
+        tidy = tidies.interrupting.finishing request s due sound.tidy;
+        idle = asked_idle s marks r.memory.heap r.memory.timer.waiting ends.asks sound.idle;
+        counted = ends.programs ∙ sound.counted ∙ sym (reached_count marks s.schedule r.schedule ends.tasks);
+        agrees = reached_agrees marks s.schedule r.schedule (queues_of s) (queues_of r) ends.tasks follows sound.agrees;
       },
       follows,
     )
@@ -275,20 +314,32 @@ waits = record {
   interrupting = record {
     nothing = λ s sound. (sound, λ a. refl);
     joined = joined;
-    commanding = λ name command s. commanded s (body_step name command s).marks (body_step name command s).state (body_alters name command s);
+    commanding = commanded;
     pending = λ f s sound. (
-      record { formed = sound.formed; idle = sound.idle; counted = sound.counted; agrees = sound.agrees },
+      record { tidy = tidies.interrupting.pending f s sound.tidy; idle = sound.idle; counted = sound.counted; agrees = sound.agrees },
       λ a. refl,
     );
+    finishing = finished;
     ticking = λ s. rescheduling s ticked (ticked_count s.schedule) (λ sound. ticked_agrees s.schedule (queues_of s) sound.agrees);
     switching = λ s. quietly Waits s (switches s) (on_schedule rescheduled s) (switches_quiet s)
         (rescheduling s rescheduled (rescheduled_count s.schedule) (λ sound. rescheduled_agrees s.schedule (queues_of s) sound.agrees));
   };
   adding = λ t s less sound. rescheduling s (added t) (added_count t s.schedule)
       (λ sound. added_agrees t s.schedule (queues_of s) (subst (λ n. t < n) sound.counted less) sound.agrees) sound;
-  calling = λ t call s runs is. called t call s (does t call s) runs (call_makes t call s) (call_shifts t call s);
+  calling = called;
   ending = λ t s runs. rescheduling s (leaves_for_good t) (ended_count t s.schedule) (ended_agrees t s runs);
 }
+
+pub clocked : (s : State) → Waits s [] (clock_gains s)
+clocked s sound = (
+  record {
+    tidy = record { formed = sound.tidy.formed; order = sound.tidy.order };
+    idle = sound.idle;
+    counted = sound.counted;
+    agrees = sound.agrees;
+  },
+  λ a. refl,
+)
 
 -- ---- every run
 
@@ -299,7 +350,7 @@ as_many f x (y ∷ ys) = ap suc (as_many f x ys)
 pub booted_sound : (machine : MachineData) → IsMachine machine → IsSound (booted machine)
 unfolding booted waiters_of
 booted_sound machine is = record {
-  formed = booted_formed machine is;
+  tidy = booted_tidy machine is;
   idle = λ a e. refl;
   counted = as_many begun Absent machine.tasks;
   agrees = λ t.
@@ -311,7 +362,7 @@ unfolding run andthen
 run_waits machine list =
     joined (booted machine) (starts (booted machine)).marks (starts (booted machine)).state
     (events list (starts (booted machine)).state).marks (events list (starts (booted machine)).state).state
-    (of_starts Waits waits (booted machine)) (of_events Waits waits list (starts (booted machine)).state)
+    (of_starts Waits waits (booted machine)) (of_events Waits waits clocked list (starts (booted machine)).state)
 
 pub queues_agree_with_the_schedule : QueuesAgreeWithTheSchedule
 queues_agree_with_the_schedule t machine list is = (run_waits machine list (booted_sound machine is)).0.agrees t
@@ -327,4 +378,4 @@ semaphores_pass_in_order a machine before during is =
     let once = follows_once (waiters_of a (booted machine).memory.heap) (turns_at_semaphore a (run machine before).marks)
     (waiters_of a old.memory.heap) (subst (λ q. IsOnce q) (sym (booted_none machine a)) tt) (begun.1 a) in
     in_order (waiters_of a old.memory.heap) (turns_at_semaphore a (events during old).marks)
-    (waiters_of a (events during old).state.memory.heap) once ((of_events Waits waits during old begun.0).1 a)
+    (waiters_of a (events during old).state.memory.heap) once ((of_events Waits waits clocked during old begun.0).1 a)

@@ -1,11 +1,12 @@
--- Memory and what lies in it: blocks, each with the object that begins there. Nothing in it is linked and nothing is sorted: each queue
--- is a sequence in order of arrival.
+-- Memory and what lies in it: blocks, each with the object that begins there; and the timer, for which requests wait that lie there.
+-- Nothing in it is linked and nothing is sorted: each queue is a sequence in order of arrival.
 use Rattle.std.specs.Prelude.{ℕ, Bool, List}
 use Rattle.memlist.specs.declared.region.Region.{Region}
 use Rattle.execlist.specs.Lists.{Key}
 use Rattle.msgport.specs.Port.{Port}
 use Rattle.msgport.specs.declared.message.Message.{Message as Content}
 use Rattle.sigsem.specs.declared.semaphore.Sem.{Sem}
+use Rattle.iorequest.specs.declared.request.Request.{Request as TimerRequest}
 use Rattle.taskscript.specs.File.{LibraryData}
 
 -- what a block of memory holds
@@ -26,6 +27,9 @@ pub data Object : Type 0 where
   -- a loaded library, by its number from 0 in the order of the file, with how often it is open, and whether it is to be expunged when it is
   -- closed for the last time (RKM Libraries, Exec Libraries: lib_OpenCnt, LIBF_DELEXP)
   Library : (number count : ℕ) (delayed : Bool) → Object
+  -- a timer request: the address of its reply port, how far it has come, and what it asks of the device and was answered (RKM Devices,
+  -- Introduction to Amiga System Devices)
+  Request : (content : TimerRequest) → Object
 
 -- a block of memory, and what begins there
 pub record Block : Type 0 where
@@ -41,15 +45,32 @@ pub record PublicPort : Type 0 where
   pub port : ℕ
   pub key : Key
 
+-- a request that waits: its address, and the time when it is due, in microseconds of the clock
+pub record Waiting : Type 0 where
+  pub request : ℕ
+  pub due : ℕ
+
+-- timer.device: its clock and what that gains at each tick, both in microseconds, and the requests that wait, in the order in which they were
+-- begun
+pub record Timer : Type 0 where
+  pub clock : ℕ
+  pub tick_micros : ℕ
+  pub waiting : List Waiting
+
 -- the regions of memory and the libraries, both in the order of the file, how many objects of each kind may live, the blocks that are
--- allocated, and the public ports in order of arrival
+-- allocated, the public ports in order of arrival, and the timer
 pub record Memory : Type 0 where
   pub regions : List Region
   pub libraries : List LibraryData
   pub pool : ℕ
   pub heap : Heap
   pub public : List PublicPort
+  pub timer : Timer
 
 -- an action on the blocks and what begins there
 abbrev pub on_heap : (Heap → Heap) → Memory → Memory
 on_heap f memory = record memory { heap = f memory.heap }
+
+-- an action on the timer
+abbrev pub on_timer : (Timer → Timer) → Memory → Memory
+on_timer f memory = record memory { timer = f memory.timer }

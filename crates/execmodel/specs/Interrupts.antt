@@ -14,6 +14,7 @@ use Rattle.scheduler.specs.Schedule.{Schedule, ticked}
 use Rattle.execmodel.specs.State.{Bodies, State, Outcome, quiet, says, andthen, unless_stopped, on_schedule, on_pending}
 use Rattle.execmodel.specs.Pending.{source_named, taken_off, with_latch_of, next_source}
 use Rattle.execmodel.specs.Bodies.{runs_body}
+use Rattle.execmodel.specs.Requests.{finishes_all_due}
 
 -- ---- software interrupts
 
@@ -81,10 +82,16 @@ counted source.Ports schedule = schedule
 counted source.Vertb schedule = ticked schedule
 counted source.Exter schedule = schedule
 
+-- for VERTB all requests finish that are due (own choice)
+abbrev pub finishes_for : Source → State → Outcome
+finishes_for source.Ports s = quiet s
+finishes_for source.Vertb s = finishes_all_due s
+finishes_for source.Exter s = quiet s
+
 -- A source is served: its latch is cleared, and then its servers run.
 unfoldable pub serves : Source → State → Outcome
 serves asks s =
-    andthen (says (Serve (text_of_source asks))) (runs_chain (chain_of asks s.bodies.servers))
+    andthen (says (Serve (text_of_source asks))) (andthen (finishes_for asks) (runs_chain (chain_of asks s.bodies.servers)))
     (on_schedule (counted asks) (on_pending (with_latch_of asks false) s))
 
 -- so many servings: while interrupts are allowed and a source asks for it, the one of highest level is served

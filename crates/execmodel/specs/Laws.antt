@@ -1,5 +1,5 @@
 -- Laws of every run: of each machine that a file may state, and each list of events.
-use Rattle.std.specs.Prelude.{◌≡◌, ◌≢◌, ◌⊎◌, ℕ, ◌≤◌, ◌≤ℤ◌, Bool, true, false, bit_and, count_by, All, List, [], ◌∷◌, ◌++◌, None, Some, slice_get, codes}
+use Rattle.std.specs.Prelude.{◌≡◌, ◌≢◌, ◌⊎◌, ℕ, ◌*◌, ◌≤◌, ◌≤ℤ◌, map, sum_by, Bool, true, false, bit_and, count_by, All, List, [], ◌∷◌, ◌++◌, None, Some, slice_get, codes}
 use Rattle.exectrace.specs.Trace.{Switch, Serve, TraceLine}
 use Rattle.memlist.specs.declared.region.Region.{Region}
 use Rattle.memlist.specs.Pieces.{AreDisjoint, IsTiled}
@@ -18,20 +18,24 @@ use Rattle.taskscript.specs.declared.word.Word.{Word}
 use Rattle.taskscript.specs.declared.word.Word.TheVariants as group
 use Rattle.taskscript.specs.declared.word.task_signals.SignalWord.TheVariants as signals
 use Rattle.taskscript.specs.declared.word.ports.PortWord.TheVariants as ports
+use Rattle.taskscript.specs.declared.word.requests.RequestWord.TheVariants as requests
 use Rattle.taskscript.specs.declared.word.semaphores.SemaphoreWord.TheVariants.{ReleaseSemaphore}
-use Rattle.execmodel.specs.State.{Call, Object, Plain, Block, Heap, Mark, State, Outcome}
+use Rattle.execmodel.specs.State.{Call, Object, Plain, Block, Heap, Waiting as Queued, Mark, State, Outcome}
 use Rattle.execmodel.specs.Calls.{argument, alerted, next_call}
 use Rattle.std.specs.Option.{option_map}
 use Rattle.taskscript.specs.declared.word.libraries.LibraryWord.TheVariants.{CloseLibrary}
 use Rattle.execmodel.specs.Libraries.{is_library_at, number_of, count_of, is_delayed}
 use Rattle.execmodel.specs.Memory.{block_at, extents, does_free_mem}
 use Rattle.execmodel.specs.Objects.{object_at}
-use Rattle.execmodel.specs.Ports.{messages_of}
+use Rattle.execmodel.specs.Ports.{is_port_at, messages_of}
+use Rattle.execmodel.specs.Requests.{request_of}
+use Rattle.iorequest.specs.Request.{is_under_way}
 use Rattle.execmodel.specs.Semaphores.{sem_of, waiters_of}
 use Rattle.execmodel.specs.Pending.{allows_interrupts, next_softint}
 use Rattle.execmodel.specs.Interrupts.{interrupts, runs_softint}
 use Rattle.execmodel.specs.Step.{does, ends, step, tick, request, settle, switches, events, run}
-use Rattle.execmodel.specs.Agreement.{Agrees}
+use Rattle.execmodel.specs.Agreement.{Agrees, once_if, times}
+use Rattle.taskscript.specs.Events.{ticks as event_ticks}
 use Rattle.execmodel.specs.Queues.{IsInOrder}
 use Rattle.execmodel.specs.Marks.{turns_at_port, turns_at_semaphore}
 
@@ -49,6 +53,7 @@ OverEveryStretch Relates =
 -- Messages leave a port in the order in which they came: over every stretch of a run, the messages that the port had at first and those
 -- that were put there, less each that was then taken out, are those that GetMsg answered, in order, followed by those that the port has
 -- at last. An address where no port lives has no messages: so the life of a port is a stretch that begins with none.
+-- The reply of a request is a message too: it is put when the request finishes, and is taken out by WaitIO or DoIO.
 abbrev pub FirstInFirstOut : Type 0
 FirstInFirstOut =
     (port : ℕ) → OverEveryStretch (λ old marks new.
@@ -191,6 +196,8 @@ is_own_taking (group.Signals signals.SetSignal) = true
 is_own_taking (group.Signals signals.AllocSignal) = true
 is_own_taking (group.Ports ports.CreateMsgPort) = true
 is_own_taking (group.Ports ports.WaitPort) = true
+is_own_taking (group.Requests requests.WaitIO) = true
+is_own_taking (group.Requests requests.DoIO) = true
 is_own_taking _ = false
 
 -- A signal that a task has received stays received, unless the task itself takes, sets or clears signals in this step.
@@ -241,3 +248,31 @@ OpenLibrariesStay =
     (base : ℕ) → OfEveryAction (λ action s o.
     is_library_at base s.memory.heap ≡ true → 1 ≤ count_of base s.memory.heap
     → StaysLoaded base s.memory.heap o.state.memory.heap ⊎ ((action ≡ OneStep) × IsLastClose base s))
+
+-- ---- requests and the clock
+
+-- how often a request stands among those that wait
+abbrev pub times_waiting : ℕ → List Queued → ℕ
+times_waiting request waiting = times request (map (λ (w : Queued). w.request) waiting)
+
+-- The reply port of a request that is under way lives, so that whatever finishes the request finds it.
+abbrev pub ReplyPortsLive : Type 0
+ReplyPortsLive =
+    (request : ℕ) → InEveryState (λ s.
+    is_under_way (request_of request s.memory.heap) ≡ true → is_port_at (request_of request s.memory.heap).port s.memory.heap ≡ true)
+
+-- Just the requests that are under way wait, each once.
+abbrev pub RequestsUnderWayWait : Type 0
+RequestsUnderWayWait =
+    (request : ℕ) → InEveryState (λ s.
+    times_waiting request s.memory.timer.waiting ≡ once_if (is_under_way (request_of request s.memory.heap)))
+
+-- The clock has counted the ticks of the events, and nothing else; after an alert it stands still.
+pub record CountsTicks (machine : MachineData) (list : List Event) (s : State) : Type 0 where
+  pub ticks : s.memory.timer.tick_micros ≡ machine.tick_micros
+  pub going : s.stopped ≡ false → s.memory.timer.clock ≡ sum_by event_ticks list * machine.tick_micros
+  pub stopped : s.memory.timer.clock ≤ sum_by event_ticks list * machine.tick_micros
+
+abbrev pub TheClockCountsTicks : Type 0
+TheClockCountsTicks =
+    (machine : MachineData) (list : List Event) → IsMachine machine → CountsTicks machine list (run machine list).state

@@ -15,6 +15,8 @@ pub mod Pending
 pub mod Causing
 pub mod Ports
 pub mod Bodies
+pub mod Timing
+pub mod Requests
 pub mod Interrupts
 pub mod Step
 pub mod Keeping

@@ -2,7 +2,7 @@
 -- stands in one port at most, once. The public ports are a sequence in order of arrival; the one of a name is the earliest among those of
 -- greatest priority that have it. An address where no object of the kind begins is the alert HANDLE; a message or a port that is linked
 -- where it must not be, or the other way, is the alert LINK; a port in use, or not the caller's to wait at, is the alert PORT (own choice).
-use Rattle.std.specs.Prelude.{ℕ, ℤ, negsuc, ◌^◌, Bool, true, false, not, ◌==◌, if◌then◌else◌, nat_eq, is_some, map, filter, drop, unwrap_or, codes, List, [], ◌∷◌, ◌++◌, Option, None, Some}
+use Rattle.std.specs.Prelude.{ℕ, ℤ, negsuc, ◌^◌, Bool, true, false, not, ◌&&◌, ◌==◌, if◌then◌else◌, nat_eq, is_some, map, filter, drop, unwrap_or, codes, List, [], ◌∷◌, ◌++◌, Option, None, Some}
 use Rattle.std.specs.List.{list_any}
 use Rattle.std.specs.Int.{cast_signed, w32}
 use Rattle.execlist.specs.Order.{chosen, first}
@@ -16,9 +16,10 @@ use Rattle.msgport.specs.declared.action.PortAction.TheVariants.{Signal, Cause, 
 use Rattle.msgport.specs.declared.message.Message.{Message as Content}
 use Rattle.msgport.specs.Port.{Port, acting, new_port, wait_bit}
 use Rattle.msgport.specs.Ports.{new_message, nt_freemsg, nt_message, nt_replymsg}
+use Rattle.iorequest.specs.Request.{is_under_way}
 use Rattle.taskscript.specs.declared.word.ports.PortWord.{PortWord}
 use Rattle.taskscript.specs.declared.word.ports.PortWord.TheVariants as word
-use Rattle.execmodel.specs.State.{Call, Object, MsgPort, Message, Block, Heap, PublicPort, Memory, State, Outcome, put, got, leaving, on_schedule, on_memory, on_heap}
+use Rattle.execmodel.specs.State.{Call, Object, MsgPort, Message, Request, Block, Heap, PublicPort, Memory, State, Outcome, put, got, leaving, on_schedule, on_memory, on_heap}
 use Rattle.execmodel.specs.Calls.{Caller, ByTask, argument, name_argument, done, done_by, answered, answered_by, waiting, unless, unless_by}
 use Rattle.execmodel.specs.Scheduling.{signalled}
 use Rattle.execmodel.specs.Pending.{causes, softint_named}
@@ -160,12 +161,22 @@ unfoldable pub does_create_msg_port : ℕ → Call → State → Outcome
 does_create_msg_port t call s =
     port_created t call (grant (negsuc 0) (signals_of s.schedule t)) (place_for_object is_port port_size s.memory) s
 
--- the alert of a call that frees a port: it must have no message and not be public
+-- an object is a request under way whose reply goes to that port
+abbrev pub replies_to : ℕ → Object → Bool
+replies_to port (Request content) = nat_eq content.port port && is_under_way content
+replies_to port _ = false
+
+-- a request under way has that reply port
+unfoldable pub is_awaited_at : ℕ → Heap → Bool
+is_awaited_at port heap = list_any (λ (entry : ℕ × Block). replies_to port entry.1.object) heap
+
+-- the alert of a call that frees a port: it must have no message, not be public, and no request under way must have it as reply port
 unfoldable pub delete_alert : ℕ → Memory → Option (List ℕ)
 delete_alert port memory =
     if not (is_port_at port memory.heap) then Some (codes "HANDLE")
     else (if is_some (first (messages_of port memory.heap)) then Some (codes "PORT")
-    else (if is_public port memory then Some (codes "PORT") else None))
+    else (if is_public port memory then Some (codes "PORT")
+    else (if is_awaited_at port memory.heap then Some (codes "PORT") else None)))
 
 -- the task of a port has its signal no more
 abbrev pub gives_back : Port → Schedule → Schedule

@@ -2,7 +2,7 @@
 use Rattle.std.specs.Prelude.{◌≡◌, ℕ, ℤ, true, false, pos, negsuc, List, [], ◌∷◌, None, Some, codes}
 use Rattle.exectrace.specs.Trace.{printed}
 use Rattle.taskscript.specs.declared.word.Word.{Word}
-use Rattle.taskscript.specs.declared.word.Word.TheVariants.{Plain, Signals, Nesting, Tasks, Memory, Lists, Ports, Semaphores, Interrupts, Libraries}
+use Rattle.taskscript.specs.declared.word.Word.TheVariants.{Plain, Signals, Nesting, Tasks, Memory, Lists, Ports, Semaphores, Interrupts, Libraries, Requests}
 use Rattle.taskscript.specs.declared.word.plain.PlainWord.TheVariants.{Set, Add, Sub, And, JumpZ, Print}
 use Rattle.taskscript.specs.declared.word.task_signals.SignalWord.TheVariants.{Signal, Wait, SetSignal}
 use Rattle.taskscript.specs.declared.word.nesting.NestingWord.TheVariants.{Forbid, Permit, Disable, Enable}
@@ -11,10 +11,12 @@ use Rattle.taskscript.specs.declared.variable.Variable.TheVariants.{Private, Sha
 use Rattle.taskscript.specs.declared.event.Event.{Event}
 use Rattle.taskscript.specs.declared.event.Event.TheVariants.{Run, Tick, Irq}
 use Rattle.taskscript.specs.Commands.{ArgumentData, number, variable, place, CommandData, quoted}
-use Rattle.taskscript.specs.File.{MachineData, LibraryData, SoftintData, ServerData, TaskData}
+use Rattle.taskscript.specs.File.{MachineData, SoftintData, ServerData, TaskData}
 use Rattle.taskscript.specs.declared.source.Source.{Source}
 use Rattle.taskscript.specs.declared.source.Source.TheVariants as source
 use Rattle.taskscript.specs.declared.word.interrupts.InterruptWord.TheVariants.{Cause}
+use Rattle.taskscript.specs.declared.word.requests.RequestWord.{RequestWord}
+use Rattle.taskscript.specs.declared.word.requests.RequestWord.TheVariants.{CreateIORequest, OpenDevice, SetIO, DoIO, SendIO, CheckIO, WaitIO, AbortIO, IOMicros, IOError, IOFlags}
 use Rattle.taskscript.specs.declared.word.libraries.LibraryWord.{LibraryWord}
 use Rattle.taskscript.specs.declared.word.libraries.LibraryWord.TheVariants.{OpenLibrary, CloseLibrary, RemLibrary, LibOpenCnt}
 use Rattle.memlist.specs.declared.region.Region.{Region}
@@ -24,7 +26,7 @@ use Rattle.taskscript.specs.declared.word.lists.ListWord.TheVariants.{NewList, F
 use Rattle.taskscript.specs.declared.word.ports.PortWord.TheVariants.{CreateMsgPort, DeleteMsgPort, AddPort, RemPort, FindPort, PortCause, NewMsg, MsgType, PutMsg, GetMsg, WaitPort, ReplyMsg}
 use Rattle.taskscript.specs.declared.word.semaphores.SemaphoreWord.{SemaphoreWord}
 use Rattle.taskscript.specs.declared.word.semaphores.SemaphoreWord.TheVariants.{NewSem, FreeSem, ObtainSemaphore, AttemptSemaphore, ReleaseSemaphore}
-use Rattle.execmodel.specs.State.{Mark, put, got, asked, passed, left}
+use Rattle.execmodel.specs.State.{Mark, put, got, out, asked, passed, left}
 
 -- a command without a target
 abbrev pub command : Word → List ArgumentData → CommandData
@@ -61,7 +63,7 @@ beside first second = task (codes "a") (pos 0) first ∷ task (codes "b") (negsu
 
 -- a machine without memory and tasks
 abbrev pub bare : MachineData
-bare = record { quantum = 4; pool = 64; regions = []; libraries = []; softints = []; servers = []; tasks = [] }
+bare = record { quantum = 4; tick_micros = 20000; pool = 64; regions = []; libraries = []; softints = []; servers = []; tasks = [] }
 
 -- so many bytes of public memory
 abbrev pub room : ℕ → List Region
@@ -532,3 +534,129 @@ AnOpeningTakesARemovalBack =
     ∷ its_library CloseLibrary ∷ []))
     (Run 7 ∷ [])
     ≡ codes "switch a\na OpenLibrary \"x.library\" $00000000 -> $00001000\na RemLibrary $00001000\na OpenLibrary \"x.library\" $00000000 -> $00001000\na CloseLibrary $00001000\na CloseLibrary $00001000\na LibOpenCnt $00001000 -> $00000000\nalert LIB a CloseLibrary\n"
+
+-- a port in the first variable, and a request with it as reply port in another one
+abbrev pub makes_reply_port : CommandData
+makes_reply_port = into 0 (Ports CreateMsgPort) []
+
+abbrev pub makes_request : ℕ → CommandData
+makes_request k = into k (Requests CreateIORequest) (variable (Private 0) ∷ [])
+
+-- a word with the request that a variable holds
+abbrev pub its_request : RequestWord → ℕ → CommandData
+its_request word k = command (Requests word) (variable (Private k) ∷ [])
+
+-- the request is opened for a unit of the timer; it gets a command, and a time in microseconds
+abbrev pub opens_timer : ℕ → ℕ → CommandData
+opens_timer unit k = command (Requests OpenDevice) (quoted (codes "timer.device") ∷ number unit ∷ variable (Private k) ∷ [])
+
+abbrev pub asks : ℕ → ℕ → ℕ → CommandData
+asks word micros k = command (Requests SetIO) (variable (Private k) ∷ number word ∷ number 0 ∷ number micros ∷ [])
+
+abbrev pub with_timer : List CommandData → MachineData
+with_timer code = record bare { regions = room 4096; tasks = alone code }
+
+abbrev pub TheClockCountsUnderDisable : Type 0
+TheClockCountsUnderDisable =
+    trace
+    (with_timer
+    (makes_reply_port ∷ makes_request 1 ∷ opens_timer 0 1 ∷ asks 10 0 1 ∷ command (Nesting Disable) [] ∷ command (Nesting Enable) []
+    ∷ its_request DoIO 1 ∷ its_request IOMicros 1 ∷ [])) (Run 5 ∷ Tick 3 ∷ Run 3 ∷ [])
+    ≡ codes "switch a\na CreateMsgPort -> $00001000\na CreateIORequest $00001000 -> $00001028\na OpenDevice \"timer.device\" $00000000 $00001028 -> $00000000\na SetIO $00001028 $0000000A $00000000 $00000000\na Disable\na Enable\nserve VERTB\na DoIO $00001028 -> $00000000\na IOMicros $00001028 -> $0000EA60\n"
+
+abbrev pub ATaskSleepsByDoIO : Type 0
+ATaskSleepsByDoIO =
+    trace (with_timer (makes_reply_port ∷ makes_request 1 ∷ opens_timer 0 1 ∷ asks 9 20000 1 ∷ its_request DoIO 1 ∷ [])) (Run 5 ∷ Tick 1 ∷ Run 1 ∷ [])
+    ≡ codes "switch a\na CreateMsgPort -> $00001000\na CreateIORequest $00001000 -> $00001028\na OpenDevice \"timer.device\" $00000000 $00001028 -> $00000000\na SetIO $00001028 $00000009 $00000000 $00004E20\na DoIO $00001028 waits\nidle\nserve VERTB\ntimer $00001028\nswitch a\na DoIO $00001028 -> $00000000\n"
+
+abbrev pub RequestsFinishByTheTimeWhenTheyAreDue : Type 0
+RequestsFinishByTheTimeWhenTheyAreDue =
+    trace
+    (with_timer
+    (makes_reply_port ∷ makes_request 1 ∷ makes_request 2 ∷ opens_timer 1 1 ∷ opens_timer 0 2 ∷ asks 9 20000 1 ∷ asks 9 10000 2
+    ∷ its_request SendIO 1 ∷ its_request SendIO 2 ∷ command (Ports GetMsg) (variable (Private 0) ∷ []) ∷ command (Ports GetMsg) (variable (Private 0) ∷ [])
+    ∷ its_request WaitIO 1 ∷ [])) (Run 9 ∷ Tick 1 ∷ Run 3 ∷ [])
+    ≡ codes "switch a\na CreateMsgPort -> $00001000\na CreateIORequest $00001000 -> $00001028\na CreateIORequest $00001000 -> $00001050\na OpenDevice \"timer.device\" $00000001 $00001028 -> $00000000\na OpenDevice \"timer.device\" $00000000 $00001050 -> $00000000\na SetIO $00001028 $00000009 $00000000 $00004E20\na SetIO $00001050 $00000009 $00000000 $00002710\na SendIO $00001028\na SendIO $00001050\nserve VERTB\ntimer $00001050\ntimer $00001028\na GetMsg $00001000 -> $00001050\na GetMsg $00001000 -> $00001028\nalert LINK a WaitIO\n"
+
+abbrev pub AStraySignalMakesDoIOLookAgain : Type 0
+AStraySignalMakesDoIOLookAgain =
+    trace
+    (record bare {
+      regions = room 4096;
+      tasks = beside (makes_reply_port ∷ makes_request 1 ∷ opens_timer 0 1 ∷ asks 9 20000 1 ∷ its_request DoIO 1 ∷ [])
+          (command (Signals Signal) (number 1 ∷ number 0x80000000 ∷ []) ∷ []);
+    })
+    (Run 7 ∷ Tick 1 ∷ Run 1 ∷ [])
+    ≡ codes "switch a\na CreateMsgPort -> $00001000\na CreateIORequest $00001000 -> $00001028\na OpenDevice \"timer.device\" $00000000 $00001028 -> $00000000\na SetIO $00001028 $00000009 $00000000 $00004E20\na DoIO $00001028 waits\nswitch b\nb Signal $00000001 $80000000\nswitch a\na DoIO $00001028 waits\nswitch b\nserve VERTB\ntimer $00001028\nswitch a\na DoIO $00001028 -> $00000000\n"
+
+abbrev pub AnAbortedRequestIsRepliedAtOnce : Type 0
+AnAbortedRequestIsRepliedAtOnce =
+    trace
+    (with_timer
+    (makes_reply_port ∷ makes_request 1 ∷ opens_timer 0 1 ∷ asks 9 20000 1 ∷ its_request SendIO 1 ∷ its_request AbortIO 1 ∷ its_request AbortIO 1
+    ∷ its_request WaitIO 1 ∷ its_request IOError 1 ∷ []))
+    (Run 7 ∷ Tick 1 ∷ Run 2 ∷ [])
+    ≡ codes "switch a\na CreateMsgPort -> $00001000\na CreateIORequest $00001000 -> $00001028\na OpenDevice \"timer.device\" $00000000 $00001028 -> $00000000\na SetIO $00001028 $00000009 $00000000 $00004E20\na SendIO $00001028\na AbortIO $00001028 -> $00000000\na AbortIO $00001028 -> $FFFFFFFF\nserve VERTB\na WaitIO $00001028 -> $FFFFFFFE\na IOError $00001028 -> $FFFFFFFE\n"
+
+-- CheckIO looks at a reply, and WaitIO takes it out of its port
+abbrev pub takes_its_reply : MachineData
+takes_its_reply =
+    with_timer
+    (makes_reply_port ∷ makes_request 1 ∷ opens_timer 0 1 ∷ asks 9 20000 1 ∷ its_request SendIO 1 ∷ its_request CheckIO 1 ∷ its_request CheckIO 1 ∷ its_request WaitIO 1
+    ∷ command (Ports GetMsg) (variable (Private 0) ∷ []) ∷ its_request WaitIO 1 ∷ [])
+
+abbrev pub WaitIOTakesTheReply : Type 0
+WaitIOTakesTheReply =
+    trace
+    (takes_its_reply)
+    (Run 6 ∷ Tick 1 ∷ Run 4 ∷ [])
+    ≡ codes "switch a\na CreateMsgPort -> $00001000\na CreateIORequest $00001000 -> $00001028\na OpenDevice \"timer.device\" $00000000 $00001028 -> $00000000\na SetIO $00001028 $00000009 $00000000 $00004E20\na SendIO $00001028\na CheckIO $00001028 -> $00000000\nserve VERTB\ntimer $00001028\na CheckIO $00001028 -> $00001028\na WaitIO $00001028 -> $00000000\na GetMsg $00001000 -> $00000000\nalert LINK a WaitIO\n"
+
+abbrev pub MarksTellWhichReplyWasTaken : Type 0
+MarksTellWhichReplyWasTaken = marks takes_its_reply (Run 6 ∷ Tick 1 ∷ Run 4 ∷ []) ≡ put 0x1000 0x1028 ∷ out 0x1000 0x1028 ∷ []
+
+abbrev pub ARequestThatIsDueNowFinishes : Type 0
+ARequestThatIsDueNowFinishes =
+    trace
+    (with_timer (makes_reply_port ∷ makes_request 1 ∷ makes_request 2 ∷ opens_timer 0 1 ∷ opens_timer 0 2 ∷ asks 9 20000 1 ∷ asks 9 20001 2 ∷ its_request SendIO 1 ∷ its_request SendIO 2 ∷ []))
+    (Run 9 ∷ Tick 2 ∷ [])
+    ≡ codes "switch a\na CreateMsgPort -> $00001000\na CreateIORequest $00001000 -> $00001028\na CreateIORequest $00001000 -> $00001050\na OpenDevice \"timer.device\" $00000000 $00001028 -> $00000000\na OpenDevice \"timer.device\" $00000000 $00001050 -> $00000000\na SetIO $00001028 $00000009 $00000000 $00004E20\na SetIO $00001050 $00000009 $00000000 $00004E21\na SendIO $00001028\na SendIO $00001050\nserve VERTB\ntimer $00001028\nserve VERTB\ntimer $00001050\n"
+
+abbrev pub RequestsOfOneTimeFinishInTheOrderOfBeginning : Type 0
+RequestsOfOneTimeFinishInTheOrderOfBeginning =
+    trace
+    (with_timer
+    (makes_reply_port ∷ makes_request 1 ∷ makes_request 2 ∷ opens_timer 0 1 ∷ opens_timer 0 2 ∷ asks 9 20000 1 ∷ asks 9 20000 2 ∷ its_request SendIO 2 ∷ its_request SendIO 1
+    ∷ command (Ports GetMsg) (variable (Private 0) ∷ []) ∷ command (Ports GetMsg) (variable (Private 0) ∷ []) ∷ []))
+    (Run 9 ∷ Tick 1 ∷ Run 2 ∷ [])
+    ≡ codes "switch a\na CreateMsgPort -> $00001000\na CreateIORequest $00001000 -> $00001028\na CreateIORequest $00001000 -> $00001050\na OpenDevice \"timer.device\" $00000000 $00001028 -> $00000000\na OpenDevice \"timer.device\" $00000000 $00001050 -> $00000000\na SetIO $00001028 $00000009 $00000000 $00004E20\na SetIO $00001050 $00000009 $00000000 $00004E20\na SendIO $00001050\na SendIO $00001028\nserve VERTB\ntimer $00001050\ntimer $00001028\na GetMsg $00001000 -> $00001050\na GetMsg $00001000 -> $00001028\n"
+
+abbrev pub MicrosecondsCountBeyondASecond : Type 0
+MicrosecondsCountBeyondASecond =
+    trace
+    (record (with_timer (makes_reply_port ∷ makes_request 1 ∷ opens_timer 0 1 ∷ asks 9 1400000 1 ∷ its_request SendIO 1 ∷ [])) { tick_micros = 500000 })
+    (Run 5 ∷ Tick 3 ∷ [])
+    ≡ codes "switch a\na CreateMsgPort -> $00001000\na CreateIORequest $00001000 -> $00001028\na OpenDevice \"timer.device\" $00000000 $00001028 -> $00000000\na SetIO $00001028 $00000009 $00000000 $00155CC0\na SendIO $00001028\nserve VERTB\nserve VERTB\nserve VERTB\ntimer $00001028\n"
+
+abbrev pub AnAwaitedPortIsNotDeleted : Type 0
+AnAwaitedPortIsNotDeleted =
+    trace
+    (with_timer (makes_reply_port ∷ makes_request 1 ∷ opens_timer 0 1 ∷ asks 9 20000 1 ∷ its_request SendIO 1 ∷ command (Ports DeleteMsgPort) (variable (Private 0) ∷ []) ∷ []))
+    (Run 6 ∷ [])
+    ≡ codes "switch a\na CreateMsgPort -> $00001000\na CreateIORequest $00001000 -> $00001028\na OpenDevice \"timer.device\" $00000000 $00001028 -> $00000000\na SetIO $00001028 $00000009 $00000000 $00004E20\na SendIO $00001028\nalert PORT a DeleteMsgPort\n"
+
+abbrev pub TheTimerHasTwoUnits : Type 0
+TheTimerHasTwoUnits =
+    trace
+    (with_timer (makes_reply_port ∷ makes_request 1 ∷ opens_timer 3 1 ∷ its_request IOError 1 ∷ opens_timer 1 1 ∷ opens_timer 3 1 ∷ its_request SendIO 1 ∷ []))
+    (Run 7 ∷ [])
+    ≡ codes "switch a\na CreateMsgPort -> $00001000\na CreateIORequest $00001000 -> $00001028\na OpenDevice \"timer.device\" $00000003 $00001028 -> $FFFFFFFF\na IOError $00001028 -> $FFFFFFFF\na OpenDevice \"timer.device\" $00000001 $00001028 -> $00000000\na OpenDevice \"timer.device\" $00000003 $00001028 -> $FFFFFFFF\nalert IO a SendIO\n"
+
+abbrev pub SendIOClearsTheQuickBitAndTheError : Type 0
+SendIOClearsTheQuickBitAndTheError =
+    trace
+    (with_timer
+    (makes_reply_port ∷ makes_request 1 ∷ opens_timer 0 1 ∷ asks 2 0 1 ∷ its_request DoIO 1 ∷ its_request IOFlags 1 ∷ its_request SendIO 1 ∷ its_request IOFlags 1
+    ∷ command (Ports GetMsg) (variable (Private 0) ∷ []) ∷ asks 9 20000 1 ∷ its_request SendIO 1 ∷ its_request IOError 1 ∷ []))
+    (Run 12 ∷ [])
+    ≡ codes "switch a\na CreateMsgPort -> $00001000\na CreateIORequest $00001000 -> $00001028\na OpenDevice \"timer.device\" $00000000 $00001028 -> $00000000\na SetIO $00001028 $00000002 $00000000 $00000000\na DoIO $00001028 -> $FFFFFFFD\na IOFlags $00001028 -> $00000001\na SendIO $00001028\na IOFlags $00001028 -> $00000000\na GetMsg $00001000 -> $00001028\na SetIO $00001028 $00000009 $00000000 $00004E20\na SendIO $00001028\na IOError $00001028 -> $00000000\n"

@@ -9,7 +9,7 @@ use Rattle.taskscript.specs.File.{MachineData, SoftintData, ServerData, TaskData
 use Rattle.scheduler.specs.Schedule.{Schedule, unstarted}
 use Rattle.softint.specs.Sources.{no_latches}
 use Rattle.softint.specs.declared.latches.Latches.{Latches}
-pub use Rattle.execmodel.specs.Blocks.{Object, Plain, ListHead, Node, MsgPort, Message, Semaphore, Library, Block, Heap, PublicPort, Memory, on_heap}
+pub use Rattle.execmodel.specs.Blocks.{Object, Plain, ListHead, Node, MsgPort, Message, Semaphore, Library, Request, Block, Heap, PublicPort, Waiting, Timer, Memory, on_heap, on_timer}
 
 -- a command of a task with the values that its arguments had when it was first tried, and the place of the command after it; and, where
 -- the task waits in it at a port, the signals that it waits for, else 0
@@ -50,7 +50,7 @@ pub record State : Type 0 where
   pub schedule : Schedule
   -- what the tasks execute, and the variables
   pub scripts : Scripts
-  -- the regions, and the blocks and objects that lie in them
+  -- the regions, and the blocks and objects that lie in them; and the timer
   pub memory : Memory
   -- what interrupts execute
   pub bodies : Bodies
@@ -141,12 +141,19 @@ abbrev pub begun : TaskData → Program
 begun task = begun_with task.code task.start
 
 -- The machine of a file before its start: no task was added, nothing runs, it was not yet told to be idle, and no interrupt was
--- asked for. No memory is allocated, and no port is public.
+-- asked for. No memory is allocated, no port is public, and no request waits; the clock of the timer begins at 0 (own choice).
 unfoldable pub booted : MachineData → State
 booted machine = record {
   schedule = unstarted (length machine.tasks) (map (λ (task : TaskData). task.pri) machine.tasks) (map (λ (task : TaskData). task.name) machine.tasks) machine.quantum;
   scripts = record { programs = map begun machine.tasks; shared = replicate shared_variables 0 };
-  memory = record { regions = machine.regions; libraries = machine.libraries; pool = machine.pool; heap = []; public = [] };
+  memory = record {
+    regions = machine.regions;
+    libraries = machine.libraries;
+    pool = machine.pool;
+    heap = [];
+    public = [];
+    timer = record { clock = 0; tick_micros = machine.tick_micros; waiting = [] };
+  };
   bodies = record { softints = machine.softints; servers = machine.servers };
   pending = record { caused = []; latches = no_latches };
   stopped = false;

@@ -3,14 +3,14 @@ use Rattle.std.specs.Prelude.{ℕ, zero, suc, true, if◌then◌else◌, List, [
 use Rattle.exectrace.specs.Trace.{Value, Done, Switch, Idle}
 use Rattle.exectrace.specs.Trace as trace
 use Rattle.taskscript.specs.declared.word.Word.{Word}
-use Rattle.taskscript.specs.declared.word.Word.TheVariants.{Plain, Signals, Nesting, Tasks, Lists, Memory, Ports, Semaphores, Interrupts, Libraries}
+use Rattle.taskscript.specs.declared.word.Word.TheVariants.{Plain, Signals, Nesting, Tasks, Lists, Memory, Ports, Semaphores, Interrupts, Libraries, Requests}
 use Rattle.taskscript.specs.declared.event.Event.{Event}
 use Rattle.taskscript.specs.declared.event.Event.TheVariants.{Run, Tick, Irq}
 use Rattle.taskscript.specs.File.{MachineData}
 use Rattle.scheduler.specs.Schedule.{Schedule, name_of, leaves}
 use Rattle.scheduler.specs.declared.Switch.{Switch as Choice}
 use Rattle.scheduler.specs.declared.Switch.TheVariants as switch
-use Rattle.execmodel.specs.State.{Call, Scripts, State, Outcome, quiet, says, andthen, unless_stopped, program_of, on_schedule, on_pending, booted}
+use Rattle.execmodel.specs.State.{Call, Scripts, State, Outcome, quiet, says, andthen, unless_stopped, program_of, on_schedule, on_memory, on_pending, on_timer, booted}
 use Rattle.execmodel.specs.Scheduling.{switch_of, rescheduled, added}
 use Rattle.execmodel.specs.Pending.{source_named, with_latch_of, next_softint}
 use Rattle.execmodel.specs.Interrupts.{interrupts, runs_softint}
@@ -25,6 +25,8 @@ use Rattle.execmodel.specs.Ports.{does_ports}
 use Rattle.execmodel.specs.Semaphores.{does_semaphores}
 use Rattle.execmodel.specs.Causing.{does_interrupts}
 use Rattle.execmodel.specs.Libraries.{does_libraries}
+use Rattle.execmodel.specs.Requests.{does_requests}
+use Rattle.execmodel.specs.Timing.{ticked}
 use Rattle.softint.specs.declared.source.Source.{Source}
 use Rattle.softint.specs.declared.source.Source.TheVariants.{Vertb}
 
@@ -58,6 +60,7 @@ does_word (Ports word) t call s = does_ports word t call s
 does_word (Semaphores word) t call s = does_semaphores word t call s
 does_word (Interrupts word) t call s = does_interrupts word t call s
 does_word (Libraries word) t call s = does_libraries word t call s
+does_word (Requests word) t call s = does_requests word t call s
 
 unfoldable pub does : ℕ → Call → State → Outcome
 does t call s = does_word call.word t call s
@@ -102,9 +105,9 @@ steps (suc n) s = andthen (steps n) step s
 unfoldable pub request : Source → State → Outcome
 request asks s = unless_stopped (λ s. settle (on_pending (with_latch_of asks true) s)) s
 
--- one tick requests VERTB
+-- one tick: the clock gains it, whatever is disabled, and VERTB is requested; a stopped machine does nothing
 unfoldable pub tick : State → Outcome
-tick s = request Vertb s
+tick s = unless_stopped (λ s. request Vertb (on_memory (on_timer ticked) s)) s
 
 -- so many ticks
 unfoldable pub ticks : ℕ → State → Outcome

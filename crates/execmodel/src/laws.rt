@@ -1,8 +1,8 @@
 //! Laws of whole runs and of words: functions without effect whose contracts say what the definitions amount to.
 ghost use Rattle.std.specs.Prelude.{◌≡◌, true, List};
 ghost use Rattle.taskscript.specs.declared.event.Event.{Event};
-ghost use Rattle.execmodel.specs.Keeping.{PlainWordsChangeScripts, SignalWordsChangeSignalsAndStates, NestingWordsChangeNestings, TaskWordsChangeStatesPrioritiesAndObjects, ListWordsChangeTheMemory, MemoryWordsChangeTheMemory, PortWordsChangePortsSignalsAndStates, SemaphoreWordsChangeStatesAndObjects, InterruptWordsChangeWhatIsCaused, LibraryWordsChangeTheMemory};
-ghost use Rattle.execmodel.specs.Laws.{FirstInFirstOut, EachByteHasOneOwner, FreeMemRefusesObjects, OwnersChangeAtTheLastRelease, FreeSemaphoresHaveNoWaiters, SemaphoresPassInOrder, QueuesAgreeWithTheSchedule, EachStateIsSettled, SwitchesGoToTheChosen, OnlySwitchesSaySo, WaitersHaveReceivedNone, ReceivedSignalsStay, InterruptsKeepNestings, ThreeServingsAtMost, OpenLibrariesStay};
+ghost use Rattle.execmodel.specs.Keeping.{PlainWordsChangeScripts, SignalWordsChangeSignalsAndStates, NestingWordsChangeNestings, TaskWordsChangeStatesPrioritiesAndObjects, ListWordsChangeTheMemory, MemoryWordsChangeTheMemory, PortWordsChangePortsSignalsAndStates, SemaphoreWordsChangeStatesAndObjects, InterruptWordsChangeWhatIsCaused, LibraryWordsChangeTheMemory, RequestWordsChangeRequestsPortsSignalsAndStates};
+ghost use Rattle.execmodel.specs.Laws.{FirstInFirstOut, EachByteHasOneOwner, FreeMemRefusesObjects, OwnersChangeAtTheLastRelease, FreeSemaphoresHaveNoWaiters, SemaphoresPassInOrder, QueuesAgreeWithTheSchedule, EachStateIsSettled, SwitchesGoToTheChosen, OnlySwitchesSaySo, WaitersHaveReceivedNone, ReceivedSignalsStay, InterruptsKeepNestings, ThreeServingsAtMost, OpenLibrariesStay, ReplyPortsLive, RequestsUnderWayWait, TheClockCountsTicks};
 ghost use Rattle.execmodel.specs.State.{State, Outcome, quiet, andthen, unless_stopped};
 ghost use Rattle.execmodel.specs.Step.{event, events};
 
@@ -22,8 +22,9 @@ pub fn an_alert_ends_all()
 /// which tasks are ready, running or waiting; words of nesting the nestings; words of lists, memory and libraries the blocks of memory and the
 /// objects in them; words of ports these, which ports are public, signals, which tasks are ready, running or waiting, and which software
 /// interrupts are caused; words of semaphores the objects and which tasks are ready, running or waiting, words of tasks these and the
-/// priorities, and words of interrupts which software interrupts are caused. Each word may change the scripts, and an alert stops the
-/// machine.
+/// priorities, and words of interrupts which software interrupts are caused; words of requests the objects, which requests wait for the timer,
+/// signals, which tasks are ready, running or waiting, and which software interrupts are caused, but neither the clock nor which ports are
+/// public. Each word may change the scripts, and an alert stops the machine.
 ///
 /// Source: own choice.
 pub fn each_group_keeps_to_its_part()
@@ -37,13 +38,14 @@ pub fn each_group_keeps_to_its_part()
     ensures semaphores { SemaphoreWordsChangeStatesAndObjects }
     ensures interrupts { InterruptWordsChangeWhatIsCaused }
     ensures libraries { LibraryWordsChangeTheMemory }
+    ensures requests { RequestWordsChangeRequestsPortsSignalsAndStates }
 {}
 
 /// Messages leave a port in the order in which they came: over every stretch of every run, the messages that the port had at first and
 /// those that were put there, less each that was then taken out, are those that GetMsg answered, in order, followed by those that the
-/// port has at last.
+/// port has at last. The reply of a request is such a message: it is put when the request finishes, and WaitIO and DoIO take it out.
 ///
-/// Source: RKM Libraries, Exec Messages and Ports.
+/// Source: RKM Libraries, Exec Messages and Ports; RKM Devices, Introduction to Amiga System Devices.
 pub fn fifo()
     ensures { FirstInFirstOut }
 {}
@@ -115,4 +117,27 @@ pub fn interrupts()
 /// Source: RKM Libraries, Exec Libraries.
 pub fn open_stays()
     ensures { OpenLibrariesStay }
+{}
+
+/// The reply port of a request that is under way lives, in every state of every run: so whatever finishes the request, a tick or AbortIO, finds
+/// the port where the reply is to be put. No port that a request under way is to be replied at is deleted.
+///
+/// Source: RKM Devices, Introduction to Amiga System Devices; that the port may not be deleted: own choice.
+pub fn reply_ports_live()
+    ensures { ReplyPortsLive }
+{}
+
+/// Just the requests that are under way wait for the timer, each once, in every state of every run: none is forgotten, and none finishes twice.
+///
+/// Source: RKM Devices, Timer Device.
+pub fn requests_under_way_wait()
+    ensures { RequestsUnderWayWait }
+{}
+
+/// The clock is the number of ticks times what it gains at each, in every state of every run, also under Disable: nothing else moves it. After an
+/// alert it stands still.
+///
+/// Source: RKM Devices, Timer Device; that the clock begins at 0 and counts under Disable too: own choice.
+pub fn the_clock_counts_ticks()
+    ensures { TheClockCountsTicks }
 {}

@@ -1,6 +1,6 @@
 //! Whole traces of small machines, and the marks that they leave, as the definitions compute them.
 
-ghost use Rattle.execmodel.specs.Runs.{PrintsOnce, NothingFollowsAnAlert, SignalWakesAHigherTask, EqualPriorityDoesNotPreempt, APreemptedTaskArrivesAnew, AWaitKeepsItsMask, CalculatesAndJumps, ForbidKeepsOthersOff, AnEndedQuantumLetsAnEqualRun, TicksUnderDisableAreServedOnce, ALiveTaskIsFoundByItsName, SizesRoundUp, SuitableRegionsAreTriedByPriority, EqualsStandInOrderOfArrival, AListInUseIsNotFreed, EachKindHasItsPool, MessagesAreTakenInOrderOfArrival, MarksTellWhatCameAndWhatWasTaken, ThePublicPortOfGreatestPriorityIsFound, AReplyGoesToTheReplyPort, ASemaphoreIsHandedToTheFirstThatAsked, MarksTellWhoAskedAndWhoGotIt, ARemovedTaskLeavesTheQueue, MarksTellWhoAskedAndWhoLeft, WhereNoTaskWaitsThereIsNoMark, ASoftintRunsBeforeTheNextCommand, ASoftintMayCauseItselfAgain, SoftintsRunOneAStepByPriority, ASoftintRunsWhereNoTaskRuns, ServersRunByPriorityUntilOneClaims, NoSwitchFollowsAnAlertInABody, NoIdleFollowsAnAlertInABody, NoCommandFollowsAnAlertInASoftint, APortMayCauseASoftint, MarksTellWhatASoftintTook, ARemovedLibraryGoesAtItsLastClose, AnOpeningTakesARemovalBack};
+ghost use Rattle.execmodel.specs.Runs.{PrintsOnce, NothingFollowsAnAlert, SignalWakesAHigherTask, EqualPriorityDoesNotPreempt, APreemptedTaskArrivesAnew, AWaitKeepsItsMask, CalculatesAndJumps, ForbidKeepsOthersOff, AnEndedQuantumLetsAnEqualRun, TicksUnderDisableAreServedOnce, ALiveTaskIsFoundByItsName, SizesRoundUp, SuitableRegionsAreTriedByPriority, EqualsStandInOrderOfArrival, AListInUseIsNotFreed, EachKindHasItsPool, MessagesAreTakenInOrderOfArrival, MarksTellWhatCameAndWhatWasTaken, ThePublicPortOfGreatestPriorityIsFound, AReplyGoesToTheReplyPort, ASemaphoreIsHandedToTheFirstThatAsked, MarksTellWhoAskedAndWhoGotIt, ARemovedTaskLeavesTheQueue, MarksTellWhoAskedAndWhoLeft, WhereNoTaskWaitsThereIsNoMark, ASoftintRunsBeforeTheNextCommand, ASoftintMayCauseItselfAgain, SoftintsRunOneAStepByPriority, ASoftintRunsWhereNoTaskRuns, ServersRunByPriorityUntilOneClaims, NoSwitchFollowsAnAlertInABody, NoIdleFollowsAnAlertInABody, NoCommandFollowsAnAlertInASoftint, APortMayCauseASoftint, MarksTellWhatASoftintTook, ARemovedLibraryGoesAtItsLastClose, AnOpeningTakesARemovalBack, TheClockCountsUnderDisable, ATaskSleepsByDoIO, RequestsFinishByTheTimeWhenTheyAreDue, AStraySignalMakesDoIOLookAgain, AnAbortedRequestIsRepliedAtOnce, WaitIOTakesTheReply, MarksTellWhichReplyWasTaken, ARequestThatIsDueNowFinishes, RequestsOfOneTimeFinishInTheOrderOfBeginning, MicrosecondsCountBeyondASecond, AnAwaitedPortIsNotDeleted, TheTimerHasTwoUnits, SendIOClearsTheQuickBitAndTheError};
 
 /// A task that prints once ends at its next step, and the machine is idle.
 pub fn a_task_prints_once_and_ends()
@@ -169,4 +169,68 @@ pub fn a_removed_library_goes_at_its_last_close()
 /// An opening takes the removal of a library back: it stays loaded when it is closed for the last time, and may not be closed once more.
 pub fn an_opening_takes_a_removal_back()
     ensures { AnOpeningTakesARemovalBack }
+{}
+
+/// The clock of timer.device counts under Disable too.
+pub fn the_clock_counts_under_disable()
+    ensures { TheClockCountsUnderDisable }
+{}
+
+/// A task that does a request with a time by DoIO waits until the clock has come to it, and is woken by the signal of its reply port.
+pub fn a_task_sleeps_by_do_io()
+    ensures { ATaskSleepsByDoIO }
+{}
+
+/// Requests finish by the time when they are due, whatever the order in which they were begun; a reply that GetMsg took is not there to be waited
+/// for.
+pub fn requests_finish_by_the_time_when_they_are_due()
+    ensures { RequestsFinishByTheTimeWhenTheyAreDue }
+{}
+
+/// A task that waits in DoIO and gets the signal of the reply port from elsewhere looks again, and waits on; it does not begin the request
+/// again.
+pub fn a_stray_signal_makes_do_io_look_again()
+    ensures { AStraySignalMakesDoIOLookAgain }
+{}
+
+/// A request that is aborted is replied at once with IOERR_ABORTED, and no tick finishes it any more; one that is done cannot be aborted.
+pub fn an_aborted_request_is_replied_at_once()
+    ensures { AnAbortedRequestIsRepliedAtOnce }
+{}
+
+/// CheckIO leaves the reply of a request in its port, and WaitIO takes it: it is not there for GetMsg any more, nor to be waited for again.
+pub fn wait_io_takes_the_reply()
+    ensures trace { WaitIOTakesTheReply }
+    ensures marks { MarksTellWhichReplyWasTaken }
+{}
+
+/// A request finishes at the tick whose time is just the one when it is due, and one that is due a microsecond later at the next tick.
+pub fn a_request_that_is_due_now_finishes()
+    ensures { ARequestThatIsDueNowFinishes }
+{}
+
+/// Requests that are due at one time finish in the order in which they were begun, wherever they lie.
+pub fn requests_of_one_time_finish_in_the_order_of_beginning()
+    ensures { RequestsOfOneTimeFinishInTheOrderOfBeginning }
+{}
+
+/// The microseconds of a request count also where they are a second or more.
+pub fn microseconds_count_beyond_a_second()
+    ensures { MicrosecondsCountBeyondASecond }
+{}
+
+/// The reply port of a request that is under way cannot be deleted.
+pub fn an_awaited_port_is_not_deleted()
+    ensures { AnAwaitedPortIsNotDeleted }
+{}
+
+/// The timer has units 0 and 1: a request for another one is not open, which its error tells, and cannot begin.
+pub fn the_timer_has_two_units()
+    ensures { TheTimerHasTwoUnits }
+{}
+
+/// A request that DoIO has done at once has the quick bit set; SendIO clears it, so that the request is replied. While a request is under way
+/// its error is 0, whatever it was before.
+pub fn send_io_clears_the_quick_bit_and_the_error()
+    ensures { SendIOClearsTheQuickBitAndTheError }
 {}

@@ -1,5 +1,5 @@
 -- How the public calls follow from what the machine does without its failure to write.
-use Rattle.std.proofs.Common.{◌≡◌, Bool, true, false, refl, ap, ◌∙◌}
+use Rattle.std.proofs.Common.{◌≡◌, Bool, true, false, refl, ap, sym, ◌∙◌}
 use Rattle.std.specs.Prelude.{List, Result, Ok, Err}
 use Rattle.exectrace.specs.Sink.{Tape}
 use Rattle.exectrace.specs.declared.sinks.SinkState.TheVariants.{Good}
@@ -13,16 +13,26 @@ use Rattle.execmodel.specs.State.{State, Outcome, andthen, booted}
 use Rattle.execmodel.specs.Step.{starts, events, run}
 use Rattle.execsim.specs.Agreement.{Seen, Agrees, FollowsWhileGood}
 use Rattle.execsim.specs.declared.machine.Flow.{Flow}
+use Rattle.execsim.specs.Time.{IsKnown}
 use Rattle.execsim.specs.Headline.{Shown, Acts, Finishes, Simulates, flow_of, end_of, end_for, ended}
 
-pub acts_by : {next : State → Outcome} {old new : Shown} {mid : Seen} {a b : Tape} {failed : Bool} {result : Result Flow WriteFault}
-    → FollowsWhileGood next old.seen mid a b → a.state ≡ Good → Finishes (record { seen = mid; failed = failed }) new b result → Acts next old new a b result
+pub acts_by : {next : State → Outcome} {old new : Shown} {a b : Tape} {result : Result Flow WriteFault}
+    → FollowsWhileGood next old.seen new.seen a b → a.state ≡ Good → Finishes new.seen.stopped new.failed b result → Acts next old new a b result
 acts_by {result = result} follows good finishes = record {
-  agrees = λ s e whole. rw finishes.same (follows.agrees s e (finishes.written.0 whole));
+  agrees = λ s e whole. follows.agrees s e (finishes.written.0 whole);
   writes = λ s e. puts_written result (follows.prints s e) good finishes.written;
   going = finishes.going;
   failing = finishes.failing;
 }
+
+-- a machine that has not failed shows a state after an action, if it showed one before
+pub known_after_action : {next : State → Outcome} {m n : Seen} {failed : Bool} {a b : Tape} {result : Result Flow WriteFault}
+    → IsKnown m → FollowsWhileGood next m n a b → Finishes n.stopped failed b result → failed ≡ false → IsKnown n
+known_after_action {next} {m} {n} {failed} {a} {b} {result} known follows finishes going = by_result result finishes
+  where
+    by_result : (result : Result Flow WriteFault) → Finishes n.stopped failed b result → IsKnown n
+    by_result (Ok flow) finishes = record { state = (next known.state).state; agrees = follows.agrees known.state known.agrees (finishes.written.0 refl) }
+    by_result (Err why) finishes = let bad : true ≡ false = sym finishes.failing ∙ going in absurd cc
 
 end-flow : (b : Bool) → end_for (flow_of b) ≡ end_of b
 end-flow true = refl

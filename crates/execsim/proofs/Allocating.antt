@@ -7,11 +7,11 @@ use Rattle.memlist.specs.Fit.{avail}
 use Rattle.execmodel.specs.State.{Call, Memory, Object, Plain, on_memory}
 use Rattle.execmodel.specs.Calls.{argument, done, answered, alerted}
 use Rattle.execmodel.specs.Memory.{has_only, alloc_bits, can_be_asked, allocates, block_at, extents, is_named, place_for, placed, freed, does_alloc_mem, does_free_mem, does_avail_mem}
-use Rattle.execsim.specs.Agreement.{Seen, Follows, ports_in_order}
+use Rattle.execsim.specs.Agreement.{Seen, Follows, queues_in_order}
 use Rattle.execsim.proofs.Following.{reads_memory, moves_memory, follows_as, follows_change}
 
 pub placed-in_order : (size : ℕ) (object : Object) (place : Option ℕ) (y : Memory)
-    → placed size object place (ports_in_order y) ≡ ports_in_order (placed size object place y)
+    → placed size object place (queues_in_order y) ≡ queues_in_order (placed size object place y)
 placed-in_order size object None y = refl
 placed-in_order size object (Some address) y = refl
 

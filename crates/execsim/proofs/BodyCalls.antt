@@ -5,7 +5,7 @@ use Rattle.std.proofs.lemmas.List.{take_all}
 use Rattle.exectrace.specs.Sink.{Tape, Puts}
 use Rattle.exectrace.specs.Trace.{printed_line, Server, Softint}
 use Rattle.taskscript.specs.Commands.{CommandData}
-use Rattle.execmodel.specs.State.{Bodies, State, says, andthen, unless_stopped}
+use Rattle.execmodel.specs.State.{Timer as Clock, Bodies, State, says, andthen, unless_stopped}
 use Rattle.execmodel.specs.Bodies.{body_step, runs_body}
 use Rattle.execmodel.specs.Calls.{call_in_body}
 use Rattle.execmodel.specs.State.{Call}
@@ -70,7 +70,7 @@ more_commands {m} {n} {o} {a} {b} {c} body name code place is before last = rw a
   where
     -- no command changes the bodies
     same_bodies : (s : State) → Agrees m s → n.bodies ≡ m.bodies
-    same_bodies s e = (before.agrees s e).bodies ∙ body_keeps name (take place code) s ∙ sym e.bodies
+    same_bodies s e = (before.agrees s e).bodies ∙ ap (λ (x : Bodies × Clock). x.0) (body_keeps name (take place code) s) ∙ sym e.bodies
 
     same_code : (s : State) → Agrees m s → code_of_body body n.bodies ≡ code
     same_code s e = ap (code_of_body body) (same_bodies s e) ∙ sym is

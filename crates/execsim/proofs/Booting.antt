@@ -8,7 +8,7 @@ use Rattle.taskscript.specs.declared.file.TaskRecord.{TaskRecord}
 use Rattle.scheduler.specs.Schedule.{unstarted}
 use Rattle.execmodel.specs.State.{booted}
 use Rattle.softint.specs.Sources.{no_latches}
-use Rattle.execsim.specs.Agreement.{Seen, Agrees, caused_in_order, in_order, ports_in_order}
+use Rattle.execsim.specs.Agreement.{Seen, Agrees, caused_in_order, in_order, queues_in_order}
 use Rattle.execsim.proofs.Calling.{map-map_as}
 
 booted-in_order : (machine : MachineData) → in_order (booted machine).schedule ≡ (booted machine).schedule
@@ -33,7 +33,7 @@ booted-pending : (machine : MachineData) → record { caused = []; latches = no_
 unfolding booted order
 booted-pending machine = refl
 
-booted-memory : (machine : MachineData) → record { regions = machine.regions; libraries = machine.libraries; pool = machine.pool; heap = []; public = [] } ≡ ports_in_order (booted machine).memory
+booted-memory : (machine : MachineData) → record { regions = machine.regions; libraries = machine.libraries; pool = machine.pool; heap = []; public = []; timer = record { clock = 0; tick_micros = machine.tick_micros; waiting = [] } } ≡ queues_in_order (booted machine).memory
 unfolding booted order
 booted-memory machine = refl
 
@@ -41,7 +41,7 @@ booted-memory machine = refl
 pub boots : {seen : Seen} (machine : MachineData) (tasks : List TaskRecord) → map task_view tasks ≡ machine.tasks
     → seen.schedule ≡ unstarted (length tasks) (map (λ (t : TaskRecord). t.pri) tasks) (map (λ (t : TaskRecord). t.name.bytes) tasks) machine.quantum
     → seen.scripts ≡ (booted (record machine { tasks = map task_view tasks })).scripts
-    → seen.memory ≡ record { regions = machine.regions; libraries = machine.libraries; pool = machine.pool; heap = []; public = [] }
+    → seen.memory ≡ record { regions = machine.regions; libraries = machine.libraries; pool = machine.pool; heap = []; public = []; timer = record { clock = 0; tick_micros = machine.tick_micros; waiting = [] } }
     → seen.bodies ≡ record { softints = machine.softints; servers = machine.servers } → seen.pending ≡ record { caused = []; latches = no_latches }
     → seen.stopped ≡ false → Agrees seen (booted machine)
 boots {seen} machine tasks states schedule scripts memory bodies pending going =

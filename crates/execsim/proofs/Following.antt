@@ -11,7 +11,7 @@ use Rattle.execmodel.specs.State.{State, Bodies, Scripts, Memory, Pending, Outco
 use Rattle.execmodel.specs.Pending.{causes, taken_off, with_caused, with_latch_of}
 use Rattle.softint.specs.declared.source.Source.{Source}
 use Rattle.execsim.specs.Actions.{caused, with_caused as seen_with_caused}
-use Rattle.execsim.specs.Agreement.{Seen, Agrees, Follows, FollowsWhileGood, Moves, in_order, ports_in_order, caused_in_order}
+use Rattle.execsim.specs.Agreement.{Seen, Agrees, Follows, FollowsWhileGood, Moves, in_order, queues_in_order, caused_in_order}
 use Rattle.execsim.proofs.Ordering.{caused-in_order, taken_off-in_order}
 
 -- What the state that is agreed with holds, by what the machine shows.
@@ -26,7 +26,7 @@ module _ {m : Seen} {X : Type 0} where
   reads_scripts read is s a = ap read (sym a.scripts) ∙ is
 
   -- a reading of the memory that does not look at the order of its public ports
-  pub reads_memory : (read : Memory → X) {x : X} → ((y : Memory) → read (ports_in_order y) ≡ read y) → read m.memory ≡ x
+  pub reads_memory : (read : Memory → X) {x : X} → ((y : Memory) → read (queues_in_order y) ≡ read y) → read m.memory ≡ x
       → (s : State) → Agrees m s → read s.memory ≡ x
   reads_memory read blind is s a = sym (blind s.memory) ∙ ap read (sym a.memory) ∙ is
 
@@ -70,7 +70,7 @@ moves_scripts next is = record {
 }
 
 -- a change that goes the same way in every memory
-pub moves_memory : {m n : Seen} (next seen : Memory → Memory) → ((y : Memory) → seen (ports_in_order y) ≡ ports_in_order (next y))
+pub moves_memory : {m n : Seen} (next seen : Memory → Memory) → ((y : Memory) → seen (queues_in_order y) ≡ queues_in_order (next y))
     → n ≡ record m { memory = seen m.memory } → Moves (on_memory next) m n
 moves_memory next seen commutes is = record {
   agrees = λ s a. record {
@@ -224,6 +224,14 @@ is_good Failed = inr (λ e. cc)
 
 pub while_good : {f : State → Outcome} {m n : Seen} {a b : Tape} → a.state ≡ Good → Follows f m n a b → FollowsWhileGood f m n a b
 while_good good follows = record { agrees = λ s e end. follows.agrees s e; prints = follows.prints; afterwards = λ bad. absurd (bad good) }
+
+-- a sink that is good has been so
+pub good_before : {f : State → Outcome} {m n : Seen} {a b : Tape} → FollowsWhileGood f m n a b → b.state ≡ Good → a.state ≡ Good
+good_before {a = a} {b = b} follows good = by_state (is_good a.state)
+  where
+    by_state : (a.state ≡ Good) ⊎ (a.state ≢ Good) → a.state ≡ Good
+    by_state (inl was) = was
+    by_state (inr bad) = ap (λ (t : Tape). t.state) (sym (follows.afterwards bad)) ∙ good
 
 -- nothing is done any more
 pub stays_behind : {f : State → Outcome} (m : Seen) {t : Tape} → t.state ≢ Good → FollowsWhileGood f m m t t

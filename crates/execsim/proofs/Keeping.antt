@@ -1,6 +1,7 @@
--- No body changes what interrupts execute.
-use Rattle.std.proofs.Common.{◌≡◌, ℕ, Bool, true, false, cond, List, [], ◌∷◌, Option, None, Some, refl, ◌∙◌}
-use Rattle.std.specs.Prelude.{nat_eq}
+-- No body, and no request that finishes, changes what interrupts execute, or moves the clock.
+use Rattle.std.proofs.Common.{◌≡◌, ℕ, zero, suc, Bool, true, false, cond, List, [], ◌∷◌, Option, None, Some, refl, length, ◌∙◌}
+use Rattle.std.specs.Prelude.{nat_eq, pos}
+use Rattle.exectrace.specs.Trace.{Timer}
 use Rattle.taskscript.specs.declared.word.Word.{Word}
 use Rattle.taskscript.specs.declared.word.Word.TheVariants as word
 use Rattle.taskscript.specs.declared.word.plain.PlainWord.{PlainWord}
@@ -16,38 +17,47 @@ use Rattle.msgport.specs.declared.action.Action.{Action}
 use Rattle.msgport.specs.declared.action.Action.TheVariants as action
 use Rattle.msgport.specs.Port.{acting}
 use Rattle.execlist.specs.Order.{first}
-use Rattle.execmodel.specs.State.{Call, State, Outcome, quiet, andthen, unless_stopped, on_memory, on_heap}
+use Rattle.execmodel.specs.Keeping.{without_waiting}
+use Rattle.execmodel.specs.State.{Bodies, Call, Timer as Clock, State, Outcome, quiet, says, andthen, unless_stopped, on_memory, on_heap}
 use Rattle.execmodel.specs.Bodies.{body_step, does_in_body, does_interrupts_by, does_plain_by, does_ports_by, does_signals_by, does_word_by, runs_body}
 use Rattle.execmodel.specs.Calls.{ByBody, argument, call_in_body, unless_by}
-use Rattle.execmodel.specs.Interrupts.{runs_server, server_at}
+use Rattle.execmodel.specs.Interrupts.{finishes_for, runs_server, server_at}
 use Rattle.execmodel.specs.Pending.{causes}
 use Rattle.execmodel.specs.Ports.{content_of, delivered, messages_of, performed, port_alert, port_of, posted, put_alert, replied_by, reply_alert, taken_by}
+use Rattle.execmodel.specs.Requests.{acting_at, answering_port, ended, ends_with, finishes, finishes_all_due, finishes_due, with_reply}
 use Rattle.execmodel.specs.Signals.{signal_alert}
+use Rattle.execmodel.specs.Timing.{due_next}
+use Rattle.softint.specs.declared.source.Source.{Source}
+use Rattle.softint.specs.declared.source.Source.TheVariants as source
 
-abbrev KeepsBodies : (State → Outcome) → Type 0
-KeepsBodies next = (s : State) → (next s).state.bodies ≡ s.bodies
+-- what interrupts execute, and the timer without the requests that wait
+abbrev pub held : State → Bodies × Clock
+held s = (s.bodies, without_waiting s.memory.timer)
 
-keeps_performed : (act : Action) (s : State) → (performed act s).bodies ≡ s.bodies
+abbrev pub Holds : (State → Outcome) → Type 0
+Holds next = (s : State) → held (next s).state ≡ held s
+
+keeps_performed : (act : Action) (s : State) → held (performed act s) ≡ held s
 unfolding causes
 keeps_performed (action.Signal task mask) s = refl
 keeps_performed (action.Cause i) s = refl
 keeps_performed action.Nothing s = refl
 
-keeps_delivered : (kind port message : ℕ) (s : State) → (delivered kind port message s).bodies ≡ s.bodies
+keeps_delivered : (kind port message : ℕ) (s : State) → held (delivered kind port message s) ≡ held s
 unfolding delivered
 keeps_delivered kind port message s = keeps_performed (acting (port_of port s.memory.heap)) (on_memory (on_heap (posted kind port message)) s)
 
-keeps_allowed : (name : List ℕ) (call : Call) (effect : State → Outcome) (alert : Option (List ℕ)) (s : State) → (effect s).state.bodies ≡ s.bodies
-    → (unless_by alert (ByBody name) call effect s).state.bodies ≡ s.bodies
+keeps_allowed : (name : List ℕ) (call : Call) (effect : State → Outcome) (alert : Option (List ℕ)) (s : State) → held (effect s).state ≡ held s
+    → held (unless_by alert (ByBody name) call effect s).state ≡ held s
 keeps_allowed name call effect None s kept = kept
 keeps_allowed name call effect (Some code) s kept = refl
 
-keeps_taken : (name : List ℕ) (call : Call) (port : ℕ) (message : Option ℕ) (s : State) → (taken_by port message (ByBody name) call s).state.bodies ≡ s.bodies
+keeps_taken : (name : List ℕ) (call : Call) (port : ℕ) (message : Option ℕ) (s : State) → held (taken_by port message (ByBody name) call s).state ≡ held s
 keeps_taken name call port None s = refl
 keeps_taken name call port (Some message) s = refl
 
 module _ (name : List ℕ) (call : Call) where
-  keeps_plain : (is : PlainWord) → KeepsBodies (does_plain_by is (ByBody name) call)
+  keeps_plain : (is : PlainWord) → Holds (does_plain_by is (ByBody name) call)
   keeps_plain plain.Set s = refl
   keeps_plain plain.Add s = refl
   keeps_plain plain.Sub s = refl
@@ -58,20 +68,20 @@ module _ (name : List ℕ) (call : Call) where
   keeps_plain plain.JumpNZ s = refl
   keeps_plain plain.Print s = refl
 
-  keeps_signals : (is : SignalWord) → KeepsBodies (does_signals_by is (ByBody name) call)
+  keeps_signals : (is : SignalWord) → Holds (does_signals_by is (ByBody name) call)
   keeps_signals signals.AllocSignal s = refl
   keeps_signals signals.FreeSignal s = refl
   keeps_signals signals.SetSignal s = refl
   keeps_signals signals.Signal s = keeps_allowed name call _ (signal_alert (argument 0 call) (argument 1 call) s.scripts) s refl
   keeps_signals signals.Wait s = refl
 
-  keeps_replied : (reply message : ℕ) (s : State) → (replied_by reply (ByBody name) call message s).state.bodies ≡ s.bodies
+  keeps_replied : (reply message : ℕ) (s : State) → held (replied_by reply (ByBody name) call message s).state ≡ held s
   keeps_replied reply message s = by_case (nat_eq reply 0) _ _ refl (keeps_delivered _ reply message s) where
-    by_case : (none : Bool) (x y : Outcome) → x.state.bodies ≡ s.bodies → y.state.bodies ≡ s.bodies → (cond none x y).state.bodies ≡ s.bodies
+    by_case : (none : Bool) (x y : Outcome) → held x.state ≡ held s → held y.state ≡ held s → held (cond none x y).state ≡ held s
     by_case true x y p q = p
     by_case false x y p q = q
 
-  keeps_ports : (is : PortWord) → KeepsBodies (does_ports_by is (ByBody name) call)
+  keeps_ports : (is : PortWord) → Holds (does_ports_by is (ByBody name) call)
   keeps_ports ports.PutMsg s = keeps_allowed name call _ (put_alert (argument 0 call) (argument 1 call) s.memory.heap) s
       (keeps_delivered _ (argument 0 call) (argument 1 call) s)
   keeps_ports ports.GetMsg s = keeps_allowed name call _ (port_alert (argument 0 call) s.memory.heap) s
@@ -93,11 +103,11 @@ module _ (name : List ℕ) (call : Call) where
   keeps_ports ports.MsgType s = refl
   keeps_ports ports.WaitPort s = refl
 
-  keeps_interrupts : (is : InterruptWord) → KeepsBodies (does_interrupts_by is (ByBody name) call)
+  keeps_interrupts : (is : InterruptWord) → Holds (does_interrupts_by is (ByBody name) call)
   unfolding causes
   keeps_interrupts interrupts.Cause s = refl
 
-  keeps_word : (is : Word) → KeepsBodies (does_word_by is (ByBody name) call)
+  keeps_word : (is : Word) → Holds (does_word_by is (ByBody name) call)
   keeps_word (word.Plain is) s = keeps_plain is s
   keeps_word (word.Signals is) s = keeps_signals is s
   keeps_word (word.Ports is) s = keeps_ports is s
@@ -108,23 +118,61 @@ module _ (name : List ℕ) (call : Call) where
   keeps_word (word.Memory is) s = refl
   keeps_word (word.Semaphores is) s = refl
   keeps_word (word.Libraries is) s = refl
+  keeps_word (word.Requests is) s = refl
 
-keeps_step : (name : List ℕ) (command : CommandData) → KeepsBodies (body_step name command)
+pub keeps_step : (name : List ℕ) (command : CommandData) → Holds (body_step name command)
 unfolding body_step does_in_body
 keeps_step name command s = let call = call_in_body command s.scripts in keeps_word name call call.word s
 
-keeps_guarded : (next : State → Outcome) → KeepsBodies next → KeepsBodies (unless_stopped next)
+keeps_guarded : (next : State → Outcome) → Holds next → Holds (unless_stopped next)
 keeps_guarded next keeps s = by_case s.stopped where
-  by_case : (stopped : Bool) → (cond stopped (quiet s) (next s)).state.bodies ≡ s.bodies
+  by_case : (stopped : Bool) → held (cond stopped (quiet s) (next s)).state ≡ held s
   by_case true = refl
   by_case false = keeps s
 
-pub body_keeps : (name : List ℕ) (code : List CommandData) → KeepsBodies (runs_body name code)
+pub body_keeps : (name : List ℕ) (code : List CommandData) → Holds (runs_body name code)
 unfolding runs_body andthen
 body_keeps name [] s = refl
 body_keeps name (command ∷ others) s =
     body_keeps name others (unless_stopped (body_step name command) s).state ∙ keeps_guarded (body_step name command) (keeps_step name command) s
 
-pub server_keeps : (k : ℕ) → KeepsBodies (runs_server k)
+pub server_keeps : (k : ℕ) → Holds (runs_server k)
 unfolding runs_server andthen
 server_keeps k s = body_keeps (server_at k s.bodies).name (server_at k s.bodies).code s
+
+-- ---- requests that finish
+
+kept_reply : (port : Option ℕ) (request : ℕ) (o : Outcome) → held (with_reply port request o).state ≡ held o.state
+kept_reply None request o = refl
+kept_reply (Some port) request o = refl
+
+keeps_ended : (request : ℕ) (s : State) → held (on_memory (ended (pos 0) request) s) ≡ held s
+unfolding ended
+keeps_ended request s = refl
+
+pub finish_keeps : (request : ℕ) → Holds (finishes request)
+unfolding finishes
+finish_keeps request s =
+    kept_reply (answering_port request s.memory.heap) request (says (Timer request) (ends_with (pos 0) request s))
+    ∙ keeps_performed (acting_at (answering_port request s.memory.heap) s.memory.heap) (on_memory (ended (pos 0) request) s)
+    ∙ keeps_ended request s
+
+-- so many requests finish, by the first one
+abbrev finishes_from : ℕ → Option ℕ → State → Outcome
+finishes_from n found s = elim found as (λ (x : Option ℕ). Outcome) [ None ↦ quiet s | Some request ↦ andthen (finishes request) (finishes_due n) s ]
+
+due_keeps : (n : ℕ) → Holds (finishes_due n)
+unfolding finishes_due andthen
+due_keeps zero s = refl
+due_keeps (suc n) s = by_found (λ request. due_keeps n (finishes request s).state ∙ finish_keeps request s) (due_next s.memory.timer)
+  where
+    by_found : ((request : ℕ) → held (finishes_due n (finishes request s).state).state ≡ held s) → (found : Option ℕ)
+        → held (finishes_from n found s).state ≡ held s
+    by_found each None = refl
+    by_found each (Some request) = each request
+
+pub finishing_keeps : (asks : Source) → Holds (finishes_for asks)
+unfolding finishes_all_due
+finishing_keeps source.Ports s = refl
+finishing_keeps source.Vertb s = due_keeps (length s.memory.timer.waiting) s
+finishing_keeps source.Exter s = refl

@@ -7,6 +7,7 @@ pub mod Booting
 pub mod Calculating
 pub mod Calling
 pub mod Caused
+pub mod Clock
 pub mod Endings
 pub mod Following
 pub mod Forbidding
@@ -19,6 +20,7 @@ pub mod Ordering
 pub mod PortOrder
 pub mod Porting
 pub mod ReadLemmas
+pub mod Requesting
 pub mod ServerChains
 pub mod Serving
 pub mod Signalling

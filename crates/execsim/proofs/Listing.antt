@@ -12,14 +12,14 @@ use Rattle.execmodel.specs.Lists.{does_new_list, does_new_node, is_list, is_node
 use Rattle.execmodel.specs.Tasks.{is_priority}
 use Rattle.execheap.specs.declared.refusal.Refusal.{Refusal}
 use Rattle.execheap.specs.Refusals.{alert_of, code_of}
-use Rattle.execsim.specs.Agreement.{Seen, Follows, ports_in_order}
+use Rattle.execsim.specs.Agreement.{Seen, Follows, queues_in_order}
 use Rattle.execsim.specs.Endings.{done_or_alerted, answered_or_alerted}
 use Rattle.execsim.proofs.Allocating.{placed-in_order}
 use Rattle.execsim.proofs.Following.{reads_memory, moves_memory, follows_as, follows_change}
 
 -- ---- calls that may be refused
 
-module _ {m o : Seen} {a b : Tape} (c : Caller) (call : Call) (alert : Memory → Option (List ℕ)) (blind : (y : Memory) → alert (ports_in_order y) ≡ alert y) where
+module _ {m o : Seen} {a b : Tape} (c : Caller) (call : Call) (alert : Memory → Option (List ℕ)) (blind : (y : Memory) → alert (queues_in_order y) ≡ alert y) where
   -- a refused call ends in its alert, whoever makes it
   pub follows_refused_by : (effect : State → Outcome) (why : Refusal) → Some (code_of why) ≡ alert m.memory
       → Follows (alerted_by (code_of why) c call) m o a b → Follows (λ s. unless_by (alert s.memory) c call effect s) m o a b
@@ -36,7 +36,7 @@ module _ {m o : Seen} {a b : Tape} (c : Caller) (call : Call) (alert : Memory �
       (λ s e. let same : alert s.memory ≡ None = reads_memory alert blind (sym says) s e in rw same refl)
       follows
 
-module _ {m o : Seen} {a b : Tape} (t : ℕ) (call : Call) (alert : Memory → Option (List ℕ)) (blind : (y : Memory) → alert (ports_in_order y) ≡ alert y) where
+module _ {m o : Seen} {a b : Tape} (t : ℕ) (call : Call) (alert : Memory → Option (List ℕ)) (blind : (y : Memory) → alert (queues_in_order y) ≡ alert y) where
   pub follows_refused : (effect : State → Outcome) (why : Refusal) → Some (code_of why) ≡ alert m.memory
       → Follows (alerted (code_of why) t call) m o a b → Follows (λ s. unless (alert s.memory) t call effect s) m o a b
   follows_refused = follows_refused_by (ByTask t) call alert blind
@@ -46,7 +46,7 @@ module _ {m o : Seen} {a b : Tape} (t : ℕ) (call : Call) (alert : Memory → O
   follows_allowed = follows_allowed_by (ByTask t) call alert blind
 
   -- a call that answers nothing changes the memory, or is refused
-  pub follows_changed : (next seen : Memory → Memory) → ((y : Memory) → seen (ports_in_order y) ≡ ports_in_order (next y)) → (x : Memory)
+  pub follows_changed : (next seen : Memory → Memory) → ((y : Memory) → seen (queues_in_order y) ≡ queues_in_order (next y)) → (x : Memory)
       (result : Result (Unit {0}) Refusal) → alert_of result ≡ alert m.memory → OnOk result (x ≡ seen m.memory) → OnErr result (x ≡ m.memory)
       → Follows (done_or_alerted result t call) (record m { memory = x }) o a b
       → Follows (λ s. unless (alert s.memory) t call (λ s. done t call (on_memory next s)) s) m o a b
@@ -57,8 +57,8 @@ module _ {m o : Seen} {a b : Tape} (t : ℕ) (call : Call) (alert : Memory → O
       follows_refused (λ s. done t call (on_memory next s)) why says (rw kept at follows)
 
   -- a call that answers what it read, and then changes the memory, or is refused
-  pub follows_taken : (answer : Memory → ℕ) → ((y : Memory) → answer (ports_in_order y) ≡ answer y) → (next : Memory → Memory)
-      → ((y : Memory) → next (ports_in_order y) ≡ ports_in_order (next y)) → (x : Memory) (result : Result ℕ Refusal)
+  pub follows_taken : (answer : Memory → ℕ) → ((y : Memory) → answer (queues_in_order y) ≡ answer y) → (next : Memory → Memory)
+      → ((y : Memory) → next (queues_in_order y) ≡ queues_in_order (next y)) → (x : Memory) (result : Result ℕ Refusal)
       → alert_of result ≡ alert m.memory → IfOk result (λ value. value ≡ answer m.memory) → OnOk result (x ≡ next m.memory)
       → OnErr result (x ≡ m.memory) → Follows (answered_or_alerted result t call) (record m { memory = x }) o a b
       → Follows (λ s. unless (alert s.memory) t call (λ s. answered t call (answer s.memory) (on_memory next s)) s) m o a b
@@ -71,7 +71,7 @@ module _ {m o : Seen} {a b : Tape} (t : ℕ) (call : Call) (alert : Memory → O
       follows_refused (λ s. answered t call (answer s.memory) (on_memory next s)) why says (rw kept at follows)
 
   -- a call that answers what it reads, or is refused
-  pub follows_read : (answer : Memory → ℕ) → ((y : Memory) → answer (ports_in_order y) ≡ answer y) → (result : Result ℕ Refusal)
+  pub follows_read : (answer : Memory → ℕ) → ((y : Memory) → answer (queues_in_order y) ≡ answer y) → (result : Result ℕ Refusal)
       → alert_of result ≡ alert m.memory → IfOk result (λ value. value ≡ answer m.memory)
       → Follows (answered_or_alerted result t call) m o a b → Follows (λ s. unless (alert s.memory) t call (λ s. answered t call (answer s.memory) s) s) m o a b
   follows_read answer same (Ok value) says tells follows =
@@ -83,13 +83,13 @@ module _ {m o : Seen} {a b : Tape} (t : ℕ) (call : Call) (alert : Memory → O
 
 -- the same of an alert and an answer that read the blocks alone
 module _ {m o : Seen} {a b : Tape} (t : ℕ) (call : Call) (alert : Heap → Option (List ℕ)) where
-  pub heap_changed : (next : Memory → Memory) → ((y : Memory) → next (ports_in_order y) ≡ ports_in_order (next y)) → (x : Memory)
+  pub heap_changed : (next : Memory → Memory) → ((y : Memory) → next (queues_in_order y) ≡ queues_in_order (next y)) → (x : Memory)
       (result : Result (Unit {0}) Refusal) → alert_of result ≡ alert m.memory.heap → OnOk result (x ≡ next m.memory) → OnErr result (x ≡ m.memory)
       → Follows (done_or_alerted result t call) (record m { memory = x }) o a b
       → Follows (λ s. unless (alert s.memory.heap) t call (λ s. done t call (on_memory next s)) s) m o a b
   heap_changed next commutes = follows_changed t call (λ memory. alert memory.heap) (λ y. refl) next next commutes
 
-  pub heap_taken : (answer : Heap → ℕ) (next : Memory → Memory) → ((y : Memory) → next (ports_in_order y) ≡ ports_in_order (next y)) → (x : Memory)
+  pub heap_taken : (answer : Heap → ℕ) (next : Memory → Memory) → ((y : Memory) → next (queues_in_order y) ≡ queues_in_order (next y)) → (x : Memory)
       (result : Result ℕ Refusal) → alert_of result ≡ alert m.memory.heap → IfOk result (λ value. value ≡ answer m.memory.heap)
       → OnOk result (x ≡ next m.memory) → OnErr result (x ≡ m.memory) → Follows (answered_or_alerted result t call) (record m { memory = x }) o a b
       → Follows (λ s. unless (alert s.memory.heap) t call (λ s. answered t call (answer s.memory.heap) (on_memory next s)) s) m o a b
@@ -104,7 +104,7 @@ module _ {m o : Seen} {a b : Tape} (t : ℕ) (call : Call) (alert : Heap → Opt
 -- ---- objects made
 
 -- where an object goes does not depend on the order of the public ports
-pub room-in_order : (kind : Object → Bool) (size : ℕ) (y : Memory) → place_for_object kind size (ports_in_order y) ≡ place_for_object kind size y
+pub room-in_order : (kind : Object → Bool) (size : ℕ) (y : Memory) → place_for_object kind size (queues_in_order y) ≡ place_for_object kind size y
 unfolding place_for_object
 room-in_order kind size y = refl
 

@@ -10,7 +10,7 @@ use Rattle.execmodel.specs.Objects.{public_memory}
 use Rattle.execmodel.specs.Libraries.{base_of, base_opened, base_or_place, close_alert, closed, count_of, does_close_library, does_open_library, entered_or_loaded, is_delayed, library_at, library_opened, library_to_open, opened, opening, removed, with_library}
 use Rattle.execheap.specs.declared.refusal.Refusal.{Refusal}
 use Rattle.execheap.specs.Refusals.{alert_of}
-use Rattle.execsim.specs.Agreement.{Seen, Follows, ports_in_order}
+use Rattle.execsim.specs.Agreement.{Seen, Follows, queues_in_order}
 use Rattle.execsim.specs.Endings.{done_or_alerted}
 use Rattle.execsim.proofs.Allocating.{placed-in_order}
 use Rattle.execsim.proofs.Following.{reads_memory, moves_memory, follows_as, follows_change}
@@ -18,43 +18,43 @@ use Rattle.execsim.proofs.Listing.{heap_changed}
 
 -- ---- the order of the public ports is of no account
 
-entered-in_order : (base : Option ℕ) (i : ℕ) (y : Memory) → entered_or_loaded base i (ports_in_order y) ≡ ports_in_order (entered_or_loaded base i y)
+entered-in_order : (base : Option ℕ) (i : ℕ) (y : Memory) → entered_or_loaded base i (queues_in_order y) ≡ queues_in_order (entered_or_loaded base i y)
 entered-in_order (Some base) i y = refl
 entered-in_order None i y =
     placed-in_order (library_at i y).size (Library i 1 false) (place_for (library_at i y).size public_memory y) y
 
-found-in_order : (found : Option ℕ) (y : Memory) → library_opened found (ports_in_order y) ≡ ports_in_order (library_opened found y)
+found-in_order : (found : Option ℕ) (y : Memory) → library_opened found (queues_in_order y) ≡ queues_in_order (library_opened found y)
 found-in_order None y = refl
 found-in_order (Some i) y = entered-in_order (base_of i y.heap) i y
 
-pub opened-in_order : (name : List ℕ) (version : ℕ) (y : Memory) → opened name version (ports_in_order y) ≡ ports_in_order (opened name version y)
+pub opened-in_order : (name : List ℕ) (version : ℕ) (y : Memory) → opened name version (queues_in_order y) ≡ queues_in_order (opened name version y)
 unfolding opened
 opened-in_order name version y = found-in_order (library_to_open name version y) y
 
-pub opening-in_order : (name : List ℕ) (version : ℕ) (y : Memory) → opening name version (ports_in_order y) ≡ opening name version y
+pub opening-in_order : (name : List ℕ) (version : ℕ) (y : Memory) → opening name version (queues_in_order y) ≡ opening name version y
 unfolding opening
 opening-in_order name version y = based (library_to_open name version y) where
-  lies : (base : Option ℕ) (i : ℕ) → base_or_place base i (ports_in_order y) ≡ base_or_place base i y
+  lies : (base : Option ℕ) (i : ℕ) → base_or_place base i (queues_in_order y) ≡ base_or_place base i y
   lies (Some base) i = refl
   lies None i = refl
 
-  based : (found : Option ℕ) → base_opened found (ports_in_order y) ≡ base_opened found y
+  based : (found : Option ℕ) → base_opened found (queues_in_order y) ≡ base_opened found y
   based None = refl
   based (Some i) = lies (base_of i y.heap) i
 
 -- a library is freed, or is open so often
 freed_or-in_order : (leaves : Bool) (base count : ℕ) (delayed : Bool) (y : Memory)
-    → cond leaves (freed base (ports_in_order y)) (on_heap (with_library base count delayed) (ports_in_order y))
-    ≡ ports_in_order (cond leaves (freed base y) (on_heap (with_library base count delayed) y))
+    → cond leaves (freed base (queues_in_order y)) (on_heap (with_library base count delayed) (queues_in_order y))
+    ≡ queues_in_order (cond leaves (freed base y) (on_heap (with_library base count delayed) y))
 freed_or-in_order true base count delayed y = refl
 freed_or-in_order false base count delayed y = refl
 
-pub closed-in_order : (base : ℕ) (y : Memory) → closed base (ports_in_order y) ≡ ports_in_order (closed base y)
+pub closed-in_order : (base : ℕ) (y : Memory) → closed base (queues_in_order y) ≡ queues_in_order (closed base y)
 unfolding closed
 closed-in_order base y =
     freed_or-in_order (nat_eq (count_of base y.heap) 1 && is_delayed base y.heap) base (count_of base y.heap - 1) (is_delayed base y.heap) y
 
-pub removed-in_order : (base : ℕ) (y : Memory) → removed base (ports_in_order y) ≡ ports_in_order (removed base y)
+pub removed-in_order : (base : ℕ) (y : Memory) → removed base (queues_in_order y) ≡ queues_in_order (removed base y)
 unfolding removed
 removed-in_order base y = freed_or-in_order (nat_eq (count_of base y.heap) 0) base (count_of base y.heap) true y
 

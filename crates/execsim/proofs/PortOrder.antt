@@ -13,22 +13,22 @@ use Rattle.scheduler.specs.Dispatch.{signalled}
 use Rattle.execmodel.specs.State.{Memory, PublicPort}
 use Rattle.execmodel.specs.Ports.{add_port_alert, delete_alert, found_port, is_called, is_public, made_private, made_public, port_or_none, priority_of_public, rem_port_alert, under}
 use Rattle.execheap.specs.Listing.{listed}
-use Rattle.execsim.specs.Agreement.{ports_in_order}
+use Rattle.execsim.specs.Agreement.{queues_in_order}
 
 -- ---- public ports
 
 pub listed-in_order : (port : ℕ) (name : List ℕ) (pri : ℤ) (y : Memory)
-    → listed port name pri (ports_in_order y) ≡ ports_in_order (made_public port name pri y)
+    → listed port name pri (queues_in_order y) ≡ queues_in_order (made_public port name pri y)
 unfolding listed made_public
 listed-in_order port name pri y =
-    ap (λ public. record y { public = public }) (sym (order_takes PublicPort priority_of_public y.public (under port name pri)))
+    ap (λ public. record (queues_in_order y) { public = public }) (sym (order_takes PublicPort priority_of_public y.public (under port name pri)))
 
-pub made_private-in_order : (port : ℕ) (y : Memory) → made_private port (ports_in_order y) ≡ ports_in_order (made_private port y)
+pub made_private-in_order : (port : ℕ) (y : Memory) → made_private port (queues_in_order y) ≡ queues_in_order (made_private port y)
 unfolding made_private
-made_private-in_order port y = ap (λ public. record y { public = public })
+made_private-in_order port y = ap (λ public. record (queues_in_order y) { public = public })
     (sym (order_leaves_out PublicPort priority_of_public (λ (public : PublicPort). not (public.port == port)) y.public))
 
-pub found-in_order : (name : List ℕ) (y : Memory) → port_or_none (find (is_called name) (ports_in_order y).public) ≡ found_port name y
+pub found-in_order : (name : List ℕ) (y : Memory) → port_or_none (find (is_called name) (queues_in_order y).public) ≡ found_port name y
 unfolding found_port
 found-in_order name y = ap port_or_none (found_in_order PublicPort priority_of_public (is_called name) y.public)
 
@@ -68,18 +68,18 @@ module _ {A : Type 0} (key : A → ℤ) (test : A → Bool) where
   unfolding order
   any-in_order xs = any_all_put [] xs
 
-is_public-in_order : (port : ℕ) (y : Memory) → is_public port (ports_in_order y) ≡ is_public port y
+is_public-in_order : (port : ℕ) (y : Memory) → is_public port (queues_in_order y) ≡ is_public port y
 is_public-in_order port y = any-in_order priority_of_public (λ (public : PublicPort). public.port == port) y.public
 
-pub delete_alert-in_order : (port : ℕ) (y : Memory) → delete_alert port (ports_in_order y) ≡ delete_alert port y
+pub delete_alert-in_order : (port : ℕ) (y : Memory) → delete_alert port (queues_in_order y) ≡ delete_alert port y
 unfolding delete_alert
 delete_alert-in_order port y = rw (is_public-in_order port y) refl
 
-pub add_port_alert-in_order : (port : ℕ) (pri : ℤ) (y : Memory) → add_port_alert port pri (ports_in_order y) ≡ add_port_alert port pri y
+pub add_port_alert-in_order : (port : ℕ) (pri : ℤ) (y : Memory) → add_port_alert port pri (queues_in_order y) ≡ add_port_alert port pri y
 unfolding add_port_alert
 add_port_alert-in_order port pri y = rw (is_public-in_order port y) refl
 
-pub rem_port_alert-in_order : (port : ℕ) (y : Memory) → rem_port_alert port (ports_in_order y) ≡ rem_port_alert port y
+pub rem_port_alert-in_order : (port : ℕ) (y : Memory) → rem_port_alert port (queues_in_order y) ≡ rem_port_alert port y
 unfolding rem_port_alert
 rem_port_alert-in_order port y = rw (is_public-in_order port y) refl
 

@@ -218,7 +218,7 @@ module _ {m o : Seen} {a b : Tape} (t : ℕ) (call : Call) where
 
 -- ---- putting and replying
 
-performed_moves : {m n : Seen} (act : Action) → n ≡ performed act m → Moves (model.performed act) m n
+pub performed_moves : {m n : Seen} (act : Action) → n ≡ performed act m → Moves (model.performed act) m n
 performed_moves (action.Signal task mask) is = moves_schedule (model_signalled task mask) (signalled task mask) (signalled-in_order task mask) is
 performed_moves (action.Cause i) is = moves_caused i is
 performed_moves {m} action.Nothing is = rw is (moves_nowhere m)

@@ -14,14 +14,14 @@ use Rattle.softint.specs.declared.source.Source.{Source}
 use Rattle.softint.specs.Sources.{highest}
 use Rattle.softint.specs.Interrupts as ints
 use Rattle.softint.specs.Interrupts.{Interrupts, pri_at}
-use Rattle.execmodel.specs.State.{Bodies, Pending, State, Outcome, quiet, says, andthen, unless_stopped, on_pending, on_schedule}
-use Rattle.execmodel.specs.Interrupts.{by_choice, chain_of, counted, interrupts, runs_chain, runs_server, server_at, server_pri, servers_of, serves, servings, text_of_source}
+use Rattle.execmodel.specs.State.{Bodies, Pending, Timer as Clock, State, Outcome, quiet, says, andthen, unless_stopped, on_pending, on_schedule}
+use Rattle.execmodel.specs.Interrupts.{by_choice, chain_of, counted, finishes_for, interrupts, runs_chain, runs_server, server_at, server_pri, servers_of, serves, servings, text_of_source}
 use Rattle.execmodel.specs.Pending.{allows_interrupts, is_caused, next_softint, next_source, softint_pri, with_latch_of}
 use Rattle.execsim.specs.Actions.{served, softint_seen, source_seen, with_caused}
-use Rattle.execsim.specs.Agreement.{Seen, Agrees, Follows}
+use Rattle.execsim.specs.Agreement.{Seen, Agrees, Follows, Moves}
 use Rattle.execsim.specs.Views.{IsFor}
 use Rattle.execsim.proofs.Following.{follows_as, follows_change, follows_known, follows_nothing, follows_says, follows_then, guarded_going, guarded_stopped, moves_latch, moves_schedule}
-use Rattle.execsim.proofs.Keeping.{server_keeps}
+use Rattle.execsim.proofs.Keeping.{finishing_keeps, server_keeps}
 use Rattle.execsim.proofs.Ordering.{allowed-in_order, counted-in_order}
 
 -- ---- causing
@@ -176,7 +176,7 @@ chain_goes_on {m} {n} {o} {b = b} {c = c} asks place k here runs unclaims going 
   where
     -- no server changes the bodies
     same_bodies : (s : State) → Agrees m s → n.bodies ≡ m.bodies
-    same_bodies s e = (runs.agrees s e).bodies ∙ server_keeps k s ∙ sym e.bodies
+    same_bodies s e = (runs.agrees s e).bodies ∙ ap (λ (x : Bodies × Clock). x.0) (server_keeps k s) ∙ sym e.bodies
 
     by_claim : (claim : Bool) → claim ≡ false → n.bodies ≡ m.bodies
         → Follows (unless_stopped (unclaimed claim (drop (suc place) (chain_of asks m.bodies.servers)))) n o b c
@@ -199,7 +199,7 @@ known_after {m} {n} {o} k known runs s e =
     let before = known s e in
     let t = before.0 in
     let agrees = runs.agrees t before.1.0 in
-    ((runs_server k t).state, (agrees, agrees.bodies ∙ server_keeps k t ∙ sym before.1.0.bodies ∙ before.1.1))
+    ((runs_server k t).state, (agrees, agrees.bodies ∙ ap (λ (x : Bodies × Clock). x.0) (server_keeps k t) ∙ sym before.1.0.bodies ∙ before.1.1))
 
 -- all places were looked at
 pub chain_done : {next : State → Outcome} {m n : Seen} {a b : Tape} (asks : Source) (place : ℕ) → length m.bodies.servers ≤ place → IsKnownFrom m n
@@ -210,13 +210,25 @@ chain_done {m = m} {n = n} {b = b} asks place all known rest = follows_known (λ
 
 -- ---- serving
 
-pub serves_with : {m n o : Seen} {a b c : Tape} (asks : Source) → n ≡ record m { schedule = counted asks m.schedule }
-    → Puts a b (printed_line (Serve (text_of_source asks))) → Follows (runs_chain (chain_of asks n.bodies.servers)) n o b c → Follows (served asks) m o a c
-serves_with {m} {n} asks is puts follows = follows_as
-    {g = λ s. andthen (says (Serve (text_of_source asks))) (runs_chain (chain_of asks n.bodies.servers)) (on_schedule (counted asks) s)}
-    (λ s e. ap (λ (b : Bodies). andthen (says (Serve (text_of_source asks))) (runs_chain (chain_of asks b.servers)) (on_schedule (counted asks) s))
-    (sym e.bodies ∙ sym (ap (λ (x : Seen). x.bodies) is)))
-    (follows_change (moves_schedule (counted asks) (counted asks) (counted-in_order asks) is) (follows_then (follows_says _ puts) follows))
+pub serves_with : {m n o p : Seen} {a b c d : Tape} (asks : Source) → n ≡ record m { schedule = counted asks m.schedule }
+    → Puts a b (printed_line (Serve (text_of_source asks))) → Follows (finishes_for asks) n o b c
+    → Follows (runs_chain (chain_of asks o.bodies.servers)) o p c d → Follows (served asks) m p a d
+serves_with {m} {n} {o} {p} {a} {b} {c} {d} asks is puts finishes follows =
+    follows_known (λ s e. follows_as
+    {g = λ s. andthen (says (Serve (text_of_source asks))) (andthen (finishes_for asks) (runs_chain (chain_of asks o.bodies.servers)))
+    (on_schedule (counted asks) s)}
+    (λ s e. ap (λ (x : Bodies). andthen (says (Serve (text_of_source asks))) (andthen (finishes_for asks) (runs_chain (chain_of asks x.servers)))
+    (on_schedule (counted asks) s)) (sym (same_bodies s e)))
+    (follows_change counts (follows_then (follows_says _ puts) (follows_then finishes follows))))
+  where
+    counts : Moves (on_schedule (counted asks)) m n
+    counts = moves_schedule (counted asks) (counted asks) (counted-in_order asks) is
+
+    -- no request that finishes changes the bodies
+    same_bodies : (s : State) → Agrees m s → o.bodies ≡ s.bodies
+    same_bodies s e =
+        let t = on_schedule (counted asks) s in
+        (finishes.agrees t (counts.agrees s e)).bodies ∙ ap (λ (x : Bodies × Clock). x.0) (finishing_keeps asks t)
 
 -- so many servings, by the source that is served next
 abbrev serving_of : ℕ → Option Source → State → Outcome

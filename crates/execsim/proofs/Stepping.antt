@@ -11,15 +11,17 @@ use Rattle.scheduler.specs.Dispatch as dispatch
 use Rattle.scheduler.specs.declared.Switch.{Switch as Choice}
 use Rattle.scheduler.specs.declared.Switch.TheVariants as switch
 use Rattle.softint.specs.declared.source.Source.{Source}
-use Rattle.execmodel.specs.State.{Call, Scripts, State, quiet, andthen, program_of, on_schedule, on_pending, unless_stopped}
+use Rattle.softint.specs.declared.source.Source.TheVariants.{Vertb}
+use Rattle.execmodel.specs.State.{Call, Scripts, State, quiet, andthen, program_of, on_schedule, on_memory, on_timer, on_pending, unless_stopped}
 use Rattle.execmodel.specs.Scheduling.{rescheduled, added}
 use Rattle.execmodel.specs.Calls.{next_call}
+use Rattle.execmodel.specs.Timing.{ticked}
 use Rattle.execmodel.specs.Interrupts.{interrupts, runs_softint}
 use Rattle.execmodel.specs.Pending.{taken_off, with_latch_of}
 use Rattle.execmodel.specs.Step.{announced, switches, settle, ends, call_step, task_step, softint_or_task_step, acting, acts, step, steps, request, tick, ticks, started, all_added, starts, event, events}
 use Rattle.execsim.specs.Actions.{running_task_step, softint_body, softint_seen}
 use Rattle.execsim.specs.Agreement.{Seen, Follows, FollowsWhileGood, Moves}
-use Rattle.execsim.proofs.Following.{andthen-assoc, andthen-quiet, andthen-second, reads_schedule, reads_scripts, reads_stopped, moves_schedule, moves_latch, moves_taken_off, moves_nowhere, moves_then, follows_as, follows_nothing, follows_saying, follows_change, follows_then, follows_nothing_yet, while_good_as, while_good_then}
+use Rattle.execsim.proofs.Following.{andthen-assoc, andthen-quiet, andthen-second, reads_schedule, reads_scripts, reads_stopped, moves_schedule, moves_memory, moves_latch, moves_taken_off, moves_nowhere, moves_then, follows_as, follows_nothing, follows_saying, follows_change, follows_then, follows_nothing_yet, while_good_as, while_good_then}
 use Rattle.execsim.proofs.Ordering.{by_test, switch_of-in_order, rescheduled-in_order, added-in_order, leaves-in_order}
 use Rattle.execsim.proofs.Serving.{softint_same}
 
@@ -129,6 +131,18 @@ module _ {m : Seen} (asks : Source) where
   unfolding request
   request_going going is follows = follows_as {g = λ s. settle (on_pending (with_latch_of asks true) s)}
       (λ s e. let same : s.stopped ≡ false = reads_stopped going s e in rw same refl) (follows_change (moves_latch asks true is) follows)
+
+pub tick_stopped : {m : Seen} (t : Tape) → m.stopped ≡ true → Follows tick m m t t
+unfolding tick
+tick_stopped {m} t stopped = follows_as {g = quiet}
+    (λ s e. let same : s.stopped ≡ true = reads_stopped stopped s e in rw same refl) (follows_nothing m t)
+
+pub tick_going : {m n o : Seen} {a b : Tape} → m.stopped ≡ false → n ≡ record m { memory = on_timer ticked m.memory }
+    → Follows (request Vertb) n o a b → Follows tick m o a b
+unfolding tick
+tick_going going is follows = follows_as {g = λ s. request Vertb (on_memory (on_timer ticked) s)}
+    (λ s e. let same : s.stopped ≡ false = reads_stopped going s e in rw same refl)
+    (follows_change (moves_memory (on_timer ticked) (on_timer ticked) (λ y. refl) is) follows)
 
 pub no_ticks : (m : Seen) (t : Tape) → FollowsWhileGood (ticks 0) m m t t
 unfolding ticks

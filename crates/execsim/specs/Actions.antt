@@ -1,8 +1,9 @@
 -- What is done for a message that has arrived, or for the new owner of a semaphore, with the ready tasks and the caused software interrupts in
 -- the order in which they are to run; how a call on a port or a semaphore ends that has more to do than its change of memory; and which
 -- interrupt runs next.
-use Rattle.std.specs.Prelude.{ℕ, false, not, ◌&&◌, if◌then◌else◌, nat_lt, length, List, Option, None, Some, Result, Ok, Err}
-use Rattle.exectrace.specs.Trace.{Serve, Softint}
+use Rattle.std.specs.Int.{cast_unsigned, w32}
+use Rattle.std.specs.Prelude.{ℕ, ◌^◌, false, not, ◌&&◌, if◌then◌else◌, nat_lt, length, List, Option, None, Some, Result, Ok, Err}
+use Rattle.exectrace.specs.Trace.{Serve, Softint, Timer}
 use Rattle.execlist.specs.Order.{enqueue, first}
 use Rattle.scheduler.specs.Schedule.{Schedule, frees, is_at_semaphore, status_of}
 use Rattle.scheduler.specs.Dispatch.{arrives, signalled}
@@ -14,14 +15,16 @@ use Rattle.softint.specs.declared.source.Source.{Source}
 use Rattle.taskscript.specs.Commands.{CommandData}
 use Rattle.execmodel.specs.State.{Call, Pending, State, Outcome, quiet, says, andthen, unless_stopped, on_schedule}
 use Rattle.execmodel.specs.Bodies.{body_step, runs_body}
-use Rattle.execmodel.specs.Calls.{Caller, ByTask, done, done_by, alerted, alerted_by}
-use Rattle.execmodel.specs.Interrupts.{chain_of, counted, runs_chain, softint_at, text_of_source}
+use Rattle.execmodel.specs.Calls.{Caller, ByTask, done, done_by, answered, alerted, alerted_by}
+use Rattle.execmodel.specs.Interrupts.{chain_of, counted, finishes_for, runs_chain, softint_at, text_of_source}
 use Rattle.execmodel.specs.Pending.{allows_interrupts, is_caused, softint_pri, taken_off, with_latch_of}
 use Rattle.execmodel.specs.Ports as model
 use Rattle.execmodel.specs.Semaphores.{obtains, passes}
 use Rattle.execmodel.specs.Step.{task_step}
 use Rattle.sigsem.specs.declared.semaphore.Obtained.{Obtained}
 use Rattle.execsim.specs.Agreement.{Seen}
+use Rattle.execheap.specs.declared.awaited.Awaited.{Awaited}
+use Rattle.execheap.specs.declared.awaited.Awaited.TheVariants as awaited
 use Rattle.execheap.specs.declared.refusal.Refusal.{Refusal}
 use Rattle.execheap.specs.Refusals.{code_of}
 
@@ -68,6 +71,23 @@ abbrev pub passes_or_alerted : Result (Option ℕ) Refusal → ℕ → ℕ → C
 passes_or_alerted (Ok owner) semaphore t call s = passes owner semaphore t call s
 passes_or_alerted (Err why) semaphore t call s = alerted (code_of why) t call s
 
+-- ---- requests
+
+-- a call that looks for a request answers its error, or waits for the signal of that number
+abbrev pub tells_or_waits : Awaited → ℕ → Call → State → Outcome
+tells_or_waits (awaited.Done error) t call s = answered t call (cast_unsigned w32 error) s
+tells_or_waits (awaited.UnderWay bit) t call s = model.looked None (2 ^ bit) t call s
+
+-- a call that aborts a request: what is to be done for its reply is done, if it was under way; or the machine stops by the call's alert
+abbrev pub aborts_or_alerted : Result (Option Action) Refusal → ℕ → Call → State → Outcome
+aborts_or_alerted (Ok (Some act)) t call s = answered t call 0 (model.performed act s)
+aborts_or_alerted (Ok None) t call s = answered t call 0xffffffff s
+aborts_or_alerted (Err why) t call s = alerted (code_of why) t call s
+
+-- a request that is done says so, and what is to be done for its reply is done
+abbrev pub finishes_with : ℕ → Action → State → Outcome
+finishes_with request act s = says (Timer request) (model.performed act s)
+
 -- ---- interrupts
 
 -- the software interrupt that runs next, by what the machine shows
@@ -97,7 +117,8 @@ without_request (Some asks) pending = with_latch_of asks false pending
 -- a source is served, whose latch is cleared
 abbrev pub served : Source → State → Outcome
 served asks s =
-    andthen (says (Serve (text_of_source asks))) (runs_chain (chain_of asks s.bodies.servers)) (on_schedule (counted asks) s)
+    andthen (says (Serve (text_of_source asks))) (andthen (finishes_for asks) (runs_chain (chain_of asks s.bodies.servers)))
+    (on_schedule (counted asks) s)
 
 -- a command of the body of that name is done, where there is one, unless an alert has stopped the machine
 abbrev pub does_at_place : List ℕ → Option CommandData → State → Outcome

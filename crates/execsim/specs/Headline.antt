@@ -42,11 +42,10 @@ pub record Acts (next : State → Outcome) (old new : Shown) (before after : Tap
   pub failing : MatchResult result (λ _. Unit {0}) (λ _. new.failed ≡ true)
 
 -- After an action the answer tells whether an alert has stopped the machine, or that the sink has failed, which fails the machine.
-pub record Finishes (old new : Shown) (out : Tape) (result : Result Flow WriteFault) : Type 0 where
-  pub same : new.seen ≡ old.seen
+pub record Finishes (stopped failed : Bool) (out : Tape) (result : Result Flow WriteFault) : Type 0 where
   pub written : IsOk result ↔ (out.state ≡ Good)
-  pub going : IfOk result (λ flow. (flow ≡ flow_of new.seen.stopped) × (new.failed ≡ false))
-  pub failing : MatchResult result (λ _. Unit {0}) (λ _. new.failed ≡ true)
+  pub going : IfOk result (λ flow. (flow ≡ flow_of stopped) × (failed ≡ false))
+  pub failing : MatchResult result (λ _. Unit {0}) (λ _. failed ≡ true)
 
 -- A machine that has failed writes nothing more, and stays as it is.
 pub record StaysFailed (old new : Shown) (before after : Tape) (result : Result Flow WriteFault) : Type 0 where

@@ -3,4 +3,5 @@ pub mod Agreement
 pub mod Endings
 pub mod Headline
 pub mod Reading
+pub mod Time
 pub mod Views

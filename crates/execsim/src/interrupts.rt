@@ -157,6 +157,7 @@ impl<S: ListSpace> Kernel<S> {
     {
         self.count_serving(source);
         put_serve(text_of_source(source), out);
+        self.finish_for(source, out);
         self.run_chain(source, out);
     }
 

@@ -223,6 +223,13 @@ impl<S: ListSpace> Kernel<S> {
         self.stopped = true;
     }
 
+    /// Whether an alert has stopped the machine.
+    pub(crate) fn is_stopped(&self) -> bool
+        ensures { result ≡ self.now.stopped }
+    {
+        self.stopped
+    }
+
     /// Whether there is a task of that number; the first one is 1.
     pub(crate) fn is_task(&self, number: u32) -> bool
         ensures { result ≡ is_task number self.now.scripts }

@@ -19,6 +19,7 @@ mod plain;
 mod ports;
 mod program;
 mod reading;
+mod requests;
 mod semaphores;
 mod simulation;
 mod small;

@@ -1,9 +1,10 @@
 //! The machine as its callers see it: made from a machine file, started once, and given one event after another.
-ghost use Rattle.std.specs.Prelude.{◌≡◌, ◌≤◌, [], true, false, All, length, map, IfOk};
+ghost use Rattle.std.specs.Prelude.{◌≡◌, ◌≤◌, [], true, false, All, length, map, sum_by, IfOk};
 ghost use Rattle.exectrace.specs.Sink.{Writes};
 ghost use Rattle.exectrace.specs.Trace.{printed};
 ghost use Rattle.exectrace.specs.declared.sinks.SinkState.{SinkState};
 ghost use Rattle.taskscript.specs.Commands.{command_view};
+ghost use Rattle.taskscript.specs.Events.{ticks as ticks_of};
 ghost use Rattle.taskscript.specs.Records.{library_view, server_view, softint_view, task_view};
 ghost use Rattle.softint.specs.Interrupts.{IsPriority};
 ghost use Rattle.softint.specs.Sources.{no_latches};
@@ -13,6 +14,7 @@ ghost use Rattle.execmodel.specs.State.{State, booted, begun, andthen};
 ghost use Rattle.execmodel.specs.Step.{starts, event, events};
 ghost use Rattle.execsim.specs.Agreement.{Agrees};
 ghost use Rattle.execsim.specs.Headline.{Acts, StaysFailed, Finishes, flow_of};
+ghost use Rattle.execsim.specs.Time.{HasTimeFor};
 ghost use Rattle.execsim.specs.Views.{CanBeSmall, interrupting};
 
 use crate::bodies::Bodies;
@@ -49,11 +51,15 @@ pub struct Machine<S: ListSpace> {
 }
 
 impl<S: ListSpace> Model for Machine<S> {
+    ghost use Rattle.std.specs.Prelude.{◌≡◌, false};
     ghost use Rattle.execsim.specs.Headline.{Shown};
+    ghost use Rattle.execsim.specs.Time.{IsKnown};
 
     ghost Value = { Shown };
 
     ghost view = { λ m. record { seen = m.kernel; failed = m.failed } };
+
+    ghost invariant = { λ m. m.failed ≡ false → IsKnown m.kernel };
 }
 
 /// The names and priorities of the tasks, in the order of the file.
@@ -165,10 +171,38 @@ fn heap_of<S: ListSpace>(alloc: Global, file: &MachineFile) -> Result<Heap<S>, A
       pool = file.now.pool;
       heap = [];
       public = [];
+      timer = record { clock = 0; tick_micros = file.now.tick_micros; waiting = [] };
     }) }
 {
     let inits = libraries_of(alloc, file.libraries())?;
-    Heap::new(alloc, file.regions(), file.pool(), &inits)
+    Heap::new(
+        alloc,
+        file.regions(),
+        file.pool(),
+        &inits,
+        file.tick_micros(),
+    )
+}
+
+/// Whether a machine goes on, by whether an alert has stopped it.
+fn flow_for(stopped: bool) -> Flow
+    ensures { result ≡ flow_of stopped }
+{
+    if stopped { Flow::Alerted } else { Flow::Going }
+}
+
+/// Answers whether a machine goes on, or notes that it has failed where the sink has failed.
+fn finish<W: Sink>(stopped: bool, failed: &mut bool, out: &W) -> Result<Flow, WriteFault>
+    requires { failed.old ≡ false }
+    ensures { Finishes stopped failed.new (W.tape out.now) result }
+{
+    match written(out) {
+        Ok(()) => Ok(flow_for(stopped)),
+        Err(fault) => {
+            *failed = true;
+            Err(fault)
+        }
+    }
 }
 
 impl<S: ListSpace> Machine<S> {
@@ -182,6 +216,7 @@ impl<S: ListSpace> Machine<S> {
     pub fn boot(alloc: Global, file: &MachineFile) -> Result<Machine<S>, AllocError>
         ensures agrees { IfOk result (λ m. Agrees m.seen (booted file.now)) }
         ensures whole { IfOk result (λ m. m.failed ≡ false) }
+        ensures time { IfOk result (λ m. HasTimeFor 1000000 m.seen) }
     {
         let tasks = file.tasks();
         let inits = inits_of(alloc, tasks)?;
@@ -194,30 +229,6 @@ impl<S: ListSpace> Machine<S> {
             kernel: Kernel::new(sched, programs, memory, bodies, ints),
             failed: false,
         })
-    }
-
-    /// Answers whether the machine goes on, or fails it where the sink has failed.
-    fn finish<W: Sink>(&mut self, out: &W) -> Result<Flow, WriteFault>
-        requires { self.old.failed ≡ false }
-        ensures { Finishes self.old self.new (W.tape out.now) result }
-    {
-        match written(out) {
-            Ok(()) => Ok(self.flow()),
-            Err(fault) => {
-                self.failed = true;
-                Err(fault)
-            }
-        }
-    }
-
-    fn flow(&self) -> Flow
-        ensures { result ≡ flow_of self.now.seen.stopped }
-    {
-        if self.kernel.stopped {
-            Flow::Alerted
-        } else {
-            Flow::Going
-        }
     }
 
     /// Starts the machine: its tasks are added in the order of the file, and it settles once. It is called once, before the first event.
@@ -239,12 +250,16 @@ impl<S: ListSpace> Machine<S> {
             return Err(WriteFault);
         }
         self.kernel.start(out);
-        self.finish(out)
+        let stopped = self.kernel.is_stopped();
+        finish(stopped, &mut self.failed, out)
     }
 
-    /// Does one event: so many steps or ticks, each followed by a settle, or a request of an interrupt, followed by one. After an alert nothing happens, and the answer is `Alerted`.
+    /// Does one event: so many steps or ticks, each followed by a settle, or a request of an interrupt, followed by one. After an alert nothing
+    /// happens, and the answer is `Alerted`.
     ///
-    /// The lines that the event prints are written to `out`, which is good unless the machine has failed.
+    /// The lines that the event prints are written to `out`, which is good unless the machine has failed. The clock of the timer is to stay
+    /// below 2 to the power 63 microseconds: each tick adds the file's `tick_micros` to it, which a machine bears for a million ticks at
+    /// least.
     ///
     /// # Errors
     ///
@@ -252,7 +267,8 @@ impl<S: ListSpace> Machine<S> {
     ///
     /// Source: own choice.
     pub fn event<W: Sink>(&mut self, one: Event, out: &mut W) -> Result<Flow, WriteFault>
-        requires { self.old.failed ≡ false → (W.tape out.old).state ≡ SinkState.Good }
+        requires good { self.old.failed ≡ false → (W.tape out.old).state ≡ SinkState.Good }
+        requires time { self.old.failed ≡ false → HasTimeFor (ticks_of one) self.old.seen }
         ensures acts { self.old.failed ≡ false → Acts (event one) self.old self.new (W.tape out.old) (W.tape out.new) result }
         ensures failed { self.old.failed ≡ true → StaysFailed self.old self.new (W.tape out.old) (W.tape out.new) result }
     {
@@ -260,17 +276,20 @@ impl<S: ListSpace> Machine<S> {
             return Err(WriteFault);
         }
         self.kernel.event(one, out);
-        self.finish(out)
+        let stopped = self.kernel.is_stopped();
+        finish(stopped, &mut self.failed, out)
     }
 
     /// Starts the machine and does one event after another.
     pub(crate) fn run<W: Sink>(&mut self, list: &[Event], out: &mut W) -> Result<Flow, WriteFault>
         requires going { self.old.failed ≡ false }
         requires good { (W.tape out.old).state ≡ SinkState.Good }
+        requires time { HasTimeFor (sum_by ticks_of list.now) self.old.seen }
         ensures { Acts (andthen starts (events list.now)) self.old self.new (W.tape out.old) (W.tape out.new) result }
     {
         self.kernel.start(out);
         self.kernel.events(list, out);
-        self.finish(out)
+        let stopped = self.kernel.is_stopped();
+        finish(stopped, &mut self.failed, out)
     }
 }

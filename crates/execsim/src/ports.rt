@@ -118,7 +118,7 @@ impl<S: ListSpace> Kernel<S> {
     }
 
     /// DeleteMsgPort port: frees a port and gives its signal back to its task; 0 does nothing. HANDLE where no port begins there, PORT
-    /// where it has messages or is public (autodoc exec.library/DeleteMsgPort; the alerts: own choice).
+    /// where it has messages, is public, or is the reply port of a request under way (autodoc exec.library/DeleteMsgPort; the alerts: own choice).
     fn delete_msg_port<W: Sink>(&mut self, t: TaskId, call: &Call, out: &mut W)
         requires { t < length self.old.scripts.programs }
         ensures { Follows (does_delete_msg_port t (call_view call.now)) self.old self.new (W.tape out.old) (W.tape out.new) }
@@ -314,7 +314,7 @@ impl<S: ListSpace> Kernel<S> {
     }
 
     /// What is to be done for a message that has arrived is done.
-    fn perform(&mut self, action: Action)
+    pub(crate) fn perform(&mut self, action: Action)
         ensures { self.new ≡ performed action self.old }
     {
         match action {
@@ -325,7 +325,7 @@ impl<S: ListSpace> Kernel<S> {
     }
 
     /// A call that puts a message, of a task or of a body: what is to be done for it is done, or the call is refused by its alert.
-    fn performed<W: Sink>(
+    pub(crate) fn performed<W: Sink>(
         &mut self,
         tried: Result<Action, Refusal>,
         caller: &Caller,
@@ -390,7 +390,13 @@ impl<S: ListSpace> Kernel<S> {
     }
 
     /// The call waits for signals of the mask that come from now on.
-    fn wait_for_message<W: Sink>(&mut self, mask: u32, t: TaskId, call: &Call, out: &mut W)
+    pub(crate) fn wait_for_message<W: Sink>(
+        &mut self,
+        mask: u32,
+        t: TaskId,
+        call: &Call,
+        out: &mut W,
+    )
         requires known { t < length self.old.scripts.programs }
         requires runs { self.old.schedule.running ≡ Some t }
         ensures { Follows (looked None mask t (call_view call.now)) self.old self.new (W.tape out.old) (W.tape out.new) }
@@ -400,7 +406,7 @@ impl<S: ListSpace> Kernel<S> {
     }
 
     /// The running task clears its signals of the mask.
-    fn lose(&mut self, t: TaskId, mask: u32)
+    pub(crate) fn lose(&mut self, t: TaskId, mask: u32)
         requires { self.old.schedule.running ≡ Some t }
         ensures next { self.new ≡ record self.old { schedule = loses t mask self.old.schedule } }
         ensures runs { self.new.schedule.running ≡ Some t }

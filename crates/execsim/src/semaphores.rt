@@ -63,7 +63,7 @@ impl<S: ListSpace> Kernel<S> {
     // ---- obtaining
 
     /// Whether task t has waited in the call that it tries.
-    fn is_tried_again(&self, t: TaskId) -> bool
+    pub(crate) fn is_tried_again(&self, t: TaskId) -> bool
         requires { t < length self.now.scripts.programs }
         ensures { result ≡ is_tried_again t self.now.scripts }
     {

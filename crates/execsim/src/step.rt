@@ -1,7 +1,9 @@
 //! Steps and settling: all interleaving comes from the list of events.
-ghost use Rattle.std.specs.Prelude.{◌≡◌, ◌<◌, length, Some, IfSome, if◌then◌else◌};
+ghost use Rattle.std.specs.Prelude.{◌≡◌, ◌<◌, length, sum_by, Some, IfSome, if◌then◌else◌};
 ghost use Rattle.exectrace.specs.Sink.{Puts};
 ghost use Rattle.exectrace.specs.Trace.{printed_line};
+ghost use Rattle.exectrace.specs.declared.sinks.SinkState.{SinkState};
+ghost use Rattle.taskscript.specs.Events.{ticks as ticks_of};
 ghost use Rattle.scheduler.specs.Dispatch as dispatch;
 ghost use Rattle.scheduler.specs.Schedule.{IsToOneOf};
 ghost use Rattle.execmodel.specs.State.{andthen, on_schedule, program_of, unless_stopped};
@@ -9,6 +11,7 @@ ghost use Rattle.execmodel.specs.Step.{announced, switches, settle, does, ends, 
 ghost use Rattle.execmodel.specs.Interrupts.{interrupts};
 ghost use Rattle.execsim.specs.Actions.{running_task_step};
 ghost use Rattle.execsim.specs.Agreement.{Follows, FollowsWhileGood, Moves};
+ghost use Rattle.execsim.specs.Time.{HasTimeFor, IsInTime};
 ghost use Rattle.execsim.specs.Views.{call_view};
 
 use crate::command::Call;
@@ -100,6 +103,7 @@ impl<S: ListSpace> Kernel<S> {
             Word::Semaphores(word) => self.does_semaphores(word, t, call, out),
             Word::Interrupts(word) => self.does_interrupts(word, t, call, out),
             Word::Libraries(word) => self.does_libraries(word, t, call, out),
+            Word::Requests(word) => self.does_requests(word, t, call, out),
         }
     }
 
@@ -202,16 +206,20 @@ impl<S: ListSpace> Kernel<S> {
         }
     }
 
-    /// One tick of the vertical blank requests VERTB.
-    #[tactic(auto, unfolding(execmodel::specs::Step::tick))]
+    /// One tick of the vertical blank: the clock gains it, and VERTB is requested; a stopped machine does nothing.
     fn tick<W: Sink>(&mut self, out: &mut W)
+        requires { HasTimeFor 1 self.old }
         ensures { Follows tick self.old self.new (W.tape out.old) (W.tape out.new) }
     {
-        self.request(Source::Vertb, out);
+        if !self.stopped {
+            self.gain_tick();
+            self.request(Source::Vertb, out);
+        }
     }
 
     /// One tick, as long as the sink is good.
     fn tick_while_good<W: Sink>(&mut self, out: &mut W)
+        requires { (W.tape out.old).state ≡ SinkState.Good → HasTimeFor 1 self.old }
         ensures { FollowsWhileGood tick self.old self.new (W.tape out.old) (W.tape out.new) }
     {
         match written(out) {
@@ -222,6 +230,7 @@ impl<S: ListSpace> Kernel<S> {
 
     /// So many ticks.
     fn ticks<W: Sink>(&mut self, n: u32, out: &mut W)
+        requires { (W.tape out.old).state ≡ SinkState.Good → IsInTime n self.old }
         ensures { FollowsWhileGood (ticks n) self.old self.new (W.tape out.old) (W.tape out.new) }
     {
         for _tick in 0..n {
@@ -262,6 +271,7 @@ impl<S: ListSpace> Kernel<S> {
     /// One event.
     #[tactic(auto, unfolding(execmodel::specs::Step::event))]
     pub(crate) fn event<W: Sink>(&mut self, one: Event, out: &mut W)
+        requires { (W.tape out.old).state ≡ SinkState.Good → IsInTime (ticks_of one) self.old }
         ensures { FollowsWhileGood (event one) self.old self.new (W.tape out.old) (W.tape out.new) }
     {
         match one {
@@ -273,6 +283,7 @@ impl<S: ListSpace> Kernel<S> {
 
     /// One event after another.
     pub(crate) fn events<W: Sink>(&mut self, list: &[Event], out: &mut W)
+        requires { (W.tape out.old).state ≡ SinkState.Good → IsInTime (sum_by ticks_of list.now) self.old }
         ensures { FollowsWhileGood (events list.now) self.old self.new (W.tape out.old) (W.tape out.new) }
     {
         for one in list {

@@ -1,6 +1,6 @@
--- What calls on ports see: the ports and the messages by number, the messages of each port, and the public ports
+-- What calls on ports see: the ports and the messages by number, the messages of each port, those that are held, and the public ports
 -- (RKM Libraries, Exec Messages and Ports).
-use Rattle.std.specs.Prelude.{◌≡◌, ℕ, nat_lt, ℤ, Bool, not, is_some, IsTrue, if◌then◌else◌, List, [], ◌∷◌, ◌++◌, length, drop, replicate, slice_set, Option, Some, None, unwrap_or}
+use Rattle.std.specs.Prelude.{◌≡◌, ℕ, nat_lt, ℤ, Bool, not, ◌||◌, is_some, IsTrue, if◌then◌else◌, List, [], ◌∷◌, ◌++◌, length, drop, replicate, slice_set, Option, Some, None, unwrap_or}
 use Rattle.execlist.specs.Order.{enqueue, first, without}
 use Rattle.execlist.specs.Lists.{Key, blank, sequence, home, is_at, pri_of, times}
 use Rattle.msgport.specs.declared.fault.PortFault.{PortFault}
@@ -19,6 +19,8 @@ pub record MessagePorts : Type 0 where
   pub queues : List (List ℕ)
   -- the port that has each message, or none
   pub places : List (Option ℕ)
+  -- the messages that are held, as they came: in no port, and not to be put at one but by a reply
+  pub holding : List ℕ
   -- the public ports, as `enqueue` keeps them
   pub public : List ℕ
   -- the priority and the name of each port, as it was made public last
@@ -65,8 +67,16 @@ abbrev pub messages_of : ℕ → MessagePorts → List ℕ
 messages_of p s = sequence s.queues p
 
 -- a port has message m
+abbrev pub is_queued : ℕ → MessagePorts → Bool
+is_queued m s = is_some (home s.places m)
+
+-- message m is held
+abbrev pub is_held : ℕ → MessagePorts → Bool
+is_held m s = nat_lt 0 (times m s.holding)
+
+-- a port has message m, or it is held
 abbrev pub is_linked : ℕ → MessagePorts → Bool
-is_linked m s = is_some (home s.places m)
+is_linked m s = is_queued m s || is_held m s
 
 -- port p has messages
 abbrev pub has_messages : ℕ → MessagePorts → Bool
@@ -78,13 +88,23 @@ is_public p s = nat_lt 0 (times p s.public)
 
 -- ---- refusals
 
--- message m is to be there, and in no port
+-- message m is to be there, in no port and not held
 abbrev pub loose_fault : ℕ → MessagePorts → Option PortFault
 loose_fault m s = if not (is_message m s) then Some Unknown else (if is_linked m s then Some Link else None)
 
--- port p is to be there, and message m too, and in no port
+-- port p is to be there, and message m too, in no port and not held
 abbrev pub post_fault : ℕ → ℕ → MessagePorts → Option PortFault
 post_fault p m s = if not (is_port p s) then Some Unknown else loose_fault m s
+
+-- port p is to be there, and message m too, and in no port
+abbrev pub reply_fault : ℕ → ℕ → MessagePorts → Option PortFault
+reply_fault p m s =
+    if not (is_port p s) then Some Unknown
+    else (if not (is_message m s) then Some Unknown else (if is_queued m s then Some Link else None))
+
+-- message m is to be there, and in a port
+abbrev pub queued_fault : ℕ → MessagePorts → Option PortFault
+queued_fault m s = if not (is_message m s) then Some Unknown else (if is_queued m s then None else Some Link)
 
 -- port p is to be there, and not public
 abbrev pub private_fault : ℕ → MessagePorts → Option PortFault
@@ -108,6 +128,7 @@ no_ports ports messages = record {
   messages = all_free messages;
   queues = replicate ports [];
   places = replicate messages None;
+  holding = [];
   public = [];
   keys = replicate ports blank;
 }
@@ -145,6 +166,22 @@ appended p m s = record s { queues = slice_set s.queues p (messages_of p s ++ m 
 abbrev pub posted : ℕ → (p m : ℕ) → MessagePorts → MessagePorts
 posted kind p m s = appended p m (typed kind m s)
 
+-- message m is held, behind those that are
+abbrev pub held : ℕ → MessagePorts → MessagePorts
+held m s = record s { holding = s.holding ++ m ∷ [] }
+
+-- message m is not held any more
+abbrev pub let_go : ℕ → MessagePorts → MessagePorts
+let_go m s = record s { holding = without m s.holding }
+
+-- message m is in no port any more
+abbrev pub left_port : ℕ → Option ℕ → MessagePorts → MessagePorts
+left_port m None s = s
+left_port m (Some p) s = record s { queues = slice_set s.queues p (without m (messages_of p s)); places = slice_set s.places m None }
+
+abbrev pub taken_out : ℕ → MessagePorts → MessagePorts
+taken_out m s = left_port m (home s.places m) s
+
 -- the first message of port p, if there is one, is in no port any more (autodoc exec.library/GetMsg)
 abbrev pub taken_off : ℕ → Option ℕ → MessagePorts → MessagePorts
 taken_off p None s = s
@@ -163,20 +200,28 @@ made_private p s = record s { public = without p s.public }
 
 -- ---- what always holds
 
--- what the code keeps: one list of public ports, and what is linked lives. The listings tell which port is in that list.
-pub record IsHeld (lists : ℕ) (listings : List (Option ℕ)) (s : MessagePorts) : Type 0 where
+-- What the code keeps: one list of public ports and one of held messages, and what is linked lives. The listings tell which port is in the
+-- first, the holdings which message is in the second.
+pub record IsHeld (lists : ℕ) (listings : List (Option ℕ)) (stores : ℕ) (holdings : List (Option ℕ)) (s : MessagePorts) : Type 0 where
   pub one_list : lists ≡ 1
+  pub one_store : stores ≡ 1
   pub each_queue : length s.queues ≡ length s.ports.slots
   pub each_listing : length listings ≡ length s.ports.slots
   pub each_place : length s.places ≡ length s.messages.slots
+  pub each_holding : length holdings ≡ length s.messages.slots
+  pub apart : (m h : ℕ) → home holdings m ≡ Some h → home s.places m ≡ None
+  pub live_held : (m h : ℕ) → home holdings m ≡ Some h → IsTrue (is_message m s)
   pub live_message : (m p : ℕ) → home s.places m ≡ Some p → IsTrue (is_message m s)
   pub live_port : (m p : ℕ) → home s.places m ≡ Some p → IsTrue (is_port p s)
   pub live_listed : (p h : ℕ) → home listings p ≡ Some h → IsTrue (is_port p s)
 
--- A message that is linked stands once in the port that has it and in no other, and a public port stands once among the public ones.
--- What is linked lives.
+-- A message that is queued stands once in the port that has it and in no other, one that is held stands once among those, and in no port, and
+-- a public port stands once among the public ones. What is linked lives.
 pub record IsSound (s : MessagePorts) : Type 0 where
   pub stands : (p m : ℕ) → times m (messages_of p s) ≡ (if is_at (home s.places m) p then 1 else 0)
+  pub stands_held : (m : ℕ) → times m s.holding ≡ (if is_held m s then 1 else 0)
+  pub apart : (m : ℕ) → IsTrue (is_held m s) → home s.places m ≡ None
+  pub live_held : (m : ℕ) → IsTrue (is_held m s) → IsTrue (is_message m s)
   pub stands_public : (p : ℕ) → times p s.public ≡ (if is_public p s then 1 else 0)
   pub live_message : (m p : ℕ) → home s.places m ≡ Some p → IsTrue (is_message m s)
   pub live_port : (m p : ℕ) → home s.places m ≡ Some p → IsTrue (is_port p s)

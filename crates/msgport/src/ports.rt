@@ -1,13 +1,13 @@
 //! The ports and the messages of a machine, by number.
-ghost use Rattle.std.specs.Prelude.{◌≡◌, ◌<◌, ◌≤◌, length, not, find, is_ok, Some, None, IfOk, IfSome, IsSome, IsTrue};
+ghost use Rattle.std.specs.Prelude.{◌≡◌, ◌<◌, ◌≤◌, length, false, not, find, is_ok, Some, None, IfOk, IfSome, IsSome, IsTrue};
 ghost use Rattle.execlist.specs.Order.{first};
 ghost use Rattle.execlist.specs.Lists.{home, is_named};
 ghost use Rattle.execlist.specs.Pool.{IsStocked, next_number};
 ghost use Rattle.msgport.specs.Port.{acting, wait_bit};
-ghost use Rattle.msgport.specs.Ports.{IsSound, is_port, is_message, is_linked, is_public, has_messages, port_at, message_at, messages_of};
+ghost use Rattle.msgport.specs.Ports.{IsSound, is_port, is_message, is_queued, is_held, is_linked, is_public, has_messages, port_at, message_at, messages_of};
 ghost use Rattle.msgport.specs.Faults.{fault_or, kept_or, number_or_full};
-ghost use Rattle.msgport.specs.Ports.{loose_fault, post_fault, private_fault, public_fault, delete_fault};
-ghost use Rattle.msgport.specs.Ports.{no_ports, port_made, message_made, port_freed, message_freed, with_port, with_message, typed, appended, posted, taken_off, made_public, made_private, nt_message, nt_freemsg, nt_replymsg};
+ghost use Rattle.msgport.specs.Ports.{loose_fault, post_fault, reply_fault, queued_fault, private_fault, public_fault, delete_fault};
+ghost use Rattle.msgport.specs.Ports.{no_ports, port_made, message_made, port_freed, message_freed, with_port, with_message, typed, appended, posted, held, let_go, taken_out, taken_off, made_public, made_private, nt_message, nt_freemsg, nt_replymsg};
 
 use crate::action::{Action, PortAction, TaskId};
 use crate::fault::PortFault;
@@ -28,7 +28,10 @@ pub type MsgId = usize;
 /// The only header of the public ports.
 const PUBLIC: usize = 0;
 
-/// Message ports and messages, and how they are linked.
+/// The only header of the messages that are held.
+const HELD: usize = 0;
+
+/// Message ports and messages, and how they are linked. A message is nowhere, in one port, or held.
 ///
 /// All room is made by `new`; no other call takes memory, and none looks at all ports or all messages.
 /// RKM Libraries, Exec Messages and Ports.
@@ -37,6 +40,7 @@ pub struct Ports<S: ListSpace> {
     ports: Pool<Port>,
     messages: Pool<Message>,
     queues: S,
+    held: S,
     public: S,
 }
 
@@ -52,15 +56,17 @@ impl<S: ListSpace> Model for Ports<S> {
       messages = q.messages;
       queues = S.sequences q.queues;
       places = S.homes q.queues;
+      holding = sequence (S.sequences q.held) 0;
       public = sequence (S.sequences q.public) 0;
       keys = S.keys q.public;
     } };
 
-    ghost invariant = { λ q. IsHeld (length (S.sequences q.public)) (S.homes q.public) (record {
+    ghost invariant = { λ q. IsHeld (length (S.sequences q.public)) (S.homes q.public) (length (S.sequences q.held)) (S.homes q.held) (record {
       ports = q.ports;
       messages = q.messages;
       queues = S.sequences q.queues;
       places = S.homes q.queues;
+      holding = sequence (S.sequences q.held) 0;
       public = sequence (S.sequences q.public) 0;
       keys = S.keys q.public;
     }) };
@@ -78,11 +84,13 @@ impl<S: ListSpace> Ports<S> {
         let numbers = Pool::new(alloc, ports)?;
         let messages = Pool::new(alloc, msgs)?;
         let queues = S::new(alloc, ports, msgs)?;
+        let held = S::new(alloc, 1, msgs)?;
         let public = S::new(alloc, 1, ports)?;
         Ok(Ports {
             ports: numbers,
             messages,
             queues,
+            held,
             public,
         })
     }
@@ -176,7 +184,7 @@ impl<S: ListSpace> Ports<S> {
 
     /// Frees a message.
     ///
-    /// It is Unknown where there is no such message, and else Link where a port has it. Own choice, as `make_msg`.
+    /// It is Unknown where there is no such message, and else Link where a port has it or it is held. Own choice, as `make_msg`.
     pub fn free_msg(&mut self, m: MsgId) -> Result<(), PortFault>
         ensures answer { result ≡ fault_or (loose_fault m self.old) tt }
         ensures next { self.new ≡ kept_or (loose_fault m self.old) self.old (message_freed m self.old) }
@@ -194,7 +202,7 @@ impl<S: ListSpace> Ports<S> {
 
     /// Puts a message at a port, behind those that it has, as one of type NT_MESSAGE, and answers what is to be done for it.
     ///
-    /// It is Unknown where there is no such port or no such message, and else Link where a port has the message already.
+    /// It is Unknown where there is no such port or no such message, and else Link where a port has the message already, or it is held.
     /// Autodoc exec.library/PutMsg.
     pub fn put(&mut self, p: PortId, m: MsgId) -> Result<Action, PortFault>
         ensures answer { result ≡ fault_or (post_fault p m self.old) (acting (port_at p self.old)) }
@@ -207,23 +215,26 @@ impl<S: ListSpace> Ports<S> {
     }
 
     /// Puts a message at a port, behind those that it has, as one of type NT_REPLYMSG, and answers what is to be done for
-    /// it. Which port is the reply port of the message is for the caller to tell.
+    /// it. It is not held any more. Which port is the reply port of the message is for the caller to tell.
     ///
     /// It is Unknown where there is no such port or no such message, and else Link where a port has the message already.
     /// Autodoc exec.library/ReplyMsg.
     pub fn reply(&mut self, p: PortId, m: MsgId) -> Result<Action, PortFault>
-        ensures answer { result ≡ fault_or (post_fault p m self.old) (acting (port_at p self.old)) }
-        ensures next { self.new ≡ kept_or (post_fault p m self.old) self.old (posted nt_replymsg p m self.old) }
+        ensures answer { result ≡ fault_or (reply_fault p m self.old) (acting (port_at p self.old)) }
+        ensures next { self.new ≡ kept_or (reply_fault p m self.old) self.old (posted nt_replymsg p m (let_go m self.old)) }
     {
-        match self.post_fault(p, m) {
+        match self.reply_fault(p, m) {
             Some(fault) => Err(fault),
-            None => Ok(self.post(p, m, NT_REPLYMSG)),
+            None => {
+                self.let_go(m);
+                Ok(self.post(p, m, NT_REPLYMSG))
+            }
         }
     }
 
     /// Gives a message that has no reply port the type NT_FREEMSG.
     ///
-    /// It is Unknown where there is no such message, and else Link where a port has it. Autodoc exec.library/ReplyMsg.
+    /// It is Unknown where there is no such message, and else Link where a port has it or it is held. Autodoc exec.library/ReplyMsg.
     pub fn reply_none(&mut self, m: MsgId) -> Result<(), PortFault>
         ensures answer { result ≡ fault_or (loose_fault m self.old) tt }
         ensures next { self.new ≡ kept_or (loose_fault m self.old) self.old (typed nt_freemsg m self.old) }
@@ -256,6 +267,51 @@ impl<S: ListSpace> Ports<S> {
         ensures live { IfSome result (λ m. IsTrue (is_message m self.now)) }
     {
         self.queues.first(p)
+    }
+
+    /// Takes a message out of the port that has it, wherever it stands there.
+    ///
+    /// It is Unknown where there is no such message, and else Link where no port has it. Autodoc exec.library/WaitIO: it takes the reply out of
+    /// its port.
+    pub fn take_out(&mut self, m: MsgId) -> Result<(), PortFault>
+        ensures answer { result ≡ fault_or (queued_fault m self.old) tt }
+        ensures next { self.new ≡ kept_or (queued_fault m self.old) self.old (taken_out m self.old) }
+    {
+        match self.queued_fault(m) {
+            Some(fault) => Err(fault),
+            None => {
+                self.queues.remove(m);
+                Ok(())
+            }
+        }
+    }
+
+    /// Holds a message, behind those that are held: it is in no port, and only a reply puts it at one.
+    ///
+    /// It is Unknown where there is no such message, and else Link where a port has it or it is held. Own choice: a device holds a request that
+    /// is under way.
+    pub fn hold(&mut self, m: MsgId) -> Result<(), PortFault>
+        ensures answer { result ≡ fault_or (loose_fault m self.old) tt }
+        ensures next { self.new ≡ kept_or (loose_fault m self.old) self.old (held m self.old) }
+    {
+        match self.loose_fault(m) {
+            Some(fault) => Err(fault),
+            None => {
+                self.held.add_tail(HELD, m);
+                Ok(())
+            }
+        }
+    }
+
+    /// A message is held no more; one that is not held stays as it is. Own choice: a device that is done with a request without a reply.
+    pub fn let_go(&mut self, m: MsgId)
+        requires { IsTrue (is_message m self.old) }
+        ensures gone { is_held m self.new ≡ false }
+        ensures next { self.new ≡ let_go m self.old }
+    {
+        if self.is_held(m) {
+            self.held.remove(m);
+        }
     }
 
     // ---- public ports
@@ -380,12 +436,28 @@ impl<S: ListSpace> Ports<S> {
         self.message(m).reply
     }
 
-    /// Answers whether a port has the message. Own choice: Exec cannot tell.
+    /// Answers whether a port has the message, or it is held. Own choice: Exec cannot tell.
     pub fn is_linked(&self, m: MsgId) -> bool
         requires { IsTrue (is_message m self.now) }
         ensures { result ≡ is_linked m self.now }
     {
+        self.is_queued(m) || self.is_held(m)
+    }
+
+    /// Answers whether a port has the message. Own choice: Exec cannot tell.
+    pub fn is_queued(&self, m: MsgId) -> bool
+        requires { IsTrue (is_message m self.now) }
+        ensures { result ≡ is_queued m self.now }
+    {
         self.queues.home(m).is_some()
+    }
+
+    /// Answers whether the message is held. Own choice: Exec cannot tell.
+    pub fn is_held(&self, m: MsgId) -> bool
+        requires { IsTrue (is_message m self.now) }
+        ensures { result ≡ is_held m self.now }
+    {
+        self.held.home(m).is_some()
     }
 
     /// Answers whether a port is public. Own choice: Exec cannot tell.
@@ -430,6 +502,32 @@ impl<S: ListSpace> Ports<S> {
             Some(PortFault::Unknown)
         } else {
             self.loose_fault(m)
+        }
+    }
+
+    // Why a message may not be replied to a port, if it may not.
+    fn reply_fault(&self, p: PortId, m: MsgId) -> Option<PortFault>
+        ensures { result ≡ reply_fault p m self.now }
+    {
+        if !self.is_port(p) || !self.is_message(m) {
+            Some(PortFault::Unknown)
+        } else if self.is_queued(m) {
+            Some(PortFault::Link)
+        } else {
+            None
+        }
+    }
+
+    // Why a message may not be taken out of its port, if it may not.
+    fn queued_fault(&self, m: MsgId) -> Option<PortFault>
+        ensures { result ≡ queued_fault m self.now }
+    {
+        if !self.is_message(m) {
+            Some(PortFault::Unknown)
+        } else if self.is_queued(m) {
+            None
+        } else {
+            Some(PortFault::Link)
         }
     }
 
@@ -534,20 +632,20 @@ impl<S: ListSpace> Ports<S> {
         self.ports.release(p);
     }
 
-    // Frees a message that is in no port.
+    // Frees a message that is in no port and not held.
     fn free_message(&mut self, m: MsgId)
         requires live { IsTrue (is_message m self.old) }
-        requires loose { home self.old.places m ≡ None }
+        requires loose { IsTrue (not (is_linked m self.old)) }
         ensures { self.new ≡ message_freed m self.old }
     {
         self.messages.release(m);
     }
 
-    // Puts a message that is in no port at a port.
+    // Puts a message that is in no port and not held at a port.
     fn append(&mut self, p: PortId, m: MsgId)
         requires port { IsTrue (is_port p self.old) }
         requires message { IsTrue (is_message m self.old) }
-        requires loose { home self.old.places m ≡ None }
+        requires loose { IsTrue (not (is_linked m self.old)) }
         ensures { self.new ≡ appended p m self.old }
     {
         self.queues.add_tail(p, m);
@@ -557,7 +655,7 @@ impl<S: ListSpace> Ports<S> {
     fn post(&mut self, p: PortId, m: MsgId, kind: u8) -> Action
         requires port { IsTrue (is_port p self.old) }
         requires message { IsTrue (is_message m self.old) }
-        requires loose { home self.old.places m ≡ None }
+        requires loose { IsTrue (not (is_linked m self.old)) }
         ensures answer { result ≡ acting (port_at p self.old) }
         ensures next { self.new ≡ posted kind p m self.old }
     {

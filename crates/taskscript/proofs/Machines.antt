@@ -1,4 +1,4 @@
--- What holds of the machine of a tree without faults: a quantum and a pool within their ranges, few libraries with versions and sizes within
+-- What holds of the machine of a tree without faults: a quantum, ticks and a pool within their ranges, few libraries with versions and sizes within
 -- theirs, few software interrupts, servers and tasks, names that differ, short bodies, variables within the limits, and in the body of an interrupt what it may have.
 use Rattle.std.proofs.Common.{is_none, ◌≡◌, ◌≢◌, ◌⊎◌, ℕ, ◌≤◌, Bool, true, false, not, if◌then◌else◌, nat_le, List, [], ◌∷◌, ◌++◌, length, map, All, bytes_eq, codes, ℤ, pos, negsuc, inl, inr, lit≤, ◌&&◌, ◌||◌, Option, Some, None, refl, sym, ap, subst, ◌∙◌, append_assoc, arith}
 use Rattle.std.specs.List.{AllPairs, list_any}
@@ -17,7 +17,7 @@ use Rattle.taskscript.specs.declared.fault.FileFault.{FileFault}
 use Rattle.taskscript.specs.declared.fault.FileFault.TheVariants.{UnknownKey, BadValue, NameTwice, BadRegions, TooMany}
 use Rattle.taskscript.specs.Code.{lines_in, body_faults, code_of, shared_after}
 use Rattle.taskscript.specs.Faults.{first, check}
-use Rattle.taskscript.specs.File.{LibraryData, SoftintData, ServerData, TaskData, top_keys, library_keys, softint_keys, server_keys, task_keys, name_of, library_faults, softint_faults, server_faults, task_faults, named_faults, item_names, libraries_in, libraries_faults, library_of, softints_in, servers_in, tasks_in, code_lines, setting_of, bodies_faults, with_bodies, shared_after_softints, shared_after_servers, names_before_servers, names_before_tasks, both_passes_faults, faults, region_faults, regions_faults, regions_in, quantum_of, pool_of, settings_faults, softint_of, softints_of, server_of, servers_of, task_of, tasks_of, MachineData, machine_of}
+use Rattle.taskscript.specs.File.{LibraryData, SoftintData, ServerData, TaskData, top_keys, library_keys, softint_keys, server_keys, task_keys, name_of, library_faults, softint_faults, server_faults, task_faults, named_faults, item_names, libraries_in, libraries_faults, library_of, softints_in, servers_in, tasks_in, code_lines, setting_of, bodies_faults, with_bodies, shared_after_softints, shared_after_servers, names_before_servers, names_before_tasks, both_passes_faults, faults, region_faults, regions_faults, regions_in, quantum_of, tick_micros_of, pool_of, settings_faults, softint_of, softints_of, server_of, servers_of, task_of, tasks_of, MachineData, machine_of}
 use Rattle.taskscript.specs.Interrupting.{Setting}
 use Rattle.taskscript.specs.Machines.{IsCode, IsSoftintPri, IsLibrary, IsSoftint, IsServer, IsTask, IsMachine, library_names, softint_names, server_names, task_names}
 use Rattle.taskscript.specs.Names.{is_name}
@@ -422,9 +422,12 @@ machine_of_parts ms h =
     let servers = array_passes 32 (named_faults server_faults (names_before_servers ms)) (get_member (codes "server") ms) refl good.servers in
     let tasks = array_passes 64 (named_faults task_faults (names_before_tasks ms)) (get_member (codes "task") ms) refl good.tasks in
     let quantum_faults = optional (integer_faults (pos 1) (pos 255)) (get_member (codes "quantum") ms) in
+    let tick_faults = optional (integer_faults (pos 1) (pos 1000000)) (get_member (codes "tick_micros") ms) in
     let pool_faults = optional (integer_faults (pos 1) (pos 1024)) (get_member (codes "pool") ms) in
-    let quantum = number_passes 1 255 4 (get_member (codes "quantum") ms) (lit≤ tt) (lit≤ tt) (first_left quantum_faults pool_faults h.settings) in
-    let pool = number_passes 1 1024 64 (get_member (codes "pool") ms) (lit≤ tt) (lit≤ tt) (first_right quantum_faults pool_faults h.settings) in
+    let later = first_right quantum_faults (tick_faults ++ pool_faults) h.settings in
+    let quantum = number_passes 1 255 4 (get_member (codes "quantum") ms) (lit≤ tt) (lit≤ tt) (first_left quantum_faults (tick_faults ++ pool_faults) h.settings) in
+    let tick = number_passes 1 1000000 20000 (get_member (codes "tick_micros") ms) (lit≤ tt) (lit≤ tt) (first_left tick_faults pool_faults later) in
+    let pool = number_passes 1 1024 64 (get_member (codes "pool") ms) (lit≤ tt) (lit≤ tt) (first_right tick_faults pool_faults later) in
     let firsts = item_names (softints_in ms) in
     let seconds = item_names (servers_in ms) in
     let thirds = item_names (tasks_in ms) in
@@ -433,6 +436,8 @@ machine_of_parts ms h =
     record {
       some_quantum = quantum.0;
       short_quantum = quantum.1;
+      some_tick = tick.0;
+      short_tick = tick.1;
       some_pool = pool.0;
       small_pool = pool.1;
       regions = regions_hold ms h.regions;
@@ -452,18 +457,18 @@ pub machine_holds : (ms : Members) → first (faults ms) ≡ None → IsMachine 
 machine_holds ms h = machine_of_parts ms (has_none ms h)
 
 -- the same of parts that were read from the tree
-pub read_holds : (ms : Members) (quantum pool : ℕ) (regions : List Region) (libraries : List LibraryData) (softints : List SoftintData) (servers : List ServerData) (tasks : List TaskData) → HasNoFaults ms
-    → quantum ≡ quantum_of ms → pool ≡ pool_of ms → regions ≡ regions_in ms → libraries ≡ of_items library_of (libraries_in ms)
+pub read_holds : (ms : Members) (quantum tick_micros pool : ℕ) (regions : List Region) (libraries : List LibraryData) (softints : List SoftintData) (servers : List ServerData) (tasks : List TaskData) → HasNoFaults ms
+    → quantum ≡ quantum_of ms → tick_micros ≡ tick_micros_of ms → pool ≡ pool_of ms → regions ≡ regions_in ms → libraries ≡ of_items library_of (libraries_in ms)
     → softints ≡ softints_of [] (softints_in ms) → servers ≡ servers_of (shared_after_softints ms) (servers_in ms) → tasks ≡ tasks_of (shared_after_servers ms) (tasks_in ms)
-    → IsMachine (record { quantum = quantum; pool = pool; regions = regions; libraries = libraries; softints = softints; servers = servers; tasks = tasks })
-read_holds ms quantum pool regions libraries softints servers tasks none p q r l s t u = rw (p, q, r, l, s, t, u) (machine_of_parts ms none)
+    → IsMachine (record { quantum = quantum; tick_micros = tick_micros; pool = pool; regions = regions; libraries = libraries; softints = softints; servers = servers; tasks = tasks })
+read_holds ms quantum tick_micros pool regions libraries softints servers tasks none p k q r l s t u = rw (p, k, q, r, l, s, t, u) (machine_of_parts ms none)
 
-abbrev made : ℕ → ℕ → List Region → List LibraryData → List SoftintData → List ServerData → List TaskData → MachineData
-made quantum pool regions libraries softints servers tasks = record { quantum = quantum; pool = pool; regions = regions; libraries = libraries; softints = softints; servers = servers; tasks = tasks }
+abbrev made : ℕ → ℕ → ℕ → List Region → List LibraryData → List SoftintData → List ServerData → List TaskData → MachineData
+made quantum tick_micros pool regions libraries softints servers tasks = record { quantum = quantum; tick_micros = tick_micros; pool = pool; regions = regions; libraries = libraries; softints = softints; servers = servers; tasks = tasks }
 
 -- and they are its machine
-pub read_is : (ms : Members) (quantum pool : ℕ) (regions : List Region) (libraries : List LibraryData) (softints : List SoftintData) (servers : List ServerData) (tasks : List TaskData)
-    → quantum ≡ quantum_of ms → pool ≡ pool_of ms → regions ≡ regions_in ms → libraries ≡ of_items library_of (libraries_in ms)
+pub read_is : (ms : Members) (quantum tick_micros pool : ℕ) (regions : List Region) (libraries : List LibraryData) (softints : List SoftintData) (servers : List ServerData) (tasks : List TaskData)
+    → quantum ≡ quantum_of ms → tick_micros ≡ tick_micros_of ms → pool ≡ pool_of ms → regions ≡ regions_in ms → libraries ≡ of_items library_of (libraries_in ms)
     → softints ≡ softints_of [] (softints_in ms) → servers ≡ servers_of (shared_after_softints ms) (servers_in ms) → tasks ≡ tasks_of (shared_after_servers ms) (tasks_in ms)
-    → made quantum pool regions libraries softints servers tasks ≡ machine_of ms
-read_is ms quantum pool regions libraries softints servers tasks p q r l s t u = rw (p, q, r, l, s, t, u) refl
+    → made quantum tick_micros pool regions libraries softints servers tasks ≡ machine_of ms
+read_is ms quantum tick_micros pool regions libraries softints servers tasks p k q r l s t u = rw (p, k, q, r, l, s, t, u) refl

@@ -3,7 +3,7 @@ use Rattle.std.proofs.Common.{ℕ, ◌+◌, ◌≡◌, ◌≤◌, arith, lit≤,
 use Rattle.std.specs.Prelude.{count_by, slice_index_or}
 use Rattle.std.proofs.lemmas.List.Sums.{sum_by-cons}
 use Rattle.taskscript.specs.declared.word.Word.{Word}
-use Rattle.taskscript.specs.declared.word.Word.TheVariants.{Plain, Signals, Nesting, Tasks, Lists, Memory, Ports, Semaphores, Interrupts, Libraries}
+use Rattle.taskscript.specs.declared.word.Word.TheVariants.{Plain, Signals, Nesting, Tasks, Lists, Memory, Ports, Semaphores, Interrupts, Libraries, Requests}
 use Rattle.taskscript.specs.declared.word.plain.PlainWord.TheVariants.{Set, Add, Sub, And, Or, Jump, JumpZ, JumpNZ, Print}
 use Rattle.taskscript.specs.declared.word.task_signals.SignalWord.TheVariants.{AllocSignal, FreeSignal, SetSignal, Signal, Wait}
 use Rattle.taskscript.specs.declared.word.nesting.NestingWord.TheVariants.{Forbid, Permit, Disable, Enable}
@@ -14,6 +14,7 @@ use Rattle.taskscript.specs.declared.word.ports.PortWord.TheVariants.{CreateMsgP
 use Rattle.taskscript.specs.declared.word.semaphores.SemaphoreWord.TheVariants.{NewSem, FreeSem, ObtainSemaphore, AttemptSemaphore, ReleaseSemaphore}
 use Rattle.taskscript.specs.declared.word.interrupts.InterruptWord.TheVariants.{Cause}
 use Rattle.taskscript.specs.declared.word.libraries.LibraryWord.TheVariants.{OpenLibrary, CloseLibrary, RemLibrary, LibOpenCnt}
+use Rattle.taskscript.specs.declared.word.requests.RequestWord.TheVariants.{CreateIORequest, DeleteIORequest, OpenDevice, CloseDevice, SetIO, DoIO, SendIO, CheckIO, WaitIO, AbortIO, IOSecs, IOMicros, IOError, IOFlags}
 use Rattle.taskscript.specs.declared.word.row.Kind.{Kind}
 use Rattle.taskscript.specs.declared.word.row.Kind.TheVariants.{Value, Label, Name, NameOrNone, Softint}
 use Rattle.taskscript.specs.Commands.{ArgumentData, number, variable, quoted, place, CommandData}
@@ -100,6 +101,20 @@ one_name (Libraries OpenLibrary) = lit≤ tt
 one_name (Libraries CloseLibrary) = lit≤ tt
 one_name (Libraries RemLibrary) = lit≤ tt
 one_name (Libraries LibOpenCnt) = lit≤ tt
+one_name (Requests CreateIORequest) = lit≤ tt
+one_name (Requests DeleteIORequest) = lit≤ tt
+one_name (Requests OpenDevice) = lit≤ tt
+one_name (Requests CloseDevice) = lit≤ tt
+one_name (Requests SetIO) = lit≤ tt
+one_name (Requests DoIO) = lit≤ tt
+one_name (Requests SendIO) = lit≤ tt
+one_name (Requests CheckIO) = lit≤ tt
+one_name (Requests WaitIO) = lit≤ tt
+one_name (Requests AbortIO) = lit≤ tt
+one_name (Requests IOSecs) = lit≤ tt
+one_name (Requests IOMicros) = lit≤ tt
+one_name (Requests IOError) = lit≤ tt
+one_name (Requests IOFlags) = lit≤ tt
 
 -- the count of a first one and the others
 abbrev of_one : Bool → ℕ

@@ -42,10 +42,11 @@ pub record ServerData : Type 0 where
   pub claim : Bool
   pub code : List CommandData
 
--- a machine: the quantum in servings of VERTB (1 to 255), the number of objects of each kind that may live (1 to 1,024), and its regions of
+-- a machine: the quantum in servings of VERTB (1 to 255), the microseconds of a tick (1 to 1,000,000), the number of objects of each kind that may live (1 to 1,024), and its regions of
 -- memory, its libraries, its software interrupts, its servers and its tasks, each in the order of the file; the first task is task 1
 pub record MachineData : Type 0 where
   pub quantum : ℕ
+  pub tick_micros : ℕ
   pub pool : ℕ
   pub regions : List Region
   pub libraries : List LibraryData
@@ -56,7 +57,8 @@ pub record MachineData : Type 0 where
 -- ---- the first pass: the tree
 
 abbrev pub top_keys : List (List ℕ)
-top_keys = codes "quantum" ∷ codes "pool" ∷ codes "region" ∷ codes "library" ∷ codes "softint" ∷ codes "server" ∷ codes "task" ∷ []
+top_keys =
+    codes "quantum" ∷ codes "tick_micros" ∷ codes "pool" ∷ codes "region" ∷ codes "library" ∷ codes "softint" ∷ codes "server" ∷ codes "task" ∷ []
 
 abbrev pub task_keys : List (List ℕ)
 task_keys = codes "name" ∷ codes "pri" ∷ codes "start" ∷ codes "code" ∷ []
@@ -157,6 +159,10 @@ item_names owners = of_items name_of owners
 abbrev pub quantum_of : Members → ℕ
 quantum_of tree = number_or 4 (get_member (codes "quantum") tree)
 
+-- the microseconds of a tick, 20,000 where the file does not say it
+abbrev pub tick_micros_of : Members → ℕ
+tick_micros_of tree = number_or 20000 (get_member (codes "tick_micros") tree)
+
 -- how many objects of each kind may live, 64 where the file does not say it
 abbrev pub pool_of : Members → ℕ
 pool_of tree = number_or 64 (get_member (codes "pool") tree)
@@ -231,7 +237,8 @@ with_bodies of shared (item owner rest) = of shared owner ∷ with_bodies of (sh
 abbrev pub settings_faults : Members → List FileFault
 settings_faults tree =
     optional (integer_faults (pos 1) (pos 255)) (get_member (codes "quantum") tree)
-    ++ optional (integer_faults (pos 1) (pos 1024)) (get_member (codes "pool") tree)
+    ++ (optional (integer_faults (pos 1) (pos 1000000)) (get_member (codes "tick_micros") tree)
+    ++ optional (integer_faults (pos 1) (pos 1024)) (get_member (codes "pool") tree))
 
 -- the shared variables after the bodies of the software interrupts, and after those of the servers too
 abbrev pub shared_after_softints : Members → List (List ℕ)
@@ -307,6 +314,7 @@ servers_of shared servers = with_bodies server_of shared servers
 abbrev pub machine_of : Members → MachineData
 machine_of tree = record {
   quantum = quantum_of tree;
+  tick_micros = tick_micros_of tree;
   pool = pool_of tree;
   regions = regions_in tree;
   libraries = of_items library_of (libraries_in tree);

@@ -25,6 +25,7 @@ pub mod PortWords
 pub mod Quotes
 pub mod Reader
 pub mod Records
+pub mod RequestWords
 pub mod Rows
 pub mod Says
 pub mod SemaphoreWords

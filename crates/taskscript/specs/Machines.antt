@@ -134,11 +134,13 @@ task_names tasks = map (λ (t : TaskData). t.name) tasks
 abbrev pub body_names : MachineData → List (List ℕ)
 body_names machine = softint_names machine.softints ++ (server_names machine.servers ++ task_names machine.tasks)
 
--- a machine of a file: a quantum of 1 to 255, a pool of 1 to 1,024, regions that memory may have, at most 32 libraries, whose names differ,
+-- a machine of a file: a quantum of 1 to 255, ticks of 1 to 1,000,000 microseconds, a pool of 1 to 1,024, regions that memory may have, at most 32 libraries, whose names differ,
 -- and at most 32 software interrupts, 32 servers and 64 tasks, whose names differ together
 pub record IsMachine (machine : MachineData) : Type 0 where
   pub some_quantum : 1 ≤ machine.quantum
   pub short_quantum : machine.quantum ≤ 255
+  pub some_tick : 1 ≤ machine.tick_micros
+  pub short_tick : machine.tick_micros ≤ 1000000
   pub some_pool : 1 ≤ machine.pool
   pub small_pool : machine.pool ≤ 1024
   pub regions : regions_fault 1048576 machine.regions ≡ None

@@ -2,7 +2,7 @@
 use Rattle.std.proofs.Common.{◌≡◌, ◌≤◌, lit≤, false, nat_le, length, Some, refl}
 use Rattle.std.specs.Prelude.{slice_index}
 use Rattle.taskscript.specs.declared.word.Word.{Word}
-use Rattle.taskscript.specs.declared.word.Word.TheVariants.{Plain, Signals, Nesting, Tasks, Lists, Memory, Ports, Semaphores, Interrupts, Libraries}
+use Rattle.taskscript.specs.declared.word.Word.TheVariants.{Plain, Signals, Nesting, Tasks, Lists, Memory, Ports, Semaphores, Interrupts, Libraries, Requests}
 use Rattle.taskscript.specs.declared.word.plain.PlainWord.TheVariants.{Set, Add, Sub, And, Or, Jump, JumpZ, JumpNZ, Print}
 use Rattle.taskscript.specs.declared.word.task_signals.SignalWord.TheVariants.{AllocSignal, FreeSignal, SetSignal, Signal, Wait}
 use Rattle.taskscript.specs.declared.word.nesting.NestingWord.TheVariants.{Forbid, Permit, Disable, Enable}
@@ -13,6 +13,7 @@ use Rattle.taskscript.specs.declared.word.ports.PortWord.TheVariants.{CreateMsgP
 use Rattle.taskscript.specs.declared.word.semaphores.SemaphoreWord.TheVariants.{NewSem, FreeSem, ObtainSemaphore, AttemptSemaphore, ReleaseSemaphore}
 use Rattle.taskscript.specs.declared.word.interrupts.InterruptWord.TheVariants.{Cause}
 use Rattle.taskscript.specs.declared.word.libraries.LibraryWord.TheVariants.{OpenLibrary, CloseLibrary, RemLibrary, LibOpenCnt}
+use Rattle.taskscript.specs.declared.word.requests.RequestWord.TheVariants.{CreateIORequest, DeleteIORequest, OpenDevice, CloseDevice, SetIO, DoIO, SendIO, CheckIO, WaitIO, AbortIO, IOSecs, IOMicros, IOError, IOFlags}
 use Rattle.taskscript.specs.Words.{word_text, word_of, kinds}
 
 -- no word has more than four arguments
@@ -85,6 +86,20 @@ few_kinds (Libraries OpenLibrary) = lit≤ tt
 few_kinds (Libraries CloseLibrary) = lit≤ tt
 few_kinds (Libraries RemLibrary) = lit≤ tt
 few_kinds (Libraries LibOpenCnt) = lit≤ tt
+few_kinds (Requests CreateIORequest) = lit≤ tt
+few_kinds (Requests DeleteIORequest) = lit≤ tt
+few_kinds (Requests OpenDevice) = lit≤ tt
+few_kinds (Requests CloseDevice) = lit≤ tt
+few_kinds (Requests SetIO) = lit≤ tt
+few_kinds (Requests DoIO) = lit≤ tt
+few_kinds (Requests SendIO) = lit≤ tt
+few_kinds (Requests CheckIO) = lit≤ tt
+few_kinds (Requests WaitIO) = lit≤ tt
+few_kinds (Requests AbortIO) = lit≤ tt
+few_kinds (Requests IOSecs) = lit≤ tt
+few_kinds (Requests IOMicros) = lit≤ tt
+few_kinds (Requests IOError) = lit≤ tt
+few_kinds (Requests IOFlags) = lit≤ tt
 
 -- a word is the word of its text
 pub word_known : (w : Word) → word_of (word_text w) ≡ Some w
@@ -156,6 +171,20 @@ word_known (Libraries OpenLibrary) = refl
 word_known (Libraries CloseLibrary) = refl
 word_known (Libraries RemLibrary) = refl
 word_known (Libraries LibOpenCnt) = refl
+word_known (Requests CreateIORequest) = refl
+word_known (Requests DeleteIORequest) = refl
+word_known (Requests OpenDevice) = refl
+word_known (Requests CloseDevice) = refl
+word_known (Requests SetIO) = refl
+word_known (Requests DoIO) = refl
+word_known (Requests SendIO) = refl
+word_known (Requests CheckIO) = refl
+word_known (Requests WaitIO) = refl
+word_known (Requests AbortIO) = refl
+word_known (Requests IOSecs) = refl
+word_known (Requests IOMicros) = refl
+word_known (Requests IOError) = refl
+word_known (Requests IOFlags) = refl
 
 -- a word begins with no small letter
 pub word_is_capital : (w : Word) → nat_le 97 (slice_index (word_text w) 0) ≡ false
@@ -227,3 +256,17 @@ word_is_capital (Libraries OpenLibrary) = refl
 word_is_capital (Libraries CloseLibrary) = refl
 word_is_capital (Libraries RemLibrary) = refl
 word_is_capital (Libraries LibOpenCnt) = refl
+word_is_capital (Requests CreateIORequest) = refl
+word_is_capital (Requests DeleteIORequest) = refl
+word_is_capital (Requests OpenDevice) = refl
+word_is_capital (Requests CloseDevice) = refl
+word_is_capital (Requests SetIO) = refl
+word_is_capital (Requests DoIO) = refl
+word_is_capital (Requests SendIO) = refl
+word_is_capital (Requests CheckIO) = refl
+word_is_capital (Requests WaitIO) = refl
+word_is_capital (Requests AbortIO) = refl
+word_is_capital (Requests IOSecs) = refl
+word_is_capital (Requests IOMicros) = refl
+word_is_capital (Requests IOError) = refl
+word_is_capital (Requests IOFlags) = refl

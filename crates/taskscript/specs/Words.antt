@@ -2,7 +2,7 @@
 -- exec.library stands for that call.
 use Rattle.std.specs.Prelude.{ℕ, Bool, bytes_eq, find, map, List, ◌++◌, Option}
 use Rattle.taskscript.specs.declared.word.Word.{Word}
-use Rattle.taskscript.specs.declared.word.Word.TheVariants.{Plain, Signals, Nesting, Tasks, Lists, Memory, Ports, Semaphores, Interrupts, Libraries}
+use Rattle.taskscript.specs.declared.word.Word.TheVariants.{Plain, Signals, Nesting, Tasks, Lists, Memory, Ports, Semaphores, Interrupts, Libraries, Requests}
 use Rattle.taskscript.specs.declared.word.row.Kind.{Kind}
 use Rattle.taskscript.specs.Rows.{RowData}
 use Rattle.taskscript.specs.PlainWords.{plain_words, plain_row}
@@ -15,6 +15,7 @@ use Rattle.taskscript.specs.PortWords.{port_words, port_row}
 use Rattle.taskscript.specs.SemaphoreWords.{semaphore_words, semaphore_row}
 use Rattle.taskscript.specs.InterruptWords.{interrupt_words, interrupt_row}
 use Rattle.taskscript.specs.LibraryWords.{library_words, library_row}
+use Rattle.taskscript.specs.RequestWords.{request_words, request_row}
 
 -- the row of a word, by its group
 abbrev pub row : Word → RowData
@@ -28,6 +29,7 @@ row (Ports word) = port_row word
 row (Semaphores word) = semaphore_row word
 row (Interrupts word) = interrupt_row word
 row (Libraries word) = library_row word
+row (Requests word) = request_row word
 
 -- the text of a word, in a line and in the trace
 abbrev pub word_text : Word → List ℕ
@@ -45,6 +47,7 @@ abbrev pub all_words : List Word
 all_words =
     map Plain plain_words ++ map Signals signal_words ++ map Nesting nesting_words ++ map Tasks task_words ++ map Lists list_words
     ++ map Memory memory_words ++ map Ports port_words ++ map Semaphores semaphore_words ++ map Interrupts interrupt_words ++ map Libraries library_words
+    ++ map Requests request_words
 
 -- the word of a text, if there is one
 abbrev pub word_of : List ℕ → Option Word

@@ -65,6 +65,7 @@ pub struct ServerRecord {
 #[derive(Drop)]
 pub struct MachineFile {
     pub(crate) quantum: u8,
+    pub(crate) tick_micros: u32,
     pub(crate) pool: u32,
     pub(crate) regions: Vec<Region>,
     pub(crate) libraries: Vec<LibraryRecord>,
@@ -83,6 +84,7 @@ impl Model for MachineFile {
 
     ghost view = { λ m. record {
       quantum = m.quantum;
+      tick_micros = m.tick_micros;
       pool = m.pool;
       regions = m.regions.items;
       libraries = map library_view m.libraries.items;
@@ -93,6 +95,7 @@ impl Model for MachineFile {
 
     ghost invariant = { λ m. IsMachine (record {
       quantum = m.quantum;
+      tick_micros = m.tick_micros;
       pool = m.pool;
       regions = m.regions.items;
       libraries = map library_view m.libraries.items;
@@ -111,8 +114,17 @@ impl MachineFile {
         self.quantum
     }
 
-    /// The number that stands at `pool`: 1 to 1,024, or 64 where none stands. So many lists may live at once, and so many
-    /// nodes (own choice).
+    /// The microseconds that the clock of timer.device gains at each tick: 1 to 1,000,000, or 20,000 where `tick_micros` does not stand in the
+    /// file (own choice: the vertical blank comes 50 times a second).
+    pub fn tick_micros(&self) -> u32
+        ensures tick_micros { result ≡ self.now.tick_micros }
+        ensures machine { IsMachine self.now }
+    {
+        self.tick_micros
+    }
+
+    /// The number that stands at `pool`: 1 to 1,024, or 64 where none stands. So many objects of each kind may
+    /// live at once (own choice).
     pub fn pool(&self) -> u32
         ensures pool { result ≡ self.now.pool }
         ensures machine { IsMachine self.now }

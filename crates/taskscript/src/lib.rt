@@ -45,5 +45,5 @@ pub use source::Source;
 pub use variable::{Variable, VariableName};
 pub use word::{
     InterruptWord, Kind, LibraryWord, ListWord, MemoryWord, NestingWord, PlainWord, PortWord,
-    SemaphoreWord, SignalWord, TaskWord, Word, word_of,
+    RequestWord, SemaphoreWord, SignalWord, TaskWord, Word, word_of,
 };

@@ -4,7 +4,7 @@ ghost use Rattle.toml.specs.View.{table_view};
 ghost use Rattle.taskscript.specs.Faults.{Judges};
 ghost use Rattle.taskscript.specs.Records.{library_view};
 ghost use Rattle.taskscript.specs.Tree.{of_items};
-ghost use Rattle.taskscript.specs.File.{libraries_faults, libraries_in, library_of, settings_faults, quantum_of, pool_of, faults, machine_of, file_of};
+ghost use Rattle.taskscript.specs.File.{libraries_faults, libraries_in, library_of, settings_faults, quantum_of, tick_micros_of, pool_of, faults, machine_of, file_of};
 
 use crate::fault::FileFault;
 use crate::file::{LibraryRecord, MachineFile};
@@ -19,16 +19,19 @@ use toml::Table;
 #[derive(Clone, Copy)]
 struct Settings {
     quantum: u8,
+    tick_micros: u32,
     pool: u32,
 }
 
 fn settings_of(table: &Table) -> Result<Settings, FileFault>
-    ensures { Judges result (settings_faults (table_view table.now)) (λ s. (s.quantum ≡ quantum_of (table_view table.now)) × (s.pool ≡ pool_of (table_view table.now))) }
+    ensures { Judges result (settings_faults (table_view table.now)) (λ s. (s.quantum ≡ quantum_of (table_view table.now)) × (s.tick_micros ≡ tick_micros_of (table_view table.now)) × (s.pool ≡ pool_of (table_view table.now))) }
 {
     let quantum = optional_number(table, "quantum", 1, 255, 4)?;
+    let tick_micros = optional_number(table, "tick_micros", 1, 1_000_000, 20_000)?;
     let pool = optional_number(table, "pool", 1, 1024, 64)?;
     Ok(Settings {
         quantum: quantum as u8,
+        tick_micros,
         pool,
     })
 }
@@ -47,7 +50,14 @@ fn machine_of(alloc: Global, table: &Table) -> Result<MachineFile, FileFault>
     if !has_only(
         table,
         &[
-            "quantum", "pool", "region", "library", "softint", "server", "task",
+            "quantum",
+            "tick_micros",
+            "pool",
+            "region",
+            "library",
+            "softint",
+            "server",
+            "task",
         ],
     ) {
         return Err(FileFault::UnknownKey);
@@ -58,6 +68,7 @@ fn machine_of(alloc: Global, table: &Table) -> Result<MachineFile, FileFault>
     let owners = owners_at(alloc, table)?;
     Ok(MachineFile {
         quantum: settings.quantum,
+        tick_micros: settings.tick_micros,
         pool: settings.pool,
         regions,
         libraries,
@@ -69,7 +80,7 @@ fn machine_of(alloc: Global, table: &Table) -> Result<MachineFile, FileFault>
 
 /// Reads a machine file, a TOML document.
 ///
-/// It may have `quantum`, 1 to 255, which is 4 where it is absent, `pool`, 1 to 1024, which is 64 where it is absent, `region`, an array of
+/// It may have `quantum`, 1 to 255, which is 4 where it is absent, `tick_micros`, 1 to 1000000, which is 20000 where it is absent, `pool`, 1 to 1024, which is 64 where it is absent, `region`, an array of
 /// at most 8 tables, `library`, `softint` and `server`, arrays of at most 32 tables each, and `task`, an array of at most 64 tables. A region
 /// has `base` and `size`, 0 to 4294967295, and may have `attrs`, 0 to 7, which is 1 where it is absent, and a `pri` as a task.
 ///
@@ -87,7 +98,7 @@ fn machine_of(alloc: Global, table: &Table) -> Result<MachineFile, FileFault>
 ///
 /// # Errors
 ///
-/// The first faulty place decides. First the whole tree is judged: the keys of the file, then `quantum` and `pool`, then `region`, `library`,
+/// The first faulty place decides. First the whole tree is judged: the keys of the file, then `quantum`, `tick_micros` and `pool`, then `region`, `library`,
 /// `softint`, `server` and `task` (`BadValue` where it is no array, `TooMany` where it is too long), then item by item: `BadValue` where it is
 /// no table, `UnknownKey`, then its keys in the order `base`, `size`, `attrs`, `pri`, or `name`, `version`, `size`, or `name`, `pri`, `code`,
 /// or `name`, `source`, `pri`, `claim`, `code`, or `name`, `pri`, `start`, `code`, each `MissingKey` or `BadValue`, with `NameTwice` right

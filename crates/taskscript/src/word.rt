@@ -12,6 +12,7 @@ mod memory;
 mod nesting;
 mod plain;
 mod ports;
+mod requests;
 mod row;
 mod semaphores;
 mod task_signals;
@@ -24,6 +25,7 @@ pub use memory::MemoryWord;
 pub use nesting::NestingWord;
 pub use plain::PlainWord;
 pub use ports::PortWord;
+pub use requests::RequestWord;
 pub use row::Kind;
 use row::Row;
 pub use semaphores::SemaphoreWord;
@@ -53,6 +55,8 @@ pub enum Word {
     Interrupts(InterruptWord),
     /// A call on libraries.
     Libraries(LibraryWord),
+    /// A call on requests of timer.device.
+    Requests(RequestWord),
 }
 
 impl Word {
@@ -70,6 +74,7 @@ impl Word {
             Word::Semaphores(word) => word.row(),
             Word::Interrupts(word) => word.row(),
             Word::Libraries(word) => word.row(),
+            Word::Requests(word) => word.row(),
         }
     }
 
@@ -116,4 +121,5 @@ pub fn word_of(text: &str) -> Option<Word>
         .or(found(&semaphores::ALL, text))
         .or(found(&interrupts::ALL, text))
         .or(found(&libraries::ALL, text))
+        .or(found(&requests::ALL, text))
 }

@@ -1,5 +1,5 @@
 //! The ports and messages that a call names by their addresses, by number; or why the call is refused.
-ghost use Rattle.std.specs.Prelude.{◌≡◌, ◌≢◌, ◌<◌, IfOk, IfSome, IsTrue, None, Some, not, option_map};
+ghost use Rattle.std.specs.Prelude.{◌≡◌, ◌≢◌, ◌<◌, IfOk, IfSome, IsSome, IsTrue, None, Some, not, option_map};
 ghost use Rattle.std.specs.Option.{ForSome};
 ghost use Rattle.execlist.specs.Lists.{home};
 ghost use Rattle.execlist.specs.Pool.{slot};
@@ -8,7 +8,7 @@ ghost use Rattle.execmodel.specs.Ports as model;
 ghost use Rattle.msgport.specs.Port.{wait_bit};
 ghost use Rattle.msgport.specs.Ports.{has_messages, is_message, is_port, is_public, port_at};
 ghost use Rattle.execheap.specs.declared.kind.Kind.TheVariants as variant;
-ghost use Rattle.execheap.specs.Numbered.{IsKnown, address_in, places, shown_heap, shown_memory};
+ghost use Rattle.execheap.specs.Numbered.{IsKnown, address_in, message_places, places, shown_heap, shown_memory};
 ghost use Rattle.execheap.specs.Refusals.{alert_of};
 
 use crate::kind::Kind;
@@ -32,7 +32,7 @@ impl<S: ListSpace> Objects<S> {
         }
     }
 
-    /// The port that begins at an address, which has no message and is not public.
+    /// The port that begins at an address, which has no message, is not public, and is the reply port of no request that is under way.
     pub fn port_to_delete(&self, port: u32) -> Result<PortId, Refusal>
         ensures alert { alert_of result ≡ model.delete_alert port (shown_memory self.now) }
         ensures found { IfOk result (λ p. slot (places variant.Port self.now) p ≡ Some port) }
@@ -45,7 +45,7 @@ impl<S: ListSpace> Objects<S> {
             Ok(p) => match self.ports().first(p) {
                 Some(_) => Err(Refusal::Port),
                 None => {
-                    if self.ports().is_public(p) {
+                    if self.ports().is_public(p) || self.requests().under_way(port) {
                         Err(Refusal::Port)
                     } else {
                         Ok(p)
@@ -194,10 +194,10 @@ impl<S: ListSpace> Objects<S> {
         }
     }
 
-    /// The address of a live message, or 0 for none.
+    /// The address of what stands in a port, a live message or a request, or 0 for none.
     pub fn message_or_0(&self, m: Option<MsgId>) -> u32
-        requires { IfSome m (λ n. IsTrue (is_message n self.now.ports)) }
-        ensures { result ≡ or_none (option_map (address_in (places variant.Message self.now)) m) }
+        requires { ForSome m (λ n. IsSome (slot (message_places self.now) n)) }
+        ensures { result ≡ or_none (option_map (address_in (message_places self.now)) m) }
     {
         match m {
             Some(m) => self.address_of_message(m),

@@ -40,7 +40,8 @@ impl<S: ListSpace> Heap<S> {
     }
 
     /// Frees a port, and answers its task and the number of its signal. It is refused where no port begins at the address (Handle), and
-    /// where the port has messages or is public (Port). Autodoc exec.library/DeleteMsgPort; the refusals: own choice.
+    /// where the port has messages, is public, or is the reply port of a request that is under way (Port). Autodoc exec.library/DeleteMsgPort;
+    /// the refusals: own choice.
     pub fn delete_port(&mut self, port: u32) -> Result<(TaskId, u32), Refusal>
         ensures alert { alert_of result ≡ delete_alert port self.old }
         ensures task { IfOk result (λ owner. owner.0 ≡ (port_of port self.old.heap).task) }
@@ -225,8 +226,8 @@ impl<S: ListSpace> Heap<S> {
 
     // ---- taking and waiting
 
-    /// Takes the first message off a port and answers its address, or 0 where there is none. It is refused where no port begins at the
-    /// address (Handle). Autodoc exec.library/GetMsg; the refusal: own choice.
+    /// Takes what stands first in a port, a message or a request that is replied, and answers its address, or 0 where there is none. It is
+    /// refused where no port begins at the address (Handle). Autodoc exec.library/GetMsg; the refusal: own choice.
     pub fn take_message(&mut self, port: u32) -> Result<u32, Refusal>
         ensures alert { alert_of result ≡ port_alert port self.old.heap }
         ensures answer { IfOk result (λ message. message ≡ or_none (first (messages_of port self.old.heap))) }
@@ -243,9 +244,9 @@ impl<S: ListSpace> Heap<S> {
         }
     }
 
-    /// Answers the address of the first message of a port at which a task may wait, or none, and the number of the port's signal (0 to
-    /// 31). It is refused where no port begins at the address (Handle), and where the port does not signal the task (Port).
-    /// Autodoc exec.library/WaitPort: what it answers; the refusals: own choice.
+    /// Answers the address of what stands first in a port at which a task may wait, a message or a request that is replied, or none, and the
+    /// number of the port's signal (0 to 31). It is refused where no port begins at the address (Handle), and where the port does not signal
+    /// the task (Port). Autodoc exec.library/WaitPort: what it answers; the refusals: own choice.
     pub fn message_to_wait_for(
         &self,
         task: TaskId,

@@ -1,5 +1,5 @@
 //! Ports and messages by number, and the blocks in which they live.
-ghost use Rattle.std.specs.Prelude.{◌≡◌, ◌<◌, ◌≤◌, not, [], None, Some, IfSome, IsTrue};
+ghost use Rattle.std.specs.Prelude.{◌≡◌, ◌<◌, ◌≤◌, not, [], None, Some, IfSome, IsSome, IsTrue};
 ghost use Rattle.execlist.specs.Order.{first};
 ghost use Rattle.execlist.specs.Lists.{home};
 ghost use Rattle.execlist.specs.Pool.{slot};
@@ -11,7 +11,7 @@ ghost use Rattle.execmodel.specs.Memory.{freed, placed};
 ghost use Rattle.execmodel.specs.Objects.{place_for_object};
 ghost use Rattle.execmodel.specs.Ports as model;
 ghost use Rattle.execheap.specs.declared.kind.Kind.TheVariants as variant;
-ghost use Rattle.execheap.specs.Numbered.{places, shown_memory};
+ghost use Rattle.execheap.specs.Numbered.{message_places, places, shown_memory};
 ghost use Rattle.execheap.specs.Changes.{on_ports};
 
 use crate::kind::Kind;
@@ -31,13 +31,18 @@ impl<S: ListSpace> Objects<S> {
 
     // ---- numbers and addresses
 
-    /// The address of a live message.
+    /// The address of what may stand in a port: of a live message, or of a live request, whose numbers as messages stand behind.
     pub fn address_of_message(&self, m: MsgId) -> u32
-        requires { IsTrue (is_message m self.now.ports) }
-        ensures { slot (places variant.Message self.now) m ≡ Some result }
+        requires { IsSome (slot (message_places self.now) m) }
+        ensures { slot (message_places self.now) m ≡ Some result }
     {
         self.facts();
-        self.address_of(Kind::Message, m)
+        let pool = self.table.pool();
+        if m < pool {
+            self.address_of(Kind::Message, m)
+        } else {
+            self.address_of(Kind::Request, m - pool)
+        }
     }
 
     /// The address of a live port.
@@ -106,31 +111,34 @@ impl<S: ListSpace> Objects<S> {
     /// Puts a message that is in no port at a port, as one of type NT_MESSAGE, and answers what is to be done for it.
     pub fn put(&mut self, p: PortId, m: MsgId) -> Action
         requires port { IsTrue (is_port p self.old.ports) }
-        requires message { IsTrue (is_message m self.old.ports) }
+        requires message { IsSome (slot (places variant.Message self.old) m) }
         requires loose { home self.old.ports.places m ≡ None }
         ensures answer { result ≡ acting (port_at p self.old.ports) }
         ensures next { self.new ≡ on_ports (posted nt_message p m) self.old }
     {
+        self.table.facts();
         self.ports.put(p, m).unwrap()
     }
 
     /// Puts a message that is in no port at a port, as one of type NT_REPLYMSG, and answers what is to be done for it.
     pub fn reply(&mut self, p: PortId, m: MsgId) -> Action
         requires port { IsTrue (is_port p self.old.ports) }
-        requires message { IsTrue (is_message m self.old.ports) }
+        requires message { IsSome (slot (places variant.Message self.old) m) }
         requires loose { home self.old.ports.places m ≡ None }
         ensures answer { result ≡ acting (port_at p self.old.ports) }
         ensures next { self.new ≡ on_ports (posted nt_replymsg p m) self.old }
     {
+        self.table.facts();
         self.ports.reply(p, m).unwrap()
     }
 
     /// Gives a message that is in no port the type NT_FREEMSG.
     pub fn reply_none(&mut self, m: MsgId)
-        requires message { IsTrue (is_message m self.old.ports) }
+        requires message { IsSome (slot (places variant.Message self.old) m) }
         requires loose { home self.old.ports.places m ≡ None }
         ensures { self.new ≡ on_ports (typed nt_freemsg m) self.old }
     {
+        self.table.facts();
         self.ports.reply_none(m).unwrap();
     }
 
@@ -139,8 +147,9 @@ impl<S: ListSpace> Objects<S> {
         requires { IsTrue (is_port p self.old.ports) }
         ensures value { result ≡ first (messages_of p self.old.ports) }
         ensures next { self.new ≡ on_ports (taken_off p (first (messages_of p self.old.ports))) self.old }
-        ensures live { IfSome result (λ m. IsTrue (is_message m self.new.ports)) }
+        ensures live { IfSome result (λ m. IsSome (slot (message_places self.new) m)) }
     {
+        self.facts();
         self.ports.get(p)
     }
 

@@ -27,6 +27,7 @@ struct Machine {
     name: &'static str,
     file: &'static str,
     quantum: u8,
+    tick_micros: u32,
     pool: u32,
     regions: &'static [Region],
     libraries: &'static [Library],
@@ -38,11 +39,12 @@ struct Machine {
 static MACHINES: [Machine; 4] = [
     Machine {
         name: "a machine file gives its parts in order",
-        file: "quantum = 255\npool = 1024\n\
+        file: "quantum = 255\ntick_micros = 1000000\npool = 1024\n\
             region = [{ size = 8, base = 8192, pri = -1, attrs = 7 }, { base = 4096, size = 16 }]\n\
             [[task]]\nname = \"A.b_c-9\"\npri = -128\nstart = false\ncode = []\n\
             [[task]]\ncode = [\"Print 1\", \"Wait $1000\"]\nname = \"b\"",
         quantum: 255,
+        tick_micros: 1_000_000,
         pool: 1024,
         regions: &[
             Region {
@@ -78,6 +80,7 @@ static MACHINES: [Machine; 4] = [
         name: "an empty machine file has the values of absent keys",
         file: "",
         quantum: 4,
+        tick_micros: 20_000,
         pool: 64,
         regions: &[],
         libraries: &[],
@@ -93,6 +96,7 @@ static MACHINES: [Machine; 4] = [
             [[softint]]\nname = \"low\"\npri = -32\ncode = []\n\
             [[task]]\nname = \"t\"\ncode = ['PortCause 0 \"low\"', 'Cause \"high\"']",
         quantum: 4,
+        tick_micros: 20_000,
         pool: 64,
         regions: &[],
         libraries: &[],
@@ -121,11 +125,12 @@ static MACHINES: [Machine; 4] = [
         )],
     },
     Machine {
-        name: "a machine file gives its libraries in order, and a task may have the name of one",
-        file: "[[task]]\nname = \"b\"\ncode = []\n\
+        name: "a machine file gives its libraries in order, and a task may have the name of one; a tick may be a microsecond",
+        file: "tick_micros = 1\n[[task]]\nname = \"b\"\ncode = []\n\
             [[library]]\nsize = 65536\nname = \"b\"\nversion = 0\n\
             [[library]]\nname = \"a.library\"\nversion = 65535\nsize = 8\n",
         quantum: 4,
+        tick_micros: 1,
         pool: 64,
         regions: &[],
         libraries: &[("b", 0, 65536), ("a.library", 65535, 8)],
@@ -148,6 +153,31 @@ static NUMBERS: [(FileFault, u8); 11] = [
     (FileFault::NotInInterrupt, 9),
     (FileFault::TooMany, 10),
     (FileFault::OutOfMemory, 11),
+];
+
+/// Files with the key of the tick, each with its fault, if it is refused.
+static TICKS: [(&str, Option<FileFault>); 15] = [
+    ("tick_micros = 1", None),
+    ("tick_micros = 20000", None),
+    ("tick_micros = 1000000", None),
+    ("tick_micros = 0", Some(FileFault::BadValue)),
+    ("tick_micros = -1", Some(FileFault::BadValue)),
+    ("tick_micros = 1000001", Some(FileFault::BadValue)),
+    ("tick_micros = 4294967297", Some(FileFault::BadValue)),
+    ("tick_micros = true", Some(FileFault::BadValue)),
+    ("tick_micros = 20000.0", Some(FileFault::BadValue)),
+    ("tick_micros = \"20000\"", Some(FileFault::BadValue)),
+    ("tick_micro = 20000", Some(FileFault::UnknownKey)),
+    ("tick_micros = 0\nspeed = 1", Some(FileFault::UnknownKey)),
+    ("tick_micros = 0\nregion = [{}]", Some(FileFault::BadValue)),
+    (
+        "tick_micros = 1\nregion = [{}]",
+        Some(FileFault::MissingKey),
+    ),
+    (
+        "task = [{ name = \"a\", code = [], tick_micros = 20000 }]",
+        Some(FileFault::UnknownKey),
+    ),
 ];
 
 /// Files of libraries, each with its fault, if it is refused.
@@ -284,6 +314,13 @@ fn holds(rt: &impl Abort, alloc: Global, wanted: &Machine) {
         machine.quantum(),
         wanted.quantum,
     );
+    same_at(
+        rt,
+        wanted.name,
+        "tick_micros",
+        machine.tick_micros(),
+        wanted.tick_micros,
+    );
     same_at(rt, wanted.name, "pool", machine.pool(), wanted.pool);
     same_at(
         rt,
@@ -328,6 +365,14 @@ fn bytes_that_are_no_text_are_not_toml(rt: HostRuntime) {
         found,
         Some(FileFault::NotToml),
     );
+}
+
+#[test]
+fn a_tick_has_1_to_1000000_microseconds(rt: HostRuntime) {
+    for (file, fault) in &TICKS {
+        let found = fault_of(rt.alloc(), file.as_bytes());
+        same_at(&rt, "files with a tick", file, found, *fault);
+    }
 }
 
 #[test]

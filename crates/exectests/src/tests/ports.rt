@@ -22,6 +22,8 @@ enum Making {
 enum Change {
     FreeMsg(MsgId),
     ReplyNone(MsgId),
+    TakeOut(MsgId),
+    Hold(MsgId),
     AddPort(PortId, &'static str, i8),
     RemPort(PortId),
 }
@@ -48,6 +50,7 @@ enum Search {
 enum Setting {
     SetAction(PortId, PortAction),
     SetWord(MsgId, u32),
+    LetGo(MsgId),
 }
 
 /// A call, and what it must answer.
@@ -63,8 +66,10 @@ enum Step {
     Deletes(PortId, Result<(TaskId, u32), PortFault>),
     /// The number of the signal by which a port tells a task.
     WaitsFor(PortId, TaskId, Option<u32>),
-    /// The type, the word and the reply port of a message, and whether a port has it.
+    /// The type, the word and the reply port of a message, and whether a port has it or it is held.
     Holds(MsgId, Option<(u8, u32, u32, bool)>),
+    /// Whether a port has a message that lives, and whether it is held.
+    Stands(MsgId, (bool, bool)),
     /// Whether a port lives and is public.
     Public(PortId, bool),
 }
@@ -100,7 +105,7 @@ static ONE: [Step; 3] = [
 ];
 
 /// What is shown on three ports and two messages, after the steps of `ONE`.
-static CASES: [Case; 12] = [
+static CASES: [Case; 15] = [
     Case {
         name: "a new port signals its task",
         steps: &[
@@ -228,6 +233,57 @@ static CASES: [Case; 12] = [
         ],
     },
     Case {
+        name: "a message that is held is in no port until it is replied",
+        steps: &[
+            Does(Hold(1), Ok(())),
+            Stands(1, (false, true)),
+            Holds(1, Some((0, 10, 0x1000, true))),
+            Finds(First(2), None),
+            Does(Hold(1), Err(LINKED)),
+            Delivers(Put(2, 1), Err(LINKED)),
+            Does(FreeMsg(1), Err(LINKED)),
+            Does(ReplyNone(1), Err(LINKED)),
+            Does(TakeOut(1), Err(LINKED)),
+            Delivers(Put(2, 0), SIGNALS),
+            Delivers(Reply(2, 1), SIGNALS),
+            Stands(1, (true, false)),
+            Holds(1, Some((NT_REPLYMSG, 10, 0x1000, true))),
+            Does(Hold(1), Err(LINKED)),
+            Finds(Get(2), Some(0)),
+            Finds(Get(2), Some(1)),
+            Does(FreeMsg(1), Ok(())),
+        ],
+    },
+    Case {
+        name: "a message that is let go is nowhere",
+        steps: &[
+            Does(Hold(0), Ok(())),
+            Does(Hold(1), Ok(())),
+            Sets(LetGo(0)),
+            Stands(0, (false, false)),
+            Stands(1, (false, true)),
+            Sets(LetGo(0)),
+            Delivers(Put(2, 0), SIGNALS),
+            Sets(LetGo(0)),
+            Stands(0, (true, false)),
+        ],
+    },
+    Case {
+        name: "a message is taken out from where it stands",
+        steps: &[
+            Does(TakeOut(1), Err(LINKED)),
+            Delivers(Put(2, 0), SIGNALS),
+            Delivers(Put(2, 1), SIGNALS),
+            Does(TakeOut(1), Ok(())),
+            Holds(1, Some((NT_MESSAGE, 10, 0x1000, false))),
+            Finds(First(2), Some(0)),
+            Delivers(Put(2, 1), SIGNALS),
+            Does(TakeOut(0), Ok(())),
+            Finds(Get(2), Some(1)),
+            Finds(Get(2), None),
+        ],
+    },
+    Case {
         name: "what does not live is unknown",
         steps: &[
             Delivers(Put(0, 1), Err(UNKNOWN)),
@@ -243,6 +299,8 @@ static CASES: [Case; 12] = [
             Delivers(Put(2, 2), Err(UNKNOWN)),
             Does(FreeMsg(2), Err(UNKNOWN)),
             Does(ReplyNone(2), Err(UNKNOWN)),
+            Does(TakeOut(2), Err(UNKNOWN)),
+            Does(Hold(2), Err(UNKNOWN)),
         ],
     },
     Case {
@@ -270,6 +328,8 @@ fn changed(ports: &mut Ports<PlainSpace>, call: Change) -> Result<(), PortFault>
     match call {
         FreeMsg(m) => ports.free_msg(m),
         ReplyNone(m) => ports.reply_none(m),
+        TakeOut(m) => ports.take_out(m),
+        Hold(m) => ports.hold(m),
         AddPort(p, name, pri) => ports.add_port(p, Name::from(name).unwrap_or_default(), pri),
         RemPort(p) => ports.rem_port(p),
     }
@@ -295,7 +355,7 @@ fn found(ports: &mut Ports<PlainSpace>, call: Search) -> Option<usize> {
     }
 }
 
-/// Sets an action or a word, and answers whether its port or message lives.
+/// Sets an action or a word, or lets a message go, and answers whether its port or message lives.
 fn set(ports: &mut Ports<PlainSpace>, call: Setting) -> bool {
     match call {
         SetAction(p, action) if ports.is_port(p) => {
@@ -304,6 +364,10 @@ fn set(ports: &mut Ports<PlainSpace>, call: Setting) -> bool {
         }
         SetWord(m, word) if ports.is_message(m) => {
             ports.set_word(m, word);
+            true
+        }
+        LetGo(m) if ports.is_message(m) => {
+            ports.let_go(m);
             true
         }
         _ => false,
@@ -319,7 +383,7 @@ fn wait_bit(ports: &Ports<PlainSpace>, p: PortId, task: TaskId) -> Option<u32> {
     }
 }
 
-/// The type, the word and the reply port of a message that lives, and whether a port has it.
+/// The type, the word and the reply port of a message that lives, and whether a port has it or it is held.
 fn message(ports: &Ports<PlainSpace>, m: MsgId) -> Option<(u8, u32, u32, bool)> {
     if ports.is_message(m) {
         let kind = ports.kind(m);
@@ -328,6 +392,15 @@ fn message(ports: &Ports<PlainSpace>, m: MsgId) -> Option<(u8, u32, u32, bool)> 
         Some((kind, word, reply, ports.is_linked(m)))
     } else {
         None
+    }
+}
+
+/// Whether a port has a message that lives, and whether it is held.
+fn stands(ports: &Ports<PlainSpace>, m: MsgId) -> (bool, bool) {
+    if ports.is_message(m) {
+        (ports.is_queued(m), ports.is_held(m))
+    } else {
+        (false, false)
     }
 }
 
@@ -347,6 +420,7 @@ fn take(rt: &impl Abort, ports: &mut Ports<PlainSpace>, case: &str, number: usiz
         Deletes(p, wanted) => same(rt, case, number, ports.delete_port(p), wanted),
         WaitsFor(p, task, wanted) => same(rt, case, number, wait_bit(ports, p, task), wanted),
         Holds(m, wanted) => same(rt, case, number, message(ports, m), wanted),
+        Stands(m, wanted) => same(rt, case, number, stands(ports, m), wanted),
         Public(p, wanted) => same(rt, case, number, is_public(ports, p), wanted),
     }
 }

@@ -6,11 +6,11 @@ use std::process::Abort;
 use std::test::*;
 use taskscript::Variable::{self, Private, Shared};
 use taskscript::Word::{
-    self, Interrupts, Libraries, Lists, Plain, Ports, Semaphores, Signals, Tasks,
+    self, Interrupts, Libraries, Lists, Plain, Ports, Requests, Semaphores, Signals, Tasks,
 };
 use taskscript::{
-    Argument, Command, InterruptWord, LibraryWord, ListWord, PlainWord, PortWord, SemaphoreWord,
-    SignalWord, TaskWord, read_machine,
+    Argument, Command, InterruptWord, LibraryWord, ListWord, PlainWord, PortWord, RequestWord,
+    SemaphoreWord, SignalWord, TaskWord, read_machine,
 };
 
 /// An argument, as a case writes it.
@@ -36,7 +36,7 @@ type Line = (
 );
 
 /// The lines that are commands, by groups, each group with its name. The target is numbered before the arguments.
-static COMMANDS: [(&str, &[Line]); 10] = [
+static COMMANDS: [(&str, &[Line]); 11] = [
     (
         "each word of lists and nodes is read",
         &[
@@ -315,6 +315,100 @@ static COMMANDS: [(&str, &[Line]); 10] = [
                 Libraries(LibraryWord::LibOpenCnt),
                 Some(Private(0)),
                 &[Held(Private(1))],
+            ),
+        ],
+    ),
+    (
+        "each word of requests is read",
+        &[
+            (
+                "r = CreateIORequest p",
+                Requests(RequestWord::CreateIORequest),
+                Some(Private(0)),
+                &[Held(Private(1))],
+            ),
+            (
+                "DeleteIORequest r",
+                Requests(RequestWord::DeleteIORequest),
+                None,
+                &[Held(Private(0))],
+            ),
+            (
+                "@e = OpenDevice \"timer.device\" 1 r",
+                Requests(RequestWord::OpenDevice),
+                Some(Shared(0)),
+                &[Quoted("timer.device"), Number(1), Held(Private(0))],
+            ),
+            (
+                "CloseDevice @r",
+                Requests(RequestWord::CloseDevice),
+                None,
+                &[Held(Shared(0))],
+            ),
+            (
+                "SetIO r 9 -1 $F4240",
+                Requests(RequestWord::SetIO),
+                None,
+                &[
+                    Held(Private(0)),
+                    Number(9),
+                    Number(4294967295),
+                    Number(1000000),
+                ],
+            ),
+            (
+                "e = DoIO r",
+                Requests(RequestWord::DoIO),
+                Some(Private(0)),
+                &[Held(Private(1))],
+            ),
+            (
+                "SendIO $1028",
+                Requests(RequestWord::SendIO),
+                None,
+                &[Number(0x1028)],
+            ),
+            (
+                "done = CheckIO @r",
+                Requests(RequestWord::CheckIO),
+                Some(Private(0)),
+                &[Held(Shared(0))],
+            ),
+            (
+                "@e = WaitIO r",
+                Requests(RequestWord::WaitIO),
+                Some(Shared(0)),
+                &[Held(Private(0))],
+            ),
+            (
+                "AbortIO r",
+                Requests(RequestWord::AbortIO),
+                None,
+                &[Held(Private(0))],
+            ),
+            (
+                "s = IOSecs r",
+                Requests(RequestWord::IOSecs),
+                Some(Private(0)),
+                &[Held(Private(1))],
+            ),
+            (
+                "m = IOMicros r",
+                Requests(RequestWord::IOMicros),
+                Some(Private(0)),
+                &[Held(Private(1))],
+            ),
+            (
+                "r = IOError r",
+                Requests(RequestWord::IOError),
+                Some(Private(0)),
+                &[Held(Private(0))],
+            ),
+            (
+                "@f = IOFlags @f",
+                Requests(RequestWord::IOFlags),
+                Some(Shared(0)),
+                &[Held(Shared(0))],
             ),
         ],
     ),

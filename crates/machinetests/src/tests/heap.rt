@@ -18,7 +18,7 @@ fn a_task_waits_for_one_semaphore_at_a_time(rt: HostRuntime) -> Result<(), Fail>
         attrs: 1,
         pri: 0,
     };
-    let mut heap: Heap<PlainSpace> = Heap::new(rt.alloc(), &[region], 2, &[])?;
+    let mut heap: Heap<PlainSpace> = Heap::new(rt.alloc(), &[region], 2, &[], 20_000)?;
     let made = [heap.new_semaphore(), heap.new_semaphore()];
     assert_eq!(&rt; made, [Some(A), Some(B)]);
     let asked = [

@@ -1,4 +1,4 @@
-use Rattle.execmodel.proofs.Keeping.{plain_words_change_scripts, signal_words_change_signals_and_states, nesting_words_change_nestings, task_words_change_states_priorities_and_objects, list_words_change_the_memory, memory_words_change_the_memory, port_words_change_ports_signals_and_states, semaphore_words_change_states_and_objects, interrupt_words_change_what_is_caused, library_words_change_the_memory}
+use Rattle.execmodel.proofs.Keeping.{plain_words_change_scripts, signal_words_change_signals_and_states, nesting_words_change_nestings, task_words_change_states_priorities_and_objects, list_words_change_the_memory, memory_words_change_the_memory, port_words_change_ports_signals_and_states, semaphore_words_change_states_and_objects, interrupt_words_change_what_is_caused, library_words_change_the_memory, request_words_change_requests_ports_signals_and_states}
 use Rattle.execmodel.proofs.laws.each_group_keeps_to_its_part.Goals as goal
 
 pub returns-clause-plain : goal.returns-clause-plain
@@ -30,3 +30,6 @@ returns-clause-interrupts c = interrupt_words_change_what_is_caused
 
 pub returns-clause-libraries : goal.returns-clause-libraries
 returns-clause-libraries c = library_words_change_the_memory
+
+pub returns-clause-requests : goal.returns-clause-requests
+returns-clause-requests c = request_words_change_requests_ports_signals_and_states

@@ -7,4 +7,5 @@ returns g c = rw (
   c.libraries.ensures.libraries,
   c.regions.ensures.regions,
   c.pool.ensures.pool,
+  c.tick_micros.ensures.tick_micros,
 ) at c.new.ensures

@@ -13,10 +13,19 @@ use Rattle.taskscript.proofs.reading.machine_of.Goals as goal
 pub invariant_of-result : goal.invariant_of-result
 invariant_of-result c =
     let owners = c.in_ok-owners.owners in
-    read_holds (table_view c.args.table.now) c.in_ok-settings.settings.quantum c.in_ok-settings.settings.pool c.in_ok-regions.regions.items
+    read_holds (table_view c.args.table.now) c.in_ok-settings.settings.quantum c.in_ok-settings.settings.tick_micros c.in_ok-settings.settings.pool c.in_ok-regions.regions.items
     (map library_view c.in_ok-libraries.libraries.items) (map softint_view owners.softints.items) (map server_view owners.servers.items) (map task_view owners.tasks.items)
     (record { settings = c.in_ok-settings.ensures.0; regions = c.in_ok-regions.ensures.0; libraries = c.in_ok-libraries.ensures.0; passes = c.in_ok-owners.ensures.0 })
-    c.in_ok-settings.ensures.1.0 c.in_ok-settings.ensures.1.1 c.in_ok-regions.ensures.1 c.in_ok-libraries.ensures.1 c.in_ok-owners.ensures.1.softints c.in_ok-owners.ensures.1.servers c.in_ok-owners.ensures.1.tasks
+    c.in_ok-settings.ensures.1.0 c.in_ok-settings.ensures.1.1 c.in_ok-settings.ensures.1.2 c.in_ok-regions.ensures.1 c.in_ok-libraries.ensures.1 c.in_ok-owners.ensures.1.softints c.in_ok-owners.ensures.1.servers c.in_ok-owners.ensures.1.tasks
+
+pub returns-in_err-settings : goal.returns-in_err-settings
+returns-in_err-settings c =
+    let p = err_from_is_err_and c.from_residual.result c.from_residual.ensures.1 in
+    let f = c.in_err-settings.field-0.0 in
+    let t = table_view c.args.table.now in
+    let keys = ap (λ (b : Bool). first (check b UnknownKey)) (sym c.has_only.ensures ∙ c.if-not-has_only.false) in
+    rw (p.1, p.2) (skip (check (keys_are_among top_keys t) UnknownKey) _ f keys
+    (λ ne. first_some (settings_faults t) (regions_faults t ++ (libraries_faults t ++ both_passes_faults t)) f (c.in_err-settings.ensures ne)))
 
 pub returns-in_err-regions : goal.returns-in_err-regions
 returns-in_err-regions c =
@@ -57,7 +66,7 @@ returns c =
           (both (settings_faults t) _ c.in_ok-settings.ensures.0
           (both (regions_faults t) _ c.in_ok-regions.ensures.0
           (both (libraries_faults t) (both_passes_faults t) c.in_ok-libraries.ensures.0 c.in_ok-owners.ensures.0))),
-      read_is t c.in_ok-settings.settings.quantum c.in_ok-settings.settings.pool c.in_ok-regions.regions.items
+      read_is t c.in_ok-settings.settings.quantum c.in_ok-settings.settings.tick_micros c.in_ok-settings.settings.pool c.in_ok-regions.regions.items
           (map library_view c.in_ok-libraries.libraries.items) (map softint_view owners.softints.items) (map server_view owners.servers.items) (map task_view owners.tasks.items)
-          c.in_ok-settings.ensures.1.0 c.in_ok-settings.ensures.1.1 c.in_ok-regions.ensures.1 c.in_ok-libraries.ensures.1 c.in_ok-owners.ensures.1.softints c.in_ok-owners.ensures.1.servers c.in_ok-owners.ensures.1.tasks,
+          c.in_ok-settings.ensures.1.0 c.in_ok-settings.ensures.1.1 c.in_ok-settings.ensures.1.2 c.in_ok-regions.ensures.1 c.in_ok-libraries.ensures.1 c.in_ok-owners.ensures.1.softints c.in_ok-owners.ensures.1.servers c.in_ok-owners.ensures.1.tasks,
     )

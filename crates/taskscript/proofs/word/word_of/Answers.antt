@@ -1,6 +1,6 @@
 use Rattle.std.proofs.Common.{Bool, bytes_eq, map}
 use Rattle.taskscript.specs.declared.word.Word.{Word}
-use Rattle.taskscript.specs.declared.word.Word.TheVariants.{Plain, Signals, Nesting, Tasks, Lists, Memory, Ports, Semaphores, Interrupts, Libraries}
+use Rattle.taskscript.specs.declared.word.Word.TheVariants.{Plain, Signals, Nesting, Tasks, Lists, Memory, Ports, Semaphores, Interrupts, Libraries, Requests}
 use Rattle.taskscript.specs.PlainWords.{plain_words}
 use Rattle.taskscript.specs.SignalWords.{signal_words}
 use Rattle.taskscript.specs.NestingWords.{nesting_words}
@@ -11,6 +11,7 @@ use Rattle.taskscript.specs.PortWords.{port_words}
 use Rattle.taskscript.specs.SemaphoreWords.{semaphore_words}
 use Rattle.taskscript.specs.InterruptWords.{interrupt_words}
 use Rattle.taskscript.specs.LibraryWords.{library_words}
+use Rattle.taskscript.specs.RequestWords.{request_words}
 use Rattle.taskscript.specs.Words.{word_text}
 use Rattle.taskscript.proofs.WordGroups.{LookedIn, looked_on}
 use Rattle.taskscript.proofs.word.word_of.Goals as goal
@@ -27,4 +28,5 @@ returns c =
     let ports = looked_on p (map Ports port_words) c.or-6.ensures memory c.found-7.ensures in
     let semaphores = looked_on p (map Semaphores semaphore_words) c.or-7.ensures ports c.found-8.ensures in
     let interrupts = looked_on p (map Interrupts interrupt_words) c.or-8.ensures semaphores c.found-9.ensures in
-    (looked_on p (map Libraries library_words) c.or-9.ensures interrupts c.found-10.ensures).1
+    let libraries = looked_on p (map Libraries library_words) c.or-9.ensures interrupts c.found-10.ensures in
+    (looked_on p (map Requests request_words) c.or-10.ensures libraries c.found-11.ensures).1

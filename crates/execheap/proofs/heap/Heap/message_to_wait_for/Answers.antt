@@ -6,16 +6,22 @@ use Rattle.execmodel.specs.State.{Memory}
 use Rattle.execmodel.specs.Ports.{messages_of, port_of}
 use Rattle.msgport.specs.Port.{Port}
 use Rattle.msgport.specs.Ports as ports
-use Rattle.execheap.specs.declared.kind.Kind.TheVariants as variant
-use Rattle.execheap.specs.Numbered.{address_in, places}
+use Rattle.execheap.specs.Numbered.{address_in, message_places}
+use Rattle.execheap.proofs.MessagePlaces.{first_placed}
 use Rattle.execheap.proofs.Posted.{first_message_shown, port_of_shown}
 use Rattle.execheap.proofs.heap.Heap.message_to_wait_for.Goals as goal
+
+pub address_of_message-requires : goal.address_of_message-requires
+address_of_message-requires g c =
+    let f = c.in-Ok.ensures.known in
+    first_placed f.sound f.ports c.in-Ok.p c.in-Some.m
+    (ap (λ (q : ports.MessagePorts). first (ports.messages_of c.in-Ok.p q)) (sym c.ports.ensures) ∙ sym c.in-Some.ensures.value)
 
 pub returns-in-Some-clause-message : goal.returns-in-Some-clause-message
 returns-in-Some-clause-message g c =
     let s = c.self.inside.objects in
     ap (λ o. Some (unwrap_or o 0)) (sym c.address_of_message.ensures)
-    ∙ ap (option_map (address_in (places variant.Message s))) (c.in-Some.ensures.value ∙ ap (λ (q : ports.MessagePorts). first (ports.messages_of c.in-Ok.p q)) c.ports.ensures)
+    ∙ ap (option_map (address_in (message_places s))) (c.in-Some.ensures.value ∙ ap (λ (q : ports.MessagePorts). first (ports.messages_of c.in-Ok.p q)) c.ports.ensures)
     ∙ sym (first_message_shown c.in-Ok.ensures.known.sound c.in-Ok.p c.args.port c.in-Ok.ensures.found)
     ∙ ap (λ (m : Memory). first (messages_of c.args.port m.heap)) c.self.view_is
 
@@ -27,7 +33,7 @@ returns-in-Some-clause-bit g c =
 pub returns-in-None-clause-message : goal.returns-in-None-clause-message
 returns-in-None-clause-message g c =
     let s = c.self.inside.objects in
-    ap (option_map (address_in (places variant.Message s))) (c.in-None.ensures.value ∙ ap (λ (q : ports.MessagePorts). first (ports.messages_of c.in-Ok.p q)) c.ports.ensures)
+    ap (option_map (address_in (message_places s))) (c.in-None.ensures.value ∙ ap (λ (q : ports.MessagePorts). first (ports.messages_of c.in-Ok.p q)) c.ports.ensures)
     ∙ sym (first_message_shown c.in-Ok.ensures.known.sound c.in-Ok.p c.args.port c.in-Ok.ensures.found)
     ∙ ap (λ (m : Memory). first (messages_of c.args.port m.heap)) c.self.view_is
 

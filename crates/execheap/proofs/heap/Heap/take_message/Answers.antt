@@ -7,9 +7,8 @@ use Rattle.execmodel.specs.State.{Memory, on_heap}
 use Rattle.execmodel.specs.Lists.{or_none}
 use Rattle.execmodel.specs.Ports.{messages_of, taken_off}
 use Rattle.msgport.specs.Ports as ports
-use Rattle.execheap.specs.declared.kind.Kind.TheVariants as variant
 use Rattle.execheap.specs.Changes.{on_ports}
-use Rattle.execheap.specs.Numbered.{Numbered, address_in, shown_memory, places}
+use Rattle.execheap.specs.Numbered.{Numbered, address_in, message_places, shown_memory}
 use Rattle.execheap.proofs.Posted.{first_message_shown, taken_off_shown}
 use Rattle.execheap.proofs.heap.Heap.take_message.Goals as goal
 
@@ -18,8 +17,8 @@ returns-in-Ok-clause-answer g c =
     let f = c.in-Ok.ensures.known in
     let s = c.self.inside.objects in
     c.message_or_0.ensures
-    ∙ ap (λ (x : Numbered). or_none (option_map (address_in (places variant.Message x)) c.take_message-m.result)) c.take_message-m.ensures.next
-    ∙ ap (λ m. or_none (option_map (address_in (places variant.Message s)) m)) c.take_message-m.ensures.value
+    ∙ ap (λ (x : Numbered). or_none (option_map (address_in (message_places x)) c.take_message-m.result)) c.take_message-m.ensures.next
+    ∙ ap (λ m. or_none (option_map (address_in (message_places s)) m)) c.take_message-m.ensures.value
     ∙ sym (ap or_none (first_message_shown f.sound c.in-Ok.p c.args.port c.in-Ok.ensures.found))
     ∙ ap (λ (m : Memory). or_none (first (messages_of c.args.port m.heap))) c.self.view_is
 
@@ -40,7 +39,7 @@ returns-in-Ok-clause-none g c empty =
     let f = c.in-Ok.ensures.known in
     let s = c.self.inside.objects in
     let none : first (ports.messages_of c.in-Ok.p s.ports) ≡ None =
-    from_none (address_in (places variant.Message s)) (first (ports.messages_of c.in-Ok.p s.ports))
+    from_none (address_in (message_places s)) (first (ports.messages_of c.in-Ok.p s.ports))
     (sym (first_message_shown f.sound c.in-Ok.p c.args.port c.in-Ok.ensures.found)
     ∙ ap (λ (m : Memory). first (messages_of c.args.port m.heap)) c.self.view_is ∙ empty) in
     ap shown_memory c.take_message-m.ensures.next

@@ -15,7 +15,8 @@ invariant_of-self g c =
     let free = c.free.ensures in
     port_freed_kept c.self.invariant free.sound free.memory c.args.p c.args.address (ap (λ s. slot (places variant.Port s) c.args.p) c.self.view_is ∙ c.requires.live)
     c.free.new.self c.delete_port.new.self free.next
-    (not_refused _ _ _ _ _ _ _ c.delete_port.ensures.answer c.unwrap.ensures c.delete_port.ensures.next)
+    (not_refused _ _ _ _ _ _ _ c.delete_port.ensures.answer c.unwrap.ensures c.delete_port.ensures.next) c.facts.ensures.sound
+    (ap (λ (s : Numbered). not (has_messages c.args.p s.ports)) c.self.view_is ∙ c.requires.empty)
 
 pub returns-clause-next : goal.returns-clause-next
 returns-clause-next g c =

@@ -1,9 +1,7 @@
 -- No message begins there where the blocks have no number of one.
-use Rattle.std.proofs.Common.{ap, is_some, sym, ◌∙◌}
+use Rattle.std.proofs.Common.{ap, is_some, sym}
 use Rattle.execheap.proofs.PortAlerts.{message_found, message_refused}
-use Rattle.execheap.specs.declared.kind.Kind.TheVariants as variant
-use Rattle.execheap.specs.Table.{pool_of}
-use Rattle.execheap.proofs.Stepping.{shape_lives}
+use Rattle.execheap.proofs.Front.{message_live}
 use Rattle.execheap.proofs.objects.Objects.message_at.Goals as goal
 
 pub returns-in-Some-clause-alert : goal.returns-in-Some-clause-alert
@@ -14,6 +12,5 @@ returns-in-None-clause-alert g c = sym (message_refused c.args.self.now c.args.m
 
 pub returns-in-Some-clause-live : goal.returns-in-Some-clause-live
 returns-in-Some-clause-live g c =
-    let s = c.args.self.now in
-    sym (shape_lives (pool_of variant.Message s.table) s.ports.messages (c.in-Some.ensures.known.sound.kept.in_step variant.Message) c.in-Some.m)
-    ∙ ap is_some c.in-Some.ensures.live
+    let known = c.in-Some.ensures.known in
+    message_live known.sound.kept known.sound.table c.in-Some.m (ap is_some c.in-Some.ensures.live)

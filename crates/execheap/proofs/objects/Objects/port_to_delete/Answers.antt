@@ -1,9 +1,14 @@
 -- A port is in use where it is by number.
-use Rattle.std.proofs.Common.{true, false, ◌≡◌, ◌||◌, is_some, ap, sym, ◌∙◌}
+use Rattle.std.proofs.Common.{Bool, true, false, ◌≡◌, ◌||◌, is_some, ap, sym, ◌∙◌}
+use Rattle.std.specs.List.{list_any}
+use Rattle.execlist.specs.Pool.{Pooled}
+use Rattle.iorequest.specs.declared.request.Request.{Request}
+use Rattle.iorequest.specs.Requests.{is_under_way_at}
 use Rattle.msgport.specs.Ports.{has_messages, is_public}
 use Rattle.execheap.specs.Numbered.{shown_memory}
 use Rattle.execheap.proofs.Public.{delete_found, delete_refused}
 use Rattle.execheap.proofs.objects.Objects.port_to_delete.Goals as goal
+use Rattle.execheap.proofs.objects.Objects.port_to_delete.Goals.{then-is_public, else-is_public}
 
 pub returns-in-Err-clause-alert : goal.returns-in-Err-clause-alert
 returns-in-Err-clause-alert g c = sym (delete_refused c.args.port (shown_memory c.args.self.now) (sym c.in-Err.ensures.alert))
@@ -14,22 +19,40 @@ returns-in-Some-clause-alert g c =
     let has : has_messages c.in-Ok.p c.args.self.now.ports ≡ true =
     ap (has_messages c.in-Ok.p) (sym c.ports.ensures) ∙ ap is_some (sym c.in-Some.ensures.value) in
     sym (delete_found f.sound f.ports c.in-Ok.p c.args.port c.in-Ok.ensures.found (sym c.in-Ok.ensures.alert)
-    (ap (λ b. b || is_public c.in-Ok.p c.args.self.now.ports) has))
+    (ap (λ b. b || (is_public c.in-Ok.p c.args.self.now.ports || list_any (is_under_way_at c.args.port) c.args.self.now.requests.slots)) has))
 
-pub returns-then-is_public-clause-alert : goal.returns-then-is_public-clause-alert
-returns-then-is_public-clause-alert g c =
+pub returns-then-under_way-clause-alert : goal.returns-then-under_way-clause-alert
+returns-then-under_way-clause-alert g c =
     let f = c.in-Ok.ensures.known in
-    let has : has_messages c.in-Ok.p c.args.self.now.ports ≡ false =
+    let s = c.args.self.now in
+    let has : has_messages c.in-Ok.p s.ports ≡ false =
     ap (has_messages c.in-Ok.p) (sym c.ports.ensures) ∙ ap is_some (sym c.in-None.ensures.value) in
-    let public : is_public c.in-Ok.p c.args.self.now.ports ≡ true =
-    ap (is_public c.in-Ok.p) (sym c.ports-in-None.ensures) ∙ sym c.is_public.ensures ∙ c.if-is_public.true in
-    sym (delete_found f.sound f.ports c.in-Ok.p c.args.port c.in-Ok.ensures.found (sym c.in-Ok.ensures.alert) (λ i. has i || public i))
+    let awaited : Bool = list_any (is_under_way_at c.args.port) s.requests.slots in
+    let public : is_public c.in-Ok.p s.ports ≡ c.is_public.result = ap (is_public c.in-Ok.p) (sym c.ports-in-None.ensures) ∙ sym c.is_public.ensures in
+    let used : (is_public c.in-Ok.p s.ports || awaited) ≡ c.if-is_public.value =
+    ap (λ b. b || awaited) public
+    ∙ elim c.if-is_public.branch [
+      | then-is_public w ↦ ap (λ b. b || awaited) w.if-is_public.true ∙ sym w.if-is_public.true ∙ sym w.value-is
+      | else-is_public w ↦ ap (λ b. b || awaited) w.if-is_public.false
+          ∙ ap (λ (m : Pooled Request). list_any (is_under_way_at c.args.port) m.slots) (sym w.requests.ensures) ∙ sym w.under_way.ensures ∙ sym w.value-is
+    ] in
+    sym (delete_found f.sound f.ports c.in-Ok.p c.args.port c.in-Ok.ensures.found (sym c.in-Ok.ensures.alert)
+    (ap (λ b. b || (is_public c.in-Ok.p s.ports || awaited)) has ∙ used ∙ c.if-under_way.true))
 
-pub returns-else-is_public-clause-alert : goal.returns-else-is_public-clause-alert
-returns-else-is_public-clause-alert g c =
+pub returns-else-under_way-clause-alert : goal.returns-else-under_way-clause-alert
+returns-else-under_way-clause-alert g c =
     let f = c.in-Ok.ensures.known in
-    let has : has_messages c.in-Ok.p c.args.self.now.ports ≡ false =
+    let s = c.args.self.now in
+    let has : has_messages c.in-Ok.p s.ports ≡ false =
     ap (has_messages c.in-Ok.p) (sym c.ports.ensures) ∙ ap is_some (sym c.in-None.ensures.value) in
-    let public : is_public c.in-Ok.p c.args.self.now.ports ≡ false =
-    ap (is_public c.in-Ok.p) (sym c.ports-in-None.ensures) ∙ sym c.is_public.ensures ∙ c.if-is_public.false in
-    sym (delete_found f.sound f.ports c.in-Ok.p c.args.port c.in-Ok.ensures.found (sym c.in-Ok.ensures.alert) (λ i. has i || public i))
+    let awaited : Bool = list_any (is_under_way_at c.args.port) s.requests.slots in
+    let public : is_public c.in-Ok.p s.ports ≡ c.is_public.result = ap (is_public c.in-Ok.p) (sym c.ports-in-None.ensures) ∙ sym c.is_public.ensures in
+    let used : (is_public c.in-Ok.p s.ports || awaited) ≡ c.if-is_public.value =
+    ap (λ b. b || awaited) public
+    ∙ elim c.if-is_public.branch [
+      | then-is_public w ↦ ap (λ b. b || awaited) w.if-is_public.true ∙ sym w.if-is_public.true ∙ sym w.value-is
+      | else-is_public w ↦ ap (λ b. b || awaited) w.if-is_public.false
+          ∙ ap (λ (m : Pooled Request). list_any (is_under_way_at c.args.port) m.slots) (sym w.requests.ensures) ∙ sym w.under_way.ensures ∙ sym w.value-is
+    ] in
+    sym (delete_found f.sound f.ports c.in-Ok.p c.args.port c.in-Ok.ensures.found (sym c.in-Ok.ensures.alert)
+    (ap (λ b. b || (is_public c.in-Ok.p s.ports || awaited)) has ∙ used ∙ c.if-under_way.false))

@@ -5,4 +5,4 @@ use Rattle.execheap.proofs.objects.Objects.rem_port.Goals as goal
 
 pub invariant_of-self : goal.invariant_of-self
 invariant_of-self g c =
-    kept_unless c.self.invariant _ _ _ c.rem_port.ensures.next (kept_linked c.self.invariant _ refl refl)
+    kept_unless c.self.invariant _ _ _ c.rem_port.ensures.next (kept_linked c.self.invariant _ refl refl refl (λ r p there. there))

@@ -1,3 +1,4 @@
+use Rattle.execsim.proofs.Clock.{time_for_tick}
 use Rattle.execsim.proofs.Stepping.{no_ticks, more_ticks}
 use Rattle.execsim.proofs.kernel.Kernel.ticks.Goals as goal
 
@@ -6,3 +7,6 @@ loop-tick-init g c = no_ticks _ _
 
 pub loop-tick-preserved : goal.loop-tick-preserved
 loop-tick-preserved g c = more_ticks _ c.loop-tick.invariant c.tick_while_good.ensures
+
+pub tick_while_good-requires : goal.tick_while_good-requires
+tick_while_good-requires g c = λ good. (time_for_tick _ c.args.n c.loop-tick-test.true c.requires c.loop-tick.invariant good).time

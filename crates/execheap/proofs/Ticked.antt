@@ -1,0 +1,42 @@
+-- The clock gains a tick: all objects are shown as they were.
+use Rattle.std.proofs.Common.{◌≡◌, ℕ, map, refl, ap}
+use Rattle.std.proofs.Math.Path.{fun_ext}
+use Rattle.timerdev.specs.Timing as timing
+use Rattle.timerdev.specs.Timing.{Timing}
+use Rattle.execmodel.specs.State.{Block, on_timer}
+use Rattle.execmodel.specs.Timing as model
+use Rattle.execheap.specs.declared.kind.Kind.{Kind}
+use Rattle.execheap.specs.declared.kind.Kind.TheVariants as variant
+use Rattle.execheap.specs.declared.tag.Tagged.{Tagged}
+use Rattle.execheap.specs.declared.tag.Tagged.TheVariants as tag
+use Rattle.execheap.specs.Tags.{tagged}
+use Rattle.execheap.specs.Numbered.{Numbered, object_of, shown_heap, shown_library, shown_memory, shown_public, shown_tagged, shown_timer}
+use Rattle.execheap.specs.Requesting.{on_timing}
+
+module _ (s : Numbered) (t : Timing) where
+  abbrev beside : Numbered
+  beside = record s { timing = t }
+
+  object_same : (k : Kind) (m : ℕ) → object_of k m beside ≡ object_of k m s
+  object_same variant.List m = refl
+  object_same _ m = refl
+
+  shown_same : (x : Tagged) → shown_tagged beside x ≡ shown_tagged s x
+  shown_same (tag.Object k m) = object_same k m
+  shown_same _ = refl
+
+  pub timing_beside : shown_heap beside ≡ shown_heap s
+  unfolding shown_heap
+  timing_beside =
+      ap (λ (f : ℕ × (ℕ × ℕ) → ℕ × Block). map f s.table.memory.blocks)
+      (fun_ext (λ (entry : ℕ × (ℕ × ℕ)). ap (λ o. (entry.0, record { size = entry.1.0; object = o })) (shown_same (tagged entry.1.1))))
+
+pub ticked_shown : (s : Numbered) → shown_memory (on_timing timing.ticked s) ≡ on_timer model.ticked (shown_memory s)
+ticked_shown s = λ i. record {
+  regions = s.table.memory.regions;
+  libraries = map shown_library s.table.libs.known;
+  pool = s.table.pool;
+  heap = timing_beside s (timing.ticked s.timing) i;
+  public = map (shown_public s) s.ports.public;
+  timer = model.ticked (shown_timer s);
+}

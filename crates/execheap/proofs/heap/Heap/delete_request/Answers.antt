@@ -1,0 +1,7 @@
+-- The object is freed where it is shown.
+use Rattle.std.proofs.Common.{ap, ◌∙◌}
+use Rattle.execmodel.specs.Memory.{freed}
+use Rattle.execheap.proofs.heap.Heap.delete_request.Goals as goal
+
+pub returns-in-Ok-clause-next : goal.returns-in-Ok-clause-next
+returns-in-Ok-clause-next g c = c.free_request.ensures ∙ ap (freed c.args.request) c.self.view_is

@@ -1,0 +1,14 @@
+-- The object is made where it is shown to fit, and is shown where it is made.
+use Rattle.std.proofs.Common.{ap, ◌∙◌}
+use Rattle.iorequest.specs.Request.{idle_request}
+use Rattle.execmodel.specs.State.{Request}
+use Rattle.execmodel.specs.Requests.{is_request}
+use Rattle.execmodel.specs.Memory.{placed}
+use Rattle.execmodel.specs.Objects.{place_for_object}
+use Rattle.execheap.proofs.heap.Heap.new_request.Goals as goal
+
+pub returns-in-Ok-clause-address : goal.returns-in-Ok-clause-address
+returns-in-Ok-clause-address g c = c.make_request.ensures.address ∙ ap (place_for_object is_request 40) c.self.view_is
+
+pub returns-in-Ok-clause-next : goal.returns-in-Ok-clause-next
+returns-in-Ok-clause-next g c = c.make_request.ensures.next ∙ ap (placed 40 (Request (idle_request c.args.port)) c.make_request.result) c.self.view_is

@@ -1,0 +1,14 @@
+-- The request that is shown has the command and the time.
+use Rattle.std.proofs.Common.{ap, ◌∙◌}
+use Rattle.execmodel.specs.State.{on_heap}
+use Rattle.execmodel.specs.Requests.{with_command}
+use Rattle.execheap.specs.Numbered.{shown_memory}
+use Rattle.execheap.proofs.RequestsShown.{command_shown}
+use Rattle.execheap.proofs.heap.Heap.set_request.Goals as goal
+
+pub returns-in-Ok-clause-next : goal.returns-in-Ok-clause-next
+returns-in-Ok-clause-next g c =
+    let f = c.in-Ok.ensures.known in
+    ap shown_memory c.set_request.ensures
+    ∙ command_shown f.sound f.ports f.memory c.in-Ok.r c.args.request c.in-Ok.ensures.found c.args.command c.args.secs c.args.micros
+    ∙ ap (on_heap (with_command c.args.command c.args.secs c.args.micros c.args.request)) c.self.view_is

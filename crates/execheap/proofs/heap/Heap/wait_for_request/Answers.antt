@@ -1,0 +1,27 @@
+-- The task looks for the request that is shown, and its reply is taken.
+use Rattle.std.proofs.Common.{ap, ◌∙◌}
+use Rattle.execlist.specs.Pool.{Pooled}
+use Rattle.iorequest.specs.declared.request.Request.{Request}
+use Rattle.iorequest.specs.Requests.{request_at}
+use Rattle.execmodel.specs.State.{Memory, on_heap}
+use Rattle.execheap.specs.Listing.{awaited_for, taken_if_replied}
+use Rattle.execheap.specs.Numbered.{Numbered, shown_heap, shown_memory}
+use Rattle.execheap.specs.Requesting.{looked_for}
+use Rattle.execheap.proofs.RequestAnswers.{looked_shown, requests_out, taken_if_shown}
+use Rattle.execheap.proofs.heap.Heap.wait_for_request.Goals as goal
+
+pub returns-in-Ok-clause-answer : goal.returns-in-Ok-clause-answer
+returns-in-Ok-clause-answer g c =
+    let s = c.self.inside.objects in
+    c.looked_for.ensures
+    ∙ ap (λ (x : Numbered). looked_for (request_at c.in-Ok.r x.requests) c.in-Ok.bit) c.take_reply.ensures
+    ∙ ap (λ (m : Pooled Request). looked_for (request_at c.in-Ok.r m) c.in-Ok.bit) (requests_out (request_at c.in-Ok.r s.requests).state c.in-Ok.r s)
+    ∙ looked_shown (request_at c.in-Ok.r s.requests) c.in-Ok.bit c.args.request (shown_heap s) c.in-Ok.ensures.content c.in-Ok.ensures.bit
+    ∙ ap (λ (m : Memory). awaited_for c.args.request m.heap) c.self.view_is
+
+pub returns-in-Ok-clause-next : goal.returns-in-Ok-clause-next
+returns-in-Ok-clause-next g c =
+    let f = c.in-Ok.ensures.known in
+    ap shown_memory c.take_reply.ensures
+    ∙ taken_if_shown f.sound f.ports f.memory c.in-Ok.r c.args.request c.in-Ok.ensures.found c.in-Ok.ensures.queued
+    ∙ ap (on_heap (taken_if_replied c.args.request)) c.self.view_is

@@ -1,0 +1,39 @@
+-- The object is freed where it is shown.
+use Rattle.std.proofs.Common.{ap, is_some, sym, subst, ◌∙◌}
+use Rattle.execlist.specs.Lists.{home}
+use Rattle.execlist.specs.Pool.{slot}
+use Rattle.iorequest.specs.Request.{is_under_way}
+use Rattle.iorequest.specs.Requests.{request_at}
+use Rattle.execmodel.specs.Memory.{freed}
+use Rattle.execheap.specs.declared.kind.Kind.TheVariants as variant
+use Rattle.execheap.specs.Numbered.{IsKnown, Numbered, message_of_request, places, shown_memory}
+use Rattle.execheap.proofs.KeptRequests.{live_request}
+use Rattle.execheap.proofs.RequestCalls.{not_refused}
+use Rattle.execheap.proofs.RequestsMade.{request_freed_kept, request_freed_shown}
+use Rattle.execheap.proofs.objects.Objects.free_request.Goals as goal
+
+pub delete-requires : goal.delete-requires
+delete-requires g c =
+    live_request c.self.invariant c.args.r (ap is_some (ap (λ s. slot (places variant.Request s) c.args.r) c.self.view_is ∙ c.requires.live))
+
+pub invariant_of-self : goal.invariant_of-self
+invariant_of-self g c =
+    let free = c.free.ensures in
+    request_freed_kept c.self.invariant free.sound free.memory c.args.r c.args.address
+    (ap (λ s. slot (places variant.Request s) c.args.r) c.self.view_is ∙ c.requires.live)
+    (ap (λ (s : Numbered). is_under_way (request_at c.args.r s.requests)) c.self.view_is ∙ c.requires.rests)
+    (ap (λ (s : Numbered). home s.ports.places (message_of_request c.args.r s)) c.self.view_is ∙ c.requires.loose)
+    c.free.new.self c.delete.new.self free.next
+    (not_refused _ _ _ _ _ _ _ c.delete.ensures.answer c.unwrap.ensures c.delete.ensures.next)
+
+pub returns : goal.returns
+returns g c =
+    let known = subst IsKnown (sym c.self.view_is) c.facts.ensures in
+    let free = c.free.ensures in
+    request_freed_shown c.self.invariant free.sound free.memory c.args.r c.args.address
+    (ap (λ s. slot (places variant.Request s) c.args.r) c.self.view_is ∙ c.requires.live)
+    (ap (λ (s : Numbered). is_under_way (request_at c.args.r s.requests)) c.self.view_is ∙ c.requires.rests)
+    (ap (λ (s : Numbered). home s.ports.places (message_of_request c.args.r s)) c.self.view_is ∙ c.requires.loose)
+    c.free.new.self c.delete.new.self free.next
+    (not_refused _ _ _ _ _ _ _ c.delete.ensures.answer c.unwrap.ensures c.delete.ensures.next) known.ports
+    ∙ ap (λ s. freed c.args.address (shown_memory s)) c.self.view_is

@@ -1,0 +1,29 @@
+-- A request may begin where it may by number.
+use Rattle.std.proofs.Common.{ap, sym, ◌∙◌}
+use Rattle.iorequest.specs.Request.{is_open}
+use Rattle.iorequest.specs.Requests.{request_at}
+use Rattle.execheap.specs.Numbered.{shown_heap}
+use Rattle.execheap.proofs.RequestAlerts.{begin_found, begin_refused, begin_shut, reply_shown}
+use Rattle.execheap.proofs.objects.Objects.request_to_begin.Goals as goal
+
+pub returns-in-Err-clause-alert : goal.returns-in-Err-clause-alert
+returns-in-Err-clause-alert g c = sym (begin_refused c.args.request (shown_heap c.args.self.now) (sym c.in-Err.ensures.alert))
+
+pub returns-then-not-open-clause-alert : goal.returns-then-not-open-clause-alert
+returns-then-not-open-clause-alert g c =
+    sym (begin_shut c.args.request (shown_heap c.args.self.now) (request_at c.in-Ok.r c.args.self.now.requests) c.in-Ok.ensures.content
+    (sym c.in-Ok.ensures.alert) (ap (λ x. is_open (request_at c.in-Ok.r x)) (sym c.requests.ensures) ∙ sym c.is_open-open.ensures ∙ c.if-not-open.true))
+
+pub returns-then-queued-clause-alert : goal.returns-then-queued-clause-alert
+returns-then-queued-clause-alert g c =
+    let f = c.in-Ok.ensures.known in
+    sym (begin_found c.args.request (shown_heap c.args.self.now) (request_at c.in-Ok.r c.args.self.now.requests) c.in-Ok.ensures.content
+    (sym c.in-Ok.ensures.alert) (ap (λ x. is_open (request_at c.in-Ok.r x)) (sym c.requests.ensures) ∙ sym c.is_open-open.ensures ∙ c.if-not-open.false)
+    (reply_shown f.sound f.ports c.in-Ok.r c.args.request c.in-Ok.ensures.found ∙ sym c.is_reply_queued-queued.ensures.value ∙ c.if-queued.true))
+
+pub returns-else-queued-clause-alert : goal.returns-else-queued-clause-alert
+returns-else-queued-clause-alert g c =
+    let f = c.in-Ok.ensures.known in
+    sym (begin_found c.args.request (shown_heap c.args.self.now) (request_at c.in-Ok.r c.args.self.now.requests) c.in-Ok.ensures.content
+    (sym c.in-Ok.ensures.alert) (ap (λ x. is_open (request_at c.in-Ok.r x)) (sym c.requests.ensures) ∙ sym c.is_open-open.ensures ∙ c.if-not-open.false)
+    (reply_shown f.sound f.ports c.in-Ok.r c.args.request c.in-Ok.ensures.found ∙ sym c.is_reply_queued-queued.ensures.value ∙ c.if-queued.false))

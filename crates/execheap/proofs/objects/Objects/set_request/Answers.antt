@@ -1,0 +1,15 @@
+-- The request is another one that rests.
+use Rattle.std.proofs.Common.{ap, refl, ◌∙◌}
+use Rattle.iorequest.specs.Request.{is_under_way}
+use Rattle.iorequest.specs.Requests.{is_request, request_at}
+use Rattle.execheap.specs.Numbered.{Numbered}
+use Rattle.execheap.proofs.KeptRequests.{kept_set}
+use Rattle.execheap.proofs.objects.Objects.set_request.Goals as goal
+
+pub invariant_of-self : goal.invariant_of-self
+invariant_of-self g c =
+    kept_set c.self.invariant c.args.r
+    (ap (λ (s : Numbered). is_request c.args.r s.requests) c.self.view_is ∙ c.requires.live) _
+    (ap (λ (s : Numbered). is_under_way (request_at c.args.r s.requests)) c.self.view_is ∙ c.requires.rests)
+    (ap (λ (s : Numbered). is_under_way (request_at c.args.r s.requests)) c.self.view_is ∙ c.requires.rests)
+    refl _ c.set.ensures.next

@@ -1,0 +1,209 @@
+-- The clock has counted the ticks of the events: nothing but a tick moves it.
+use Rattle.std.proofs.Common.{◌≡◌, ℕ, zero, suc, ◌+◌, ◌*◌, ◌≤◌, Bool, true, false, List, [], ◌∷◌, refl, sym, ap, ◌∙◌, subst, arith}
+use Rattle.std.specs.Prelude.{if◌then◌else◌, sum_by}
+use Rattle.std.proofs.Math.Nat.{add-mul}
+use Rattle.std.proofs.lemmas.List.Sums.{sum_by-cons}
+use Rattle.softint.specs.declared.source.Source.{Source}
+use Rattle.softint.specs.declared.source.Source.TheVariants.{Vertb}
+use Rattle.taskscript.specs.declared.word.Word.{Word}
+use Rattle.taskscript.specs.declared.word.Word.TheVariants as group
+use Rattle.taskscript.specs.declared.event.Event.{Event}
+use Rattle.taskscript.specs.declared.event.Event.TheVariants.{Run, Tick, Irq}
+use Rattle.taskscript.specs.Events.{ticks as event_ticks}
+use Rattle.taskscript.specs.File.{MachineData}
+use Rattle.execmodel.specs.State.{Call, Timer, State, Outcome, quiet, andthen, booted, on_schedule}
+use Rattle.execmodel.specs.Scheduling.{rescheduled}
+use Rattle.execmodel.specs.Pending.{source_named}
+use Rattle.execmodel.specs.Keeping.{beside_plain, beside_signals, beside_nestings, beside_memory, beside_ports, beside_requests, beside_interrupts, beside_semaphores, beside_tasks}
+use Rattle.execmodel.specs.Plain.{does_plain}
+use Rattle.execmodel.specs.Signals.{does_signals}
+use Rattle.execmodel.specs.Nesting.{does_nesting}
+use Rattle.execmodel.specs.Tasks.{does_tasks}
+use Rattle.execmodel.specs.Lists.{does_lists}
+use Rattle.execmodel.specs.Memory.{does_memory}
+use Rattle.execmodel.specs.Ports.{does_ports}
+use Rattle.execmodel.specs.Semaphores.{does_semaphores}
+use Rattle.execmodel.specs.Causing.{does_interrupts}
+use Rattle.execmodel.specs.Libraries.{does_libraries}
+use Rattle.execmodel.specs.Requests.{does_requests}
+use Rattle.execmodel.specs.Step.{does, does_word, ends, switches, step, steps, request, tick, ticks, event, events, starts, run}
+use Rattle.execmodel.specs.Laws.{TheClockCountsTicks}
+use Rattle.execmodel.proofs.Heaps.{true_is_not_false}
+use Rattle.execmodel.proofs.Stopped.{step_stopped, request_stopped}
+use Rattle.execmodel.proofs.Stretches.{Relation, HoldsOfEach, clock_gains, of_request, of_step, of_starts}
+use Rattle.execmodel.proofs.Keeping.{plain_words_change_scripts, signal_words_change_signals_and_states, nesting_words_change_nestings, task_words_change_states_priorities_and_objects, list_words_change_the_memory, memory_words_change_the_memory, port_words_change_ports_signals_and_states, semaphore_words_change_states_and_objects, interrupt_words_change_what_is_caused, library_words_change_the_memory, request_words_change_requests_ports_signals_and_states}
+use Rattle.execmodel.proofs.Commands.{body_alters}
+use Rattle.execmodel.proofs.Asking.{finishing}
+use Rattle.execmodel.proofs.TidyLaw.{quietly, switches_quiet}
+
+-- ---- but for ticks the clock stands
+
+-- the clock, and what it gains at a tick, are the same
+abbrev Stands : Relation
+Stands old marks new = (new.memory.timer.clock ≡ old.memory.timer.clock) × (new.memory.timer.tick_micros ≡ old.memory.timer.tick_micros)
+
+-- what a group leaves as it is has the clock
+left : (part : State → State) → ((x : State) → (part x).memory.timer.clock ≡ x.memory.timer.clock)
+    → ((x : State) → (part x).memory.timer.tick_micros ≡ x.memory.timer.tick_micros) → (s : State) (o : Outcome) → part o.state ≡ part s
+    → Stands s o.marks o.state
+left part clock micros s o e = (
+  sym (clock o.state) ∙ ap (λ (x : State). x.memory.timer.clock) e ∙ clock s,
+  sym (micros o.state) ∙ ap (λ (x : State). x.memory.timer.tick_micros) e ∙ micros s,
+)
+
+word_stands : (word : Word) (t : ℕ) (call : Call) (s : State) → Stands s (does_word word t call s).marks (does_word word t call s).state
+word_stands (group.Plain word) t call s = left (beside_plain t) (λ x. refl) (λ x. refl) s (does_plain word t call s) (plain_words_change_scripts word t call s)
+word_stands (group.Signals word) t call s = left beside_signals (λ x. refl) (λ x. refl) s (does_signals word t call s) (signal_words_change_signals_and_states word t call s)
+word_stands (group.Nesting word) t call s = left beside_nestings (λ x. refl) (λ x. refl) s (does_nesting word t call s) (nesting_words_change_nestings word t call s)
+word_stands (group.Tasks word) t call s = left beside_tasks (λ x. refl) (λ x. refl) s (does_tasks word t call s) (task_words_change_states_priorities_and_objects word t call s)
+word_stands (group.Lists word) t call s = left beside_memory (λ x. refl) (λ x. refl) s (does_lists word t call s) (list_words_change_the_memory word t call s)
+word_stands (group.Memory word) t call s = left beside_memory (λ x. refl) (λ x. refl) s (does_memory word t call s) (memory_words_change_the_memory word t call s)
+word_stands (group.Ports word) t call s = left beside_ports (λ x. refl) (λ x. refl) s (does_ports word t call s) (port_words_change_ports_signals_and_states word t call s)
+word_stands (group.Semaphores word) t call s = left beside_semaphores (λ x. refl) (λ x. refl) s (does_semaphores word t call s) (semaphore_words_change_states_and_objects word t call s)
+word_stands (group.Interrupts word) t call s = left beside_interrupts (λ x. refl) (λ x. refl) s (does_interrupts word t call s) (interrupt_words_change_what_is_caused word t call s)
+word_stands (group.Libraries word) t call s = left beside_memory (λ x. refl) (λ x. refl) s (does_libraries word t call s) (library_words_change_the_memory word t call s)
+word_stands (group.Requests word) t call s = left beside_requests (λ x. refl) (λ x. refl) s (does_requests word t call s) (request_words_change_requests_ports_signals_and_states word t call s)
+
+stands : HoldsOfEach Stands
+unfolding ends does
+stands = record {
+  interrupting = record {
+    nothing = λ s. (refl, refl);
+    joined = λ s some r more q first next. (next.0 ∙ first.0, next.1 ∙ first.1);
+    commanding = λ name command s. (
+      ap (λ (timer : Timer). timer.clock) (body_alters name command s).timer,
+      ap (λ (timer : Timer). timer.tick_micros) (body_alters name command s).timer,
+    );
+    pending = λ f s. (refl, refl);
+    finishing = λ request s due. ((finishing request s due).clock, (finishing request s due).tick_micros);
+    ticking = λ s. (refl, refl);
+    switching = λ s. quietly Stands s (switches s) (on_schedule rescheduled s) (switches_quiet s) (refl, refl);
+  };
+  adding = λ t s less. (refl, refl);
+  calling = λ t call s runs is. word_stands call.word t call s;
+  ending = λ t s runs. (refl, refl);
+}
+
+-- ---- so many ticks
+
+-- The clock has gained so many ticks, unless an alert has stopped the machine; and it has not gained more. A machine that still goes on went on
+-- before.
+record Gains (n : ℕ) (s r : State) : Type 0 where
+  micros : r.memory.timer.tick_micros ≡ s.memory.timer.tick_micros
+  going : r.stopped ≡ false → r.memory.timer.clock ≡ s.memory.timer.clock + n * s.memory.timer.tick_micros
+  most : r.memory.timer.clock ≤ s.memory.timer.clock + n * s.memory.timer.tick_micros
+  before : r.stopped ≡ false → s.stopped ≡ false
+
+gains_none : (s r : State) → (r.memory.timer.clock ≡ s.memory.timer.clock) × (r.memory.timer.tick_micros ≡ s.memory.timer.tick_micros)
+    → (r.stopped ≡ false → s.stopped ≡ false) → Gains 0 s r
+gains_none s r same before = record {
+  micros = same.1;
+  going = λ on. same.0 ∙ add_none s.memory.timer.clock s.memory.timer.tick_micros;
+  most = let e = same.0 ∙ add_none s.memory.timer.clock s.memory.timer.tick_micros in omega (arith, e);
+  before = before;
+}
+  where
+    add_none : (clock micros : ℕ) → clock ≡ clock + 0 * micros
+    add_none clock micros = omega arith
+
+gains_more : (n m : ℕ) (s r q : State) → Gains n s r → Gains m r q → Gains (n + m) s q
+gains_more n m s r q first next = record {
+  micros = next.micros ∙ first.micros;
+  going = λ on.
+      let one = first.going (next.before on) in
+      let two = next.going on ∙ ap (λ k. r.memory.timer.clock + m * k) first.micros in
+      let sum = add-mul n m s.memory.timer.tick_micros in
+      omega (arith, one, two, sum);
+  most =
+      let one = first.most in
+      let two = subst (λ k. q.memory.timer.clock ≤ r.memory.timer.clock + m * k) first.micros next.most in
+      let sum = add-mul n m s.memory.timer.tick_micros in
+      omega (arith, one, two, sum);
+  before = λ on. first.before (next.before on);
+}
+
+-- an action that leaves a stopped machine as it is
+went_on : (next : State → Outcome) (s : State) → (s.stopped ≡ true → next s ≡ quiet s) → (next s).state.stopped ≡ false → s.stopped ≡ false
+went_on next s stays on = tested s.stopped refl
+  where
+    tested : (b : Bool) → s.stopped ≡ b → s.stopped ≡ false
+    tested true e = true_is_not_false (sym e ∙ sym (ap (λ (o : Outcome). o.state.stopped) (stays e)) ∙ on)
+    tested false e = e
+
+step_gains : (s : State) → Gains 0 s (step s).state
+step_gains s = gains_none s (step s).state (of_step Stands stands s) (went_on step s (step_stopped s))
+
+asked_gains : (source : Source) (s : State) → Gains 0 s (request source s).state
+asked_gains source s = gains_none s (request source s).state (of_request Stands stands.interrupting source s) (went_on (request source) s (request_stopped source s))
+
+tick_gains : (s : State) → Gains 1 s (tick s).state
+unfolding tick
+tick_gains s = tested s.stopped refl
+  where
+    once : (clock micros : ℕ) → clock + micros ≡ clock + 1 * micros
+    once clock micros = omega arith
+
+    most_once : (clock micros : ℕ) → clock ≤ clock + 1 * micros
+    most_once clock micros = omega arith
+
+    tested : (b : Bool) → s.stopped ≡ b → Gains 1 s (if b then quiet s else request Vertb (clock_gains s)).state
+    tested true e = record {
+      micros = refl;
+      going = λ on. true_is_not_false (sym e ∙ on);
+      most = most_once s.memory.timer.clock s.memory.timer.tick_micros;
+      before = λ on. on;
+    }
+    tested false e =
+        let same = of_request Stands stands.interrupting Vertb (clock_gains s) in
+        let now = same.0 ∙ once s.memory.timer.clock s.memory.timer.tick_micros in
+        record { micros = same.1; going = λ on. now; most = omega (arith, now); before = λ on. e }
+
+steps_gain : (n : ℕ) (s : State) → Gains 0 s (steps n s).state
+unfolding steps andthen
+steps_gain zero s = gains_none s s (refl, refl) (λ on. on)
+steps_gain (suc n) s = gains_more 0 0 s (steps n s).state (step (steps n s).state).state (steps_gain n s) (step_gains (steps n s).state)
+
+ticks_gain : (n : ℕ) (s : State) → Gains n s (ticks n s).state
+unfolding ticks andthen
+ticks_gain zero s = gains_none s s (refl, refl) (λ on. on)
+ticks_gain (suc n) s =
+    let r = (ticks n s).state in
+    let e : n + 1 ≡ suc n = omega arith in
+    subst (λ k. Gains k s (tick r).state) e (gains_more n 1 s r (tick r).state (ticks_gain n s) (tick_gains r))
+
+event_gains : (e : Event) (s : State) → Gains (event_ticks e) s (event e s).state
+unfolding event
+event_gains (Run n) s = steps_gain n s
+event_gains (Tick n) s = ticks_gain n s
+event_gains (Irq name) s = asked_gains (source_named name) s
+
+events_gain : (list : List Event) (s : State) → Gains (sum_by event_ticks list) s (events list s).state
+unfolding events andthen
+events_gain [] s = gains_none s s (refl, refl) (λ on. on)
+events_gain (e ∷ rest) s =
+    let r = (event e s).state in
+    subst (λ n. Gains n s (events rest r).state) (sym (sum_by-cons event_ticks e rest))
+    (gains_more (event_ticks e) (sum_by event_ticks rest) s r (events rest r).state (event_gains e s) (events_gain rest r))
+
+-- ---- every run
+
+started_clock : (machine : MachineData) → Stands (booted machine) (starts (booted machine)).marks (starts (booted machine)).state
+started_clock machine = of_starts Stands stands (booted machine)
+
+pub the_clock_counts_ticks : TheClockCountsTicks
+unfolding run andthen booted
+the_clock_counts_ticks machine list is =
+    let s = (starts (booted machine)).state in
+    let begun = started_clock machine in
+    let gains = events_gain list s in
+    let clock : s.memory.timer.clock + sum_by event_ticks list * s.memory.timer.tick_micros ≡ sum_by event_ticks list * machine.tick_micros =
+    ap (λ c. c + sum_by event_ticks list * s.memory.timer.tick_micros) begun.0 ∙ ap (λ k. 0 + sum_by event_ticks list * k) begun.1
+    ∙ from_none (sum_by event_ticks list * machine.tick_micros) in
+    record {
+      ticks = gains.micros ∙ begun.1;
+      going = λ on. gains.going on ∙ clock;
+      stopped = let most = gains.most in omega (arith, most, clock);
+    }
+  where
+    from_none : (n : ℕ) → 0 + n ≡ n
+    from_none n = omega arith

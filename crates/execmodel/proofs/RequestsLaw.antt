@@ -1,0 +1,23 @@
+-- The reply port of a request that is under way lives, and just the requests that are under way wait: in every state of every run.
+use Rattle.std.proofs.Common.{sym, ap, ◌∙◌}
+use Rattle.iorequest.specs.declared.request.Request.{Request as TimerRequest}
+use Rattle.iorequest.specs.Request.{is_under_way}
+use Rattle.execmodel.specs.Agreement.{once_if}
+use Rattle.execmodel.specs.Step.{run}
+use Rattle.execmodel.specs.Laws.{ReplyPortsLive, RequestsUnderWayWait}
+use Rattle.execmodel.proofs.Posts.{post_at, is_a_port, request_is, port_is}
+use Rattle.execmodel.specs.Requests.{request_of}
+use Rattle.execmodel.proofs.TidyLaw.{tidy_in_every_state}
+
+pub reply_ports_live : ReplyPortsLive
+reply_ports_live request machine list is under =
+    let heap = (run machine list).state.memory.heap in
+    port_is (request_of request heap).port heap
+    ∙ ap (λ (q : TimerRequest). is_a_port (post_at heap q.port)) (request_is request heap)
+    ∙ (tidy_in_every_state machine list is).order.lives request
+    (ap (λ (q : TimerRequest). is_under_way q) (sym (request_is request heap)) ∙ under)
+
+pub requests_under_way_wait : RequestsUnderWayWait
+requests_under_way_wait request machine list is =
+    (tidy_in_every_state machine list is).order.waits request
+    ∙ ap (λ (q : TimerRequest). once_if (is_under_way q)) (sym (request_is request (run machine list).state.memory.heap))

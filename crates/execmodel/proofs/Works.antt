@@ -1,0 +1,519 @@
+-- What a call makes of the blocks and of the requests that wait: it makes one of a few things of the blocks, and the same requests wait; or a request
+-- asks something else, or is replied; or its reply is taken out of its port.
+use Rattle.std.proofs.Common.{◌≡◌, ◌≢◌, ℕ, ◌+◌, ◌<◌, Bool, true, false, List, [], ◌∷◌, ◌++◌, Option, None, Some, refl, sym, ap, ◌∙◌, subst, arith}
+use Rattle.std.specs.Prelude.{ℤ, negsuc, not, cond, ◌&&◌, ◌||◌, ◌==◌, if◌then◌else◌, nat_eq}
+use Rattle.std.specs.List.{list_any}
+use Rattle.std.specs.Option.{option_map}
+use Rattle.memlist.proofs.Answered.{nat_eq-same, nat_eq-other, cases_eq, key_same, key_other}
+use Rattle.memlist.proofs.Keeping.{rising_sorted}
+use Rattle.memlist.proofs.Merged.{IsRising}
+use Rattle.memlist.proofs.Slots.{AllFrom}
+use Rattle.scheduler.specs.Schedule.{Schedule}
+use Rattle.msgport.specs.declared.action.Action.{Action}
+use Rattle.iorequest.specs.declared.request.Request.{Request as TimerRequest}
+use Rattle.iorequest.specs.declared.request.ReqState.{ReqState}
+use Rattle.iorequest.specs.declared.request.ReqState.TheVariants.{Idle, UnderWay, Quick, Replied}
+use Rattle.iorequest.specs.declared.request.Begun.{Begun}
+use Rattle.iorequest.specs.declared.request.Begun.TheVariants.{Finish, Queue}
+use Rattle.iorequest.specs.Request.{idle_request, is_under_way, is_to_wait, is_open, asks_time, told, begun, finished, done_state, outcome, reply_port}
+use Rattle.taskscript.specs.declared.word.Word.{Word}
+use Rattle.taskscript.specs.declared.word.Word.TheVariants as group
+use Rattle.taskscript.specs.declared.word.requests.RequestWord.{RequestWord}
+use Rattle.taskscript.specs.declared.word.requests.RequestWord.TheVariants as requests
+use Rattle.execmodel.specs.State.{Call, Object, Request, Block, Heap, Timer, Memory, Mark, out, put, State, Outcome, on_schedule, on_memory}
+use Rattle.execmodel.specs.Calls.{argument, done, answered, waiting, alerted, unless}
+use Rattle.execmodel.specs.Objects.{object_at, is_kind, place_for_object}
+use Rattle.execmodel.specs.Memory.{extents, block_at, placed, allocates, does_memory}
+use Rattle.execmodel.specs.Ports.{is_port_at, is_queued, has_message, messages_in, messages_of, messages_of_object, loses, performed, port_alert, wait_alert, does_ports}
+use Rattle.execmodel.specs.Semaphores.{is_tried_again, does_semaphores}
+use Rattle.execmodel.specs.Requests.{is_request, is_request_at, request_size, request_of, request_of_object, with_request, opened_for, closed_device, with_command, is_command, request_alert, resting_alert, delete_request_alert, set_io_alert, can_begin, begin_alert, send_alert, do_alert, state_alert, wait_io_alert, answering_port, where_port, acting_at, appended_at, finished_at, with_reply, ended, heap_begun, timer_begun, outcome_at, begun_at, answering_begun, replying_port, reply_taken, looks_for, begins_and_looks, aborts, does_requests, does_create_io_request, does_delete_io_request, does_open_device, does_close_device, does_set_io, does_do_io, does_send_io, does_check_io, does_wait_io, does_abort_io, does_io_secs, does_io_micros, does_io_error, does_io_flags}
+use Rattle.execmodel.specs.Plain.{does_plain}
+use Rattle.execmodel.specs.Signals.{does_signals}
+use Rattle.execmodel.specs.Nesting.{does_nesting}
+use Rattle.execmodel.specs.Tasks.{does_tasks}
+use Rattle.execmodel.specs.Lists.{does_lists}
+use Rattle.execmodel.specs.Causing.{does_interrupts}
+use Rattle.execmodel.specs.Libraries.{does_libraries}
+use Rattle.execmodel.specs.Step.{does, does_word}
+use Rattle.execmodel.specs.Keeping.{beside_plain, beside_signals, beside_nestings, beside_memory, beside_ports, beside_interrupts, beside_semaphores, beside_tasks}
+use Rattle.execmodel.specs.Agreement.{once_if}
+use Rattle.execmodel.specs.Laws.{times_waiting}
+use Rattle.execmodel.proofs.Heaps.{true_is_not_false}
+use Rattle.execmodel.proofs.Keeping.{plain_words_change_scripts, signal_words_change_signals_and_states, nesting_words_change_nestings, task_words_change_states_priorities_and_objects, list_words_change_the_memory, memory_words_change_the_memory, port_words_change_ports_signals_and_states, semaphore_words_change_states_and_objects, interrupt_words_change_what_is_caused, library_words_change_the_memory}
+use Rattle.execmodel.proofs.Queues.{IsAway}
+use Rattle.execmodel.proofs.Posts.{Post, APort, post_at, messages_at, is_a_port, may_stand, IsTidy, messages_are, request_is, port_is, request_there}
+use Rattle.execmodel.proofs.Asking.{Asks, writes, IsLoose, IsRewritten, ports_written, request_written, written_again, waits_last, finished_rests, answering, reply_marks, reply_asks, ended_asks, without_reply}
+use Rattle.execmodel.proofs.Fifo.{is_away}
+use Rattle.execmodel.proofs.Commands.{none_some, passed_first, passed_other, is_port_there, performed_memory}
+use Rattle.execmodel.proofs.Moves.{Makes, MayGo, IsUnneeded, frees, stays, both_true, mail_unneeded, object_makes, plain_makes, signals_make, nesting_makes, tasks_make, lists_make, memory_makes, ports_make, semaphores_make, interrupts_make, libraries_make}
+
+pub data Works (t : ℕ) (call : Call) (s : State) (o : Outcome) : Type 0 where
+  by_moves : Makes t call s o → o.state.memory.timer.waiting ≡ s.memory.timer.waiting → Works t call s o
+  by_asking : o.state.memory.regions ≡ s.memory.regions → Asks s o.marks o.state.memory.heap o.state.memory.timer.waiting → Works t call s o
+  by_taking : (port request : ℕ) → o.state.memory.regions ≡ s.memory.regions → o.state.memory.timer.waiting ≡ s.memory.timer.waiting
+      → o.marks ≡ out port request ∷ [] → o.state.memory.heap ≡ without_reply port request s.memory.heap
+      → (IsTidy s → is_port_at port s.memory.heap ≡ true) → Works t call s o
+
+-- ---- calls that may be refused
+
+either_works : (t : ℕ) (call : Call) (s : State) (test : Bool) (o p : Outcome) → (test ≡ true → Works t call s o) → (test ≡ false → Works t call s p)
+    → Works t call s (if test then o else p)
+either_works t call s true o p one other = one refl
+either_works t call s false o p one other = other refl
+
+unless_works : (t : ℕ) (call : Call) (s : State) (alert : Option (List ℕ)) (effect : State → Outcome)
+    → (alert ≡ None → Works t call s (effect s)) → Works t call s (unless alert t call effect s)
+unfolding alerted
+unless_works t call s None effect works = works refl
+unless_works t call s (Some code) effect works = by_moves (refl, stays) refl
+
+-- ---- requests made and freed
+
+placed_waiting : (size : ℕ) (object : Object) (place : Option ℕ) (memory : Memory)
+    → (placed size object place memory).timer.waiting ≡ memory.timer.waiting
+placed_waiting size object None memory = refl
+placed_waiting size object (Some address) memory = refl
+
+created_works : (t : ℕ) (call : Call) (port : ℕ) (s : State)
+    → Works t call s (allocates t call request_size (Request (idle_request port)) (place_for_object is_request request_size s.memory) s)
+created_works t call port s =
+    by_moves (object_makes t call s is_request request_size (Request (idle_request port)) refl)
+    (unfold answered in placed_waiting request_size (Request (idle_request port)) (place_for_object is_request request_size s.memory) s.memory)
+
+request_goes : (found : Option Object) → is_under_way (request_of_object found) ≡ false → is_kind is_request found ≡ true → MayGo found
+request_goes None rests is = tt
+request_goes (Some (Request content)) rests is = rests
+request_goes (Some _) rests is = true_is_not_false (sym is)
+
+-- a request that is not under way is to be there
+is_resting_there : (request : ℕ) (heap : Heap) → resting_alert request heap ≡ None
+    → (is_request_at request heap ≡ true) × (is_under_way (request_of request heap) ≡ false)
+unfolding resting_alert
+is_resting_there request heap none =
+    let there = passed_first (is_request_at request heap) _ _ none in
+    (there.0, (passed_other (is_under_way (request_of request heap)) _ _ there.1).0)
+
+is_settable_there : (command request : ℕ) (heap : Heap) → set_io_alert command request heap ≡ None
+    → (is_request_at request heap ≡ true) × (is_under_way (request_of request heap) ≡ false)
+unfolding set_io_alert
+is_settable_there command request heap none =
+    let there = passed_first (is_request_at request heap) _ _ none in
+    let value = passed_first (is_command command) _ _ there.1 in
+    (there.0, (passed_other (is_under_way (request_of request heap)) _ _ value.1).0)
+
+goes_there : (request : ℕ) (heap : Heap) → delete_request_alert request heap ≡ None → MayGo (object_at request heap) × IsUnneeded request heap
+unfolding delete_request_alert
+goes_there request heap none =
+    let there = passed_first (is_request_at request heap) _ _ none in
+    let rests = passed_other (is_under_way (request_of request heap)) _ _ there.1 in
+    let loose = passed_other (is_queued request heap) _ _ rests.1 in (
+      request_goes (object_at request heap) (unfold request_of in rests.0) (unfold is_request_at in there.0),
+      mail_unneeded request heap (ap is_a_port (request_there request heap there.0)) loose.0,
+    )
+
+-- ---- a request that is not under way, before and after
+
+resting_rewritten : (request : ℕ) (content : TimerRequest) (s : State) → is_request_at request s.memory.heap ≡ true
+    → content.port ≡ (request_of request s.memory.heap).port → is_under_way (request_of request s.memory.heap) ≡ false → is_under_way content ≡ false
+    → IsTidy s → IsRewritten request content s.memory.timer.waiting s
+resting_rewritten request content s there port was rests tidy = record {
+  there = there;
+  port = port;
+  once = tidy.order.waits request
+      ∙ ap once_if (ap (λ (q : TimerRequest). is_under_way q) (sym (request_is request s.memory.heap)) ∙ was ∙ sym rests);
+  others = λ other apart. refl;
+  begins = λ under. true_is_not_false (sym under ∙ rests);
+}
+
+-- ---- a request begins
+
+-- it is there, not under way, stands in no port, and its reply port lives
+record MayBegin (request : ℕ) (heap : Heap) : Type 0 where
+  there : is_request_at request heap ≡ true
+  rests : is_under_way (request_of request heap) ≡ false
+  loose : is_queued request heap ≡ false
+  lives : is_port_at (request_of request heap).port heap ≡ true
+
+not_true : (b : Bool) → not b ≡ true → b ≡ false
+not_true true e = sym e
+not_true false e = refl
+
+may_begin : (of_port : Option (List ℕ)) (request : ℕ) (heap : Heap) → begin_alert of_port request heap ≡ None
+    → (of_port ≡ None → is_port_at (request_of request heap).port heap ≡ true) → MayBegin request heap
+may_begin of_port request heap none port =
+    let there = passed_first (is_request_at request heap) _ _ none in
+    let can = passed_first (can_begin (request_of request heap)) _ _ there.1 in
+    let loose = passed_other (is_queued request heap) _ _ can.1 in
+    record {
+      there = there.0;
+      rests = both_true (not (is_under_way (request_of request heap))) (is_open (request_of request heap)) can.0
+          (λ one other. not_true (is_under_way (request_of request heap)) one);
+      loose = loose.0;
+      lives = port loose.1;
+    }
+
+may_send : (request : ℕ) (heap : Heap) → send_alert request heap ≡ None → MayBegin request heap
+unfolding send_alert
+may_send request heap none =
+    may_begin (port_alert (request_of request heap).port heap) request heap none (is_port_there (request_of request heap).port heap)
+
+is_awaitable_there : (t port : ℕ) (heap : Heap) → wait_alert t port heap ≡ None → is_port_at port heap ≡ true
+unfolding wait_alert
+is_awaitable_there t port heap none = (passed_first (is_port_at port heap) _ _ none).0
+
+may_do : (t request : ℕ) (heap : Heap) → do_alert t request heap ≡ None → MayBegin request heap
+unfolding do_alert
+may_do t request heap none =
+    may_begin (wait_alert t (request_of request heap).port heap) request heap none (is_awaitable_there t (request_of request heap).port heap)
+
+told_port : (now : ℕ) (q : TimerRequest) → (told now q).port ≡ q.port
+told_port now q = tested (asks_time q) _ _
+  where
+    tested : (b : Bool) (secs micros : ℕ) → (if b then record q { secs = secs; micros = micros } else q).port ≡ q.port
+    tested true secs micros = refl
+    tested false secs micros = refl
+
+-- a request that is to wait is queued, and any other finishes at once
+is_finish : Begun → Bool
+is_finish (Finish error) = true
+is_finish (Queue due) = false
+
+now_tested : (b : Bool) (due : ℕ) (error other : ℤ) → (if b then Queue due else Finish error) ≡ Finish other → b ≡ false
+unfolding is_finish
+now_tested true due error other e = let bad : true ≡ false = sym (ap is_finish e) in true_is_not_false bad
+now_tested false due error other e = refl
+
+finishes_now : (now : ℕ) (q : TimerRequest) (error : ℤ) → outcome now q ≡ Finish error → is_to_wait q ≡ false
+finishes_now now q error e = now_tested (is_to_wait q) _ _ error e
+
+module _ (quick : Bool) (request : ℕ) (s : State) (may : MayBegin request s.memory.heap) where
+  -- the request as it is begun, and the blocks with it
+  abbrev fresh : TimerRequest
+  fresh = begun quick s.memory.timer.clock (request_of request s.memory.heap)
+
+  abbrev mid : Heap
+  mid = with_request request fresh s.memory.heap
+
+  same_port : fresh.port ≡ (request_of request s.memory.heap).port
+  same_port = told_port s.memory.timer.clock (request_of request s.memory.heap)
+
+  is_begun : request_of request mid ≡ fresh
+  is_begun = request_written request fresh s.memory.heap may.there
+
+  queue_rewritten : (due : ℕ) → IsTidy s
+      → IsRewritten request fresh (s.memory.timer.waiting ++ record { request = request; due = due } ∷ []) s
+  queue_rewritten due tidy = record {
+    there = may.there;
+    port = same_port;
+    once = waits_last request s.memory.timer.waiting (record { request = request; due = due })
+        ∙ ap (λ n. n + once_if (nat_eq request request))
+        (tidy.order.waits request ∙ ap once_if (ap (λ (q : TimerRequest). is_under_way q) (sym (request_is request s.memory.heap)) ∙ may.rests))
+        ∙ ap (λ b. 0 + once_if b) (nat_eq-same request);
+    others = λ other apart.
+        waits_last other s.memory.timer.waiting (record { request = request; due = due })
+        ∙ ap (λ b. times_waiting other s.memory.timer.waiting + once_if b) (nat_eq-other other request apart)
+        ∙ and_none (times_waiting other s.memory.timer.waiting);
+    begins = λ under. (
+      λ port. is_away request port s.memory.heap may.loose,
+      subst (λ port. is_port_at port s.memory.heap ≡ true) (sym same_port) may.lives,
+    );
+  }
+    where
+      and_none : (n : ℕ) → n + 0 ≡ n
+      and_none n = omega arith
+
+  -- one that finishes at once is written once
+  finish_written : (error : ℤ)
+      → with_request request (finished error (request_of request mid)) mid ≡ with_request request (finished error fresh) s.memory.heap
+  finish_written error =
+      ap (λ q. with_request request (finished error q) mid) is_begun
+      ∙ written_again request fresh (finished error fresh) s.memory.heap may.there
+
+  finish_asks : (error : ℤ)
+      → Asks s (reply_marks (answering_port request mid) request) (finished_at error request mid) s.memory.timer.waiting
+  unfolding finished_at
+  finish_asks error =
+      subst (λ heap. Asks s (reply_marks (answering_port request mid) request) (appended_at (answering_port request mid) request heap) s.memory.timer.waiting)
+      (sym (finish_written error))
+      (reply_asks (answering_port request mid) request (finished error fresh) s.memory.timer.waiting s
+      (λ port e. let there = answering request port mid e in (
+        sym (ports_written request fresh s.memory.heap port) ∙ there.0,
+        ap (λ (q : TimerRequest). q.port) (sym is_begun) ∙ there.1,
+      ))
+      (finished_rests error fresh) (λ tidy port. is_away request port s.memory.heap may.loose)
+      (resting_rewritten request (finished error fresh) s may.there same_port may.rests (finished_rests error fresh)))
+
+  begin_asks : (how : Begun)
+      → Asks s (reply_marks (answering_begun how quick s.memory.timer.clock request s.memory.heap) request)
+      (heap_begun how quick s.memory.timer.clock request s.memory.heap) (timer_begun how request s.memory.timer).waiting
+  begin_asks (Queue due) = writes request fresh _ (queue_rewritten due)
+  begin_asks (Finish error) = finish_asks error
+
+-- A request that is begun with its quick bit set is not replied at once.
+is_replied : ReqState → Bool
+is_replied Replied = true
+is_replied _ = false
+
+module _ (request : ℕ) (s : State) (may : MayBegin request s.memory.heap) where
+  abbrev asked : TimerRequest
+  asked = begun true s.memory.timer.clock (request_of request s.memory.heap)
+
+  abbrev under : Heap
+  under = with_request request asked s.memory.heap
+
+  record IsQuiet (how : Begun) : Type 0 where
+    answers_none : answering_begun how true s.memory.timer.clock request s.memory.heap ≡ None
+    none_replied : is_replied (request_of request (heap_begun how true s.memory.timer.clock request s.memory.heap)).state ≡ false
+
+  quick_quiet : (error : ℤ) → asked.quick ≡ true → IsQuiet (Finish error)
+  unfolding finished_at answering_port is_replied
+  quick_quiet error quick =
+      let none : answering_port request under ≡ None =
+      ap (λ q. where_port (reply_port q) under) (is_begun true request s may) ∙ ap (λ b. where_port (if b then None else Some asked.port) under) quick in
+      record {
+        answers_none = none;
+        none_replied = ap (λ found. is_replied (request_of request (appended_at found request (with_request request (finished error (request_of request under)) under))).state) none
+            ∙ ap (λ heap. is_replied (request_of request heap).state) (finish_written true request s may error)
+            ∙ ap (λ (q : TimerRequest). is_replied q.state) (request_written request (finished error asked) s.memory.heap may.there)
+            ∙ ap (λ b. is_replied (done_state b)) quick;
+      }
+
+  do_quiet : (how : Begun) → outcome_at request s.memory ≡ how → IsQuiet how
+  unfolding is_replied
+  do_quiet (Queue due) e =
+      record { answers_none = refl; none_replied = ap (λ (q : TimerRequest). is_replied q.state) (is_begun true request s may) }
+  do_quiet (Finish error) e =
+      quick_quiet error (ap (λ b. true && not b) (finishes_now s.memory.timer.clock (request_of request s.memory.heap) error e))
+
+-- ---- how calls end that begin a request, or end it
+
+replied_works : (found : Option ℕ) (request t : ℕ) (call : Call) (s : State) (o : Outcome) → o.marks ≡ []
+    → o.state.memory.regions ≡ s.memory.regions → Asks s (reply_marks found request) o.state.memory.heap o.state.memory.timer.waiting
+    → Works t call s (with_reply found request o)
+replied_works None request t call s o none regions asks =
+    by_asking regions (subst (λ marks. Asks s marks o.state.memory.heap o.state.memory.timer.waiting) (sym none) asks)
+replied_works (Some port) request t call s o none regions asks =
+    by_asking regions
+    (subst (λ marks. Asks s marks o.state.memory.heap o.state.memory.timer.waiting) (sym (ap (λ marks. put port request ∷ marks) none)) asks)
+
+-- the memory is another one, and then a port acts
+acted_asks : (act : Action) (marks : List Mark) (s : State) (memory : Memory) → Asks s marks memory.heap memory.timer.waiting
+    → Asks s marks (performed act (record s { memory = memory })).memory.heap (performed act (record s { memory = memory })).memory.timer.waiting
+acted_asks act marks s memory asks =
+    subst (λ (m : Memory). Asks s marks m.heap m.timer.waiting) (sym (performed_memory act (record s { memory = memory }))) asks
+
+acted_regions : (act : Action) (s : State) (memory : Memory) → memory.regions ≡ s.memory.regions
+    → (performed act (record s { memory = memory })).memory.regions ≡ s.memory.regions
+acted_regions act s memory same = ap (λ (m : Memory). m.regions) (performed_memory act (record s { memory = memory })) ∙ same
+
+sends_works : (t : ℕ) (call : Call) (request : ℕ) (s : State) → MayBegin request s.memory.heap
+    → Works t call s (with_reply (replying_port false request s.memory) request
+    (done t call (performed (acting_at (replying_port false request s.memory) s.memory.heap) (on_memory (begun_at false request) s))))
+unfolding done replying_port begun_at
+sends_works t call request s may =
+    let port = replying_port false request s.memory in
+    let act = acting_at port s.memory.heap in
+    replied_works port request t call s (done t call (performed act (on_memory (begun_at false request) s))) refl
+    (acted_regions act s (begun_at false request s.memory) refl)
+    (acted_asks act (reply_marks port request) s (begun_at false request s.memory) (begin_asks false request s may (outcome_at request s.memory)))
+
+aborts_works : (test : Bool) (t : ℕ) (call : Call) (request : ℕ) (s : State) → is_under_way (request_of request s.memory.heap) ≡ test
+    → Works t call s (aborts test request t call s)
+unfolding answered
+aborts_works true t call request s e =
+    let port = answering_port request s.memory.heap in
+    let act = acting_at port s.memory.heap in
+    replied_works port request t call s (answered t call 0 (performed act (on_memory (ended (negsuc 1) request) s))) refl
+    (acted_regions act s (ended (negsuc 1) request s.memory) (unfold ended in refl))
+    (acted_asks act (reply_marks port request) s (ended (negsuc 1) request s.memory) (ended_asks (negsuc 1) request s (λ tidy. e)))
+aborts_works false t call request s e = by_moves (refl, stays) refl
+
+-- ---- a reply that is queued stands in the reply port
+
+-- the messages of the port at the address of the first entry, and of any other
+messages_in_block : Option Block → List ℕ
+messages_in_block found = messages_of_object (option_map (λ (block : Block). block.object) found)
+
+at_entry : (entry : ℕ × Block) (rest : Heap) → messages_of entry.0 (entry ∷ rest) ≡ messages_in entry.1.object
+unfolding messages_of messages_in_block
+at_entry entry rest = ap (λ b. messages_in_block (cond b (Some entry.1) (block_at entry.0 rest))) (key_same entry.0)
+
+behind_entry : (a : ℕ) (entry : ℕ × Block) (rest : Heap) → a ≢ entry.0 → messages_of a (entry ∷ rest) ≡ messages_of a rest
+unfolding messages_of messages_in_block
+behind_entry a entry rest apart = ap (λ b. messages_in_block (cond b (Some entry.1) (block_at a rest))) (key_other a entry.0 apart)
+
+-- no port begins below all entries
+none_below : (a low : ℕ) (heap : Heap) → a < low → AllFrom low (extents heap) → messages_of a heap ≡ []
+none_below a low [] below from = unfold messages_of in refl
+none_below a low (entry ∷ rest) below from =
+    let apart : a ≢ entry.0 = omega (arith, below, from.0) in behind_entry a entry rest apart ∙ none_below a low rest below from.1
+
+away_none : (who : ℕ) (q : List ℕ) → IsAway who q → list_any (λ other. other == who) q ≡ false
+away_none who [] away = refl
+away_none who (x ∷ q) away =
+    ap (λ b. b || list_any (λ other. other == who) q) (nat_eq-other x who (λ same. away.0 (sym same))) ∙ away_none who q away.1
+
+unqueued : (who : ℕ) (heap : Heap) → IsRising (extents heap) → IsLoose who heap → list_any (has_message who) heap ≡ false
+unqueued who [] rising loose = refl
+unqueued who (entry ∷ rest) rising loose =
+    ap (λ b. b || list_any (has_message who) rest)
+    (away_none who (messages_in entry.1.object) (subst (λ q. IsAway who q) (at_entry entry rest) (loose entry.0)))
+    ∙ unqueued who rest rising.1
+    (λ a. cases_eq a entry.0
+    (λ same. subst (λ q. IsAway who q) (sym (none_below a (entry.0 + 1) rest (omega (arith, same)) rising.0)) tt)
+    (λ apart. subst (λ q. IsAway who q) (behind_entry a entry rest apart) (loose a)))
+
+no_messages : (x : Post) → is_a_port x ≡ false → messages_at x ≡ []
+no_messages (APort messages) e = true_is_not_false e
+no_messages _ e = refl
+
+and_false : (b c : Bool) → c ≡ false → (b && c) ≡ false
+and_false true c e = e
+and_false false c e = refl
+
+pub queued_lives : (request : ℕ) (s : State) → is_request_at request s.memory.heap ≡ true → is_queued request s.memory.heap ≡ true → IsTidy s
+    → is_port_at (request_of request s.memory.heap).port s.memory.heap ≡ true
+unfolding is_queued
+queued_lives request s there queued tidy = tested (is_port_at (request_of request s.memory.heap).port s.memory.heap) refl
+  where
+    loose : is_port_at (request_of request s.memory.heap).port s.memory.heap ≡ false → IsLoose request s.memory.heap
+    loose dead a =
+        let heap = s.memory.heap in
+        subst (λ q. IsAway request q) (sym (messages_are a heap))
+        (cases_eq a (request_of request heap).port
+        (λ same. subst (λ q. IsAway request q)
+        (sym (no_messages (post_at heap a) (ap (λ k. is_a_port (post_at heap k)) same ∙ sym (port_is (request_of request heap).port heap) ∙ dead))) tt)
+        (λ apart. tidy.order.stands request a
+        (ap (may_stand a) (request_there request heap there)
+        ∙ and_false (not (is_under_way (request_of request heap))) (nat_eq a (request_of request heap).port)
+        (nat_eq-other a (request_of request heap).port apart))))
+
+    tested : (b : Bool) → is_port_at (request_of request s.memory.heap).port s.memory.heap ≡ b
+        → is_port_at (request_of request s.memory.heap).port s.memory.heap ≡ true
+    tested true e = e
+    tested false e =
+        true_is_not_false (sym queued ∙ unqueued request s.memory.heap (rising_sorted (extents s.memory.heap) tidy.formed.in_order) (loose e))
+
+-- ---- a task looks for a request
+
+replied_there : (test : Bool) (code : List ℕ) → (if test then None else Some code) ≡ None → test ≡ true
+replied_there true code e = refl
+replied_there false code e = none_some e
+
+waits_works : (how : ReqState) (t : ℕ) (call : Call) (request : ℕ) (f : Schedule → Schedule) (s : State)
+    → (request_of request s.memory.heap).state ≡ how → is_request_at request s.memory.heap ≡ true → state_alert how t request s.memory.heap ≡ None
+    → Works t call s (looks_for how request t call (on_schedule f s))
+unfolding waiting answered reply_taken
+waits_works Idle t call request f s e there none = by_moves (refl, stays) refl
+waits_works UnderWay t call request f s e there none = by_moves (refl, stays) refl
+waits_works Quick t call request f s e there none = by_moves (refl, stays) refl
+waits_works Replied t call request f s e there none =
+    by_taking (request_of request s.memory.heap).port request refl refl refl refl
+    (queued_lives request s there (replied_there (is_queued request s.memory.heap) _ none))
+
+wait_io_works : (t : ℕ) (call : Call) (s : State) → Works t call s (does_wait_io t call s)
+unfolding does_wait_io wait_io_alert
+wait_io_works t call s =
+    unless_works t call s (wait_io_alert t (argument 0 call) s.memory.heap) _
+    (λ none. let there = passed_first (is_request_at (argument 0 call) s.memory.heap) _ _ none in
+    waits_works (request_of (argument 0 call) s.memory.heap).state t call (argument 0 call) (loses t call.awaited) s refl there.0 there.1)
+
+looks_works : (how : ReqState) (t : ℕ) (call : Call) (request : ℕ) (s : State) (memory : Memory) → is_replied how ≡ false
+    → memory.regions ≡ s.memory.regions → Asks s [] memory.heap memory.timer.waiting
+    → Works t call s (looks_for how request t call (record s { memory = memory }))
+unfolding waiting answered is_replied
+looks_works Idle t call request s memory quiet regions asks = by_asking regions asks
+looks_works UnderWay t call request s memory quiet regions asks = by_asking regions asks
+looks_works Quick t call request s memory quiet regions asks = by_asking regions asks
+looks_works Replied t call request s memory quiet regions asks = true_is_not_false quiet
+
+begins_works : (t : ℕ) (call : Call) (request : ℕ) (s : State) → MayBegin request s.memory.heap
+    → Works t call s (begins_and_looks request t call s)
+unfolding begun_at
+begins_works t call request s may =
+    let next = begun_at true request s.memory in
+    let quiet = do_quiet request s may (outcome_at request s.memory) refl in
+    looks_works (request_of request next.heap).state t call request s next quiet.none_replied refl
+    (subst (λ found. Asks s (reply_marks found request) next.heap next.timer.waiting) quiet.answers_none
+    (begin_asks true request s may (outcome_at request s.memory)))
+
+-- ---- the words of requests
+
+requests_work : (word : RequestWord) (t : ℕ) (call : Call) (s : State) → Works t call s (does_requests word t call s)
+unfolding does_create_io_request does_delete_io_request does_open_device does_close_device does_set_io does_do_io does_send_io does_check_io does_abort_io does_io_secs does_io_micros does_io_error does_io_flags opened_for closed_device with_command done answered
+requests_work requests.CreateIORequest t call s =
+    either_works t call s (nat_eq (argument 0 call) 0) _ _ (λ is. by_moves (refl, stays) refl)
+    (λ is. unless_works t call s (port_alert (argument 0 call) s.memory.heap) _ (λ none. created_works t call (argument 0 call) s))
+requests_work requests.DeleteIORequest t call s =
+    either_works t call s (nat_eq (argument 0 call) 0) _ _ (λ is. by_moves (refl, stays) refl)
+    (λ is. unless_works t call s (delete_request_alert (argument 0 call) s.memory.heap) _
+    (λ none. let goes = goes_there (argument 0 call) s.memory.heap none in
+    by_moves (refl, frees (argument 0 call) goes.0 goes.1) refl))
+requests_work requests.OpenDevice t call s =
+    unless_works t call s (resting_alert (argument 2 call) s.memory.heap) _
+    (λ none. let there = is_resting_there (argument 2 call) s.memory.heap none in
+    by_asking refl (writes (argument 2 call) _ _ (resting_rewritten (argument 2 call) _ s there.0 refl there.1 there.1)))
+requests_work requests.CloseDevice t call s =
+    unless_works t call s (resting_alert (argument 0 call) s.memory.heap) _
+    (λ none. let there = is_resting_there (argument 0 call) s.memory.heap none in
+    by_asking refl (writes (argument 0 call) _ _ (resting_rewritten (argument 0 call) _ s there.0 refl there.1 there.1)))
+requests_work requests.SetIO t call s =
+    unless_works t call s (set_io_alert (argument 1 call) (argument 0 call) s.memory.heap) _
+    (λ none. let there = is_settable_there (argument 1 call) (argument 0 call) s.memory.heap none in
+    by_asking refl (writes (argument 0 call) _ _ (resting_rewritten (argument 0 call) _ s there.0 refl there.1 there.1)))
+requests_work requests.DoIO t call s =
+    either_works t call s (is_tried_again t s.scripts) _ _ (λ is. wait_io_works t call s)
+    (λ is. unless_works t call s (do_alert t (argument 0 call) s.memory.heap) _
+    (λ none. begins_works t call (argument 0 call) s (may_do t (argument 0 call) s.memory.heap none)))
+requests_work requests.SendIO t call s =
+    unless_works t call s (send_alert (argument 0 call) s.memory.heap) _
+    (λ none. sends_works t call (argument 0 call) s (may_send (argument 0 call) s.memory.heap none))
+requests_work requests.CheckIO t call s =
+    unless_works t call s (request_alert (argument 0 call) s.memory.heap) _ (λ none. by_moves (refl, stays) refl)
+requests_work requests.WaitIO t call s = wait_io_works t call s
+requests_work requests.AbortIO t call s =
+    unless_works t call s (request_alert (argument 0 call) s.memory.heap) _
+    (λ none. aborts_works (is_under_way (request_of (argument 0 call) s.memory.heap)) t call (argument 0 call) s refl)
+requests_work requests.IOSecs t call s =
+    unless_works t call s (request_alert (argument 0 call) s.memory.heap) _ (λ none. by_moves (refl, stays) refl)
+requests_work requests.IOMicros t call s =
+    unless_works t call s (request_alert (argument 0 call) s.memory.heap) _ (λ none. by_moves (refl, stays) refl)
+requests_work requests.IOError t call s =
+    unless_works t call s (request_alert (argument 0 call) s.memory.heap) _ (λ none. by_moves (refl, stays) refl)
+requests_work requests.IOFlags t call s =
+    unless_works t call s (request_alert (argument 0 call) s.memory.heap) _ (λ none. by_moves (refl, stays) refl)
+
+-- ---- any word
+
+-- a word of a group that leaves the timer as it is
+grouped : (t : ℕ) (call : Call) (s : State) (part : State → State) → ((x : State) → (part x).memory.timer ≡ x.memory.timer) → (o : Outcome)
+    → Makes t call s o → part o.state ≡ part s → Works t call s o
+grouped t call s part kept o makes e =
+    by_moves makes (ap (λ (timer : Timer). timer.waiting) (sym (kept o.state) ∙ ap (λ (x : State). x.memory.timer) e ∙ kept s))
+
+word_works : (word : Word) (t : ℕ) (call : Call) (s : State) → call.word ≡ word → Works t call s (does_word word t call s)
+word_works (group.Plain word) t call s is =
+    grouped t call s (beside_plain t) (λ x. refl) (does_plain word t call s) (plain_makes word t call s) (plain_words_change_scripts word t call s)
+word_works (group.Signals word) t call s is =
+    grouped t call s beside_signals (λ x. refl) (does_signals word t call s) (signals_make word t call s) (signal_words_change_signals_and_states word t call s)
+word_works (group.Nesting word) t call s is =
+    grouped t call s beside_nestings (λ x. refl) (does_nesting word t call s) (nesting_makes word t call s) (nesting_words_change_nestings word t call s)
+word_works (group.Tasks word) t call s is =
+    grouped t call s beside_tasks (λ x. refl) (does_tasks word t call s) (tasks_make word t call s) (task_words_change_states_priorities_and_objects word t call s)
+word_works (group.Lists word) t call s is =
+    grouped t call s beside_memory (λ x. refl) (does_lists word t call s) (lists_make word t call s) (list_words_change_the_memory word t call s)
+word_works (group.Memory word) t call s is =
+    grouped t call s beside_memory (λ x. refl) (does_memory word t call s) (memory_makes word t call s) (memory_words_change_the_memory word t call s)
+word_works (group.Ports word) t call s is =
+    grouped t call s beside_ports (λ x. refl) (does_ports word t call s) (ports_make word t call s) (port_words_change_ports_signals_and_states word t call s)
+word_works (group.Semaphores word) t call s is =
+    grouped t call s beside_semaphores (λ x. refl) (does_semaphores word t call s) (semaphores_make word t call s is) (semaphore_words_change_states_and_objects word t call s)
+word_works (group.Interrupts word) t call s is =
+    grouped t call s beside_interrupts (λ x. refl) (does_interrupts word t call s) (interrupts_make word t call s) (interrupt_words_change_what_is_caused word t call s)
+word_works (group.Libraries word) t call s is =
+    grouped t call s beside_memory (λ x. refl) (does_libraries word t call s) (libraries_make word t call s is) (library_words_change_the_memory word t call s)
+word_works (group.Requests word) t call s is = requests_work word t call s
+
+pub call_works : (t : ℕ) (call : Call) (s : State) → Works t call s (does t call s)
+unfolding does
+call_works t call s = word_works call.word t call s refl

@@ -1,0 +1,398 @@
+-- Requests of timer.device (RKM Devices, Introduction to Amiga System Devices; Devices, timer device). A request never was begun, is under way,
+-- or is done: quick, or by a reply, which is the request itself, put at its reply port as a message. An address where no request begins is the
+-- alert HANDLE; a request under way where it must not be, or not begun or not open where it must be, is the alert IO; one whose reply is queued
+-- where it must not be, or the other way, is the alert LINK; a reply port that is not the caller's to wait at is the alert PORT (own choice).
+use Rattle.std.specs.Prelude.{ℕ, zero, suc, ℤ, pos, negsuc, ◌^◌, Bool, true, false, not, ◌&&◌, if◌then◌else◌, nat_eq, nat_lt, bytes_eq, length, map, unwrap_or, codes, List, [], Option, None, Some}
+use Rattle.std.specs.Int.{cast_unsigned, w32}
+use Rattle.exectrace.specs.Trace.{Timer}
+use Rattle.execlist.specs.Order.{without}
+use Rattle.msgport.specs.declared.action.Action.{Action}
+use Rattle.msgport.specs.declared.action.Action.TheVariants as action
+use Rattle.msgport.specs.Port.{acting}
+use Rattle.scheduler.specs.Schedule.{clears_and_waits}
+use Rattle.iorequest.specs.declared.request.Request.{Request as TimerRequest}
+use Rattle.iorequest.specs.declared.request.ReqState.{ReqState}
+use Rattle.iorequest.specs.declared.request.ReqState.TheVariants.{Idle, UnderWay, Quick, Replied}
+use Rattle.iorequest.specs.declared.request.Begun.{Begun}
+use Rattle.iorequest.specs.declared.request.Begun.TheVariants.{Finish, Queue}
+use Rattle.iorequest.specs.Request.{idle_request, is_open, is_under_way, begun, finished, outcome, reply_port}
+use Rattle.iorequest.specs.Requests.{is_unit, unit_error}
+use Rattle.taskscript.specs.declared.word.requests.RequestWord.{RequestWord}
+use Rattle.taskscript.specs.declared.word.requests.RequestWord.TheVariants as word
+use Rattle.execmodel.specs.State.{Call, Object, Request, Heap, Timer as Clock, Memory, State, Outcome, put, out, leaving, quiet, says, andthen, on_schedule, on_memory, on_heap}
+use Rattle.execmodel.specs.Calls.{argument, name_argument, done, answered, waiting, unless}
+use Rattle.execmodel.specs.Memory.{allocates as memory_allocated, freed}
+use Rattle.execmodel.specs.Objects.{object_at, is_kind, place_for_object, replaced}
+use Rattle.execmodel.specs.Ports.{appended, is_port_at, is_queued, loses, messages_of, performed, port_alert, port_of, wait_alert, with_port}
+use Rattle.execmodel.specs.Semaphores.{is_tried_again}
+use Rattle.execmodel.specs.Timing.{begins_to_wait, due_next, waits_no_more}
+
+-- ---- requests in memory
+
+abbrev pub is_request : Object → Bool
+is_request (Request content) = true
+is_request _ = false
+
+-- a request begins at an address
+unfoldable pub is_request_at : ℕ → Heap → Bool
+is_request_at address heap = is_kind is_request (object_at address heap)
+
+abbrev pub request_in : Object → TimerRequest
+request_in (Request content) = content
+request_in _ = idle_request 0
+
+abbrev pub request_of_object : Option Object → TimerRequest
+request_of_object None = idle_request 0
+request_of_object (Some object) = request_in object
+
+-- what the request that begins at an address holds
+unfoldable pub request_of : ℕ → Heap → TimerRequest
+request_of request heap = request_of_object (object_at request heap)
+
+-- the request that begins at an address holds that; anything else stays as it is
+unfoldable pub with_request : ℕ → TimerRequest → Heap → Heap
+with_request address content heap =
+    if is_request_at address heap then map (replaced address (Request content)) heap else heap
+
+-- ---- refusals
+
+-- the alert of a call on a request
+unfoldable pub request_alert : ℕ → Heap → Option (List ℕ)
+request_alert request heap = if not (is_request_at request heap) then Some (codes "HANDLE") else None
+
+-- the alert of a call on a request that is not to be under way
+unfoldable pub resting_alert : ℕ → Heap → Option (List ℕ)
+resting_alert request heap =
+    if not (is_request_at request heap) then Some (codes "HANDLE")
+    else (if is_under_way (request_of request heap) then Some (codes "IO") else None)
+
+-- the alert of a call that frees a request: its reply is not to be queued either
+unfoldable pub delete_request_alert : ℕ → Heap → Option (List ℕ)
+delete_request_alert request heap =
+    if not (is_request_at request heap) then Some (codes "HANDLE")
+    else (if is_under_way (request_of request heap) then Some (codes "IO")
+    else (if is_queued request heap then Some (codes "LINK") else None))
+
+-- a request may begin: it is not under way, and open
+abbrev pub can_begin : TimerRequest → Bool
+can_begin content = not (is_under_way content) && is_open content
+
+-- the alert of a call that begins a request, whose reply port is judged by the last alert
+abbrev pub begin_alert : Option (List ℕ) → ℕ → Heap → Option (List ℕ)
+begin_alert of_port request heap =
+    if not (is_request_at request heap) then Some (codes "HANDLE")
+    else (if not (can_begin (request_of request heap)) then Some (codes "IO")
+    else (if is_queued request heap then Some (codes "LINK") else of_port))
+
+-- the alert of SendIO: the reply port has to live
+unfoldable pub send_alert : ℕ → Heap → Option (List ℕ)
+send_alert request heap = begin_alert (port_alert (request_of request heap).port heap) request heap
+
+-- the alert of DoIO for task t: the reply port has to live and to signal that task
+unfoldable pub do_alert : ℕ → ℕ → Heap → Option (List ℕ)
+do_alert t request heap = begin_alert (wait_alert t (request_of request heap).port heap) request heap
+
+-- the alert of WaitIO for task t by how far the request has come: it was begun; where it is under way, its reply port has to signal that task;
+-- where it was replied, its reply is still queued
+abbrev pub state_alert : ReqState → ℕ → ℕ → Heap → Option (List ℕ)
+state_alert Idle t request heap = Some (codes "IO")
+state_alert UnderWay t request heap = wait_alert t (request_of request heap).port heap
+state_alert Quick t request heap = None
+state_alert Replied t request heap = if is_queued request heap then None else Some (codes "LINK")
+
+unfoldable pub wait_io_alert : ℕ → ℕ → Heap → Option (List ℕ)
+wait_io_alert t request heap =
+    if not (is_request_at request heap) then Some (codes "HANDLE")
+    else state_alert (request_of request heap).state t request heap
+
+-- ---- finishing
+
+-- an address, if a port begins there
+abbrev pub where_port : Option ℕ → Heap → Option ℕ
+where_port None heap = None
+where_port (Some port) heap = if is_port_at port heap then Some port else None
+
+-- the port where the reply of a request is put that finishes: none where it is done quick, nor where no port begins there
+unfoldable pub answering_port : ℕ → Heap → Option ℕ
+answering_port request heap = where_port (reply_port (request_of request heap)) heap
+
+-- a request stands last in a port, if there is one
+abbrev pub appended_at : Option ℕ → ℕ → Heap → Heap
+appended_at None request heap = heap
+appended_at (Some port) request heap = appended port request heap
+
+-- a request is done, with an error, and its reply is put
+unfoldable pub finished_at : ℤ → ℕ → Heap → Heap
+finished_at error request heap =
+    appended_at (answering_port request heap) request (with_request request (finished error (request_of request heap)) heap)
+
+-- what is to be done where a reply arrives at a port, if there is one
+abbrev pub acting_at : Option ℕ → Heap → Action
+acting_at None heap = action.Nothing
+acting_at (Some port) heap = acting (port_of port heap)
+
+-- the mark of a reply that is put at a port, if there is one
+abbrev pub with_reply : Option ℕ → ℕ → Outcome → Outcome
+with_reply None request o = o
+with_reply (Some port) request o = leaving (put port request) o
+
+-- a request that waited is done, with an error, and waits no more
+unfoldable pub ended : ℤ → ℕ → Memory → Memory
+ended error request memory =
+    record memory { heap = finished_at error request memory.heap; timer = waits_no_more request memory.timer }
+
+-- the same of a state, where the port acts at which the reply arrives
+abbrev pub ends_with : ℤ → ℕ → State → State
+ends_with error request s =
+    performed (acting_at (answering_port request s.memory.heap) s.memory.heap) (on_memory (ended error request) s)
+
+-- ---- beginning
+
+-- a request is under way, begun when the clock tells `now`
+abbrev pub under_way : Bool → ℕ → ℕ → Heap → Heap
+under_way quick now request heap = with_request request (begun quick now (request_of request heap)) heap
+
+-- a request that is begun is under way, or it is done at once
+abbrev pub heap_begun : Begun → Bool → ℕ → ℕ → Heap → Heap
+heap_begun (Queue due) quick now request heap = under_way quick now request heap
+heap_begun (Finish error) quick now request heap = finished_at error request (under_way quick now request heap)
+
+-- one that is under way waits
+abbrev pub timer_begun : Begun → ℕ → Clock → Clock
+timer_begun (Queue due) request timer = begins_to_wait request due timer
+timer_begun (Finish error) request timer = timer
+
+-- how a request goes on that is begun now
+abbrev pub outcome_at : ℕ → Memory → Begun
+outcome_at request memory = outcome memory.timer.clock (request_of request memory.heap)
+
+-- a request is begun, with its quick bit set or not: it is under way and waits, or it is done at once
+unfoldable pub begun_at : Bool → ℕ → Memory → Memory
+begun_at quick request memory = record memory {
+  heap = heap_begun (outcome_at request memory) quick memory.timer.clock request memory.heap;
+  timer = timer_begun (outcome_at request memory) request memory.timer;
+}
+
+-- the port where the reply of a request is put that is begun so, if it is done at once
+abbrev pub answering_begun : Begun → Bool → ℕ → ℕ → Heap → Option ℕ
+answering_begun (Queue due) quick now request heap = None
+answering_begun (Finish error) quick now request heap = answering_port request (under_way quick now request heap)
+
+unfoldable pub replying_port : Bool → ℕ → Memory → Option ℕ
+replying_port quick request memory = answering_begun (outcome_at request memory) quick memory.timer.clock request memory.heap
+
+-- ---- requests made and freed
+
+-- a timerequest takes 40 bytes, by the include file devices/timer.h
+abbrev pub request_size : ℕ
+request_size = 40
+
+-- CreateIORequest port: answers the address of a new request with that reply port, or 0; 0 for port 0 (autodoc exec.library/CreateIORequest; the
+-- alert: own choice)
+unfoldable pub does_create_io_request : ℕ → Call → State → Outcome
+does_create_io_request t call s =
+    let port = argument 0 call in
+    if nat_eq port 0 then answered t call 0 s
+    else unless (port_alert port s.memory.heap) t call
+    (λ s. memory_allocated t call request_size (Request (idle_request port)) (place_for_object is_request request_size s.memory) s) s
+
+-- DeleteIORequest request: the request is freed; 0 does nothing (autodoc exec.library/DeleteIORequest; the alerts: own choice)
+unfoldable pub does_delete_io_request : ℕ → Call → State → Outcome
+does_delete_io_request t call s =
+    let request = argument 0 call in
+    if nat_eq request 0 then done t call s
+    else unless (delete_request_alert request s.memory.heap) t call (λ s. done t call (on_memory (freed request) s)) s
+
+-- ---- opening and writing
+
+-- the unit of the timer that is meant, none where another device is
+abbrev pub timer_unit : List ℕ → ℕ → Option ℕ
+timer_unit name unit = if bytes_eq name (codes "timer.device") then Some unit else None
+
+-- a request is open for a unit, if the timer has it, and else not open; its error says which
+unfoldable pub opened_for : Option ℕ → ℕ → Heap → Heap
+opened_for unit request heap =
+    with_request request
+    (record (request_of request heap) { unit = if is_unit unit then unit else None; error = unit_error unit }) heap
+
+-- OpenDevice name unit request: opens the request for a unit of timer.device; answers 0, or IOERR_OPENFAIL where there is no such device or unit,
+-- and the request is then not open. Its error is the answer (autodoc exec.library/OpenDevice; the alerts: own choice).
+unfoldable pub does_open_device : ℕ → Call → State → Outcome
+does_open_device t call s =
+    let unit = timer_unit (unwrap_or (name_argument 0 call) []) (argument 1 call) in
+    let request = argument 2 call in
+    unless (resting_alert request s.memory.heap) t call
+    (λ s. answered t call (cast_unsigned w32 (unit_error unit)) (on_memory (on_heap (opened_for unit request)) s)) s
+
+-- a request is not open
+unfoldable pub closed_device : ℕ → Heap → Heap
+closed_device request heap = with_request request (record (request_of request heap) { unit = None }) heap
+
+-- CloseDevice request: the request is not open (autodoc exec.library/CloseDevice; the alerts: own choice)
+unfoldable pub does_close_device : ℕ → Call → State → Outcome
+does_close_device t call s =
+    let request = argument 0 call in
+    unless (resting_alert request s.memory.heap) t call (λ s. done t call (on_memory (on_heap (closed_device request)) s)) s
+
+-- a request has that command and that time
+unfoldable pub with_command : (command secs micros : ℕ) → ℕ → Heap → Heap
+with_command command secs micros request heap =
+    with_request request (record (request_of request heap) { command = command; secs = secs; micros = micros }) heap
+
+-- a command is a word of 16 bits
+abbrev pub is_command : ℕ → Bool
+is_command command = nat_lt command 65536
+
+-- the alert of SetIO
+unfoldable pub set_io_alert : ℕ → ℕ → Heap → Option (List ℕ)
+set_io_alert command request heap =
+    if not (is_request_at request heap) then Some (codes "HANDLE")
+    else (if not (is_command command) then Some (codes "VALUE")
+    else (if is_under_way (request_of request heap) then Some (codes "IO") else None))
+
+-- SetIO request cmd secs micros: the request gets that command and that time (RKM Devices, Introduction to Amiga System Devices: io_Command;
+-- Devices, timer device: tr_time; that there is a call for it, and the alerts: own choice)
+unfoldable pub does_set_io : ℕ → Call → State → Outcome
+does_set_io t call s =
+    let request = argument 0 call in
+    let command = argument 1 call in
+    unless (set_io_alert command request s.memory.heap) t call
+    (λ s. done t call (on_memory (on_heap (with_command command (argument 2 call) (argument 3 call) request)) s)) s
+
+-- ---- beginning and waiting: calls
+
+-- SendIO request: the request begins, with its quick bit cleared (autodoc exec.library/SendIO; the alerts: own choice)
+unfoldable pub does_send_io : ℕ → Call → State → Outcome
+does_send_io t call s =
+    let request = argument 0 call in
+    unless (send_alert request s.memory.heap) t call
+    (λ s.
+    let port = replying_port false request s.memory in
+    with_reply port request
+    (done t call (performed (acting_at port s.memory.heap) (on_memory (begun_at false request) s)))) s
+
+-- the error of a request, as a word
+abbrev pub error_word : ℕ → Heap → ℕ
+error_word request heap = cast_unsigned w32 (request_of request heap).error
+
+-- the reply of a request is in its reply port no more
+unfoldable pub reply_taken : ℕ → Heap → Heap
+reply_taken request heap =
+    let port = (request_of request heap).port in
+    with_port port (port_of port heap) (without request (messages_of port heap)) heap
+
+-- A task looks for a request by how far that has come. Where it is under way, the task waits for the signal of its reply port that comes from now
+-- on; else it answers the error, and takes the reply, if there is one.
+abbrev pub looks_for : ReqState → ℕ → ℕ → Call → State → Outcome
+looks_for Idle request t call s = answered t call (error_word request s.memory.heap) s
+looks_for UnderWay request t call s =
+    let mask = 2 ^ (port_of (request_of request s.memory.heap).port s.memory.heap).bit in
+    waiting t (record call { awaited = mask }) (on_schedule (clears_and_waits t mask) s)
+looks_for Quick request t call s = answered t call (error_word request s.memory.heap) s
+looks_for Replied request t call s =
+    leaving (out (request_of request s.memory.heap).port request)
+    (answered t call (error_word request s.memory.heap) (on_memory (on_heap (reply_taken request)) s))
+
+-- WaitIO request: answers the error of a request that is done, and takes its reply, if it has one; where it is under way, the task waits for the
+-- signal of its reply port, and looks again when it next runs, after the signal that it waited for is cleared (autodoc exec.library/WaitIO; how a
+-- task waits and looks again, and the alerts: own choice)
+unfoldable pub does_wait_io : ℕ → Call → State → Outcome
+does_wait_io t call s =
+    let request = argument 0 call in
+    unless (wait_io_alert t request s.memory.heap) t call
+    (λ s. looks_for (request_of request s.memory.heap).state request t call (on_schedule (loses t call.awaited) s)) s
+
+-- a request begins, with its quick bit set, and the task looks for it
+abbrev pub begins_and_looks : ℕ → ℕ → Call → State → Outcome
+begins_and_looks request t call s =
+    let next = on_memory (begun_at true request) s in
+    looks_for (request_of request next.memory.heap).state request t call next
+
+-- DoIO request: the request begins, with its quick bit set. Where that does it at once, its error is answered; else the task waits for it as by
+-- WaitIO. The call of a task that has waited begins nothing: it is WaitIO's (autodoc exec.library/DoIO; the alerts: own choice).
+unfoldable pub does_do_io : ℕ → Call → State → Outcome
+does_do_io t call s =
+    let request = argument 0 call in
+    if is_tried_again t s.scripts then does_wait_io t call s
+    else unless (do_alert t request s.memory.heap) t call (begins_and_looks request t call) s
+
+-- CheckIO request: answers 0 for a request that is under way, and else the request, and leaves its reply where it is
+-- (autodoc exec.library/CheckIO; the alert: own choice)
+unfoldable pub does_check_io : ℕ → Call → State → Outcome
+does_check_io t call s =
+    let request = argument 0 call in
+    unless (request_alert request s.memory.heap) t call
+    (λ s. answered t call (if is_under_way (request_of request s.memory.heap) then 0 else request) s) s
+
+-- a request that is under way is done with IOERR_ABORTED, and 0 is answered; for any other -1 (own choice)
+abbrev pub aborts : Bool → ℕ → ℕ → Call → State → Outcome
+aborts true request t call s =
+    with_reply (answering_port request s.memory.heap) request (answered t call 0 (ends_with (negsuc 1) request s))
+aborts false request t call s = answered t call 0xffffffff s
+
+-- AbortIO request: a request that is under way is replied at once (autodoc exec.library/AbortIO; the alert: own choice)
+unfoldable pub does_abort_io : ℕ → Call → State → Outcome
+does_abort_io t call s =
+    let request = argument 0 call in
+    unless (request_alert request s.memory.heap) t call
+    (λ s. aborts (is_under_way (request_of request s.memory.heap)) request t call s) s
+
+-- ---- what a request holds
+
+-- a call that answers a part of a request
+abbrev pub tells : (TimerRequest → ℕ) → ℕ → Call → State → Outcome
+tells part t call s =
+    let request = argument 0 call in
+    unless (request_alert request s.memory.heap) t call (λ s. answered t call (part (request_of request s.memory.heap)) s) s
+
+-- IOSecs request, IOMicros request: answer its time (Devices, timer device: tr_time; that there are calls for it: own choice)
+unfoldable pub does_io_secs : ℕ → Call → State → Outcome
+does_io_secs t call s = tells (λ (q : TimerRequest). q.secs) t call s
+
+unfoldable pub does_io_micros : ℕ → Call → State → Outcome
+does_io_micros t call s = tells (λ (q : TimerRequest). q.micros) t call s
+
+-- IOError request: answers its error, as a word (RKM Devices, Introduction to Amiga System Devices: io_Error; that there is a call for it: own choice)
+unfoldable pub does_io_error : ℕ → Call → State → Outcome
+does_io_error t call s = tells (λ (q : TimerRequest). cast_unsigned w32 q.error) t call s
+
+-- IOFlags request: answers 1 where IOF_QUICK is set, and else 0 (RKM Devices, Introduction to Amiga System Devices: io_Flags; that there is a call
+-- for it: own choice)
+unfoldable pub does_io_flags : ℕ → Call → State → Outcome
+does_io_flags t call s = tells (λ (q : TimerRequest). if q.quick then 1 else 0) t call s
+
+-- ---- the words of this group
+
+abbrev pub does_requests : RequestWord → ℕ → Call → State → Outcome
+does_requests word.CreateIORequest t call s = does_create_io_request t call s
+does_requests word.DeleteIORequest t call s = does_delete_io_request t call s
+does_requests word.OpenDevice t call s = does_open_device t call s
+does_requests word.CloseDevice t call s = does_close_device t call s
+does_requests word.SetIO t call s = does_set_io t call s
+does_requests word.DoIO t call s = does_do_io t call s
+does_requests word.SendIO t call s = does_send_io t call s
+does_requests word.CheckIO t call s = does_check_io t call s
+does_requests word.WaitIO t call s = does_wait_io t call s
+does_requests word.AbortIO t call s = does_abort_io t call s
+does_requests word.IOSecs t call s = does_io_secs t call s
+does_requests word.IOMicros t call s = does_io_micros t call s
+does_requests word.IOError t call s = does_io_error t call s
+does_requests word.IOFlags t call s = does_io_flags t call s
+
+-- ---- the clock
+
+-- a request that is due is done, with error 0
+unfoldable pub finishes : ℕ → State → Outcome
+finishes request s =
+    with_reply (answering_port request s.memory.heap) request (says (Timer request) (ends_with (pos 0) request s))
+
+-- so many requests finish, one after another, while one is due
+unfoldable pub finishes_due : ℕ → State → Outcome
+finishes_due zero s = quiet s
+finishes_due (suc n) s =
+    elim (due_next s.memory.timer) as (λ (x : Option ℕ). Outcome)
+    [ None ↦ quiet s | Some request ↦ andthen (finishes request) (finishes_due n) s ]
+
+-- all requests that are due finish: by the time when they are due, and those of one time in the order in which they were begun
+unfoldable pub finishes_all_due : State → Outcome
+finishes_all_due s = finishes_due (length s.memory.timer.waiting) s

@@ -1,0 +1,599 @@
+-- How the machine follows the words of requests, and the requests that finish.
+use Rattle.std.proofs.Common.{◌≡◌, ◌≢◌, ℕ, zero, suc, ◌+◌, ◌≤◌, ◌<◌, ◌^◌, Bool, true, false, cond, not, List, [], ◌∷◌, length, Option, None, Some, refl, ap, sym, ◌∙◌, subst, arith}
+use Rattle.std.specs.Prelude.{ℤ, pos, negsuc, ◌==◌, Result, Ok, Err, IfOk, OnOk, OnErr, codes, filter, find, fold, map, nat_eq, nat_lt, if◌then◌else◌}
+use Rattle.std.specs.Option.{option_map, unwrap_or}
+use Rattle.std.specs.Int.{cast_unsigned, w32}
+use Rattle.std.proofs.lemmas.Bool.{lt-ltb, le-ltb, eq-eqb}
+use Rattle.memlist.proofs.Answered.{nat_eq-other, nat_eq-same}
+use Rattle.exectrace.specs.Sink.{Tape, Puts}
+use Rattle.exectrace.specs.Trace.{printed, printed_line, Timer}
+use Rattle.execlist.specs.Order.{enqueue, order, is_lower}
+use Rattle.execlist.proofs.OrderLaws.{order_takes, order_leaves_out, found_in_order}
+use Rattle.scheduler.specs.Schedule.{sets_signals}
+use Rattle.msgport.specs.declared.action.Action.{Action}
+use Rattle.iorequest.specs.declared.request.Request.{Request as TimerRequest}
+use Rattle.iorequest.specs.declared.request.ReqState.{ReqState}
+use Rattle.iorequest.specs.declared.request.ReqState.TheVariants.{Idle, UnderWay, Quick, Replied}
+use Rattle.iorequest.specs.declared.request.Begun.{Begun}
+use Rattle.iorequest.specs.declared.request.Begun.TheVariants.{Finish, Queue}
+use Rattle.iorequest.specs.Request.{begun, done_state, due_of, error_of, finished, idle_request, is_to_wait, is_under_way, is_way}
+use Rattle.iorequest.specs.Requests.{unit_error}
+use Rattle.execmodel.specs.State.{Call, Heap, Memory, Object, Request, State, Outcome, Timer as Clock, Waiting, quiet, says, andthen, out, on_memory, on_heap}
+use Rattle.execmodel.specs.Calls.{argument, name_argument, unless, done, answered, alerted}
+use Rattle.execmodel.specs.Memory.{allocates, freed, placed}
+use Rattle.execmodel.specs.Objects.{is_kind, object_at, place_for_object, replaced}
+use Rattle.execmodel.specs.Ports.{loses, looked, performed, port_alert, port_of}
+use Rattle.execmodel.specs.Semaphores.{is_tried_again}
+use Rattle.execmodel.specs.Timing.{due_next, is_due, sooner}
+use Rattle.execmodel.specs.Requests as model
+use Rattle.execmodel.specs.Requests.{acting_at, answering_port, appended_at, begun_at, ended, ends_with, error_word, finished_at, finishes, finishes_all_due, finishes_due, heap_begun, is_command, is_request, is_request_at, looks_for, outcome_at, replying_port, reply_taken, request_alert, request_of, request_of_object, request_size, resting_alert, set_io_alert, timer_begun, where_port, with_reply, with_request}
+use Rattle.execmodel.proofs.Heaps.{instead, object_replaced}
+use Rattle.execheap.specs.declared.awaited.Awaited.{Awaited}
+use Rattle.execheap.specs.declared.awaited.Awaited.TheVariants as awaited
+use Rattle.execheap.specs.declared.refusal.Refusal.{Refusal}
+use Rattle.execheap.specs.Listing.{aborted, aborting, acting_begun, acting_finished, awaited_for, begun_listed, due_listed, ended_if, finishing, taken_by_state, taken_if_replied, timer_listed}
+use Rattle.execheap.specs.Refusals.{alert_of, code_of}
+use Rattle.execsim.specs.Actions.{aborts_or_alerted, finishes_with, performed as performed_seen, performed_or_alerted, tells_or_waits}
+use Rattle.execsim.specs.Agreement.{Seen, Agrees, Follows, queues_in_order, timer_in_order}
+use Rattle.execsim.specs.Endings.{answered_or_alerted, done_or_alerted}
+use Rattle.execsim.proofs.Following.{reads_memory, reads_scripts, moves_memory, moves_schedule, follows_as, follows_change, follows_leaving, follows_nothing, follows_saying, follows_then}
+use Rattle.execsim.proofs.Listing.{follows_allowed, follows_made, follows_refused, heap_changed}
+use Rattle.execsim.proofs.Porting.{performed_moves}
+use Rattle.execsim.proofs.Signalling.{sets_signals-in_order}
+
+-- ---- requests that wait: in the order in which they are begun, and in that in which they finish
+
+ended-in_order : (error : ℤ) (request : ℕ) (y : Memory) → ended error request (queues_in_order y) ≡ queues_in_order (ended error request y)
+unfolding ended
+ended-in_order error request y =
+    ap (λ waiting. record (queues_in_order y) { heap = (ended error request y).heap; timer = record y.timer { waiting = waiting } })
+    (sym (order_leaves_out Waiting sooner (λ (w : Waiting). not (w.request == request)) y.timer.waiting))
+
+timer-in_order : (how : Begun) (request : ℕ) (timer : Clock) → timer_listed how request (timer_in_order timer) ≡ timer_in_order (timer_begun how request timer)
+timer-in_order (Queue due) request timer = ap (λ waiting. record timer { waiting = waiting })
+    (sym (order_takes Waiting sooner timer.waiting (record { request = request; due = due })))
+timer-in_order (Finish error) request timer = refl
+
+begun-in_order : (quick : Bool) (request : ℕ) (y : Memory) → begun_listed quick request (queues_in_order y) ≡ queues_in_order (begun_at quick request y)
+unfolding begun_listed begun_at
+begun-in_order quick request y =
+    ap (λ timer. record (queues_in_order y) { heap = heap_begun (outcome_at request y) quick y.timer.clock request y.heap; timer = timer })
+    (timer-in_order (outcome_at request y) request y.timer)
+
+due-in_order : (timer : Clock) → due_listed (timer_in_order timer) ≡ due_next timer
+unfolding due_listed due_next
+due-in_order timer = ap (option_map (λ (w : Waiting). w.request)) (found_in_order Waiting sooner (is_due timer.clock) timer.waiting)
+
+-- ---- replies
+
+reply-state : (port : Option ℕ) (request : ℕ) (o : Outcome) → (with_reply port request o).state ≡ o.state
+reply-state None request o = refl
+reply-state (Some port) request o = refl
+
+reply-lines : (port : Option ℕ) (request : ℕ) (o : Outcome) → (with_reply port request o).lines ≡ o.lines
+reply-lines None request o = refl
+reply-lines (Some port) request o = refl
+
+-- an action that leaves the mark of a reply, too
+follows_reply : {f : State → Outcome} {m n : Seen} {a b : Tape} (port : State → Option ℕ) (request : ℕ) → Follows f m n a b
+    → Follows (λ s. with_reply (port s) request (f s)) m n a b
+follows_reply {f} {n = n} {a = a} {b = b} port request follows = record {
+  agrees = λ s e. subst (λ (x : State). Agrees n x) (sym (reply-state (port s) request (f s))) (follows.agrees s e);
+  prints = λ s e. subst (λ lines. Puts a b (printed lines)) (sym (reply-lines (port s) request (f s))) (follows.prints s e);
+}
+
+-- ---- what a request holds
+
+-- a call that reads the blocks alone agrees
+request_same : {m : Seen} (request : ℕ) (s : State) → Agrees m s → request_of request s.memory.heap ≡ request_of request m.memory.heap
+request_same request s e = reads_memory (λ memory. request_of request memory.heap) (λ y. refl) refl s e
+
+module _ (request : ℕ) (content : TimerRequest) where
+  holds_instead : (o : Option Object) → is_kind is_request o ≡ true → request_of_object (instead (Request content) o) ≡ content
+  holds_instead None there = absurd cc
+  holds_instead (Some object) there = refl
+
+  request_instead : (o : Option Object) → is_kind is_request o ≡ true → is_kind is_request (instead (Request content) o) ≡ true
+  request_instead None there = absurd cc
+  request_instead (Some object) there = refl
+
+  object_there : (heap : Heap) → is_request_at request heap ≡ true → object_at request (with_request request content heap) ≡ instead (Request content) (object_at request heap)
+  unfolding with_request
+  object_there heap there =
+      ap (λ (b : Bool). object_at request (if b then map (replaced request (Request content)) heap else heap)) there
+      ∙ object_replaced request (Request content) request heap
+      ∙ ap (λ (b : Bool). if b then instead (Request content) (object_at request heap) else object_at request heap) (nat_eq-same request)
+
+  -- the request that begins at an address holds what it was given
+  holds_given : (heap : Heap) → is_request_at request heap ≡ true → request_of request (with_request request content heap) ≡ content
+  unfolding request_of is_request_at
+  holds_given heap there = ap request_of_object (object_there heap there) ∙ holds_instead (object_at request heap) there
+
+  stays_request : (heap : Heap) → is_request_at request heap ≡ true → is_request_at request (with_request request content heap) ≡ true
+  unfolding is_request_at
+  stays_request heap there = ap (is_kind is_request) (object_there heap there) ∙ request_instead (object_at request heap) there
+
+-- ---- made
+
+-- a call on a port that is not 0
+abbrev creates : ℕ → Call → State → Outcome
+creates t call s = unless (port_alert (argument 0 call) s.memory.heap) t call
+    (λ s. allocates t call request_size (Request (idle_request (argument 0 call))) (place_for_object is_request request_size s.memory) s) s
+
+-- a command that fits is no alert
+set_alert-inside : (command request : ℕ) → nat_lt command 65536 ≡ true → (heap : Heap) → set_io_alert command request heap ≡ resting_alert request heap
+unfolding set_io_alert resting_alert
+set_alert-inside command request inside heap = rw inside refl
+
+module _ {m o : Seen} {a b : Tape} (t : ℕ) (call : Call) where
+  pub create_none : argument 0 call ≡ 0 → Follows (answered t call 0) m o a b → Follows (model.does_create_io_request t call) m o a b
+  unfolding model.does_create_io_request
+  create_none none follows = follows_as (λ s e. rw none refl) follows
+
+  create_some : argument 0 call ≢ 0 → Follows (creates t call) m o a b → Follows (model.does_create_io_request t call) m o a b
+  unfolding model.does_create_io_request
+  create_some some follows = follows_as {g = creates t call}
+      (λ s e. let not_none : nat_eq (argument 0 call) 0 ≡ false = nat_eq-other (argument 0 call) 0 some in rw not_none refl) follows
+
+  pub create_refused : (x : Memory) (why : Refusal) → argument 0 call ≢ 0 → Some (code_of why) ≡ port_alert (argument 0 call) m.memory.heap → x ≡ m.memory
+      → Follows (alerted (code_of why) t call) (record m { memory = x }) o a b → Follows (model.does_create_io_request t call) m o a b
+  create_refused x why some says kept follows =
+      create_some some (follows_refused t call (λ memory. port_alert (argument 0 call) memory.heap) (λ y. refl) _ why says (rw kept at follows))
+
+  pub create_made : (x : Memory) (place : Option ℕ) → argument 0 call ≢ 0 → None ≡ port_alert (argument 0 call) m.memory.heap
+      → place ≡ place_for_object is_request request_size m.memory
+      → x ≡ placed request_size (Request (idle_request (argument 0 call))) place m.memory
+      → Follows (answered t call (unwrap_or place 0)) (record m { memory = x }) o a b → Follows (model.does_create_io_request t call) m o a b
+  create_made x place some says fits is follows =
+      create_some some (follows_allowed t call (λ memory. port_alert (argument 0 call) memory.heap) (λ y. refl) _ says
+      (follows_made t call is_request request_size (Request (idle_request (argument 0 call))) place fits
+      (ap (λ y. record m { memory = y }) is) follows))
+
+  -- ---- freed, opened and written
+
+  pub delete_none : argument 0 call ≡ 0 → Follows (done t call) m o a b → Follows (model.does_delete_io_request t call) m o a b
+  unfolding model.does_delete_io_request
+  delete_none none follows = follows_as (λ s e. rw none refl) follows
+
+  pub delete_tried : (x : Memory) (result : Result (Unit {0}) Refusal) → argument 0 call ≢ 0
+      → alert_of result ≡ model.delete_request_alert (argument 0 call) m.memory.heap → OnOk result (x ≡ freed (argument 0 call) m.memory)
+      → OnErr result (x ≡ m.memory) → Follows (done_or_alerted result t call) (record m { memory = x }) o a b
+      → Follows (model.does_delete_io_request t call) m o a b
+  unfolding model.does_delete_io_request
+  delete_tried x result some says changed kept follows = follows_as
+      {g = λ s. unless (model.delete_request_alert (argument 0 call) s.memory.heap) t call (λ s. done t call (on_memory (freed (argument 0 call)) s)) s}
+      (λ s e. let not_none : nat_eq (argument 0 call) 0 ≡ false = nat_eq-other (argument 0 call) 0 some in rw not_none refl)
+      (heap_changed t call (model.delete_request_alert (argument 0 call)) (freed (argument 0 call)) (λ y. refl) x result says changed kept follows)
+
+  pub open_tried : {n : Seen} (unit : Option ℕ) (result : Result ℕ Refusal)
+      → unit ≡ model.timer_unit (unwrap_or (name_argument 0 call) []) (argument 1 call)
+      → alert_of result ≡ resting_alert (argument 2 call) m.memory.heap → IfOk result (λ value. value ≡ cast_unsigned w32 (unit_error unit))
+      → OnOk result (n ≡ record m { memory = on_heap (model.opened_for unit (argument 2 call)) m.memory }) → OnErr result (n ≡ m)
+      → Follows (answered_or_alerted result t call) n o a b → Follows (model.does_open_device t call) m o a b
+  unfolding model.does_open_device
+  open_tried unit (Ok value) meant says tells changed kept follows =
+      let opens = on_heap (model.opened_for unit (argument 2 call)) in
+      follows_as
+      {g = λ s. unless (resting_alert (argument 2 call) s.memory.heap) t call
+      (λ s. answered t call (cast_unsigned w32 (unit_error unit)) (on_memory opens s)) s}
+      (λ s e. rw meant refl)
+      (follows_allowed t call (λ memory. resting_alert (argument 2 call) memory.heap) (λ y. refl) _ says (follows_as
+      {g = λ s. answered t call value (on_memory opens s)}
+      (λ s e. ap (λ (v : ℕ). answered t call v (on_memory opens s)) (sym tells))
+      (follows_change (moves_memory opens opens (λ y. refl) changed) follows)))
+  open_tried unit (Err why) meant says tells changed kept follows =
+      follows_refused t call (λ memory. resting_alert (argument 2 call) memory.heap) (λ y. refl) _ why says (rw kept at follows)
+
+  pub close_tried : (x : Memory) (result : Result (Unit {0}) Refusal) → alert_of result ≡ resting_alert (argument 0 call) m.memory.heap
+      → OnOk result (x ≡ on_heap (model.closed_device (argument 0 call)) m.memory) → OnErr result (x ≡ m.memory)
+      → Follows (done_or_alerted result t call) (record m { memory = x }) o a b → Follows (model.does_close_device t call) m o a b
+  unfolding model.does_close_device
+  close_tried x result says changed kept follows =
+      heap_changed t call (resting_alert (argument 0 call)) (on_heap (model.closed_device (argument 0 call))) (λ y. refl) x result says changed kept follows
+
+  pub set_outside : 65536 ≤ argument 1 call → is_request_at (argument 0 call) m.memory.heap ≡ true
+      → Follows (alerted (codes "VALUE") t call) m o a b → Follows (model.does_set_io t call) m o a b
+  unfolding model.does_set_io set_io_alert
+  set_outside outside there follows = follows_as
+      (λ s e.
+      let same : is_request_at (argument 0 call) s.memory.heap ≡ true =
+      reads_memory (λ memory. is_request_at (argument 0 call) memory.heap) (λ y. refl) there s e in
+      let past : nat_lt (argument 1 call) 65536 ≡ false = le-ltb (argument 1 call) 65536 outside in
+      rw (same, past) refl) follows
+
+  pub set_unknown : is_request_at (argument 0 call) m.memory.heap ≡ false
+      → Follows (alerted (codes "HANDLE") t call) m o a b → Follows (model.does_set_io t call) m o a b
+  unfolding model.does_set_io set_io_alert
+  set_unknown unknown follows = follows_as
+      (λ s e.
+      let same : is_request_at (argument 0 call) s.memory.heap ≡ false =
+      reads_memory (λ memory. is_request_at (argument 0 call) memory.heap) (λ y. refl) unknown s e in
+      rw same refl) follows
+
+  pub set_tried : (x : Memory) (result : Result (Unit {0}) Refusal) → argument 1 call < 65536
+      → alert_of result ≡ resting_alert (argument 0 call) m.memory.heap
+      → OnOk result (x ≡ on_heap (model.with_command (argument 1 call) (argument 2 call) (argument 3 call) (argument 0 call)) m.memory)
+      → OnErr result (x ≡ m.memory) → Follows (done_or_alerted result t call) (record m { memory = x }) o a b
+      → Follows (model.does_set_io t call) m o a b
+  unfolding model.does_set_io
+  set_tried x result inside says changed kept follows =
+      heap_changed t call (set_io_alert (argument 1 call) (argument 0 call))
+      (on_heap (model.with_command (argument 1 call) (argument 2 call) (argument 3 call) (argument 0 call))) (λ y. refl) x result
+      (says ∙ sym (set_alert-inside (argument 1 call) (argument 0 call) (lt-ltb (argument 1 call) 65536 inside) m.memory.heap)) changed kept follows
+
+-- ---- beginning
+
+module _ {m o : Seen} {a b : Tape} (t : ℕ) (call : Call) where
+  pub send_tried : (x : Memory) (result : Result Action Refusal) → alert_of result ≡ model.send_alert (argument 0 call) m.memory.heap
+      → IfOk result (λ act. act ≡ acting_begun false (argument 0 call) m.memory)
+      → OnOk result (x ≡ begun_listed false (argument 0 call) m.memory) → OnErr result (x ≡ m.memory)
+      → Follows (performed_or_alerted result t call) (record m { memory = x }) o a b → Follows (model.does_send_io t call) m o a b
+  unfolding model.does_send_io acting_begun replying_port
+  send_tried x (Ok act) says acts changed kept follows =
+      let request = argument 0 call in
+      follows_allowed t call (λ memory. model.send_alert request memory.heap) (λ y. refl) _ says
+      (follows_reply (λ s. replying_port false request s.memory) request (follows_as
+      {g = λ s. done t call (performed act (on_memory (begun_at false request) s))}
+      (λ s e.
+      let same : acting_at (replying_port false request s.memory) s.memory.heap ≡ act =
+      reads_memory (λ memory. acting_at (replying_port false request memory) memory.heap) (λ y. refl) (sym acts) s e in
+      rw same refl)
+      (follows_change (moves_memory (begun_at false request) (begun_listed false request) (begun-in_order false request)
+      (ap (λ y. record m { memory = y }) changed)) follows)))
+  send_tried x (Err why) says acts changed kept follows =
+      follows_refused t call (λ memory. model.send_alert (argument 0 call) memory.heap) (λ y. refl) _ why says (rw kept at follows)
+
+-- ---- looking
+
+awaited-done : (request : ℕ) (heap : Heap) (state : ReqState) → (request_of request heap).state ≡ state → is_way state ≡ false
+    → awaited_for request heap ≡ awaited.Done (request_of request heap).error
+unfolding awaited_for
+awaited-done request heap state is done =
+    ap (λ (b : Bool). if b then awaited.UnderWay (port_of (request_of request heap).port heap).bit else awaited.Done (request_of request heap).error)
+    (ap is_way is ∙ done)
+
+awaited-under_way : (request : ℕ) (heap : Heap) → (request_of request heap).state ≡ UnderWay
+    → awaited_for request heap ≡ awaited.UnderWay (port_of (request_of request heap).port heap).bit
+unfolding awaited_for
+awaited-under_way request heap is =
+    ap (λ (b : Bool). if b then awaited.UnderWay (port_of (request_of request heap).port heap).bit else awaited.Done (request_of request heap).error)
+    (ap is_way is)
+
+module _ {m o : Seen} {a b : Tape} (t : ℕ) (call : Call) (request : ℕ) where
+  -- a task looks for a request in that state
+  state_looked : (state : ReqState) → (request_of request m.memory.heap).state ≡ state → Follows (looks_for state request t call) m o a b
+      → Follows (λ s. looks_for (request_of request s.memory.heap).state request t call s) m o a b
+  state_looked state is follows = follows_as {g = looks_for state request t call}
+      (λ s e. ap (λ (x : ReqState). looks_for x request t call s) (ap (λ (q : TimerRequest). q.state) (request_same request s e) ∙ is)) follows
+
+  error_told : Follows (answered t call (error_word request m.memory.heap)) m o a b → Follows (λ s. answered t call (error_word request s.memory.heap) s) m o a b
+  error_told follows = follows_as {g = answered t call (error_word request m.memory.heap)}
+      (λ s e. ap (λ (q : TimerRequest). answered t call (cast_unsigned w32 q.error) s) (request_same request s e)) follows
+
+  pub looks : (x : Memory) (found : Awaited) (state : ReqState) → (request_of request m.memory.heap).state ≡ state
+      → found ≡ awaited_for request m.memory.heap → x ≡ on_heap (taken_by_state state request) m.memory
+      → Follows (tells_or_waits found t call) (record m { memory = x }) o a b
+      → Follows (λ s. looks_for (request_of request s.memory.heap).state request t call s) m o a b
+  looks x found Idle is awaits changed follows =
+      let told : found ≡ awaited.Done (request_of request m.memory.heap).error = awaits ∙ awaited-done request m.memory.heap Idle is refl in
+      state_looked Idle is (error_told (rw (told, changed) at follows))
+  looks x found UnderWay is awaits changed follows =
+      let waits : found ≡ awaited.UnderWay (port_of (request_of request m.memory.heap).port m.memory.heap).bit =
+      awaits ∙ awaited-under_way request m.memory.heap is in
+      state_looked UnderWay is (follows_as
+      {g = looked None (2 ^ (port_of (request_of request m.memory.heap).port m.memory.heap).bit) t call}
+      (λ s e. ap (λ (bit : ℕ). looked None (2 ^ bit) t call s)
+      (reads_memory (λ memory. (port_of (request_of request memory.heap).port memory.heap).bit) (λ y. refl) refl s e))
+      (rw (waits, changed) at follows))
+  looks x found Quick is awaits changed follows =
+      let told : found ≡ awaited.Done (request_of request m.memory.heap).error = awaits ∙ awaited-done request m.memory.heap Quick is refl in
+      state_looked Quick is (error_told (rw (told, changed) at follows))
+  looks x found Replied is awaits changed follows =
+      let told : found ≡ awaited.Done (request_of request m.memory.heap).error = awaits ∙ awaited-done request m.memory.heap Replied is refl in
+      state_looked Replied is (follows_leaving
+      {f = λ s. answered t call (error_word request s.memory.heap) (on_memory (on_heap (reply_taken request)) s)}
+      (λ s. out (request_of request s.memory.heap).port request)
+      (follows_as {g = λ s. answered t call (error_word request m.memory.heap) (on_memory (on_heap (reply_taken request)) s)}
+      (λ s e. ap (λ (q : TimerRequest). answered t call (cast_unsigned w32 q.error) (on_memory (on_heap (reply_taken request)) s)) (request_same request s e))
+      (follows_change (moves_memory (on_heap (reply_taken request)) (on_heap (reply_taken request)) (λ y. refl)
+      (ap (λ y. record m { memory = y }) changed)) (rw told at follows))))
+
+module _ {m n o : Seen} {a b : Tape} (t : ℕ) (call : Call) where
+  pub wait_found : (x : Memory) (found : Awaited) → None ≡ model.wait_io_alert t (argument 0 call) m.memory.heap
+      → found ≡ awaited_for (argument 0 call) m.memory.heap → x ≡ on_heap (taken_if_replied (argument 0 call)) m.memory
+      → n ≡ record m { memory = x; schedule = loses t call.awaited m.schedule }
+      → Follows (tells_or_waits found t call) n o a b → Follows (model.does_wait_io t call) m o a b
+  unfolding model.does_wait_io taken_if_replied
+  wait_found x found says awaits changed is follows =
+      let request = argument 0 call in
+      let lost = record m { schedule = loses t call.awaited m.schedule } in
+      follows_allowed t call (λ memory. model.wait_io_alert t request memory.heap) (λ y. refl) _ says
+      (follows_change {g = λ s. looks_for (request_of request s.memory.heap).state request t call s}
+      (moves_schedule {n = lost} (sets_signals t 0 call.awaited) (sets_signals t 0 call.awaited) (sets_signals-in_order t 0 call.awaited) refl)
+      (looks {m = lost} t call request x found (request_of request m.memory.heap).state refl awaits changed (rw is at follows)))
+
+pub wait_refused : {m o : Seen} {a b : Tape} (t : ℕ) (call : Call) (x : Memory) (why : Refusal)
+    → Some (code_of why) ≡ model.wait_io_alert t (argument 0 call) m.memory.heap → x ≡ m.memory
+    → Follows (alerted (code_of why) t call) (record m { memory = x }) o a b → Follows (model.does_wait_io t call) m o a b
+unfolding model.does_wait_io
+wait_refused t call x why says kept follows =
+    follows_refused t call (λ memory. model.wait_io_alert t (argument 0 call) memory.heap) (λ y. refl) _ why says (rw kept at follows)
+
+-- ---- beginning and looking
+
+-- how a request goes on that begins with its quick bit set
+begun_state : (request : ℕ) (memory : Memory) → is_request_at request memory.heap ≡ true → (waits : Bool)
+    → is_to_wait (request_of request memory.heap) ≡ waits
+    → (request_of request (begun_at true request memory).heap).state ≡ (if waits then UnderWay else Quick)
+unfolding begun_at finished_at answering_port
+begun_state request memory there true waits =
+    let q = request_of request memory.heap in
+    let now = memory.timer.clock in
+    ap (λ (b : Bool). (request_of request (heap_begun (if b then Queue (due_of now q) else Finish (error_of q)) true now request memory.heap)).state) waits
+    ∙ ap (λ (p : TimerRequest). p.state) (holds_given request (begun true now q) memory.heap there)
+begun_state request memory there false rests =
+    let q = request_of request memory.heap in
+    let now = memory.timer.clock in
+    let going = with_request request (begun true now q) memory.heap in
+    let holds = holds_given request (begun true now q) memory.heap there in
+    let quick : (request_of request going).quick ≡ true = ap (λ (p : TimerRequest). p.quick) holds ∙ ap not rests in
+    ap (λ (b : Bool). (request_of request (heap_begun (if b then Queue (due_of now q) else Finish (error_of q)) true now request memory.heap)).state) rests
+    ∙ ap (λ (b : Bool). (request_of request (appended_at (where_port (if b then None else Some (request_of request going).port) going) request
+    (with_request request (finished (error_of q) (request_of request going)) going))).state) quick
+    ∙ ap (λ (p : TimerRequest). p.state)
+    (holds_given request (finished (error_of q) (request_of request going)) going (stays_request request (begun true now q) memory.heap there))
+    ∙ ap done_state quick
+
+-- a request that may begin is there
+there_to_begin : {A : Type 0} (there : Bool) (code : A) (others : Option A) → None ≡ cond (not there) (Some code) others → there ≡ true
+there_to_begin true code others says = refl
+there_to_begin false code others says = absurd cc
+
+module _ {m o : Seen} {a b : Tape} (t : ℕ) (call : Call) where
+  pub do_again : is_tried_again t m.scripts ≡ true → Follows (model.does_wait_io t call) m o a b → Follows (model.does_do_io t call) m o a b
+  unfolding model.does_do_io
+  do_again again follows = follows_as
+      (λ s e. let same : is_tried_again t s.scripts ≡ true = reads_scripts (is_tried_again t) again s e in rw same refl) follows
+
+  do_first : is_tried_again t m.scripts ≡ false
+      → Follows (λ s. unless (model.do_alert t (argument 0 call) s.memory.heap) t call (model.begins_and_looks (argument 0 call) t call) s) m o a b
+      → Follows (model.does_do_io t call) m o a b
+  unfolding model.does_do_io
+  do_first first follows = follows_as
+      {g = λ s. unless (model.do_alert t (argument 0 call) s.memory.heap) t call (model.begins_and_looks (argument 0 call) t call) s}
+      (λ s e. let same : is_tried_again t s.scripts ≡ false = reads_scripts (is_tried_again t) first s e in rw same refl) follows
+
+  pub do_refused : (x : Memory) (why : Refusal) → is_tried_again t m.scripts ≡ false
+      → Some (code_of why) ≡ model.do_alert t (argument 0 call) m.memory.heap → x ≡ m.memory
+      → Follows (alerted (code_of why) t call) (record m { memory = x }) o a b → Follows (model.does_do_io t call) m o a b
+  do_refused x why first says kept follows = do_first first
+      (follows_refused t call (λ memory. model.do_alert t (argument 0 call) memory.heap) (λ y. refl) _ why says (rw kept at follows))
+
+  pub do_found : (x : Memory) (found : Awaited) → is_tried_again t m.scripts ≡ false → None ≡ model.do_alert t (argument 0 call) m.memory.heap
+      → found ≡ awaited_for (argument 0 call) x.heap → x ≡ begun_listed true (argument 0 call) m.memory
+      → Follows (tells_or_waits found t call) (record m { memory = x }) o a b → Follows (model.does_do_io t call) m o a b
+  unfolding model.do_alert begun_listed begun_at
+  do_found x found first says awaits changed follows =
+      let request = argument 0 call in
+      let there = there_to_begin (is_request_at request m.memory.heap) _ _ says in
+      let waits = is_to_wait (request_of request m.memory.heap) in
+      let state = begun_state request m.memory there waits refl in
+      do_first first (follows_allowed t call (λ memory. model.do_alert t request memory.heap) (λ y. refl) _ says
+      (follows_change {g = λ s. looks_for (request_of request s.memory.heap).state request t call s}
+      (moves_memory {n = record m { memory = x }} (begun_at true request) (begun_listed true request) (begun-in_order true request)
+      (ap (λ y. record m { memory = y }) changed))
+      (by_wait waits x (ap (λ (y : Memory). (request_of request y.heap).state) changed ∙ state) awaits follows)))
+    where
+      by_wait : (waits : Bool) (x : Memory) → (request_of (argument 0 call) x.heap).state ≡ (if waits then UnderWay else Quick)
+          → found ≡ awaited_for (argument 0 call) x.heap → Follows (tells_or_waits found t call) (record m { memory = x }) o a b
+          → Follows (λ s. looks_for (request_of (argument 0 call) s.memory.heap).state (argument 0 call) t call s) (record m { memory = x }) o a b
+      by_wait true x is awaits follows = looks {m = record m { memory = x }} t call (argument 0 call) x found UnderWay is awaits refl follows
+      by_wait false x is awaits follows = looks {m = record m { memory = x }} t call (argument 0 call) x found Quick is awaits refl follows
+
+-- ---- aborting
+
+module _ {m o : Seen} {a b : Tape} (t : ℕ) (call : Call) where
+  -- by whether the request is under way
+  aborts_by : (under_way : Bool) (x : Memory) (found : Option Action)
+      → is_under_way (request_of (argument 0 call) m.memory.heap) ≡ under_way
+      → found ≡ (if under_way then Some (acting_finished (argument 0 call) m.memory.heap) else None)
+      → x ≡ (if under_way then ended (negsuc 1) (argument 0 call) m.memory else m.memory)
+      → Follows (aborts_or_alerted (Ok found) t call) (record m { memory = x }) o a b
+      → Follows (λ s. model.aborts (is_under_way (request_of (argument 0 call) s.memory.heap)) (argument 0 call) t call s) m o a b
+  unfolding acting_finished
+  aborts_by true x found is acts changed follows =
+      let request = argument 0 call in
+      let act = acting_at (answering_port request m.memory.heap) m.memory.heap in
+      follows_as {g = model.aborts true request t call}
+      (λ s e. ap (λ (b : Bool). model.aborts b request t call s) (ap (λ (q : TimerRequest). is_under_way q) (request_same request s e) ∙ is))
+      (follows_reply (λ s. answering_port request s.memory.heap) request (follows_as
+      {g = λ s. answered t call 0 (performed act (on_memory (ended (negsuc 1) request) s))}
+      (λ s e. ap (λ (does : Action). answered t call 0 (performed does (on_memory (ended (negsuc 1) request) s)))
+      (reads_memory (λ memory. acting_at (answering_port request memory.heap) memory.heap) (λ y. refl) refl s e))
+      (follows_change (moves_memory (ended (negsuc 1) request) (ended (negsuc 1) request) (ended-in_order (negsuc 1) request)
+      (ap (λ y. record m { memory = y }) changed)) (rw acts at follows))))
+  aborts_by false x found is acts changed follows =
+      follows_as {g = model.aborts false (argument 0 call) t call}
+      (λ s e. ap (λ (b : Bool). model.aborts b (argument 0 call) t call s)
+      (ap (λ (q : TimerRequest). is_under_way q) (request_same (argument 0 call) s e) ∙ is)) (rw (acts, changed) at follows)
+
+  pub abort_tried : (x : Memory) (result : Result (Option Action) Refusal) → alert_of result ≡ request_alert (argument 0 call) m.memory.heap
+      → IfOk result (λ found. found ≡ aborting (argument 0 call) m.memory.heap)
+      → OnOk result (x ≡ aborted (argument 0 call) m.memory) → OnErr result (x ≡ m.memory)
+      → Follows (aborts_or_alerted result t call) (record m { memory = x }) o a b → Follows (model.does_abort_io t call) m o a b
+  unfolding model.does_abort_io aborting aborted
+  abort_tried x (Ok found) says acts changed kept follows =
+      follows_allowed t call (λ memory. request_alert (argument 0 call) memory.heap) (λ y. refl) _ says
+      (aborts_by (is_under_way (request_of (argument 0 call) m.memory.heap)) x found refl acts changed follows)
+  abort_tried x (Err why) says acts changed kept follows =
+      follows_refused t call (λ memory. request_alert (argument 0 call) memory.heap) (λ y. refl) _ why says (rw kept at follows)
+
+-- what is to be done for the reply of an aborted request is done, and then the call answers
+pub aborted_answers : {m n o : Seen} {a b : Tape} (t : ℕ) (call : Call) (act : Action) → n ≡ performed_seen act m
+    → Follows (answered t call 0) n o a b → Follows (aborts_or_alerted (Ok (Some act)) t call) m o a b
+aborted_answers t call act is follows = follows_change (performed_moves act is) follows
+
+-- ---- requests that finish
+
+-- a request that finishes says so, and what is to be done for its reply is done
+pub announced_due : {m n : Seen} {a b : Tape} (request : ℕ) (act : Action) → Puts a b (printed_line (Timer request)) → n ≡ performed_seen act m
+    → Follows (finishes_with request act) m n a b
+announced_due request act puts is = follows_saying {f = performed act} (Timer request) (λ s e. refl) puts (performed_moves act is)
+
+-- the request that is found, and what is to be done for its reply
+found_due : (heap : Heap) (request : ℕ) (act : Action) (found : Option ℕ) → Some (request, act) ≡ finishing heap found
+    → (found ≡ Some request) × (act ≡ acting_finished request heap)
+found_due heap request act None is = absurd cc
+found_due heap request act (Some other) is =
+    let same : (request, act) ≡ (other, acting_finished other heap) = cc in
+    let first : request ≡ other = ap (λ (p : ℕ × Action). p.0) same in
+    (ap Some (sym first), ap (λ (p : ℕ × Action). p.1) same ∙ ap (λ (k : ℕ). acting_finished k heap) (sym first))
+
+none_due : (heap : Heap) (found : Option ℕ) → None ≡ finishing heap found → found ≡ None
+none_due heap None is = refl
+none_due heap (Some other) is = absurd cc
+
+due_same : {m : Seen} (s : State) → Agrees m s → due_next s.memory.timer ≡ due_listed m.memory.timer
+due_same s e = sym (ap (λ (y : Memory). due_listed y.timer) e.memory ∙ due-in_order s.memory.timer)
+
+-- so many requests finish, by the first one
+abbrev finishes_from : ℕ → Option ℕ → State → Outcome
+finishes_from n found s = elim found as (λ (x : Option ℕ). Outcome) [ None ↦ quiet s | Some request ↦ andthen (finishes request) (finishes_due n) s ]
+
+suc_finishes : (left : ℕ) (s : State) (found : Option ℕ) → due_next s.memory.timer ≡ found → finishes_due (suc left) s ≡ finishes_from left found s
+unfolding finishes_due
+suc_finishes left s found is = ap (λ (x : Option ℕ). finishes_from left x s) is
+
+module _ {m n : Seen} (is : n ≡ record m { memory = ended_if (due_listed m.memory.timer) m.memory }) where
+  one_finishes : {o : Seen} {a b : Tape} (request : ℕ) (act : Action)
+      → Some (request, act) ≡ finishing m.memory.heap (due_listed m.memory.timer)
+      → Follows (finishes_with request act) n o a b → Follows (finishes request) m o a b
+  unfolding finishes acting_finished
+  one_finishes request act found follows =
+      let known = found_due m.memory.heap request act (due_listed m.memory.timer) found in
+      follows_reply (λ s. answering_port request s.memory.heap) request (follows_as
+      {g = λ s. finishes_with request act (on_memory (ended (pos 0) request) s)}
+      (λ s e. ap (λ (does : Action). finishes_with request does (on_memory (ended (pos 0) request) s))
+      (reads_memory (λ memory. acting_at (answering_port request memory.heap) memory.heap) (λ y. refl) (sym known.1) s e))
+      (follows_change (moves_memory (ended (pos 0) request) (ended (pos 0) request) (ended-in_order (pos 0) request)
+      (is ∙ ap (λ (d : Option ℕ). record m { memory = ended_if d m.memory }) known.0)) follows))
+
+  -- a request finishes, and then others
+  pub finishes_next : {o p : Seen} {a b c : Tape} (left request : ℕ) (act : Action)
+      → Some (request, act) ≡ finishing m.memory.heap (due_listed m.memory.timer)
+      → Follows (finishes_with request act) n o a b → Follows (finishes_due left) o p b c → Follows (finishes_due (suc left)) m p a c
+  finishes_next left request act found first others =
+      let known = found_due m.memory.heap request act (due_listed m.memory.timer) found in
+      follows_as {g = andthen (finishes request) (finishes_due left)}
+      (λ s e. suc_finishes left s (Some request) (due_same s e ∙ known.0))
+      (follows_then (one_finishes request act found first) others)
+
+  -- no request is due
+  pub finishes_no_more : (left : ℕ) (t : Tape) → None ≡ finishing m.memory.heap (due_listed m.memory.timer) → Follows (finishes_due left) m n t t
+  unfolding finishes_due
+  finishes_no_more left t none =
+      let known = none_due m.memory.heap (due_listed m.memory.timer) none in
+      let same : n ≡ m = is ∙ ap (λ (d : Option ℕ). record m { memory = ended_if d m.memory }) known in
+      by_left left known (subst (λ (x : Seen). Follows quiet m x t t) (sym same) (follows_nothing m t))
+    where
+      by_left : (left : ℕ) → due_listed m.memory.timer ≡ None → Follows quiet m n t t → Follows (finishes_due left) m n t t
+      by_left zero known stays = stays
+      by_left (suc less) known stays = follows_as {g = quiet} (λ s e. ap (λ (x : Option ℕ). finishes_from less x s) (due_same s e ∙ known)) stays
+
+-- ---- fewer and fewer wait
+
+few_left : (keep : Waiting → Bool) (xs : List Waiting) → length (filter keep xs) ≤ length xs
+few_left keep [] = omega arith
+few_left keep (x ∷ xs) = by_case (keep x) (few_left keep xs) where
+  by_case : (b : Bool) → length (filter keep xs) ≤ length xs → length (cond b (x ∷ filter keep xs) (filter keep xs)) ≤ suc (length xs)
+  by_case true ih = omega (arith, ih)
+  by_case false ih = omega (arith, ih)
+
+-- what is found is left out
+less_left : (test : Waiting → Bool) (xs : List Waiting) (request : ℕ) → option_map (λ (w : Waiting). w.request) (find test xs) ≡ Some request
+    → length (filter (λ (w : Waiting). not (w.request == request)) xs) < length xs
+less_left test [] request is = absurd cc
+less_left test (x ∷ xs) request is = by_case (test x) is (less_left test xs request)
+  where
+    left : List Waiting
+    left = filter (λ (w : Waiting). not (w.request == request)) xs
+
+    first_kept : (b : Bool) → length left < length xs → length (cond b (x ∷ left) left) < suc (length xs)
+    first_kept true less = omega (arith, less)
+    first_kept false less = omega (arith, less)
+
+    by_case : (b : Bool) → option_map (λ (w : Waiting). w.request) (cond b (Some x) (find test xs)) ≡ Some request
+        → (option_map (λ (w : Waiting). w.request) (find test xs) ≡ Some request → length left < length xs)
+        → length (cond (not (x.request == request)) (x ∷ left) left) < suc (length xs)
+    by_case true is less =
+        let same : x.request ≡ request = cc in
+        let some = few_left (λ (w : Waiting). not (w.request == request)) xs in
+        rw (eq-eqb x.request request same) (omega (arith, some))
+    by_case false is less = first_kept (not (x.request == request)) (less is)
+
+pub shorter : (m n o : Seen) (request : ℕ) (act : Action) → Some (request, act) ≡ finishing m.memory.heap (due_listed m.memory.timer)
+    → n ≡ record m { memory = ended_if (due_listed m.memory.timer) m.memory } → o.memory ≡ n.memory
+    → length o.memory.timer.waiting < length m.memory.timer.waiting
+unfolding ended due_listed
+shorter m n o request act found is kept =
+    let known = found_due m.memory.heap request act (due_listed m.memory.timer) found in
+    let waits : o.memory.timer.waiting ≡ filter (λ (w : Waiting). not (w.request == request)) m.memory.timer.waiting =
+    ap (λ (y : Memory). y.timer.waiting) kept ∙ ap (λ (x : Seen). x.memory.timer.waiting) (is ∙ ap (λ (d : Option ℕ). record m { memory = ended_if d m.memory }) known.0) in
+    rw waits (less_left (is_due m.memory.timer.clock) m.memory.timer.waiting request known.0)
+
+-- ---- all that are due
+
+module _ {A : Type 0} (key : A → ℤ) where
+  length-enqueue : (x : A) (xs : List A) → length (enqueue key xs x) ≡ suc (length xs)
+  length-enqueue x [] = refl
+  length-enqueue x (y ∷ ys) = by_case (is_lower key y x) (length-enqueue x ys)
+    where
+      by_case : (b : Bool) → length (enqueue key ys x) ≡ suc (length ys)
+          → length (cond b (x ∷ y ∷ ys) (y ∷ enqueue key ys x)) ≡ suc (suc (length ys))
+      by_case true ih = refl
+      by_case false ih = ap suc ih
+
+  length-fold : (xs ys : List A) → length (fold (enqueue key) ys xs) ≡ length ys + length xs
+  length-fold [] ys = omega arith
+  length-fold (x ∷ xs) ys = let more = length-fold xs (enqueue key ys x) in let one = length-enqueue x ys in omega (arith, more, one)
+
+  length-order : (xs : List A) → length (order key xs) ≡ length xs
+  unfolding order
+  length-order xs = let all = length-fold xs [] in omega (arith, all)
+
+-- The requests that finish from now on end what all that were due began: so many may, at least as many as wait.
+pub record EndsTheDue (m : Seen) (a : Tape) (now : Seen) (b : Tape) : Type 0 where
+  pub left : ℕ
+  pub enough : length now.memory.timer.waiting ≤ left
+  pub rest : (n : Seen) (c : Tape) → Follows (finishes_due left) now n b c → Follows finishes_all_due m n a c
+
+pub all_begin : (m : Seen) (a : Tape) → EndsTheDue m a m a
+unfolding finishes_all_due
+all_begin m a = record {
+  left = length m.memory.timer.waiting;
+  enough = omega arith;
+  rest = λ n c follows. follows_as {g = finishes_due (length m.memory.timer.waiting)}
+      (λ s e. ap (λ (k : ℕ). finishes_due k s)
+      (sym (ap (λ (y : Memory). length y.timer.waiting) e.memory ∙ length-order sooner s.memory.timer.waiting))) follows;
+}
+
+pub one_less : {m now n o : Seen} {a b c : Tape} (request : ℕ) (act : Action) → EndsTheDue m a now b
+    → Some (request, act) ≡ finishing now.memory.heap (due_listed now.memory.timer)
+    → n ≡ record now { memory = ended_if (due_listed now.memory.timer) now.memory }
+    → Follows (finishes_with request act) n o b c → o.memory ≡ n.memory → EndsTheDue m a o c
+one_less {m} {now} {n} {o} {a} {b} {c} request act before found is follows kept =
+    by_left before.left before.enough before.rest
+  where
+    by_left : (left : ℕ) → length now.memory.timer.waiting ≤ left
+        → ((n : Seen) (c : Tape) → Follows (finishes_due left) now n b c → Follows finishes_all_due m n a c) → EndsTheDue m a o c
+    by_left zero enough rest = let less = shorter now n o request act found is kept in absurd (omega (arith, less, enough))
+    by_left (suc left) enough rest = record {
+      left = left;
+      enough = let less = shorter now n o request act found is kept in omega (arith, less, enough);
+      rest = λ p d others. rest p d (finishes_next is left request act found follows others);
+    }
+
+pub all_ended : {m now n : Seen} {a b : Tape} → EndsTheDue m a now b
+    → None ≡ finishing now.memory.heap (due_listed now.memory.timer)
+    → n ≡ record now { memory = ended_if (due_listed now.memory.timer) now.memory } → Follows finishes_all_due m n a b
+all_ended {n = n} {b = b} before none is = before.rest n b (finishes_no_more is before.left b none)

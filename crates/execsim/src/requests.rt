@@ -1,0 +1,423 @@
+//! Requests of timer.device: how they are made and freed, opened, written, begun, waited for and aborted; and how those finish that are due. A
+//! request is named by the address of its block. The calls of `Heap` have the effects on memory; what a reply does to a task is done here.
+ghost use Rattle.std.specs.Prelude.{◌≡◌, ◌<◌, ◌^◌, length, false, true, pos, unwrap_or, IfOk, OnErr, OnOk, Some, if◌then◌else◌};
+ghost use Rattle.std.specs.Int.{cast_unsigned, w32};
+ghost use Rattle.iorequest.specs.Request.{is_under_way};
+ghost use Rattle.iorequest.specs.Requests.{unit_error};
+ghost use Rattle.execmodel.specs.State.{on_heap, on_memory, on_timer};
+ghost use Rattle.execmodel.specs.Timing.{ticked};
+ghost use Rattle.execmodel.specs.Interrupts.{finishes_for};
+ghost use Rattle.execmodel.specs.Requests.{does_requests, finishes_all_due, opened_for, request_alert, request_of, resting_alert, timer_unit};
+ghost use Rattle.execmodel.specs.Requests.{does_create_io_request, does_delete_io_request, does_open_device, does_close_device, does_set_io, does_do_io, does_send_io};
+ghost use Rattle.execmodel.specs.Requests.{does_check_io, does_wait_io, does_abort_io, does_io_secs, does_io_micros, does_io_error, does_io_flags};
+ghost use Rattle.execheap.specs.Listing.{IsSignal, due_listed, ended_if, finishing};
+ghost use Rattle.execheap.specs.Refusals.{alert_of};
+ghost use Rattle.execsim.specs.Actions.{aborts_or_alerted, finishes_with, tells_or_waits};
+ghost use Rattle.execsim.specs.Agreement.{Follows};
+ghost use Rattle.execsim.specs.Time.{HasTimeFor};
+ghost use Rattle.execsim.specs.Views.{call_view};
+
+use crate::command::{Call, Caller};
+use crate::kernel::Kernel;
+use crate::ports::name_or_empty;
+use execheap::{Action, Awaited, Refusal};
+use execlist::space::ListSpace;
+use exectrace::printing::put_timer;
+use exectrace::{Name, Sink};
+use softint::source::Source;
+use taskq::TaskId;
+use taskscript::RequestWord;
+
+/// What AbortIO answers for a request that is not under way: the word of -1.
+const NOT_ABORTED: u32 = 0xffff_ffff;
+
+/// The unit of timer.device that is meant; none where another device is.
+fn timer_unit(device: Name, unit: u32) -> Option<u32>
+    ensures { result ≡ timer_unit device.bytes unit }
+{
+    if device.as_str() == "timer.device" {
+        Some(unit)
+    } else {
+        None
+    }
+}
+
+/// An error as a word.
+fn error_word(error: i8) -> u32
+    ensures { result ≡ cast_unsigned w32 error }
+{
+    i32::from(error).cast_unsigned()
+}
+
+/// What CheckIO answers: 0 for a request that is under way, and else the request.
+fn checked(under_way: bool, request: u32) -> u32
+    ensures { result ≡ (if under_way then 0 else request) }
+{
+    if under_way { 0 } else { request }
+}
+
+/// A flag as a word.
+fn flag_word(set: bool) -> u32
+    ensures { result ≡ (if set then 1 else 0) }
+{
+    if set { 1 } else { 0 }
+}
+
+impl<S: ListSpace> Kernel<S> {
+    // ---- made and freed
+
+    /// CreateIORequest port: answers the address of a new request with that reply port, or 0; 0 for port 0. HANDLE where the port is not 0
+    /// and none begins there (autodoc exec.library/CreateIORequest; the alert: own choice).
+    fn create_io_request<W: Sink>(&mut self, t: TaskId, call: &Call, out: &mut W)
+        requires { t < length self.old.scripts.programs }
+        ensures { Follows (does_create_io_request t (call_view call.now)) self.old self.new (W.tape out.old) (W.tape out.new) }
+    {
+        let port = call.number(0);
+        if port == 0 {
+            self.answered(t, call, 0, out);
+        } else {
+            match self.memory.new_request(port) {
+                Ok(request) => self.answered(t, call, request.unwrap_or(0), out),
+                Err(why) => self.refused(why, t, call, out),
+            }
+        }
+    }
+
+    /// DeleteIORequest request: frees a request; 0 does nothing. HANDLE where none begins there, IO where it is under way, LINK where its
+    /// reply is queued (autodoc exec.library/DeleteIORequest; the alerts: own choice).
+    fn delete_io_request<W: Sink>(&mut self, t: TaskId, call: &Call, out: &mut W)
+        requires { t < length self.old.scripts.programs }
+        ensures { Follows (does_delete_io_request t (call_view call.now)) self.old self.new (W.tape out.old) (W.tape out.new) }
+    {
+        let request = call.number(0);
+        if request == 0 {
+            self.done(t, call, out);
+        } else {
+            let tried = self.memory.delete_request(request);
+            self.concluded(tried, t, call, out);
+        }
+    }
+
+    // ---- opening and writing
+
+    /// Opens a request for a unit of timer.device, none where another device is meant, and answers its error as a word.
+    fn open_request(&mut self, request: u32, unit: Option<u32>) -> Result<u32, Refusal>
+        ensures alert { alert_of result ≡ resting_alert request self.old.memory.heap }
+        ensures answer { IfOk result (λ error. error ≡ cast_unsigned w32 (unit_error unit)) }
+        ensures next { OnOk result (self.new ≡ record self.old { memory = on_heap (opened_for unit request) self.old.memory }) }
+        ensures kept { OnErr result (self.new ≡ self.old) }
+    {
+        match self.memory.open_device(request, unit) {
+            Ok(error) => Ok(error_word(error)),
+            Err(why) => Err(why),
+        }
+    }
+
+    /// OpenDevice name unit request: opens a request for a unit of timer.device, and answers 0; or the word of IOERR_OPENFAIL (-1) where
+    /// there is no such device or unit, and the request is then not open. HANDLE where no request begins there, IO where it is under way
+    /// (autodoc exec.library/OpenDevice; the alerts: own choice).
+    fn open_device<W: Sink>(&mut self, t: TaskId, call: &Call, out: &mut W)
+        requires { t < length self.old.scripts.programs }
+        ensures { Follows (does_open_device t (call_view call.now)) self.old self.new (W.tape out.old) (W.tape out.new) }
+    {
+        let unit = timer_unit(name_or_empty(call.name(0)), call.number(1));
+        let tried = self.open_request(call.number(2), unit);
+        self.concluded_with(tried, t, call, out);
+    }
+
+    /// CloseDevice request: the request is not open. HANDLE where none begins there, IO where it is under way (autodoc
+    /// exec.library/CloseDevice; the alerts: own choice).
+    fn close_device<W: Sink>(&mut self, t: TaskId, call: &Call, out: &mut W)
+        requires { t < length self.old.scripts.programs }
+        ensures { Follows (does_close_device t (call_view call.now)) self.old self.new (W.tape out.old) (W.tape out.new) }
+    {
+        let request = call.number(0);
+        let tried = self.memory.close_device(request);
+        self.concluded(tried, t, call, out);
+    }
+
+    /// SetIO request cmd secs micros: gives a request a command and a time in seconds and microseconds. HANDLE where no request begins
+    /// there, VALUE where the command is above 65535, IO where the request is under way (RKM Devices, Introduction to Amiga System Devices:
+    /// io_Command; Devices, timer device: tr_time; that there is a call for it, and the alerts: own choice).
+    fn set_io<W: Sink>(&mut self, t: TaskId, call: &Call, out: &mut W)
+        requires { t < length self.old.scripts.programs }
+        ensures { Follows (does_set_io t (call_view call.now)) self.old self.new (W.tape out.old) (W.tape out.new) }
+    {
+        let request = call.number(0);
+        let command = call.number(1);
+        if command < 65536 {
+            let tried = self
+                .memory
+                .set_request(request, command as u16, call.number(2), call.number(3));
+            self.concluded(tried, t, call, out);
+        } else if self.memory.is_request(request) {
+            self.alerted("VALUE", t, call, out);
+        } else {
+            self.alerted("HANDLE", t, call, out);
+        }
+    }
+
+    // ---- beginning and waiting
+
+    /// SendIO request: begins a request with IOF_QUICK cleared; where that does it at once, it is replied. HANDLE where no request begins
+    /// there, IO where it is under way or not open, LINK where its reply is queued, HANDLE where no port begins at its reply port's address
+    /// (autodoc exec.library/SendIO; the alerts: own choice).
+    fn send_io<W: Sink>(&mut self, t: TaskId, call: &Call, out: &mut W)
+        requires { t < length self.old.scripts.programs }
+        ensures { Follows (does_send_io t (call_view call.now)) self.old self.new (W.tape out.old) (W.tape out.new) }
+    {
+        let request = call.number(0);
+        let tried = self.memory.send_request(request);
+        self.performed(tried, &Caller::Task(t), call, out);
+    }
+
+    /// The call that looks for a request answers its error, or waits for its reply port's signal.
+    fn look_for<W: Sink>(&mut self, found: Awaited, t: TaskId, call: &Call, out: &mut W)
+        requires known { t < length self.old.scripts.programs }
+        requires runs { self.old.schedule.running ≡ Some t }
+        requires signal { IsSignal found }
+        ensures { Follows (tells_or_waits found t (call_view call.now)) self.old self.new (W.tape out.old) (W.tape out.new) }
+    {
+        match found {
+            Awaited::Done(error) => self.answered(t, call, error_word(error), out),
+            Awaited::UnderWay(bit) => self.wait_for_message(1 << bit, t, call, out),
+        }
+    }
+
+    /// WaitIO request: answers the error of a request that is done, and takes its reply, if it has one; where it is under way, the task waits
+    /// for the signal of its reply port, and looks again when it next runs, after that signal is cleared. HANDLE where no request begins
+    /// there, IO where it never was begun, LINK where it was replied and its reply is not queued, PORT where it is under way and its reply
+    /// port does not signal the caller (autodoc exec.library/WaitIO; how a task waits and looks again, and the alerts: own choice).
+    fn wait_io<W: Sink>(&mut self, t: TaskId, call: &Call, out: &mut W)
+        requires known { t < length self.old.scripts.programs }
+        requires runs { self.old.schedule.running ≡ Some t }
+        ensures { Follows (does_wait_io t (call_view call.now)) self.old self.new (W.tape out.old) (W.tape out.new) }
+    {
+        let request = call.number(0);
+        match self.memory.wait_for_request(t, request) {
+            Ok(found) => {
+                self.lose(t, call.awaited);
+                self.look_for(found, t, call, out);
+            }
+            Err(why) => self.refused(why, t, call, out),
+        }
+    }
+
+    /// DoIO request: begins a request with IOF_QUICK set; where that does it at once, its error is answered, else the task waits for it as
+    /// by WaitIO. The call of a task that has waited begins nothing: it is WaitIO's. Alerts as SendIO's, and PORT where the reply port does
+    /// not signal the caller (autodoc exec.library/DoIO; the alerts: own choice).
+    fn do_io<W: Sink>(&mut self, t: TaskId, call: &Call, out: &mut W)
+        requires known { t < length self.old.scripts.programs }
+        requires runs { self.old.schedule.running ≡ Some t }
+        ensures { Follows (does_do_io t (call_view call.now)) self.old self.new (W.tape out.old) (W.tape out.new) }
+    {
+        if self.is_tried_again(t) {
+            self.wait_io(t, call, out);
+        } else {
+            let request = call.number(0);
+            match self.memory.do_request(t, request) {
+                Ok(found) => self.look_for(found, t, call, out),
+                Err(why) => self.refused(why, t, call, out),
+            }
+        }
+    }
+
+    /// What CheckIO answers for a request.
+    fn check(&self, request: u32) -> Result<u32, Refusal>
+        ensures alert { alert_of result ≡ request_alert request self.now.memory.heap }
+        ensures answer { IfOk result (λ answer. answer ≡ (if is_under_way (request_of request self.now.memory.heap) then 0 else request)) }
+    {
+        match self.memory.is_under_way(request) {
+            Ok(under_way) => Ok(checked(under_way, request)),
+            Err(why) => Err(why),
+        }
+    }
+
+    /// CheckIO request: answers 0 for a request that is under way, and else the request, and leaves its reply where it is. HANDLE where no
+    /// request begins there (autodoc exec.library/CheckIO; the alert: own choice).
+    fn check_io<W: Sink>(&mut self, t: TaskId, call: &Call, out: &mut W)
+        requires { t < length self.old.scripts.programs }
+        ensures { Follows (does_check_io t (call_view call.now)) self.old self.new (W.tape out.old) (W.tape out.new) }
+    {
+        let request = call.number(0);
+        let tried = self.check(request);
+        self.concluded_with(tried, t, call, out);
+    }
+
+    /// A call that aborts a request: one that was under way is replied, and 0 is answered, for any other the word of -1; or the call is
+    /// refused by its alert.
+    fn aborted<W: Sink>(
+        &mut self,
+        tried: Result<Option<Action>, Refusal>,
+        t: TaskId,
+        call: &Call,
+        out: &mut W,
+    )
+        requires { t < length self.old.scripts.programs }
+        ensures { Follows (aborts_or_alerted tried t (call_view call.now)) self.old self.new (W.tape out.old) (W.tape out.new) }
+    {
+        match tried {
+            Ok(found) => match found {
+                Some(action) => {
+                    self.perform(action);
+                    self.answered(t, call, 0, out);
+                }
+                None => self.answered(t, call, NOT_ABORTED, out),
+            },
+            Err(why) => self.refused(why, t, call, out),
+        }
+    }
+
+    /// AbortIO request: a request that is under way is replied at once, with the error IOERR_ABORTED (-2), and 0 is answered; for any other
+    /// the word of -1. HANDLE where no request begins there (autodoc exec.library/AbortIO; the alert: own choice).
+    fn abort_io<W: Sink>(&mut self, t: TaskId, call: &Call, out: &mut W)
+        requires { t < length self.old.scripts.programs }
+        ensures { Follows (does_abort_io t (call_view call.now)) self.old self.new (W.tape out.old) (W.tape out.new) }
+    {
+        let request = call.number(0);
+        let tried = self.memory.abort_request(request);
+        self.aborted(tried, t, call, out);
+    }
+
+    // ---- what a request holds
+
+    /// IOSecs request: answers the seconds of its time. HANDLE where no request begins there (Devices, timer device: tr_time; that there is
+    /// a call for it, and the alert: own choice).
+    fn io_secs<W: Sink>(&mut self, t: TaskId, call: &Call, out: &mut W)
+        requires { t < length self.old.scripts.programs }
+        ensures { Follows (does_io_secs t (call_view call.now)) self.old self.new (W.tape out.old) (W.tape out.new) }
+    {
+        let tried = self.memory.secs(call.number(0));
+        self.concluded_with(tried, t, call, out);
+    }
+
+    /// IOMicros request: answers the microseconds of its time. HANDLE where no request begins there (Devices, timer device: tr_time; that
+    /// there is a call for it, and the alert: own choice).
+    fn io_micros<W: Sink>(&mut self, t: TaskId, call: &Call, out: &mut W)
+        requires { t < length self.old.scripts.programs }
+        ensures { Follows (does_io_micros t (call_view call.now)) self.old self.new (W.tape out.old) (W.tape out.new) }
+    {
+        let tried = self.memory.micros(call.number(0));
+        self.concluded_with(tried, t, call, out);
+    }
+
+    /// The error of a request as a word.
+    fn error(&self, request: u32) -> Result<u32, Refusal>
+        ensures alert { alert_of result ≡ request_alert request self.now.memory.heap }
+        ensures answer { IfOk result (λ word. word ≡ cast_unsigned w32 (request_of request self.now.memory.heap).error) }
+    {
+        match self.memory.error(request) {
+            Ok(error) => Ok(error_word(error)),
+            Err(why) => Err(why),
+        }
+    }
+
+    /// IOError request: answers its error as a word: 0, or that of IOERR_OPENFAIL (-1), IOERR_ABORTED (-2) or IOERR_NOCMD (-3). HANDLE where
+    /// no request begins there (RKM Devices, Introduction to Amiga System Devices: io_Error; that there is a call for it, and the alert: own
+    /// choice).
+    fn io_error<W: Sink>(&mut self, t: TaskId, call: &Call, out: &mut W)
+        requires { t < length self.old.scripts.programs }
+        ensures { Follows (does_io_error t (call_view call.now)) self.old self.new (W.tape out.old) (W.tape out.new) }
+    {
+        let tried = self.error(call.number(0));
+        self.concluded_with(tried, t, call, out);
+    }
+
+    /// IOF_QUICK of a request as a word: 1 where it is set, and else 0.
+    fn flags(&self, request: u32) -> Result<u32, Refusal>
+        ensures alert { alert_of result ≡ request_alert request self.now.memory.heap }
+        ensures answer { IfOk result (λ flags. flags ≡ (if (request_of request self.now.memory.heap).quick then 1 else 0)) }
+    {
+        match self.memory.quick(request) {
+            Ok(quick) => Ok(flag_word(quick)),
+            Err(why) => Err(why),
+        }
+    }
+
+    /// IOFlags request: answers 1 where IOF_QUICK is set, and else 0. HANDLE where no request begins there (RKM Devices, Introduction to
+    /// Amiga System Devices: io_Flags; that there is a call for it, and the alert: own choice).
+    fn io_flags<W: Sink>(&mut self, t: TaskId, call: &Call, out: &mut W)
+        requires { t < length self.old.scripts.programs }
+        ensures { Follows (does_io_flags t (call_view call.now)) self.old self.new (W.tape out.old) (W.tape out.new) }
+    {
+        let tried = self.flags(call.number(0));
+        self.concluded_with(tried, t, call, out);
+    }
+
+    /// A call of task t on requests, by its word.
+    pub(crate) fn does_requests<W: Sink>(
+        &mut self,
+        word: RequestWord,
+        t: TaskId,
+        call: &Call,
+        out: &mut W,
+    )
+        requires known { t < length self.old.scripts.programs }
+        requires runs { self.old.schedule.running ≡ Some t }
+        ensures { Follows (does_requests word t (call_view call.now)) self.old self.new (W.tape out.old) (W.tape out.new) }
+    {
+        match word {
+            RequestWord::CreateIORequest => self.create_io_request(t, call, out),
+            RequestWord::DeleteIORequest => self.delete_io_request(t, call, out),
+            RequestWord::OpenDevice => self.open_device(t, call, out),
+            RequestWord::CloseDevice => self.close_device(t, call, out),
+            RequestWord::SetIO => self.set_io(t, call, out),
+            RequestWord::DoIO => self.do_io(t, call, out),
+            RequestWord::SendIO => self.send_io(t, call, out),
+            RequestWord::CheckIO => self.check_io(t, call, out),
+            RequestWord::WaitIO => self.wait_io(t, call, out),
+            RequestWord::AbortIO => self.abort_io(t, call, out),
+            RequestWord::IOSecs => self.io_secs(t, call, out),
+            RequestWord::IOMicros => self.io_micros(t, call, out),
+            RequestWord::IOError => self.io_error(t, call, out),
+            RequestWord::IOFlags => self.io_flags(t, call, out),
+        }
+    }
+
+    // ---- the clock
+
+    /// The clock gains a tick.
+    pub(crate) fn gain_tick(&mut self)
+        requires { HasTimeFor 1 self.old }
+        ensures { self.new ≡ record self.old { memory = on_timer ticked self.old.memory } }
+    {
+        self.memory.tick();
+    }
+
+    /// The first request that is due, if there is one, is done, and waits no more; answered with what is to be done for its reply.
+    fn take_due(&mut self) -> Option<(u32, Action)>
+        ensures answer { result ≡ finishing self.old.memory.heap (due_listed self.old.memory.timer) }
+        ensures next { self.new ≡ record self.old { memory = ended_if (due_listed self.old.memory.timer) self.old.memory } }
+    {
+        self.memory.finish_due()
+    }
+
+    /// A request that is done says so, and then what is to be done for its reply is done.
+    fn announce_due<W: Sink>(&mut self, request: u32, action: Action, out: &mut W)
+        ensures follows { Follows (finishes_with request action) self.old self.new (W.tape out.old) (W.tape out.new) }
+        ensures kept { self.new.memory ≡ self.old.memory }
+    {
+        put_timer(request, out);
+        self.perform(action);
+    }
+
+    /// All requests that are due finish, one after another: by the time when they are due, and those of one time in the order in which they
+    /// were begun.
+    fn finish_all_due<W: Sink>(&mut self, out: &mut W)
+        ensures { Follows finishes_all_due self.old self.new (W.tape out.old) (W.tape out.new) }
+    {
+        while let Some((request, action)) = self.take_due() {
+            self.announce_due(request, action, out);
+        }
+    }
+
+    /// For VERTB all requests finish that are due.
+    pub(crate) fn finish_for<W: Sink>(&mut self, source: Source, out: &mut W)
+        ensures { Follows (finishes_for source) self.old self.new (W.tape out.old) (W.tape out.new) }
+    {
+        match source {
+            Source::Vertb => self.finish_all_due(out),
+            Source::Ports | Source::Exter => {}
+        }
+    }
+}
