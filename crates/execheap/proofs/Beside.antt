@@ -5,13 +5,14 @@ use Rattle.std.specs.List.{list_any}
 use Rattle.execlist.specs.Lists.{home, is_at, sequence, times}
 use Rattle.execlist.specs.Pool.{slot}
 use Rattle.msgport.specs.Ports.{messages_of, port_at}
-use Rattle.timerdev.specs.Timing.{due_at}
-use Rattle.execmodel.specs.State.{ListHead, MsgPort, Timer, Waiting}
+use Rattle.timerdev.specs.Timing.{Waiting, is_waiting}
+use Rattle.execmodel.specs.State.{ListHead, MsgPort}
 use Rattle.execheap.specs.declared.kind.Kind.{Kind}
 use Rattle.execheap.specs.declared.kind.Kind.TheVariants as variant
 use Rattle.execheap.specs.Table.{Tabled, slots_of}
 use Rattle.execheap.specs.Numbered.{Numbered, address_in, key_at, object_of, places, shown_public, shown_timer, shown_waiting}
 use Rattle.execheap.proofs.Mapped.{map_agree, members, stands_by_times}
+use Rattle.execheap.proofs.Waits.{waiting_members}
 
 -- ---- objects that show the addresses of others
 
@@ -30,25 +31,20 @@ public_kept s u ports keys public = λ i. map (λ p. record { port = address_in 
 
 -- the timer shows the same where requests keep their addresses
 pub timer_kept : (s u : Numbered) → places variant.Request u ≡ places variant.Request s → u.timing ≡ s.timing → shown_timer u ≡ shown_timer s
-timer_kept s u requests timing = λ i. record {
-  clock = (timing i).clock;
-  tick_micros = (timing i).tick_micros;
-  waiting = map (λ r. record { request = address_in (requests i) r; due = due_at (timing i).dues r }) (timing i).queue;
+timer_kept s u requests timing = λ i. record (timing i).timer {
+  waiting = map (λ (w : Waiting). record w { request = address_in (requests i) w.request }) (timing i).timer.waiting;
 }
-
-abbrev timer_with : Numbered → List Waiting → Timer
-timer_with s waiting = record { clock = s.timing.clock; tick_micros = s.timing.tick_micros; waiting = waiting }
 
 -- the timer shows the same where those that wait keep their addresses
 pub timer_beside : (s u : Numbered) → u.timing ≡ s.timing
-    → ((r : ℕ) → list_any (λ other. other == r) s.timing.queue ≡ true → slot (places variant.Request u) r ≡ slot (places variant.Request s) r)
+    → ((r : ℕ) → is_waiting r s.timing.timer ≡ true → slot (places variant.Request u) r ≡ slot (places variant.Request s) r)
     → shown_timer u ≡ shown_timer s
 timer_beside s u timing same =
     ap (λ timing. shown_timer (record u { timing = timing })) timing
-    ∙ ap (timer_with s)
-    (map_agree (shown_waiting (record u { timing = s.timing })) (shown_waiting s) s.timing.queue
-    (members (λ r. shown_waiting (record u { timing = s.timing }) r ≡ shown_waiting s r) s.timing.queue
-    (λ r there. λ i. record { request = unwrap_or (same r there i) 0; due = due_at s.timing.dues r })))
+    ∙ ap (λ waiting. record s.timing.timer { waiting = waiting })
+    (map_agree (shown_waiting (record u { timing = s.timing })) (shown_waiting s) s.timing.timer.waiting
+    (waiting_members (λ w. shown_waiting (record u { timing = s.timing }) w ≡ shown_waiting s w) s.timing.timer.waiting
+    (λ w there. λ i. record w { request = unwrap_or (same w.request there i) 0 })))
 
 -- objects of some numbers have the same addresses where those of these numbers do
 pub addresses_kept : (all other : List (Option ℕ)) (numbers : List ℕ)

@@ -12,6 +12,7 @@ use Rattle.iorequest.specs.Request.{idle_request, is_under_way}
 use Rattle.sigsem.specs.declared.semaphore.Sem.{Sem}
 use Rattle.msgport.specs.Ports.{MessagePorts, is_held, no_ports}
 use Rattle.msgport.specs.Port.{Port}
+use Rattle.timerdev.specs.Timing.{new_timer}
 use Rattle.execheap.specs.declared.kind.Kind.{Kind}
 use Rattle.execheap.specs.declared.kind.Kind.TheVariants as variant
 use Rattle.execheap.specs.Table as table
@@ -43,7 +44,7 @@ none_held pool m = ap (λ (q : MessagePorts). is_held m q) (ports_unused pool)
 in_time_unused : (regions : List Region) (pool : ℕ) (known : List Description) (tick_micros : ℕ) → IsInTime (unused regions pool known tick_micros)
 in_time_unused regions pool known tick_micros = record {
   each_message = (made_unused pool).size;
-  each_due = length-replicate pool 0;
+  each_time = refl;
   made = λ r small. (made_unused pool).there (pool + r) (omega arith) (omega (arith, small));
   held = λ r. none_held pool (pool + r) ∙ sym (none_way pool r);
   none_held = λ m small. none_held pool m;
@@ -51,6 +52,7 @@ in_time_unused regions pool known tick_micros = record {
   live = λ r p there. (let bad : false ≡ true = ap is_some (sym (nowhere pool (pool + r)) ∙ there) in cc);
   at_reply_port = λ r p there. (let bad : false ≡ true = ap is_some (sym (nowhere pool (pool + r)) ∙ there) in cc);
   early = omega arith;
+  near = omega arith;
 }
 
 pub kept_unused : (regions : List Region) (pool : ℕ) (known : List Description) (tick_micros : ℕ) → IsKept (unused regions pool known tick_micros)
@@ -82,7 +84,7 @@ pub unused_shown : (regions : List Region) (pool : ℕ) (known : List Descriptio
       pool = pool;
       heap = [];
       public = [];
-      timer = record { clock = 0; tick_micros = tick_micros; waiting = [] };
+      timer = new_timer tick_micros;
     }
 unfolding shown_heap
 unused_shown regions pool known tick_micros = λ i. record {
@@ -91,5 +93,5 @@ unused_shown regions pool known tick_micros = λ i. record {
   pool = pool;
   heap = [];
   public = map (shown_public (unused regions pool known tick_micros)) (ports_unused pool i).public;
-  timer = record { clock = 0; tick_micros = tick_micros; waiting = [] };
+  timer = new_timer tick_micros;
 }

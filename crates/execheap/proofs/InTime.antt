@@ -1,5 +1,5 @@
 -- The requests and their messages go on agreeing where calls leave them alone.
-use Rattle.std.proofs.Common.{◌≡◌, ℕ, ◌+◌, ◌<◌, ◌^◌, length, ap, sym, ◌∙◌, subst, arith}
+use Rattle.std.proofs.Common.{◌≡◌, ℕ, ◌+◌, ◌<◌, ◌≤◌, ◌^◌, length, ap, sym, ◌∙◌, subst, arith}
 use Rattle.std.specs.Prelude.{Some, nat_lt, Option, is_some, slice_set, IsSome, IsTrue}
 use Rattle.std.proofs.lemmas.List.{length-set}
 use Rattle.execlist.proofs.Pools.{slot_other}
@@ -9,7 +9,8 @@ use Rattle.iorequest.specs.declared.request.Request.{Request as TimerRequest}
 use Rattle.iorequest.specs.Requests.{request_at}
 use Rattle.msgport.specs.declared.message.Message.{Message}
 use Rattle.msgport.specs.Ports.{MessagePorts, is_message}
-use Rattle.timerdev.specs.Timing.{Timing, is_queued}
+use Rattle.timerdev.specs.Held.{Held}
+use Rattle.timerdev.specs.Timing.{is_waiting}
 use Rattle.execheap.specs.declared.kind.Kind.TheVariants as variant
 use Rattle.execheap.specs.Table.{slots_of}
 use Rattle.execheap.specs.Numbered.{Numbered, IsInTime, is_way_at, message_of_request, places}
@@ -37,16 +38,17 @@ module _ {s u : Numbered} (t : IsInTime s) (along : IsAlong s u) (about : IsAbou
   pub in_time_kept : IsInTime u
   in_time_kept = record {
     each_message = along.each_message ∙ t.each_message ∙ ap (λ n. n + n) (sym about.pool);
-    each_due = ap (λ (m : Timing). length m.dues) along.timing ∙ t.each_due ∙ sym about.pool;
+    each_time = ap (λ (m : Held). m.room) along.timing ∙ t.each_time ∙ sym about.pool;
     made = λ r small. let less : r < s.table.pool = subst (λ n. r < n) about.pool small in
         subst (λ n. IsTrue (is_message (n + r) u.ports)) (sym about.pool) (along.made r less (t.made r less));
     held = λ r. (λ i. nat_lt 0 (times (about.pool i + r) (along.holding i))) ∙ t.held r ∙ sym (along.way r);
     none_held = λ m small. ap (λ held. nat_lt 0 (times m held)) along.holding ∙ t.none_held m (subst (λ n. m < n) about.pool small);
-    waits = λ r. ap (is_queued r) along.timing ∙ t.waits r ∙ sym (along.way r);
+    waits = λ r. ap (λ (m : Held). is_waiting r m.timer) along.timing ∙ t.waits r ∙ sym (along.way r);
     live = λ r p there. about.live r p (was r p there) (t.live r p (was r p there));
     at_reply_port = λ r p there. about.port r p (request_at r s.requests).port (was r p there) (t.at_reply_port r p (was r p there))
         ∙ ap Some (sym (along.reply r p (was r p there)));
-    early = subst (λ (m : Timing). m.clock < 2 ^ 63) (sym along.timing) t.early;
+    early = subst (λ (m : Held). m.timer.clock < 2 ^ 63) (sym along.timing) t.early;
+    near = subst (λ (m : Held). m.timer.system ≤ m.timer.clock + 2 ^ 53) (sym along.timing) t.near;
   }
 
 -- ---- all beside the table is the same

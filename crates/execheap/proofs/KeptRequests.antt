@@ -6,15 +6,16 @@ use Rattle.execlist.specs.Lists.{home}
 use Rattle.execlist.specs.Pool.{Pooled, slot}
 use Rattle.execlist.proofs.Pools.{item_of, slot_known, slot_other, slot_same}
 use Rattle.iorequest.specs.declared.request.Request.{Request as TimerRequest}
-use Rattle.iorequest.specs.declared.fault.ReqFault.TheVariants.{InUse, NotOpen}
+use Rattle.iorequest.specs.declared.fault.ReqFault.TheVariants.{InUse}
 use Rattle.iorequest.specs.Faults.{kept_or}
-use Rattle.iorequest.specs.Request.{asks_time, begun, done_state, finished, idle_request, is_open, is_under_way, is_way, reply_port, second}
-use Rattle.iorequest.specs.Requests.{begin_fault, in_use_fault, is_request, request_at, with_request}
+use Rattle.iorequest.specs.Request.{asks_time, begun, done_state, finished, idle_request, is_under_way, is_way, reply_port, second}
+use Rattle.iorequest.specs.Requests.{in_use_fault, is_request, request_at, with_request}
 use Rattle.msgport.specs.Port.{Port}
 use Rattle.msgport.specs.declared.fault.PortFault.TheVariants.{Link, Unknown}
 use Rattle.msgport.specs.Ports as ports
 use Rattle.msgport.specs.Ports.{MessagePorts, is_held, is_message, is_port, is_queued as is_in_port, let_go, loose_fault, nt_replymsg, posted, queued_fault, taken_out}
-use Rattle.timerdev.specs.Timing.{Timing, added, cancelled, is_queued}
+use Rattle.timerdev.specs.Held.{Held, on_timer}
+use Rattle.timerdev.specs.Timing.{Due, begins_to_wait, is_waiting, waits_no_more}
 use Rattle.execheap.specs.declared.kind.Kind.{Kind}
 use Rattle.execheap.specs.declared.kind.Kind.TheVariants as variant
 use Rattle.execheap.specs.Table.{number_at, pool_of}
@@ -24,7 +25,7 @@ use Rattle.execheap.specs.Requesting.{port_number, put_at}
 use Rattle.execheap.proofs.KeptPorts.{IsOwn}
 use Rattle.execheap.proofs.Matching.{number_placed}
 use Rattle.execheap.proofs.Stepping.{shape_length, shape_lives, shape_written}
-use Rattle.execheap.proofs.Waits.{IsMoved, IsTimed, moved_held, moved_let_go, moved_not, moved_out, moved_posted, timed_added, timed_cancelled, timed_not}
+use Rattle.execheap.proofs.Waits.{IsMoved, IsTimed, moved_held, moved_let_go, moved_not, moved_out, moved_posted, timed_begun, timed_ended, timed_not}
 
 -- ---- one request is another
 
@@ -42,7 +43,7 @@ way_of o = is_some o && is_under_way (unwrap_or o (idle_request 0))
 pub written_here : (r : ℕ) (q : TimerRequest) (old : Pooled TimerRequest) → IsTrue (is_request r old) → slot (with_request r q old).slots r ≡ Some q
 written_here r q old lives = let item = item_of (slot old.slots r) lives in slot_same old.slots r (Some q) (slot_known old.slots r item.0 item.1)
 
-pub written_is : (r : ℕ) (q : TimerRequest) (old : Pooled TimerRequest) → IsTrue (is_request r old) → q.port ≡ (request_at r old).port
+written_is : (r : ℕ) (q : TimerRequest) (old : Pooled TimerRequest) → IsTrue (is_request r old) → q.port ≡ (request_at r old).port
     → IsWritten (is_under_way q) r old (with_request r q old)
 written_is r q old lives port = record {
   same = shape_written old r q lives;
@@ -56,7 +57,7 @@ written_is r q old lives port = record {
       ∙ ap (λ o. (unwrap_or o (idle_request 0)).port) (written_here r q old lives) ∙ port ∙ ap (λ j. (request_at j old).port) (sym same)
   by_case k (inr other) = ap (λ o. (unwrap_or o (idle_request 0)).port) (slot_other old.slots r k (Some q) other)
 
-pub written_then : {first second : Bool} {r : ℕ} {x y z : Pooled TimerRequest} → IsWritten first r x y → IsWritten second r y z → IsWritten second r x z
+written_then : {first second : Bool} {r : ℕ} {x y z : Pooled TimerRequest} → IsWritten first r x y → IsWritten second r y z → IsWritten second r x z
 written_then a b = record {
   same = b.same ∙ a.same;
   here = b.here;
@@ -74,12 +75,12 @@ module _ {s : Numbered} (kept : IsKept s) where
   pub live_request : (r : ℕ) → IsSome (slot (places variant.Request s) r) → IsTrue (is_request r s.requests)
   live_request r lives = sym (shape_lives (pool_of variant.Request s.table) s.requests (kept.in_step variant.Request) r) ∙ lives
 
-  module _ (requests : Pooled TimerRequest) (ports : MessagePorts) (timing : Timing) where
+  module _ (requests : Pooled TimerRequest) (ports : MessagePorts) (timing : Held) where
     abbrev after : Numbered
     after = record s { requests = requests; ports = ports; timing = timing }
 
     -- the same requests, ports and messages live
-    pub kept_with : shape requests ≡ shape s.requests → ports.ports ≡ s.ports.ports → shape ports.messages ≡ shape s.ports.messages
+    kept_with : shape requests ≡ shape s.requests → ports.ports ≡ s.ports.ports → shape ports.messages ≡ shape s.ports.messages
         → IsInTime after → IsKept after
     kept_with same own messages in_time = record {
       live_nodes = kept.live_nodes;
@@ -107,8 +108,8 @@ module _ {s : Numbered} (kept : IsKept s) where
       held k (inl same) = ap (λ j. is_held (message_of_request j s) ports) same ∙ m.here ∙ sym q.here ∙ ap (λ j. is_way_at j requests) (sym same)
       held k (inr other) = m.rest (message_of_request k s) (λ e. other (omega (arith, e))) ∙ kept.in_time.held k ∙ sym (q.rest k other)
 
-      waits : (k : ℕ) → (k ≡ r) ⊎ (k ≡ r → ⊥) → is_queued k timing ≡ is_way_at k requests
-      waits k (inl same) = ap (λ j. is_queued j timing) same ∙ t.here ∙ sym q.here ∙ ap (λ j. is_way_at j requests) (sym same)
+      waits : (k : ℕ) → (k ≡ r) ⊎ (k ≡ r → ⊥) → is_waiting k timing.timer ≡ is_way_at k requests
+      waits k (inl same) = ap (λ j. is_waiting j timing.timer) same ∙ t.here ∙ sym q.here ∙ ap (λ j. is_way_at j requests) (sym same)
       waits k (inr other) = t.rest k other ∙ kept.in_time.waits k ∙ sym (q.rest k other)
 
       here : (k : ℕ) → message_of_request k s ≡ message_of_request r s → k ≡ r
@@ -126,35 +127,32 @@ module _ {s : Numbered} (kept : IsKept s) where
       at k p (inl was) = kept.in_time.at_reply_port k p was
       at k p (inr now) = now.1 ∙ ap (λ j. Some (request_at j s.requests).port) (sym (here k now.0))
 
-      pub kept_call : IsKept after
+      kept_call : IsKept after
       kept_call = kept_with q.same m.ports m.messages (record {
         each_message = shape_length s.ports.messages ports.messages m.messages ∙ kept.in_time.each_message;
-        each_due = t.dues ∙ kept.in_time.each_due;
+        each_time = t.room ∙ kept.in_time.each_time;
         made = λ k small. sym (shape_lives s.ports.messages ports.messages m.messages (message_of_request k s)) ∙ kept.in_time.made k small;
         held = λ k. held k (cases_eq k r);
         none_held = λ n small. m.rest n (λ e. omega (arith, small, e)) ∙ kept.in_time.none_held n small;
         waits = λ k. waits k (cases_eq k r);
         live = λ k p there. live k p (m.queued (message_of_request k s) p there);
         at_reply_port = λ k p there. at k p (m.queued (message_of_request k s) p there) ∙ ap Some (sym (q.port k));
-        early = subst (λ clock. clock < 2 ^ 63) (sym t.early) kept.in_time.early;
+        early = subst (λ clock. clock < 2 ^ 63) (sym t.clock) kept.in_time.early;
+        near = t.near kept.in_time.near;
       })
 
 -- ---- single calls
 
-pub written_not : {way : Bool} (r : ℕ) (old : Pooled TimerRequest) → is_way_at r old ≡ way → IsWritten way r old old
+written_not : {way : Bool} (r : ℕ) (old : Pooled TimerRequest) → is_way_at r old ≡ way → IsWritten way r old old
 written_not r old is = record { same = refl; here = is; rest = λ k other. refl; port = λ k. refl }
 
 -- a request that rests may be written
-pub rests_free : (r : ℕ) (old : Pooled TimerRequest) → is_under_way (request_at r old) ≡ false → in_use_fault r old ≡ None
+rests_free : (r : ℕ) (old : Pooled TimerRequest) → is_under_way (request_at r old) ≡ false → in_use_fault r old ≡ None
 rests_free r old rests = ap (λ b. if b then Some InUse else None) rests
 
--- and begun, where it is open
-pub may_begin : (r : ℕ) (old : Pooled TimerRequest) → is_under_way (request_at r old) ≡ false → IsTrue (is_open (request_at r old)) → begin_fault r old ≡ None
-may_begin r old rests opened = λ i. if rests i then Some InUse else (if opened i then None else Some NotOpen)
-
-pub begun_port : (quick : Bool) (now : ℕ) (q : TimerRequest) → (begun quick now q).port ≡ q.port
-begun_port quick now q = by_case (asks_time q) where
-  by_case : (b : Bool) → (if b then record q { secs = now / second % 2 ^ 32; micros = now % second } else q).port ≡ q.port
+pub begun_port : (quick : Bool) (system : ℕ) (q : TimerRequest) → (begun quick system q).port ≡ q.port
+begun_port quick system q = by_case (asks_time q) where
+  by_case : (b : Bool) → (if b then record q { secs = system / second % 2 ^ 32; micros = system % second } else q).port ≡ q.port
   by_case true = refl
   by_case false = refl
 
@@ -210,7 +208,7 @@ module _ {s : Numbered} (sound : IsSound s) where
       ∙ (λ i. if not (message_there r (message_of_request r s) lives refl i) then Some Unknown else (if there i then None else Some Link))
 
   -- a port that begins at the reply port's address lives
-  pub port_lives : (o : Option ℕ) → IfSome (port_number o s) (λ p. IsTrue (is_port p s.ports))
+  pub port_lives : (o : Option ℕ) → IfSome (port_number o s.table) (λ p. IsTrue (is_port p s.ports))
   port_lives None = tt
   port_lives (Some a) = by_number (number_at variant.Port a s.table) refl where
     by_number : (n : Option ℕ) → number_at variant.Port a s.table ≡ n → IfSome n (λ p. IsTrue (is_port p s.ports))
@@ -226,15 +224,15 @@ module _ {s : Numbered} (sound : IsSound s) where
     At p = slot (places variant.Port s) p ≡ Some (request_at r s.requests).port
 
     -- where the reply of a request is put, it may be
-    pub moved_put : (o : Option ℕ) (q : TimerRequest) → q.port ≡ (request_at r s.requests).port → o ≡ port_number (reply_port q) s
-        → IsMoved false own At s.ports (put_at o own s.ports)
-    moved_put o q port is = subst (λ n. IsMoved false own At s.ports (put_at n own s.ports)) (sym is) (by_quick q.quick) where
+    moved_put : (q : TimerRequest) → q.port ≡ (request_at r s.requests).port
+        → IsMoved false own At s.ports (put_at (port_number (reply_port q) s.table) own s.ports)
+    moved_put q port = by_quick q.quick where
       by_number : (n : Option ℕ) → number_at variant.Port q.port s.table ≡ n → IsMoved false own At s.ports (put_at n own s.ports)
       by_number None found = moved_let_go own At s.ports
       by_number (Some p) found = moved_posted own At s.ports nt_replymsg p (message_there r own lives refl)
           (number_placed sound.table variant.Port p q.port found ∙ ap Some port)
 
-      by_quick : (b : Bool) → IsMoved false own At s.ports (put_at (port_number (if b then None else Some q.port) s) own s.ports)
+      by_quick : (b : Bool) → IsMoved false own At s.ports (put_at (port_number (if b then None else Some q.port) s.table) own s.ports)
       by_quick true = moved_let_go own At s.ports
       by_quick false = by_number (number_at variant.Port q.port s.table) refl
 
@@ -246,14 +244,16 @@ module _ {s : Numbered} (sound : IsSound s) where
         (written_not r s.requests refl) (moved_out own At s.ports (kept.in_time.held r)) (timed_not r s.timing (kept.in_time.waits r)))
 
     -- it is begun and waits
-    pub kept_queued : (m : ℕ) → m ≡ message_of_request r s → (quick : Bool) (now due : ℕ) (q : Pooled TimerRequest) (p : MessagePorts) (t : Timing)
-        → q ≡ with_request r (begun quick now (request_at r s.requests)) s.requests → p ≡ ports.held m s.ports → t ≡ added r due s.timing
-        → IsKept (record s { requests = q; ports = p; timing = t })
-    kept_queued m is quick now due q p t is_q is_p is_t = subst (λ (x : Numbered). IsKept x)
+    pub kept_begun : (m : ℕ) → m ≡ message_of_request r s → (quick : Bool) (system : ℕ) (due : Due)
+        → (q : Pooled TimerRequest) (p : MessagePorts) (t : Held)
+        → q ≡ with_request r (begun quick system (request_at r s.requests)) s.requests → p ≡ ports.held m s.ports
+        → t ≡ on_timer (begins_to_wait r due) s.timing → IsKept (record s { requests = q; ports = p; timing = t })
+    kept_begun m is quick system due q p t is_q is_p is_t = subst (λ (x : Numbered). IsKept x)
         (λ i. record s { requests = sym is_q i; ports = sym (is_p ∙ ap (λ n. ports.held n s.ports) is) i; timing = sym is_t i })
-        (kept_call kept (with_request r (begun quick now (request_at r s.requests)) s.requests) (ports.held own s.ports) (added r due s.timing) r (request_live kept r lives)
-        (written_is r (begun quick now (request_at r s.requests)) s.requests lives (begun_port quick now (request_at r s.requests)))
-        (moved_held own At s.ports) (timed_added r s.timing due))
+        (kept_call kept (with_request r (begun quick system (request_at r s.requests)) s.requests) (ports.held own s.ports)
+        (on_timer (begins_to_wait r due) s.timing) r (request_live kept r lives)
+        (written_is r (begun quick system (request_at r s.requests)) s.requests lives (begun_port quick system (request_at r s.requests)))
+        (moved_held own At s.ports) (timed_begun r s.timing due))
 
     done_rests : (q : TimerRequest) (error : ℤ) → is_under_way (finished error q) ≡ false
     done_rests q error = by_quick q.quick where
@@ -262,15 +262,23 @@ module _ {s : Numbered} (sound : IsSound s) where
       by_quick false = refl
 
     -- it is done, and waits no more
-    pub kept_ended : (m : ℕ) (o : Option ℕ) → m ≡ message_of_request r s → o ≡ port_number (reply_port (request_at r s.requests)) s → (error : ℤ)
-        → (q : Pooled TimerRequest) (p : MessagePorts) (t : Timing) → q ≡ with_request r (finished error (request_at r s.requests)) s.requests
-        → p ≡ put_at o m s.ports → t ≡ cancelled r s.timing → IsKept (record s { requests = q; ports = p; timing = t })
-    kept_ended m o is at error q p t is_q is_p is_t = subst (λ (x : Numbered). IsKept x)
-        (λ i. record s { requests = sym is_q i; ports = sym (is_p ∙ ap (λ n. put_at o n s.ports) is) i; timing = sym is_t i })
-        (kept_call kept (with_request r (finished error (request_at r s.requests)) s.requests) (put_at o own s.ports) (cancelled r s.timing) r (request_live kept r lives)
-        (subst (λ b. IsWritten b r s.requests (with_request r (finished error (request_at r s.requests)) s.requests)) (done_rests (request_at r s.requests) error)
-        (written_is r (finished error (request_at r s.requests)) s.requests lives refl))
-        (moved_put o (request_at r s.requests) refl at) (timed_cancelled r s.timing))
+    pub kept_ended : (m : ℕ) → m ≡ message_of_request r s → (error : ℤ) → (q : Pooled TimerRequest) (p : MessagePorts) (t : Held)
+        → q ≡ with_request r (finished error (request_at r s.requests)) s.requests
+        → p ≡ put_at (port_number (reply_port (request_at r s.requests)) s.table) m s.ports
+        → t ≡ on_timer (waits_no_more r) s.timing → IsKept (record s { requests = q; ports = p; timing = t })
+    kept_ended m is error q p t is_q is_p is_t =
+        let old : TimerRequest = request_at r s.requests in
+        subst (λ (x : Numbered). IsKept x)
+        (λ i. record s {
+          requests = sym is_q i;
+          ports = sym (is_p ∙ ap (λ n. put_at (port_number (reply_port old) s.table) n s.ports) is) i;
+          timing = sym is_t i;
+        })
+        (kept_call kept (with_request r (finished error old) s.requests) (put_at (port_number (reply_port old) s.table) own s.ports)
+        (on_timer (waits_no_more r) s.timing) r (request_live kept r lives)
+        (subst (λ b. IsWritten b r s.requests (with_request r (finished error old) s.requests)) (done_rests old error)
+        (written_is r (finished error old) s.requests lives refl))
+        (moved_put old refl) (timed_ended r s.timing))
 
     module _ (q : TimerRequest) (port : q.port ≡ (request_at r s.requests).port) where
       abbrev begun_so : Pooled TimerRequest
@@ -280,15 +288,21 @@ module _ {s : Numbered} (sound : IsSound s) where
       begun_here = ap (λ o. unwrap_or o (idle_request 0)) (written_here r q s.requests lives)
 
       -- it is begun, and done at once
-      pub kept_done : (m : ℕ) (o : Option ℕ) → is_under_way (request_at r s.requests) ≡ false → m ≡ message_of_request r s
-          → o ≡ port_number (reply_port (request_at r begun_so)) s → (error : ℤ)
-          → (x : Pooled TimerRequest) (p : MessagePorts) → x ≡ with_request r (finished error (request_at r begun_so)) begun_so → p ≡ put_at o m s.ports
-          → IsKept (record s { requests = x; ports = p })
-      kept_done m o rests is at error x p is_x is_p = subst (λ (u : Numbered). IsKept u)
-          (λ i. record s { requests = sym is_x i; ports = sym (is_p ∙ ap (λ n. put_at o n s.ports) is) i })
-          (kept_call kept (with_request r (finished error (request_at r begun_so)) begun_so) (put_at o own s.ports) s.timing r (request_live kept r lives)
-          (subst (λ b. IsWritten b r s.requests (with_request r (finished error (request_at r begun_so)) begun_so)) (done_rests (request_at r begun_so) error)
+      pub kept_done : (m : ℕ) → m ≡ message_of_request r s → (error : ℤ) → (x : Pooled TimerRequest) (p : MessagePorts) (t : Held)
+          → x ≡ with_request r (finished error (request_at r begun_so)) begun_so
+          → p ≡ put_at (port_number (reply_port (request_at r begun_so)) s.table) m s.ports
+          → IsTimed false r s.timing t → IsKept (record s { requests = x; ports = p; timing = t })
+      kept_done m is error x p t is_x is_p timed =
+          let now : TimerRequest = request_at r begun_so in
+          subst (λ (u : Numbered). IsKept u)
+          (λ i. record s {
+            requests = sym is_x i;
+            ports = sym (is_p ∙ ap (λ n. put_at (port_number (reply_port now) s.table) n s.ports) is) i;
+            timing = t;
+          })
+          (kept_call kept (with_request r (finished error now) begun_so) (put_at (port_number (reply_port now) s.table) own s.ports) t r
+          (request_live kept r lives)
+          (subst (λ b. IsWritten b r s.requests (with_request r (finished error now) begun_so)) (done_rests now error)
           (written_then (written_is r q s.requests lives port)
-          (written_is r (finished error (request_at r begun_so)) begun_so (ap is_some (written_here r q s.requests lives)) refl)))
-          (moved_put o q port (at ∙ ap (λ x. port_number (reply_port x) s) begun_here))
-          (timed_not r s.timing (kept.in_time.waits r ∙ not_way r s.requests rests)))
+          (written_is r (finished error now) begun_so (ap is_some (written_here r q s.requests lives)) refl)))
+          (moved_put now (ap (λ (x : TimerRequest). x.port) begun_here ∙ port)) timed)

@@ -6,7 +6,7 @@ use Rattle.std.specs.List.{AllByRecursion, list_any}
 use Rattle.std.specs.Option.{ForSome}
 use Rattle.std.proofs.lemmas.Bool.{cases_eq, eq-eqb, ne_eqb, or_left, or_parts, or_right}
 use Rattle.std.proofs.lemmas.List.{drop-map, length-map, map-append, take-map}
-use Rattle.execlist.specs.Order.{enqueue, first, is_lower, without}
+use Rattle.execlist.specs.Order.{chosen, chosen_or, enqueue, first, is_lower, without}
 use Rattle.execlist.specs.Lists.{last, part_after, part_before, put_after, times}
 
 -- f tells n from the members of a sequence
@@ -72,6 +72,17 @@ enqueue-map f other key [] n same own = refl
 enqueue-map f other key (x ∷ xs) n same own =
     (λ i. cond (int_lt (same.0 i) (own i)) (f n ∷ f x ∷ map f xs) (f x ∷ enqueue-map f other key xs n same.1 own i))
     ∙ cond-map (map f) (is_lower key x n) (n ∷ x ∷ xs) (x ∷ enqueue key xs n)
+
+-- ---- the earliest of greatest key
+
+pub chosen-map : {A B : Type 0} (f : A → B) (other : B → ℤ) (key : A → ℤ) (xs : List A) → ((x : A) → other (f x) ≡ key x)
+    → chosen other (map f xs) ≡ option_map f (chosen key xs)
+chosen-map f other key [] same = refl
+chosen-map {A} f other key (x ∷ xs) same = ap (chosen_or other (f x)) (chosen-map f other key xs same) ∙ by_rest (chosen key xs) where
+  by_rest : (o : Option A) → chosen_or other (f x) (option_map f o) ≡ option_map f (chosen_or key x o)
+  by_rest None = refl
+  by_rest (Some y) =
+      (λ i. cond (int_lt (same x i) (same y i)) (Some (f y)) (Some (f x))) ∙ cond-map (option_map f) (is_lower key x y) (Some y) (Some x)
 
 -- ---- the first node that passes a test
 

@@ -6,7 +6,7 @@ use Rattle.execlist.specs.Pool.{Pooled, slot}
 use Rattle.memlist.specs.Blocks.{block_at}
 use Rattle.memlist.specs.Memory.{IsWellFormed}
 use Rattle.iorequest.specs.declared.request.Begun.{Begun}
-use Rattle.iorequest.specs.declared.request.Begun.TheVariants.{Finish, Queue}
+use Rattle.iorequest.specs.declared.request.Begun.TheVariants.{Finish, NewTime, Queue, Until}
 use Rattle.iorequest.specs.declared.request.Request.{Request as TimerRequest}
 use Rattle.iorequest.specs.declared.request.ReqState.{ReqState}
 use Rattle.iorequest.specs.declared.request.ReqState.TheVariants.{Idle, UnderWay, Quick, Replied}
@@ -15,7 +15,8 @@ use Rattle.iorequest.specs.Requests.{is_request, request_at}
 use Rattle.msgport.specs.declared.action.Action.{Action}
 use Rattle.msgport.specs.Port.{Port, new_port}
 use Rattle.msgport.specs.Ports as ports
-use Rattle.timerdev.specs.Timing.{due_request}
+use Rattle.timerdev.specs.Held.{Held, on_timer}
+use Rattle.timerdev.specs.Timing.{AtClock, AtSystem, Due, Timer, due_next, is_waiting, system_set, until_next}
 use Rattle.execmodel.specs.State.{Heap, on_heap}
 use Rattle.execmodel.specs.Ports.{port_in, port_of, port_of_object}
 use Rattle.execmodel.specs.Requests as model
@@ -26,17 +27,17 @@ use Rattle.execheap.specs.declared.tag.Tagged.{Tagged}
 use Rattle.execheap.specs.declared.tag.Tagged.TheVariants as tag
 use Rattle.execheap.specs.Tags.{tagged}
 use Rattle.execheap.specs.Table.{Tabled, number_at}
-use Rattle.execheap.specs.Listing.{aborted, aborting, acting_finished, awaited_for, due_listed, ended_if, finishing, taken_by_state, taken_if_replied}
+use Rattle.execheap.specs.Listing.{aborted, aborting, acting_finished, awaited_for, ended_if, finishing, taken_by_state, taken_if_replied}
 use Rattle.execheap.specs.Numbered.{Numbered, IsSound, address_in, message_of_request, places, shown_heap, shown_memory, shown_tagged, shown_timer}
 use Rattle.execheap.specs.Requesting as numbers
-use Rattle.execheap.specs.Requesting.{begun_as, begun_now, begun_so, done_with, goes_on, reply_out}
+use Rattle.execheap.specs.Requesting.{begun_as, begun_now, begun_so, begun_until, done_with, goes_on, reply_out}
 use Rattle.execheap.proofs.Entries.{some_same}
 use Rattle.execheap.proofs.KeptRequests.{begun_port, request_live, written_here}
 use Rattle.execheap.proofs.Linked.{some_is}
 use Rattle.execheap.proofs.Matching.{number_live}
 use Rattle.execheap.proofs.RequestAlerts.{request_shown}
-use Rattle.execheap.proofs.RequestCalls.{due_under_way}
-use Rattle.execheap.proofs.RequestsShown.{acting_ended_shown, due_shown, ended_shown, taken_shown}
+use Rattle.execheap.proofs.RequestCalls.{due_waits, until_waits, waiting_under_way}
+use Rattle.execheap.proofs.RequestsShown.{acting_ended_shown, due_shown, ended_shown, taken_shown, until_shown}
 use Rattle.execheap.proofs.Showing.{object_at_shown}
 
 -- ---- what a task gets that looks for a request
@@ -76,6 +77,15 @@ port_beside s u table same a =
         ≡ port_of_object (option_map (λ (block : ℕ × ℕ). shown_tagged s (tagged block.1)) found)
     by_block None = refl
     by_block (Some block) = by_tag (tagged block.1)
+
+-- a request that is begun lives on
+pub begun_lives : (s : Numbered) (r : ℕ) (quick : Bool) → IsTrue (is_request r s.requests) → IsTrue (is_request r (begun_now quick r s).requests)
+begun_lives s r quick lives = by_outcome (goes_on r s) where
+  by_outcome : (b : Begun) → IsTrue (is_request r (begun_so b quick r s).requests)
+  by_outcome (Queue due) = ap is_some (written_here r (begun_as quick r s) s.requests lives)
+  by_outcome (Until time) = ap is_some (written_here r (begun_as quick r s) s.requests lives)
+  by_outcome (Finish error) = ap is_some (written_here r (finished error (begun_as quick r s)) s.requests lives)
+  by_outcome (NewTime time) = ap is_some (written_here r (finished (pos 0) (begun_as quick r s)) s.requests lives)
 
 module _ {s : Numbered} (sound : IsSound s) (held : ports.IsSound s.ports) (formed : IsWellFormed s.table.memory.regions s.table.memory.blocks) (r request : ℕ)
     (here : slot (places variant.Request s) r ≡ Some request) where
@@ -127,76 +137,101 @@ module _ {s : Numbered} (sound : IsSound s) (held : ports.IsSound s.ports) (form
     way_done true = refl
     way_done false = refl
 
-    begun_looked : (b : Begun) → numbers.looked_for (request_at r (begun_so b quick r s).requests) bit ≡ awaited_for request (shown_heap (begun_so b quick r s))
-    begun_looked (Queue due) =
-        let u : Numbered = begun_so (Queue due) quick r s in
+    -- one that waits is under way
+    looked_until : (due : Due)
+        → numbers.looked_for (request_at r (begun_until due quick r s).requests) bit ≡ awaited_for request (shown_heap (begun_until due quick r s))
+    looked_until due =
+        let u : Numbered = begun_until due quick r s in
         let now : request_of request (shown_heap u) ≡ request_at r u.requests = request_shown u request r begins in
         let same : (request_of request (shown_heap s)).port ≡ (request_of request (shown_heap u)).port =
-        ap (λ (q : TimerRequest). q.port) (sym holds) ∙ sym (begun_port quick s.timing.clock (request_at r s.requests))
+        ap (λ (q : TimerRequest). q.port) (sym holds) ∙ sym (begun_port quick s.timing.timer.system (request_at r s.requests))
         ∙ sym (ap (λ o. (unwrap_or o (idle_request 0)).port) (written_here r (begun_as quick r s) s.requests lives))
         ∙ ap (λ (q : TimerRequest). q.port) (sym now) in
         looked_shown (request_at r u.requests) bit request (shown_heap u) (sym now)
         (λ way. is ∙ ap (λ a. (port_of a (shown_heap s)).bit) same
         ∙ ap (λ (p : Port). p.bit) (sym (port_beside s u refl refl (request_of request (shown_heap u)).port)))
-    begun_looked (Finish error) =
-        let u : Numbered = done_with error (begun_as quick r s) r s in
+
+    -- one that is done at once is not, whatever the times are then
+    looked_done : (error : ℤ) (t : Held) → numbers.looked_for (request_at r (done_with error (begun_as quick r s) r s).requests) bit
+        ≡ awaited_for request (shown_heap (record (done_with error (begun_as quick r s) r s) { timing = t }))
+    looked_done error t =
+        let u : Numbered = record (done_with error (begun_as quick r s) r s) { timing = t } in
         let over : is_under_way (request_at r u.requests) ≡ false =
         ap (λ o. is_under_way (unwrap_or o (idle_request 0))) (written_here r (finished error (begun_as quick r s)) s.requests lives)
         ∙ way_done (begun_as quick r s).quick in
         looked_shown (request_at r u.requests) bit request (shown_heap u) (sym (request_shown u request r begins))
         (λ way. let bad : true ≡ false = sym way ∙ over in cc)
 
+    begun_looked : (b : Begun) → numbers.looked_for (request_at r (begun_so b quick r s).requests) bit ≡ awaited_for request (shown_heap (begun_so b quick r s))
+    begun_looked (Queue due) = looked_until (AtClock due)
+    begun_looked (Until time) = looked_until (AtSystem time)
+    begun_looked (Finish error) = looked_done error s.timing
+    begun_looked (NewTime time) = looked_done (pos 0) (on_timer (system_set time) s.timing)
+
     pub begun_awaited : numbers.looked_for (request_at r (begun_now quick r s).requests) bit ≡ awaited_for request (shown_heap (begun_now quick r s))
     begun_awaited = begun_looked (goes_on r s)
 
--- ---- what is due
+-- ---- what finishes next
 
 -- a request, and what is to be done for its reply when it is done
 abbrev pub answered : Numbered → ℕ → ℕ × Action
 answered s r = (r, numbers.acting_ended r s)
 
-module _ {s : Numbered} (sound : IsSound s) (held : ports.IsSound s.ports) (formed : IsWellFormed s.table.memory.regions s.table.memory.blocks) where
-  due_placed : (r : ℕ) → due_request s.timing ≡ Some r → (a : ℕ) × (slot (places variant.Request s) r ≡ Some a)
-  due_placed r is = some_is (slot (places variant.Request s) r) (request_live sound.kept r (due_under_way sound.kept r is).0)
+-- one that finishes next by number waits, and it is shown that it finishes next by address
+pub record IsNext (s : Numbered) (next : Timer → Option ℕ) : Type 0 where
+  pub waits : (r : ℕ) → next s.timing.timer ≡ Some r → is_waiting r s.timing.timer ≡ true
+  pub shown : next (shown_timer s) ≡ option_map (address_in (places variant.Request s)) (next s.timing.timer)
 
-  due_is : (o : Option ℕ) → due_request s.timing ≡ o → due_listed (shown_timer s) ≡ option_map (address_in (places variant.Request s)) o
-  due_is o is = due_shown s ∙ ap (option_map (address_in (places variant.Request s))) is
+pub due_is_next : (s : Numbered) → IsNext s due_next
+due_is_next s = record { waits = due_waits s.timing.timer; shown = due_shown s }
 
-  ended_by : (o : Option ℕ) → due_request s.timing ≡ o → shown_memory (numbers.ended_if o s) ≡ ended_if (option_map (address_in (places variant.Request s)) o) (shown_memory s)
+pub until_is_next : (s : Numbered) → IsNext s until_next
+until_is_next s = record { waits = until_waits s.timing.timer; shown = until_shown s }
+
+module _ {s : Numbered} (sound : IsSound s) (held : ports.IsSound s.ports) (formed : IsWellFormed s.table.memory.regions s.table.memory.blocks)
+    (next : Timer → Option ℕ) (is_next : IsNext s next) where
+  next_placed : (r : ℕ) → next s.timing.timer ≡ Some r → (a : ℕ) × (slot (places variant.Request s) r ≡ Some a)
+  next_placed r is = some_is (slot (places variant.Request s) r) (request_live sound.kept r (waiting_under_way sound.kept r (is_next.waits r is)).0)
+
+  next_is : (o : Option ℕ) → next s.timing.timer ≡ o → next (shown_timer s) ≡ option_map (address_in (places variant.Request s)) o
+  next_is o is = is_next.shown ∙ ap (option_map (address_in (places variant.Request s))) is
+
+  ended_by : (o : Option ℕ) → next s.timing.timer ≡ o
+      → shown_memory (numbers.ended_if o s) ≡ ended_if (option_map (address_in (places variant.Request s)) o) (shown_memory s)
   ended_by None is = refl
   ended_by (Some r) is =
-      let a = due_placed r is in
+      let a = next_placed r is in
       ended_shown sound held formed r a.0 a.1 (pos 0)
       ∙ ap (λ o. model.ended (pos 0) (unwrap_or o 0) (shown_memory s)) (sym a.1)
 
-  pub due_ended_shown : shown_memory (numbers.ended_if (due_request s.timing) s) ≡ ended_if (due_listed (shown_timer s)) (shown_memory s)
-  due_ended_shown =
-      ended_by (due_request s.timing) refl ∙ ap (λ o. ended_if o (shown_memory s)) (sym (due_is (due_request s.timing) refl))
+  pub next_ended_shown : shown_memory (numbers.ended_if (next s.timing.timer) s) ≡ ended_if (next (shown_timer s)) (shown_memory s)
+  next_ended_shown =
+      ended_by (next s.timing.timer) refl ∙ ap (λ o. ended_if o (shown_memory s)) (sym (next_is (next s.timing.timer) refl))
 
   -- what is answered for it
-  pub finishing_none : ◌≡◌ {A = Option (ℕ × Action)} None (option_map (answered s) (due_request s.timing))
-      → ◌≡◌ {A = Option (ℕ × Action)} None (finishing (shown_heap s) (due_listed (shown_timer s)))
-  finishing_none none = by_due (due_request s.timing) refl none where
-    by_due : (o : Option ℕ) → due_request s.timing ≡ o → ◌≡◌ {A = Option (ℕ × Action)} None (option_map (answered s) o)
-        → ◌≡◌ {A = Option (ℕ × Action)} None (finishing (shown_heap s) (due_listed (shown_timer s)))
-    by_due None is e = sym (ap (finishing (shown_heap s)) (due_is None is))
-    by_due (Some r) is e = let bad : false ≡ true = ap is_some e in cc
+  pub finishing_none : ◌≡◌ {A = Option (ℕ × Action)} None (option_map (answered s) (next s.timing.timer))
+      → ◌≡◌ {A = Option (ℕ × Action)} None (finishing (shown_heap s) (next (shown_timer s)))
+  finishing_none none = by_next (next s.timing.timer) refl none where
+    by_next : (o : Option ℕ) → next s.timing.timer ≡ o → ◌≡◌ {A = Option (ℕ × Action)} None (option_map (answered s) o)
+        → ◌≡◌ {A = Option (ℕ × Action)} None (finishing (shown_heap s) (next (shown_timer s)))
+    by_next None is e = sym (ap (finishing (shown_heap s)) (next_is None is))
+    by_next (Some r) is e = let bad : false ≡ true = ap is_some e in cc
 
-  pub finishing_some : (r a : ℕ) (action : Action) → ◌≡◌ {A = Option (ℕ × Action)} (Some (r, action)) (option_map (answered s) (due_request s.timing))
+  pub finishing_some : (r a : ℕ) (action : Action) → ◌≡◌ {A = Option (ℕ × Action)} (Some (r, action)) (option_map (answered s) (next s.timing.timer))
       → slot (places variant.Request s) r ≡ Some a
-      → ◌≡◌ {A = Option (ℕ × Action)} (Some (a, action)) (finishing (shown_heap s) (due_listed (shown_timer s)))
-  finishing_some r a action answer at = by_due (due_request s.timing) refl answer where
-    by_due : (o : Option ℕ) → due_request s.timing ≡ o → ◌≡◌ {A = Option (ℕ × Action)} (Some (r, action)) (option_map (answered s) o)
-        → ◌≡◌ {A = Option (ℕ × Action)} (Some (a, action)) (finishing (shown_heap s) (due_listed (shown_timer s)))
-    by_due None is e = let bad : true ≡ false = ap is_some e in cc
-    by_due (Some k) is e =
+      → ◌≡◌ {A = Option (ℕ × Action)} (Some (a, action)) (finishing (shown_heap s) (next (shown_timer s)))
+  finishing_some r a action answer at = by_next (next s.timing.timer) refl answer where
+    by_next : (o : Option ℕ) → next s.timing.timer ≡ o → ◌≡◌ {A = Option (ℕ × Action)} (Some (r, action)) (option_map (answered s) o)
+        → ◌≡◌ {A = Option (ℕ × Action)} (Some (a, action)) (finishing (shown_heap s) (next (shown_timer s)))
+    by_next None is e = let bad : true ≡ false = ap is_some e in cc
+    by_next (Some k) is e =
         let pair : ◌≡◌ {A = ℕ × Action} (r, action) (k, numbers.acting_ended k s) = some_same e in
         let number : r ≡ k = ap (λ (x : ℕ × Action). x.0) pair in
         let at_k : slot (places variant.Request s) k ≡ Some a = ap (slot (places variant.Request s)) (sym number) ∙ at in
         let done : action ≡ acting_finished a (shown_heap s) =
         ap (λ (x : ℕ × Action). x.1) pair ∙ acting_done sound held formed k a at_k in
         ap (λ x. Some (a, x)) done
-        ∙ sym (ap (finishing (shown_heap s)) (due_is (Some k) is ∙ ap (λ o. Some (unwrap_or o 0)) at_k))
+        ∙ sym (ap (finishing (shown_heap s)) (next_is (Some k) is ∙ ap (λ o. Some (unwrap_or o 0)) at_k))
 
 -- the objects keep their addresses
 pub table_ended : (o : Option ℕ) (s : Numbered) → (numbers.ended_if o s).table ≡ s.table

@@ -1,24 +1,25 @@
 -- What a call on a request by number makes of the objects, as it is told step by step.
-use Rattle.std.proofs.Common.{◌≡◌, ℕ, zero, suc, List, [], ◌∷◌, Bool, true, false, cond, not, slice_set, w8, to_z, of_z, refl, ap, sym, ◌∙◌, arith}
-use Rattle.std.specs.Prelude.{ℤ, pos, negsuc, if◌then◌else◌, Some, None, Option, Ok, Err, Result, find, is_ok, is_some, ◌&&◌, ◌==◌, IsTrue}
-use Rattle.std.proofs.lemmas.Bool.{eq-eqb, ne_eqb}
-use Rattle.execlist.specs.Lists.{times}
+use Rattle.std.proofs.Common.{◌≡◌, ℕ, zero, suc, List, [], ◌∷◌, Bool, true, false, cond, slice_set, w8, to_z, of_z, refl, ap, sym, ◌∙◌}
+use Rattle.std.specs.Prelude.{ℤ, pos, negsuc, if◌then◌else◌, Some, None, Option, Ok, Err, Result, filter, is_ok, is_some, option_map, ◌&&◌, ◌||◌, ◌==◌, IsTrue}
+use Rattle.std.specs.List.{list_any}
+use Rattle.std.proofs.lemmas.Bool.{eq-eqb, or_left, or_right}
+use Rattle.execlist.specs.Order.{chosen, chosen_or, is_lower}
 use Rattle.execlist.specs.Pool.{Pooled}
 use Rattle.iorequest.specs.declared.fault.ReqFault.{ReqFault}
 use Rattle.iorequest.specs.declared.request.Begun.{Begun}
-use Rattle.iorequest.specs.declared.request.Begun.TheVariants.{Finish, Queue}
+use Rattle.iorequest.specs.declared.request.Begun.TheVariants.{Finish, NewTime, Queue, Until}
 use Rattle.iorequest.specs.declared.request.Request.{Request as TimerRequest}
 use Rattle.iorequest.specs.Faults.{fault_or, kept_or}
-use Rattle.iorequest.specs.Request.{adds, asks_time, begun, due_of, finished, is_to_wait, is_under_way, outcome, reply_port}
+use Rattle.iorequest.specs.Request.{adds, asks_time, begun, due_of, finished, is_to_wait, is_under_way, is_until, outcome, reply_port, sets_time, time_of}
 use Rattle.iorequest.specs.Requests.{is_request, request_at, with_request}
 use Rattle.msgport.specs.Ports.{MessagePorts}
-use Rattle.timerdev.specs.Timing.{due_request, is_due}
-use Rattle.execheap.specs.declared.kind.Kind.TheVariants as variant
-use Rattle.execheap.specs.Table.{Tabled, number_at}
+use Rattle.timerdev.specs.Held.{Held, on_timer}
+use Rattle.timerdev.specs.Timing.{Timer, Waiting, due_next, has_come, is_system, is_waiting, next_of, sooner, system_set, until_next}
 use Rattle.execheap.specs.Numbered.{IsKept, IsSound, Numbered, message_of_request}
-use Rattle.execheap.specs.Requesting.{acting_at, acting_so, answering, begun_as, begun_now, begun_so, goes_on, port_number, put_at}
+use Rattle.execheap.specs.Requesting.{acting_at, acting_so, answering, begun_as, begun_now, begun_so, done_with, goes_on, on_timing, port_number, put_at}
 use Rattle.execheap.proofs.Entries.{some_same}
 use Rattle.execheap.proofs.KeptRequests.{begun_here, begun_port, kept_done}
+use Rattle.execheap.proofs.Waits.{IsTimed}
 
 -- ---- what an answer tells
 
@@ -38,104 +39,168 @@ pub answer_is : {A : Type 0} (fault : Option ReqFault) (value answer : A) (resul
 answer_is None value answer result is ok = ap (ok_or answer) (sym ok ∙ is)
 answer_is (Some fault) value answer result is ok = let bad : false ≡ true = ap is_ok (sym is ∙ ok) in cc
 
--- ---- the port where a reply is put
-
-abbrev pub port_in : Option ℕ → Tabled → Option ℕ
-port_in None t = None
-port_in (Some address) t = number_at variant.Port address t
-
-pub port_told : {s : Numbered} → IsSound s → (o : Option ℕ) → port_in o s.table ≡ port_number o s
-port_told {s} sound None = refl
-port_told {s} sound (Some a) = refl
-
 -- ---- begun
 
 abbrev error_in : Begun → ℤ
-error_in (Queue due) = pos 0
 error_in (Finish error) = error
+error_in _ = pos 0
 
 -- an error that is answered at once is one of eight bits
 abbrev as_byte : ℤ → ℤ
 as_byte error = to_z w8 (of_z w8 error)
 
-outcome_byte : (wait : Bool) (due : ℕ) (add ask : Bool) → as_byte (error_in (if wait then Queue due else Finish (if add then pos 0 else (if ask then pos 0 else negsuc 2))))
-    ≡ error_in (if wait then Queue due else Finish (if add then pos 0 else (if ask then pos 0 else negsuc 2)))
-outcome_byte true due add ask = refl
-outcome_byte false due true ask = refl
-outcome_byte false due false true = refl
-outcome_byte false due false false = refl
+-- how a request goes on, by what it asks for
+abbrev outcome_by : (sets wait until add ask : Bool) (time due : ℕ) → Begun
+outcome_by sets wait until add ask time due =
+    if sets then NewTime time
+    else (if wait then (if until then Until time else Queue due)
+    else Finish (if add then pos 0 else (if ask then pos 0 else (if sets then pos 0 else negsuc 2))))
 
-pub error_byte : (now : ℕ) (q : TimerRequest) (error : ℤ) → outcome now q ≡ Finish error → to_z w8 (of_z w8 error) ≡ error
-error_byte now q error goes =
-    ap as_byte (sym (ap error_in goes)) ∙ outcome_byte (is_to_wait q) (due_of now q) (adds q) (asks_time q) ∙ ap error_in goes
+outcome_byte : (sets wait until add ask : Bool) (time due : ℕ)
+    → as_byte (error_in (outcome_by sets wait until add ask time due)) ≡ error_in (outcome_by sets wait until add ask time due)
+outcome_byte true wait until add ask time due = refl
+outcome_byte false true true add ask time due = refl
+outcome_byte false true false add ask time due = refl
+outcome_byte false false until true ask time due = refl
+outcome_byte false false until false true time due = refl
+outcome_byte false false until false false time due = refl
+
+pub error_byte : (now system : ℕ) (q : TimerRequest) (error : ℤ) → outcome now system q ≡ Finish error → to_z w8 (of_z w8 error) ≡ error
+error_byte now system q error goes =
+    ap as_byte (sym (ap error_in goes))
+    ∙ outcome_byte (sets_time q) (is_to_wait system q) (is_until q) (adds q) (asks_time q) (time_of q) (due_of now q) ∙ ap error_in goes
+
+-- the time that is set is that of the request
+new_time_by : (sets wait until add ask : Bool) (time due new : ℕ) → outcome_by sets wait until add ask time due ≡ NewTime new → new ≡ time
+new_time_by true wait until add ask time due new is = cc
+new_time_by false true true add ask time due new is = cc
+new_time_by false true false add ask time due new is = cc
+new_time_by false false until add ask time due new is = cc
+
+pub new_time : (now system : ℕ) (q : TimerRequest) (time : ℕ) → outcome now system q ≡ NewTime time → time ≡ time_of q
+new_time now system q time goes =
+    new_time_by (sets_time q) (is_to_wait system q) (is_until q) (adds q) (asks_time q) (time_of q) (due_of now q) time goes
 
 pub set_twice : {A : Type 0} (xs : List A) (n : ℕ) (x y : A) → slice_set (slice_set xs n x) n y ≡ slice_set xs n y
 set_twice [] n x y = refl
 set_twice (z ∷ xs) zero x y = refl
 set_twice (z ∷ xs) (suc n) x y = ap (λ rest. z ∷ rest) (set_twice xs n x y)
 
-module _ {s : Numbered} (sound : IsSound s) (r : ℕ) (lives : IsTrue (is_request r s.requests)) (quick : Bool) (now : ℕ) (clock : now ≡ s.timing.clock)
-    (start : Pooled TimerRequest) (is_begun : start ≡ with_request r (begun quick now (request_at r s.requests)) s.requests) where
+module _ {s : Numbered} (sound : IsSound s) (r : ℕ) (lives : IsTrue (is_request r s.requests)) (quick : Bool) (system : ℕ)
+    (told : system ≡ s.timing.timer.system) (start : Pooled TimerRequest)
+    (is_begun : start ≡ with_request r (begun quick system (request_at r s.requests)) s.requests) where
   holds_now : request_at r start ≡ begun_as quick r s
   holds_now =
-      ap (request_at r) is_begun ∙ begun_here sound r lives (begun quick now (request_at r s.requests)) (begun_port quick now (request_at r s.requests))
-      ∙ ap (λ n. begun quick n (request_at r s.requests)) clock
+      ap (request_at r) is_begun
+      ∙ begun_here sound r lives (begun quick system (request_at r s.requests)) (begun_port quick system (request_at r s.requests))
+      ∙ ap (λ n. begun quick n (request_at r s.requests)) told
 
-  module _ (error : ℤ) (goes : goes_on r s ≡ Finish error) (port : Option ℕ) (at : port ≡ port_number (reply_port (request_at r start)) s) where
-    answers : port ≡ answering (begun_as quick r s) s
-    answers = at ∙ ap (λ q. port_number (reply_port q) s) holds_now
+  -- the port where its reply is put
+  answers : port_number (reply_port (request_at r start)) s.table ≡ answering (begun_as quick r s) s
+  answers = ap (λ q. port_number (reply_port q) s.table) holds_now
 
-    pub acting_done : acting_at port s.ports ≡ acting_so (goes_on r s) quick r s
-    acting_done = ap (λ o. acting_at o s.ports) answers ∙ ap (λ b. acting_so b quick r s) (sym goes)
+  -- what is to be done for the reply of one that is done at once
+  pub acting_once : (error : ℤ) → goes_on r s ≡ Finish error
+      → acting_at (port_number (reply_port (request_at r start)) s.table) s.ports ≡ acting_so (goes_on r s) quick r s
+  acting_once error goes = ap (λ o. acting_at o s.ports) answers ∙ ap (λ b. acting_so b quick r s) (sym goes)
 
-    pub begun_kept : is_under_way (request_at r s.requests) ≡ false → (m : ℕ) → m ≡ message_of_request r s → (q : Pooled TimerRequest) (p : MessagePorts)
-        → q ≡ with_request r (finished error (request_at r start)) start → p ≡ put_at port m s.ports → IsKept (record s { requests = q; ports = p })
-    begun_kept rests m is q p is_q is_p =
-        kept_done sound r lives (begun quick now (request_at r s.requests)) (begun_port quick now (request_at r s.requests)) m port rests is
-        (at ∙ ap (λ x. port_number (reply_port (request_at r x)) s) is_begun) error q p
-        (is_q ∙ ap (λ x. with_request r (finished error (request_at r x)) x) is_begun) is_p
+  pub acting_set : (time : ℕ) → goes_on r s ≡ NewTime time
+      → acting_at (port_number (reply_port (request_at r start)) s.table) s.ports ≡ acting_so (goes_on r s) quick r s
+  acting_set time goes = ap (λ o. acting_at o s.ports) answers ∙ ap (λ b. acting_so b quick r s) (sym goes)
 
-    pub begun_done : (m : ℕ) → m ≡ message_of_request r s → (q : Pooled TimerRequest) (p : MessagePorts)
-        → q ≡ with_request r (finished error (request_at r start)) start → p ≡ put_at port m s.ports
-        → record s { requests = q; ports = p } ≡ begun_now quick r s
-    begun_done m is q p is_q is_p =
-        (λ i. record s { requests = requests i; ports = (is_p ∙ (λ j. put_at (answers j) (is j) s.ports)) i })
-        ∙ ap (λ b. begun_as_told b) (sym goes)
-      where
-        begun_as_told : Begun → Numbered
-        begun_as_told b = begun_so b quick r s
+  module _ (error : ℤ) (m : ℕ) (is : m ≡ message_of_request r s) (q : Pooled TimerRequest) (p : MessagePorts)
+      (is_q : q ≡ with_request r (finished error (request_at r start)) start)
+      (is_p : p ≡ put_at (port_number (reply_port (request_at r start)) s.table) m s.ports) where
+    pub begun_kept : (t : Held) → IsTimed false r s.timing t → IsKept (record s { requests = q; ports = p; timing = t })
+    begun_kept t timed =
+        kept_done sound r lives (begun quick system (request_at r s.requests)) (begun_port quick system (request_at r s.requests))
+        m is error q p t
+        (is_q ∙ ap (λ x. with_request r (finished error (request_at r x)) x) is_begun)
+        (is_p ∙ ap (λ x. put_at (port_number (reply_port (request_at r x)) s.table) m s.ports) is_begun) timed
 
-        requests : q ≡ with_request r (finished error (begun_as quick r s)) s.requests
-        requests =
-            is_q ∙ (λ i. with_request r (finished error (holds_now i)) (is_begun i))
-            ∙ ap (λ slots. record { slots = slots; free = s.requests.free })
-            (set_twice s.requests.slots r (Some (begun quick now (request_at r s.requests))) (Some (finished error (begun_as quick r s))))
+    begun_done : record s { requests = q; ports = p } ≡ done_with error (begun_as quick r s) r s
+    begun_done = λ i. record s { requests = requests i; ports = (is_p ∙ (λ j. put_at (answers j) (is j) s.ports)) i } where
+      requests : q ≡ with_request r (finished error (begun_as quick r s)) s.requests
+      requests =
+          is_q ∙ (λ i. with_request r (finished error (holds_now i)) (is_begun i))
+          ∙ ap (λ slots. record { slots = slots; free = s.requests.free })
+          (set_twice s.requests.slots r (Some (begun quick system (request_at r s.requests))) (Some (finished error (begun_as quick r s))))
 
--- ---- due
+    pub begun_once : goes_on r s ≡ Finish error → record s { requests = q; ports = p } ≡ begun_now quick r s
+    begun_once goes = begun_done ∙ ap (λ b. begun_so b quick r s) (sym goes)
 
--- what is found stands there
-found_stands : (test : ℕ → Bool) (xs : List ℕ) (r : ℕ) → find test xs ≡ Some r → not (times r xs == 0) ≡ true
-found_stands test [] r is = let bad : false ≡ true = ap is_some is in cc
-found_stands test (x ∷ xs) r is = by_test (test x) is (found_stands test xs r) where
-  more : (b : Bool) → not (times r xs == 0) ≡ true → not (cond b (suc (times r xs)) (times r xs) == 0) ≡ true
-  more true there = ap not (ne_eqb (suc (times r xs)) 0 (λ e. omega (arith, e)))
-  more false there = there
+    pub begun_set : (time : ℕ) (t : Held) → t ≡ on_timer (system_set time) s.timing → error ≡ pos 0 → goes_on r s ≡ NewTime time
+        → record s { requests = q; ports = p; timing = t } ≡ begun_now quick r s
+    begun_set time t is_t none goes =
+        (λ i. record (begun_done i) { timing = is_t i })
+        ∙ ap (λ e. on_timing (system_set time) (done_with e (begun_as quick r s) r s)) none ∙ ap (λ b. begun_so b quick r s) (sym goes)
 
-  by_test : (b : Bool) → cond b (Some x) (find test xs) ≡ Some r → (find test xs ≡ Some r → not (times r xs == 0) ≡ true)
-      → not (times r (x ∷ xs) == 0) ≡ true
-  by_test true here rest =
-      ap (λ b. not (cond b (suc (times r xs)) (times r xs) == 0)) (eq-eqb x r (some_same here))
-      ∙ ap not (ne_eqb (suc (times r xs)) 0 (λ e. omega (arith, e)))
-  by_test false there rest = more (x == r) (rest there)
+-- ---- those whose time has come
+
+-- what is chosen stands there
+chosen_stands : (key : Waiting → ℤ) (xs : List Waiting) (w : Waiting) → chosen key xs ≡ Some w
+    → list_any (λ (v : Waiting). v.request == w.request) xs ≡ true
+chosen_stands key [] w is = let bad : false ≡ true = ap is_some is in cc
+chosen_stands key (x ∷ xs) w is = by_rest (chosen key xs) is (chosen_stands key xs w) where
+  itself : Some x ≡ Some w → ((x.request == w.request) || list_any (λ (v : Waiting). v.request == w.request) xs) ≡ true
+  itself same = or_left (x.request == w.request) (list_any (λ (v : Waiting). v.request == w.request) xs)
+      (eq-eqb x.request w.request (ap (λ (v : Waiting). v.request) (some_same same)))
+
+  by_key : (b : Bool) (y : Waiting) → (if b then Some y else Some x) ≡ Some w
+      → (Some y ≡ Some w → list_any (λ (v : Waiting). v.request == w.request) xs ≡ true)
+      → ((x.request == w.request) || list_any (λ (v : Waiting). v.request == w.request) xs) ≡ true
+  by_key true y is rest = or_right (x.request == w.request) (list_any (λ (v : Waiting). v.request == w.request) xs) (rest is)
+  by_key false y is rest = itself is
+
+  by_rest : (o : Option Waiting) → chosen_or key x o ≡ Some w → (o ≡ Some w → list_any (λ (v : Waiting). v.request == w.request) xs ≡ true)
+      → ((x.request == w.request) || list_any (λ (v : Waiting). v.request == w.request) xs) ≡ true
+  by_rest None is rest = itself is
+  by_rest (Some y) is rest = by_key (is_lower key x y) y is rest
+
+-- and so does what is left of those that stand
+filter_stands : (passes : Waiting → Bool) (r : ℕ) (xs : List Waiting) → list_any (λ (w : Waiting). w.request == r) (filter passes xs) ≡ true
+    → list_any (λ (w : Waiting). w.request == r) xs ≡ true
+filter_stands passes r [] is = is
+filter_stands passes r (x ∷ xs) is = by_test (passes x) is (filter_stands passes r xs) where
+  by_both : (a b c : Bool) → (a || b) ≡ true → (b ≡ true → c ≡ true) → (a || c) ≡ true
+  by_both true b c is rest = refl
+  by_both false b c is rest = rest is
+
+  by_test : (b : Bool) → list_any (λ (w : Waiting). w.request == r) (cond b (x ∷ filter passes xs) (filter passes xs)) ≡ true
+      → (list_any (λ (w : Waiting). w.request == r) (filter passes xs) ≡ true → list_any (λ (w : Waiting). w.request == r) xs ≡ true)
+      → ((x.request == r) || list_any (λ (w : Waiting). w.request == r) xs) ≡ true
+  by_test true is rest =
+      by_both (x.request == r) (list_any (λ (w : Waiting). w.request == r) (filter passes xs)) (list_any (λ (w : Waiting). w.request == r) xs)
+      is rest
+  by_test false is rest = or_right (x.request == r) (list_any (λ (w : Waiting). w.request == r) xs) (rest is)
+
+-- a request that finishes next waits
+next_waits : (passes : Waiting → Bool) (timer : Timer) (r : ℕ) → next_of passes timer ≡ Some r → is_waiting r timer ≡ true
+unfolding next_of
+next_waits passes timer r is = by_chosen (chosen (sooner timer) (filter passes timer.waiting)) refl is where
+  by_chosen : (o : Option Waiting) → chosen (sooner timer) (filter passes timer.waiting) ≡ o
+      → option_map (λ (w : Waiting). w.request) o ≡ Some r → is_waiting r timer ≡ true
+  by_chosen None is e = let bad : false ≡ true = ap is_some e in cc
+  by_chosen (Some w) is e =
+      filter_stands passes r timer.waiting
+      (ap (λ n. list_any (λ (v : Waiting). v.request == n) (filter passes timer.waiting)) (sym (some_same e))
+      ∙ chosen_stands (sooner timer) (filter passes timer.waiting) w is)
+
+pub due_waits : (timer : Timer) (r : ℕ) → due_next timer ≡ Some r → is_waiting r timer ≡ true
+unfolding due_next
+due_waits timer r is = next_waits (λ (w : Waiting). has_come timer w.due) timer r is
+
+pub until_waits : (timer : Timer) (r : ℕ) → until_next timer ≡ Some r → is_waiting r timer ≡ true
+unfolding until_next
+until_waits timer r is = next_waits (λ (w : Waiting). is_system w.due && has_come timer w.due) timer r is
 
 pub both_true : (a b : Bool) → (a && b) ≡ true → (a ≡ true) × (b ≡ true)
 both_true true true e = (refl, refl)
 both_true true false e = let bad : false ≡ true = e in cc
 both_true false b e = let bad : false ≡ true = e in cc
 
--- a request that is due lives and is under way
-pub due_under_way : {s : Numbered} → IsKept s → (r : ℕ) → due_request s.timing ≡ Some r
+-- one that waits lives and is under way
+pub waiting_under_way : {s : Numbered} → IsKept s → (r : ℕ) → is_waiting r s.timing.timer ≡ true
     → IsTrue (is_request r s.requests) × IsTrue (is_under_way (request_at r s.requests))
-due_under_way {s} kept r is =
-    both_true (is_request r s.requests) (is_under_way (request_at r s.requests))
-    (sym (kept.in_time.waits r) ∙ found_stands (is_due s.timing) s.timing.queue r is)
+waiting_under_way {s} kept r waits =
+    both_true (is_request r s.requests) (is_under_way (request_at r s.requests)) (sym (kept.in_time.waits r) ∙ waits)

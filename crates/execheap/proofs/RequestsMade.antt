@@ -1,7 +1,6 @@
 -- Requests made and freed.
 use Rattle.std.proofs.Common.{◌≡◌, ◌≢◌, ℕ, ◌<◌, true, false, inl, inr, ◌⊎◌, map, refl, ap, sym, ◌∙◌, arith}
-use Rattle.std.specs.Prelude.{Some, None, is_some, unwrap_or, length, slice_set, ◌==◌, IsSome}
-use Rattle.std.specs.List.{list_any}
+use Rattle.std.specs.Prelude.{Some, None, is_some, unwrap_or, length, slice_set, IsSome}
 use Rattle.std.proofs.lemmas.Bool.{cases_eq}
 use Rattle.memlist.specs.Fit.{fit}
 use Rattle.memlist.specs.Memory.{IsWellFormed}
@@ -13,6 +12,7 @@ use Rattle.iorequest.specs.Request.{idle_request, is_under_way}
 use Rattle.iorequest.specs.Requests.{is_request, request_at, request_freed, request_made}
 use Rattle.msgport.specs.Ports as ports
 use Rattle.msgport.specs.Ports.{messages_of, port_at}
+use Rattle.timerdev.specs.Timing.{is_waiting}
 use Rattle.execmodel.specs.State.{ListHead, MsgPort, Request}
 use Rattle.execmodel.specs.Memory.{freed, placed}
 use Rattle.execheap.specs.declared.kind.Kind.{Kind}
@@ -33,14 +33,13 @@ use Rattle.execheap.proofs.RequestCalls.{both_true}
 use Rattle.execheap.proofs.Semaphores.{is_none}
 use Rattle.execheap.proofs.Showing.{freed_shown, made_shown}
 use Rattle.execheap.proofs.Stepping.{shape_given, shape_length, shape_lives, shape_next, shape_released}
-use Rattle.execheap.proofs.Waits.{any_times}
 
 module _ {s : Numbered} (kept : IsKept s) (sound : IsSound s.table) (formed : IsWellFormed s.table.memory.regions s.table.memory.blocks) where
   -- one that waits lives, and is under way
-  waiting_way : (r : ℕ) → list_any (λ other. other == r) s.timing.queue ≡ true → is_way_at r s.requests ≡ true
-  waiting_way r there = sym (kept.in_time.waits r) ∙ any_times r s.timing.queue there
+  waiting_way : (r : ℕ) → is_waiting r s.timing.timer ≡ true → is_way_at r s.requests ≡ true
+  waiting_way r there = sym (kept.in_time.waits r) ∙ there
 
-  waiting_lives : (r : ℕ) → list_any (λ other. other == r) s.timing.queue ≡ true → IsSome (slot (places variant.Request s) r)
+  waiting_lives : (r : ℕ) → is_waiting r s.timing.timer ≡ true → IsSome (slot (places variant.Request s) r)
   waiting_lives r there = request_live kept r (both_true (is_request r s.requests) (is_under_way (request_at r s.requests)) (waiting_way r there)).0
 
   whole : numbered.IsSound s
@@ -149,7 +148,7 @@ module _ {s : Numbered} (kept : IsKept s) (sound : IsSound s.table) (formed : Is
     not_queued r p there e =
         let bad : true ≡ false = sym (ap is_some there) ∙ ap (λ k. is_some (home s.ports.places (message_of_request k s))) e ∙ ap is_some loose in cc
 
-    not_waiting : (r : ℕ) → list_any (λ other. other == r) s.timing.queue ≡ true → r ≢ n
+    not_waiting : (r : ℕ) → is_waiting r s.timing.timer ≡ true → r ≢ n
     not_waiting r there e =
         let bad : true ≡ false = sym (waiting_way r there) ∙ ap (λ k. is_way_at k s.requests) e ∙ not_way n s.requests rests in cc
 

@@ -1,17 +1,17 @@
 -- What the calls on requests by number show by address.
-use Rattle.std.proofs.Common.{◌≡◌, ◌≢◌, ℕ, ◌<◌, ◌≤◌, List, [], ◌∷◌, Bool, true, false, not, map, length, find, refl, ap, sym, ◌∙◌, arith}
-use Rattle.std.specs.Prelude.{ℤ, Option, Some, None, is_some, nat_eq, if◌then◌else◌, unwrap_or, option_map, IsSome, IsTrue, slice_set, ◌&&◌, ◌==◌}
-use Rattle.std.specs.List.{AllByRecursion, list_any}
-use Rattle.std.proofs.lemmas.Grind.{get_or-set_at}
-use Rattle.std.proofs.lemmas.List.{get_or-set_other}
-use Rattle.execlist.specs.Order.{enqueue, without}
+use Rattle.std.proofs.Common.{◌≡◌, ◌≢◌, ℕ, ◌<◌, ◌≤◌, List, [], ◌∷◌, ◌++◌, Bool, true, false, not, inl, inr, ◌⊎◌, map, length, refl, ap, sym, ◌∙◌, arith}
+use Rattle.std.specs.Prelude.{ℤ, pos, neg_ℤ, Option, Some, None, is_some, nat_eq, if◌then◌else◌, filter, unwrap_or, option_map, IsSome, IsTrue, ◌&&◌, ◌==◌}
+use Rattle.std.specs.List.{AllByRecursion}
+use Rattle.std.proofs.lemmas.Bool.{cases_eq, eq-eqb, ne_eqb}
+use Rattle.std.proofs.lemmas.List.{map-append}
+use Rattle.execlist.specs.Order.{chosen, without}
 use Rattle.execlist.specs.Lists.{home, sequence}
 use Rattle.execlist.specs.Pool.{Pooled, slot}
 use Rattle.execlist.proofs.Pools.{slot_known, slot_other}
 use Rattle.memlist.specs.Memory.{IsWellFormed}
 use Rattle.iorequest.specs.declared.request.Request.{Request as TimerRequest}
 use Rattle.iorequest.specs.declared.request.Begun.{Begun}
-use Rattle.iorequest.specs.declared.request.Begun.TheVariants.{Finish, Queue}
+use Rattle.iorequest.specs.declared.request.Begun.TheVariants.{Finish, NewTime, Queue, Until}
 use Rattle.iorequest.specs.Request.{begun, finished, idle_request, outcome, reply_port}
 use Rattle.iorequest.specs.Requests.{closed, is_request, is_unit, opened, request_at, unit_error, with_request, written_with}
 use Rattle.msgport.specs.Port.{acting, new_port}
@@ -19,12 +19,12 @@ use Rattle.msgport.specs.Ports as ports
 use Rattle.msgport.specs.Ports.{MessagePorts, appended, left_port, let_go, message_at, messages_of, new_message, nt_replymsg, port_at, taken_out, typed}
 use Rattle.iorequest.specs.declared.request.ReqState.{ReqState}
 use Rattle.iorequest.specs.declared.request.ReqState.TheVariants.{Idle, UnderWay, Quick, Replied}
-use Rattle.timerdev.specs.Timing.{added, cancelled, due_request, is_due, is_queued, sooner}
-use Rattle.execmodel.specs.State.{Message, MsgPort, Request, Heap, PublicPort, Timer, Waiting, on_heap}
+use Rattle.timerdev.specs.Held.{on_timer}
+use Rattle.timerdev.specs.Timing.{AtClock, AtSystem, Due, Timer, Waiting, begins_to_wait, due_next, has_come, is_system, is_waiting, moment, next_of, sooner, system_set, until_next, waits_no_more}
+use Rattle.execmodel.specs.State.{Message, MsgPort, Request, Heap, PublicPort, on_heap}
 use Rattle.execmodel.specs.Objects.{replaced}
 use Rattle.execmodel.specs.Ports as port_model
 use Rattle.execmodel.specs.Requests as model
-use Rattle.execmodel.specs.Timing as timing_model
 use Rattle.execheap.specs.declared.kind.Kind.{Kind}
 use Rattle.execheap.specs.declared.kind.Kind.TheVariants as variant
 use Rattle.execheap.specs.declared.tag.Tagged.{Tagged}
@@ -33,25 +33,25 @@ use Rattle.execheap.specs.Tags.{is_same, tagged}
 use Rattle.execheap.specs.Table as table
 use Rattle.execheap.specs.Table.{number_at, place_of}
 use Rattle.execheap.specs.Changes.{on_ports}
-use Rattle.execheap.specs.Listing.{acting_begun, begun_listed, due_listed, listed_to_wait, taken_by_state, timer_listed}
-use Rattle.execheap.specs.Numbered.{Numbered, IsSound, address_in, is_way_at, message_of_request, message_places, object_of, places, shown_entry, shown_heap, shown_library, shown_memory, shown_public, shown_tagged, shown_timer, shown_waiting}
+use Rattle.execheap.specs.Listing.{acting_begun, taken_by_state}
+use Rattle.execheap.specs.Numbered.{Numbered, IsSound, address_in, message_of_request, message_places, object_of, places, shown_entry, shown_heap, shown_library, shown_memory, shown_public, shown_tagged, shown_timer, shown_waiting}
 use Rattle.execheap.specs.Requesting as numbers
-use Rattle.execheap.specs.Requesting.{acting_so, begun_as, begun_now, begun_so, done_with, goes_on, on_requests, port_number, put_at, reply_out}
+use Rattle.execheap.specs.Requesting.{acting_so, begun_as, begun_now, begun_so, begun_until, done_with, goes_on, on_requests, on_timing, port_number, put_at, reply_out}
 use Rattle.execheap.proofs.Entries.{all_then, map_same}
 use Rattle.execheap.proofs.KeptRequests.{request_live, written_here}
 use Rattle.execheap.proofs.Beside.{public_kept}
 use Rattle.execheap.proofs.Linked.{some_is}
-use Rattle.execheap.proofs.Mapped.{alike_apart, enqueue-map, find-map, map_agree, members, without-map}
+use Rattle.execheap.proofs.Mapped.{chosen-map, without-map}
 use Rattle.execheap.proofs.Matching.{number_live, number_placed, number_same}
 use Rattle.execheap.proofs.MessagePlaces.{messages_apart, request_standing}
 use Rattle.execheap.proofs.Posted.{appended_heap, item_known, objects_beside, same_at, with_port_shown, written_at}
 use Rattle.execheap.proofs.Public.{each, filter-map}
 use Rattle.execheap.proofs.Relisted.{Tells, item_set, object_replaced}
 use Rattle.execheap.proofs.RequestAlerts.{request_at_shown, request_shown}
-use Rattle.execheap.proofs.RequestCalls.{set_twice}
+use Rattle.execheap.proofs.RequestCalls.{set_twice, waiting_under_way}
 use Rattle.execheap.proofs.Shown.{messages_shown, port_at_shown, port_shown, tells}
 use Rattle.execheap.proofs.Stepping.{shape_lives}
-use Rattle.execheap.proofs.Waits.{any_times}
+use Rattle.execheap.proofs.Waits.{waiting_members}
 use Rattle.execheap.proofs.Ticked.{timing_beside}
 
 -- ---- parts of the memory that is shown
@@ -150,7 +150,7 @@ module _ {s : Numbered} (sound : IsSound s) (held : ports.IsSound s.ports) (form
         (has_queue p port at) message request stands_at
         ∙ ap (port_model.appended port request) typed_heap
 
-    put_heap : (o : Option ℕ) → shown_heap (on_ports (put_at (port_number o s) message) u) ≡ model.appended_at (model.where_port o (shown_heap u)) request (shown_heap u)
+    put_heap : (o : Option ℕ) → shown_heap (on_ports (put_at (port_number o s.table) message) u) ≡ model.appended_at (model.where_port o (shown_heap u)) request (shown_heap u)
     put_heap None = let_go_heap
     put_heap (Some port) = by_number (number_at variant.Port port s.table) refl where
       by_number : (o : Option ℕ) → number_at variant.Port port s.table ≡ o → shown_heap (on_ports (put_at o message) u)
@@ -167,7 +167,7 @@ module _ {s : Numbered} (sound : IsSound s) (held : ports.IsSound s.ports) (form
     where_same (Some port) = ap (λ b. if b then Some port else None) (port_at_shown u port ∙ sym (port_at_shown s port))
 
   -- what is to be done for a reply
-  acting_where : (o : Option ℕ) → numbers.acting_at (port_number o s) s.ports ≡ model.acting_at (model.where_port o (shown_heap s)) (shown_heap s)
+  acting_where : (o : Option ℕ) → numbers.acting_at (port_number o s.table) s.ports ≡ model.acting_at (model.where_port o (shown_heap s)) (shown_heap s)
   acting_where None = refl
   acting_where (Some port) = by_number (number_at variant.Port port s.table) refl where
     by_number : (o : Option ℕ) → number_at variant.Port port s.table ≡ o → numbers.acting_at o s.ports
@@ -256,84 +256,76 @@ module _ {s : Numbered} (sound : IsSound s) (held : ports.IsSound s.ports) (form
 
 -- ---- the timer
 
-and_left : (a b : Bool) → (a && b) ≡ true → a ≡ true
-and_left true b e = refl
-and_left false b e = e
-
 module _ {s : Numbered} (sound : IsSound s) (r request : ℕ) (here : slot (places variant.Request s) r ≡ Some request) where
   address_is : address_in (places variant.Request s) r ≡ request
   address_is = ap (λ o. unwrap_or o 0) here
 
-  waits : (k : ℕ) → list_any (λ other. other == k) s.timing.queue ≡ true → is_queued k s.timing ≡ true
-  waits k stands = any_times k s.timing.queue stands
-
   -- what waits lives
-  waiting_placed : (k : ℕ) → list_any (λ other. other == k) s.timing.queue ≡ true → (a : ℕ) × (slot (places variant.Request s) k ≡ Some a)
-  waiting_placed k stands = some_is (slot (places variant.Request s) k)
-      (request_live sound.kept k (and_left (is_request k s.requests) _ (sym (sound.kept.in_time.waits k) ∙ waits k stands)))
+  waiting_placed : (k : ℕ) → is_waiting k s.timing.timer ≡ true → (a : ℕ) × (slot (places variant.Request s) k ≡ Some a)
+  waiting_placed k stands = some_is (slot (places variant.Request s) k) (request_live sound.kept k (waiting_under_way sound.kept k stands).0)
 
-  told_waiting : AllByRecursion (λ k. ((shown_waiting s k).request == request) ≡ (k == r)) s.timing.queue
-  told_waiting = told (sym address_is) (alike_apart (address_in (places variant.Request s)) r s.timing.queue (λ k stands same.
-      let other = waiting_placed k stands in
-      number_same sound.table variant.Request k r request
-      (other.1 ∙ ap Some (ap (λ o. unwrap_or o 0) (sym other.1) ∙ same ∙ address_is)) here))
+  -- a request is told from those that wait by its address as by its number
+  told_waiting : AllByRecursion (λ (w : Waiting). not ((shown_waiting s w).request == request) ≡ not (w.request == r)) s.timing.timer.waiting
+  told_waiting = waiting_members (λ (w : Waiting). not ((shown_waiting s w).request == request) ≡ not (w.request == r)) s.timing.timer.waiting
+      (λ w stands. ap not (by_case w.request (cases_eq w.request r) (waiting_placed w.request stands)))
     where
-      told : {a : ℕ} → request ≡ a → AllByRecursion (λ k. (address_in (places variant.Request s) k == a) ≡ (k == r)) s.timing.queue
-          → AllByRecursion (λ k. (address_in (places variant.Request s) k == request) ≡ (k == r)) s.timing.queue
-      told same all = rw same all
+      by_case : (k : ℕ) → (k ≡ r) ⊎ (k ≡ r → ⊥) → (a : ℕ) × (slot (places variant.Request s) k ≡ Some a)
+          → (address_in (places variant.Request s) k == request) ≡ (k == r)
+      by_case k (inl same) placed =
+          eq-eqb (address_in (places variant.Request s) k) request (ap (address_in (places variant.Request s)) same ∙ address_is) ∙ sym (eq-eqb k r same)
+      by_case k (inr other) placed =
+          ne_eqb (address_in (places variant.Request s) k) request (λ e. other (number_same sound.table variant.Request k r request
+          (placed.1 ∙ ap Some (ap (λ o. unwrap_or o 0) (sym placed.1) ∙ e)) here))
+          ∙ sym (ne_eqb k r other)
 
   -- a request waits no more
-  pub cancelled_shown : shown_timer (record s { timing = cancelled r s.timing }) ≡ timing_model.waits_no_more request (shown_timer s)
-  cancelled_shown = ap (λ waiting. record { clock = s.timing.clock; tick_micros = s.timing.tick_micros; waiting = waiting })
-      (sym (filter-map (shown_waiting s) (λ (w : Waiting). not (w.request == request)) (λ k. not (k == r)) s.timing.queue (negated s.timing.queue told_waiting)))
+  no_more_shown : shown_timer (on_timing (waits_no_more r) s) ≡ waits_no_more request (shown_timer s)
+  no_more_shown = ap (λ waiting. record s.timing.timer { waiting = waiting })
+      (sym (filter-map (shown_waiting s) (λ (w : Waiting). not (w.request == request)) (λ (w : Waiting). not (w.request == r))
+      s.timing.timer.waiting told_waiting))
+
+  -- one begins to wait
+  begins_shown : (due : Due) → shown_timer (on_timing (begins_to_wait r due) s) ≡ begins_to_wait request due (shown_timer s)
+  begins_shown due = ap (λ waiting. record s.timing.timer { waiting = waiting })
+      (map-append (shown_waiting s) s.timing.timer.waiting (record { request = r; due = due } ∷ [])
+      ∙ (λ i. map (shown_waiting s) s.timing.timer.waiting ++ record { request = address_is i; due = due } ∷ []))
+
+-- the request that finishes next of those that pass a test
+module _ (s : Numbered) where
+  moment_same : (due : Due) → moment (shown_timer s) due ≡ moment s.timing.timer due
+  moment_same (AtClock time) = refl
+  moment_same (AtSystem time) = refl
+
+  come_same : (due : Due) → has_come (shown_timer s) due ≡ has_come s.timing.timer due
+  come_same (AtClock time) = refl
+  come_same (AtSystem time) = refl
+
+  next_shown : (other passes : Waiting → Bool) → ((w : Waiting) → other (shown_waiting s w) ≡ passes w)
+      → next_of other (shown_timer s) ≡ option_map (address_in (places variant.Request s)) (next_of passes s.timing.timer)
+  unfolding next_of
+  next_shown other passes same =
+      ap (λ all. option_map (λ (w : Waiting). w.request) (chosen (sooner (shown_timer s)) all))
+      (filter-map (shown_waiting s) other passes s.timing.timer.waiting
+      (each (λ w. other (shown_waiting s w) ≡ passes w) same s.timing.timer.waiting))
+      ∙ ap (option_map (λ (w : Waiting). w.request))
+      (chosen-map (shown_waiting s) (sooner (shown_timer s)) (sooner s.timing.timer) (filter passes s.timing.timer.waiting)
+      (λ w. ap neg_ℤ (moment_same w.due)))
+      ∙ both (chosen (sooner s.timing.timer) (filter passes s.timing.timer.waiting))
     where
-      negated : (xs : List ℕ) → AllByRecursion (λ k. ((shown_waiting s k).request == request) ≡ (k == r)) xs
-          → AllByRecursion (λ k. not ((shown_waiting s k).request == request) ≡ not (k == r)) xs
-      negated [] all = tt
-      negated (x ∷ xs) all = (ap not all.0, negated xs all.1)
+      both : (o : Option Waiting) → option_map (λ (w : Waiting). w.request) (option_map (shown_waiting s) o)
+          ≡ option_map (address_in (places variant.Request s)) (option_map (λ (w : Waiting). w.request) o)
+      both None = refl
+      both (Some w) = refl
 
-  -- one that rests begins to wait
-  module _ (due : ℕ) (rests : is_way_at r s.requests ≡ false) where
-    abbrev later : Numbered
-    later = record s { timing = added r due s.timing }
+  pub due_shown : due_next (shown_timer s) ≡ option_map (address_in (places variant.Request s)) (due_next s.timing.timer)
+  unfolding due_next
+  due_shown =
+      next_shown (λ (w : Waiting). has_come (shown_timer s) w.due) (λ (w : Waiting). has_come s.timing.timer w.due) (λ w. come_same w.due)
 
-    not_waiting : (k : ℕ) → list_any (λ other. other == k) s.timing.queue ≡ true → k ≢ r
-    not_waiting k stands same =
-        let bad : true ≡ false = sym (waits k stands) ∙ ap (λ n. is_queued n s.timing) same ∙ sound.kept.in_time.waits r ∙ rests in cc
-
-    waited_before : map (shown_waiting later) s.timing.queue ≡ map (shown_waiting s) s.timing.queue
-    waited_before = map_agree (shown_waiting later) (shown_waiting s) s.timing.queue
-        (members (λ k. shown_waiting later k ≡ shown_waiting s k) s.timing.queue (λ k stands. λ i.
-        record { request = address_in (places variant.Request s) k; due = get_or-set_other s.timing.dues r k due 0 (not_waiting k stands) i }))
-
-    waits_itself : shown_waiting later r ≡ record { request = request; due = due }
-    waits_itself = λ i. record {
-      request = address_is i;
-      due = get_or-set_at s.timing.dues r r due 0 refl (omega (
-        arith,
-        slot_known (places variant.Request s) r request here,
-        sound.table.each variant.Request,
-        sound.kept.in_time.each_due,
-      )) i;
-    }
-
-    pub added_shown : shown_timer later ≡ listed_to_wait request due (shown_timer s)
-    added_shown = ap (λ waiting. record { clock = s.timing.clock; tick_micros = s.timing.tick_micros; waiting = waiting })
-        (sym (enqueue-map (shown_waiting later) timing_model.sooner (sooner (slice_set s.timing.dues r due)) s.timing.queue r
-        (each (λ k. timing_model.sooner (shown_waiting later k) ≡ sooner (slice_set s.timing.dues r due) k) (λ k. refl) s.timing.queue) refl)
-        ∙ (λ i. enqueue timing_model.sooner (waited_before i) (waits_itself i)))
-
--- the request that is due first
-pub due_shown : (s : Numbered) → due_listed (shown_timer s) ≡ option_map (address_in (places variant.Request s)) (due_request s.timing)
-unfolding due_listed
-due_shown s =
-    ap (option_map (λ (w : Waiting). w.request)) (find-map (shown_waiting s) (timing_model.is_due s.timing.clock) (is_due s.timing) s.timing.queue
-    (each (λ k. timing_model.is_due s.timing.clock (shown_waiting s k) ≡ is_due s.timing k) (λ k. refl) s.timing.queue))
-    ∙ both (find (is_due s.timing) s.timing.queue)
-  where
-    both : (o : Option ℕ) → option_map (λ (w : Waiting). w.request) (option_map (shown_waiting s) o) ≡ option_map (address_in (places variant.Request s)) o
-    both None = refl
-    both (Some k) = refl
+  pub until_shown : until_next (shown_timer s) ≡ option_map (address_in (places variant.Request s)) (until_next s.timing.timer)
+  unfolding until_next
+  until_shown = next_shown (λ (w : Waiting). is_system w.due && has_come (shown_timer s) w.due)
+      (λ (w : Waiting). is_system w.due && has_come s.timing.timer w.due) (λ w. ap (λ b. is_system w.due && b) (come_same w.due))
 
 -- ---- the memory that is shown
 
@@ -383,9 +375,9 @@ module _ {s : Numbered} (sound : IsSound s) (held : ports.IsSound s.ports) (form
   ended_shown error =
       let done : Numbered = done_with error (request_at r s.requests) r s in
       memory_is (numbers.ended error r s)
-      (timing_beside done (cancelled r s.timing) ∙ done_heap sound held formed r request here error)
+      (timing_beside done (on_timer (waits_no_more r) s.timing) ∙ done_heap sound held formed r request here error)
       (public_done error (request_at r s.requests))
-      (cancelled_shown sound r request here)
+      (no_more_shown sound r request here)
 
   -- the reply of one that is replied is taken
   pub taken_shown : (state : ReqState) → (request_at r s.requests).state ≡ state → (state ≡ Replied → IsSome (home s.ports.places (message_of_request r s)))
@@ -408,44 +400,68 @@ module _ {s : Numbered} (sound : IsSound s) (held : ports.IsSound s.ports) (form
   -- ---- a request that is begun
 
   module _ (quick : Bool) where
-    by_outcome : is_way_at r s.requests ≡ false → (b : Begun) → shown_memory (begun_so b quick r s) ≡ record (shown_memory s) {
-      heap = model.heap_begun b quick s.timing.clock request (shown_heap s);
-      timer = timer_listed b request (shown_timer s);
+    -- it is under way and waits
+    waits_shown : (due : Due) → shown_memory (begun_until due quick r s) ≡ record (shown_memory s) {
+      heap = model.under_way quick s.timing.timer.system request (shown_heap s);
+      timer = begins_to_wait request due (shown_timer s);
     }
-    by_outcome rests (Queue due) =
-        let q : TimerRequest = begun_as quick r s in
-        memory_is (begun_so (Queue due) quick r s)
-        (timing_beside (record (on_requests (with_request r q) s) { ports = ports.held (message_of_request r s) s.ports }) (added r due s.timing)
-        ∙ objects_beside (on_requests (with_request r q) s) (ports.held (message_of_request r s) s.ports) refl refl refl
-        ∙ after_heap sound held formed r request here q
-        ∙ ap (λ x. model.with_request request (begun quick s.timing.clock x) (shown_heap s)) holds_here) refl
-        (added_shown sound r request here due rests)
-    by_outcome rests (Finish error) =
-        let q : TimerRequest = begun_as quick r s in
-        memory_is (done_with error q r s)
-        (done_after sound held formed r request here q error
-        ∙ ap (λ x. model.finished_at error request (model.with_request request (begun quick s.timing.clock x) (shown_heap s))) holds_here)
-        (public_done error q) refl
+    waits_shown due = memory_is (begun_until due quick r s)
+        (timing_beside (record (on_requests (with_request r (begun_as quick r s)) s) { ports = ports.held (message_of_request r s) s.ports })
+        (on_timer (begins_to_wait r due) s.timing)
+        ∙ objects_beside (on_requests (with_request r (begun_as quick r s)) s) (ports.held (message_of_request r s) s.ports) refl refl refl
+        ∙ after_heap sound held formed r request here (begun_as quick r s)
+        ∙ ap (λ x. model.with_request request (begun quick s.timing.timer.system x) (shown_heap s)) holds_here) refl
+        (begins_shown sound r request here due)
 
-    pub begun_shown : is_way_at r s.requests ≡ false → shown_memory (begun_now quick r s) ≡ begun_listed quick request (shown_memory s)
-    unfolding begun_listed
-    begun_shown rests =
-        by_outcome rests (goes_on r s)
+    -- it is done at once
+    done_begun : (error : ℤ) → shown_heap (done_with error (begun_as quick r s) r s)
+        ≡ model.finished_at error request (model.under_way quick s.timing.timer.system request (shown_heap s))
+    done_begun error =
+        done_after sound held formed r request here (begun_as quick r s) error
+        ∙ ap (λ x. model.finished_at error request (model.with_request request (begun quick s.timing.timer.system x) (shown_heap s))) holds_here
+
+    by_outcome : (b : Begun) → shown_memory (begun_so b quick r s) ≡ record (shown_memory s) {
+      heap = model.heap_begun b quick s.timing.timer.system request (shown_heap s);
+      timer = model.timer_begun b request (shown_timer s);
+    }
+    by_outcome (Queue due) = waits_shown (AtClock due)
+    by_outcome (Until time) = waits_shown (AtSystem time)
+    by_outcome (Finish error) =
+        memory_is (done_with error (begun_as quick r s) r s) (done_begun error) (public_done error (begun_as quick r s)) refl
+    by_outcome (NewTime time) =
+        let done : Numbered = done_with (pos 0) (begun_as quick r s) r s in
+        memory_is (on_timing (system_set time) done) (timing_beside done (on_timer (system_set time) s.timing) ∙ done_begun (pos 0))
+        (public_done (pos 0) (begun_as quick r s)) refl
+
+    pub begun_shown : shown_memory (begun_now quick r s) ≡ model.begun_at quick request (shown_memory s)
+    unfolding model.begun_at
+    begun_shown =
+        by_outcome (goes_on r s)
         ∙ ap (λ x. record (shown_memory s) {
-          heap = model.heap_begun (outcome s.timing.clock x) quick s.timing.clock request (shown_heap s);
-          timer = timer_listed (outcome s.timing.clock x) request (shown_timer s);
+          heap = model.heap_begun (outcome s.timing.timer.clock s.timing.timer.system x) quick s.timing.timer.system request (shown_heap s);
+          timer = model.timer_begun (outcome s.timing.timer.clock s.timing.timer.system x) request (shown_timer s);
         }) holds_here
 
-    acting_outcome : (b : Begun) → acting_so b quick r s ≡ model.acting_at (model.answering_begun b quick s.timing.clock request (shown_heap s)) (shown_heap s)
+    -- what is to be done for the reply of one that is done at once
+    acting_once : numbers.acting_at (numbers.answering (begun_as quick r s) s) s.ports
+        ≡ model.acting_at (model.answering_port request (model.under_way quick s.timing.timer.system request (shown_heap s))) (shown_heap s)
+    acting_once =
+        acting_where sound held formed r request here (reply_port (begun_as quick r s))
+        ∙ ap (λ o. model.acting_at o (shown_heap s)) (answers_after sound held formed r request here (begun_as quick r s))
+        ∙ ap (λ x. model.acting_at
+        (model.answering_port request (model.with_request request (begun quick s.timing.timer.system x) (shown_heap s))) (shown_heap s)) holds_here
+
+    acting_outcome : (b : Begun)
+        → acting_so b quick r s ≡ model.acting_at (model.answering_begun b quick s.timing.timer.system request (shown_heap s)) (shown_heap s)
     acting_outcome (Queue due) = refl
-    acting_outcome (Finish error) =
-        let q : TimerRequest = begun_as quick r s in
-        acting_where sound held formed r request here (reply_port q)
-        ∙ ap (λ o. model.acting_at o (shown_heap s)) (answers_after sound held formed r request here q)
-        ∙ ap (λ x. model.acting_at (model.answering_port request (model.with_request request (begun quick s.timing.clock x) (shown_heap s))) (shown_heap s)) holds_here
+    acting_outcome (Until time) = refl
+    acting_outcome (Finish error) = acting_once
+    acting_outcome (NewTime time) = acting_once
 
     pub acting_begun_shown : acting_so (goes_on r s) quick r s ≡ acting_begun quick request (shown_memory s)
     unfolding acting_begun model.replying_port
     acting_begun_shown =
         acting_outcome (goes_on r s)
-        ∙ ap (λ x. model.acting_at (model.answering_begun (outcome s.timing.clock x) quick s.timing.clock request (shown_heap s)) (shown_heap s)) holds_here
+        ∙ ap (λ x. model.acting_at
+        (model.answering_begun (outcome s.timing.timer.clock s.timing.timer.system x) quick s.timing.timer.system request (shown_heap s))
+        (shown_heap s)) holds_here

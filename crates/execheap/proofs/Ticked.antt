@@ -1,10 +1,9 @@
--- The clock gains a tick: all objects are shown as they were.
+-- Clock and system time change: all objects are shown as they were.
 use Rattle.std.proofs.Common.{◌≡◌, ℕ, map, refl, ap}
 use Rattle.std.proofs.Math.Path.{fun_ext}
-use Rattle.timerdev.specs.Timing as timing
-use Rattle.timerdev.specs.Timing.{Timing}
+use Rattle.timerdev.specs.Held.{Held, on_timer as on_held}
+use Rattle.timerdev.specs.Timing.{Timer}
 use Rattle.execmodel.specs.State.{Block, on_timer}
-use Rattle.execmodel.specs.Timing as model
 use Rattle.execheap.specs.declared.kind.Kind.{Kind}
 use Rattle.execheap.specs.declared.kind.Kind.TheVariants as variant
 use Rattle.execheap.specs.declared.tag.Tagged.{Tagged}
@@ -13,7 +12,7 @@ use Rattle.execheap.specs.Tags.{tagged}
 use Rattle.execheap.specs.Numbered.{Numbered, object_of, shown_heap, shown_library, shown_memory, shown_public, shown_tagged, shown_timer}
 use Rattle.execheap.specs.Requesting.{on_timing}
 
-module _ (s : Numbered) (t : Timing) where
+module _ (s : Numbered) (t : Held) where
   abbrev beside : Numbered
   beside = record s { timing = t }
 
@@ -31,12 +30,14 @@ module _ (s : Numbered) (t : Timing) where
       ap (λ (f : ℕ × (ℕ × ℕ) → ℕ × Block). map f s.table.memory.blocks)
       (fun_ext (λ (entry : ℕ × (ℕ × ℕ)). ap (λ o. (entry.0, record { size = entry.1.0; object = o })) (shown_same (tagged entry.1.1))))
 
-pub ticked_shown : (s : Numbered) → shown_memory (on_timing timing.ticked s) ≡ on_timer model.ticked (shown_memory s)
-ticked_shown s = λ i. record {
+-- a change of the times is shown where it leaves those that wait alone
+pub times_shown : (f : Timer → Timer) (s : Numbered) → shown_timer (on_timing f s) ≡ f (shown_timer s)
+    → shown_memory (on_timing f s) ≡ on_timer f (shown_memory s)
+times_shown f s timer = λ i. record {
   regions = s.table.memory.regions;
   libraries = map shown_library s.table.libs.known;
   pool = s.table.pool;
-  heap = timing_beside s (timing.ticked s.timing) i;
+  heap = timing_beside s (on_held f s.timing) i;
   public = map (shown_public s) s.ports.public;
-  timer = model.ticked (shown_timer s);
+  timer = timer i;
 }

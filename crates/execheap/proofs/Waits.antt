@@ -1,15 +1,18 @@
 -- What is held, and what waits, is the same but for one: where it comes, and where it goes.
-use Rattle.std.proofs.Common.{◌≡◌, ◌≢◌, ℕ, suc, ◌<◌, List, [], ◌∷◌, ◌++◌, Bool, true, false, cond, not, inl, inr, ◌⊎◌, length, refl, ap, sym, ◌∙◌, subst, arith}
-use Rattle.std.specs.Prelude.{ℤ, Some, None, Option, nat_lt, ◌==◌, ◌||◌, IsTrue, slice_set}
-use Rattle.std.specs.List.{list_any}
-use Rattle.std.proofs.lemmas.Bool.{cases_eq, eq-eqb, lt-ltb, ne_eqb}
+use Rattle.std.proofs.Common.{◌≡◌, ◌≢◌, ℕ, suc, ◌+◌, ◌<◌, ◌≤◌, ◌^◌, List, [], ◌∷◌, ◌++◌, Bool, true, false, cond, not, inl, inr, ◌⊎◌, length, refl, ap, sym, ◌∙◌, subst, arith}
+use Rattle.std.specs.Prelude.{Some, None, Option, nat_lt, ◌==◌, ◌||◌, IsTrue, filter, slice_set}
+use Rattle.std.specs.List.{AllByRecursion, list_any}
+use Rattle.std.proofs.lemmas.Bool.{cases_eq, eq-eqb, lt-ltb, ne_eqb, or_left, or_right}
+use Rattle.std.proofs.Math.Bool.{or-false, or-true}
 use Rattle.std.proofs.lemmas.List.{length-set}
-use Rattle.execlist.specs.Order.{enqueue, is_lower, without}
+use Rattle.std.proofs.lemmas.List.Folds.{list_any-append}
+use Rattle.execlist.specs.Order.{without}
 use Rattle.execlist.specs.Lists.{home, times}
 use Rattle.execlist.proofs.Pools.{slot_known, slot_other, slot_same}
 use Rattle.msgport.specs.Ports as ports
 use Rattle.msgport.specs.Ports.{MessagePorts, is_held, is_message, is_port, let_go, left_port, posted, taken_out}
-use Rattle.timerdev.specs.Timing.{Timing, added, cancelled, is_queued, sooner}
+use Rattle.timerdev.specs.Held.{Held, on_timer}
+use Rattle.timerdev.specs.Timing.{Due, Waiting, begins_to_wait, is_waiting, system_set, waits_no_more}
 use Rattle.execheap.specs.Numbered.{shape}
 use Rattle.msgport.proofs.Linking.{left_home}
 use Rattle.execheap.proofs.Entries.{some_same}
@@ -23,7 +26,7 @@ times_front n m xs other = ap (λ b. cond b (suc (times m xs)) (times m xs)) (ne
 times_self : (n : ℕ) (xs : List ℕ) → times n (n ∷ xs) ≡ suc (times n xs)
 times_self n xs = ap (λ b. cond b (suc (times n xs)) (times n xs)) (eq-eqb n n refl)
 
-pub times_end_other : (n m : ℕ) (xs : List ℕ) → m ≢ n → times m (xs ++ n ∷ []) ≡ times m xs
+times_end_other : (n m : ℕ) (xs : List ℕ) → m ≢ n → times m (xs ++ n ∷ []) ≡ times m xs
 times_end_other n m [] other = times_front n m [] other
 times_end_other n m (x ∷ xs) other = ap (λ t. cond (x == m) (suc t) t) (times_end_other n m xs other)
 
@@ -53,28 +56,6 @@ times_without_other n m (x ∷ xs) other = by_case (cases_eq x n) (times_without
   by_case (inr apart) rest =
       ap (λ b. times m (cond (not b) (x ∷ without n xs) (without n xs))) (ne_eqb x n apart)
       ∙ ap (λ t. cond (x == m) (suc t) t) rest
-
-times_enqueue : (key : ℕ → ℤ) (r k : ℕ) (xs : List ℕ) → times k (enqueue key xs r) ≡ times k (r ∷ xs)
-times_enqueue key r k [] = refl
-times_enqueue key r k (x ∷ xs) = by_case (is_lower key x r) (times_enqueue key r k xs) where
-  over : (a b : Bool) (t : ℕ) → cond a (suc (cond b (suc t) t)) (cond b (suc t) t) ≡ cond b (suc (cond a (suc t) t)) (cond a (suc t) t)
-  over true true t = refl
-  over true false t = refl
-  over false true t = refl
-  over false false t = refl
-
-  by_case : (b : Bool) → times k (enqueue key xs r) ≡ times k (r ∷ xs) → times k (cond b (r ∷ x ∷ xs) (x ∷ enqueue key xs r)) ≡ times k (r ∷ x ∷ xs)
-  by_case true rest = refl
-  by_case false rest = ap (λ t. cond (x == k) (suc t) t) rest ∙ over (x == k) (r == k) (times k xs)
-
--- what stands in a sequence stands there at least once
-pub any_times : (r : ℕ) (xs : List ℕ) → list_any (λ other. other == r) xs ≡ true → not (times r xs == 0) ≡ true
-any_times r [] there = let bad : false ≡ true = there in cc
-any_times r (x ∷ xs) there = by_case (x == r) there (any_times r xs) where
-  by_case : (b : Bool) → (b || list_any (λ other. other == r) xs) ≡ true → (list_any (λ other. other == r) xs ≡ true → not (times r xs == 0) ≡ true)
-      → not (cond b (suc (times r xs)) (times r xs) == 0) ≡ true
-  by_case true e rest = ap not (ne_eqb (suc (times r xs)) 0 (λ z. omega (arith, z)))
-  by_case false e rest = rest e
 
 -- ---- what is held, and in a port
 
@@ -139,30 +120,75 @@ module _ (m : ℕ) (At : ℕ → Type 0) (s : MessagePorts) where
 
 -- ---- what waits
 
--- request r waits now or not, and all others as they did
-pub record IsTimed (way : Bool) (r : ℕ) (old new : Timing) : Type 0 where
-  pub dues : length new.dues ≡ length old.dues
-  pub here : is_queued r new ≡ way
-  pub rest : (k : ℕ) → k ≢ r → is_queued k new ≡ is_queued k old
-  pub early : new.clock ≡ old.clock
+-- those that wait, but for one
+abbrev waiting_but : ℕ → List Waiting → List Waiting
+waiting_but r xs = filter (λ (w : Waiting). not (w.request == r)) xs
 
-module _ (r : ℕ) (m : Timing) where
-  pub timed_not : {way : Bool} → is_queued r m ≡ way → IsTimed way r m m
-  timed_not is = record { dues = refl; here = is; rest = λ k other. refl; early = refl }
+-- that one does not wait
+left_self : (r : ℕ) (xs : List Waiting) → list_any (λ (w : Waiting). w.request == r) (waiting_but r xs) ≡ false
+left_self r [] = refl
+left_self r (x ∷ xs) = by_case (x.request == r) refl (left_self r xs) where
+  by_case : (b : Bool) → (x.request == r) ≡ b → list_any (λ (w : Waiting). w.request == r) (waiting_but r xs) ≡ false
+      → list_any (λ (w : Waiting). w.request == r) (cond (not b) (x ∷ waiting_but r xs) (waiting_but r xs)) ≡ false
+  by_case true is rest = rest
+  by_case false is rest = ap (λ b. b || list_any (λ (w : Waiting). w.request == r) (waiting_but r xs)) is ∙ rest
 
-  pub timed_added : (due : ℕ) → IsTimed true r m (added r due m)
-  timed_added due = record {
-    dues = length-set m.dues r due;
-    here = ap (λ t. not (t == 0)) (times_enqueue (sooner (slice_set m.dues r due)) r r m.queue ∙ times_self r m.queue)
-        ∙ ap not (ne_eqb (suc (times r m.queue)) 0 (λ e. omega (arith, e)));
-    rest = λ k other. ap (λ t. not (t == 0)) (times_enqueue (sooner (slice_set m.dues r due)) r k m.queue ∙ times_front r k m.queue other);
-    early = refl;
+-- and all others as they did
+left_other : (r k : ℕ) (xs : List Waiting) → k ≢ r
+    → list_any (λ (w : Waiting). w.request == k) (waiting_but r xs) ≡ list_any (λ (w : Waiting). w.request == k) xs
+left_other r k [] other = refl
+left_other r k (x ∷ xs) other = by_case (cases_eq x.request r) (left_other r k xs other) where
+  by_case : (x.request ≡ r) ⊎ (x.request ≡ r → ⊥)
+      → list_any (λ (w : Waiting). w.request == k) (waiting_but r xs) ≡ list_any (λ (w : Waiting). w.request == k) xs
+      → list_any (λ (w : Waiting). w.request == k) (waiting_but r (x ∷ xs)) ≡ list_any (λ (w : Waiting). w.request == k) (x ∷ xs)
+  by_case (inl same) rest =
+      ap (λ b. list_any (λ (w : Waiting). w.request == k) (cond (not b) (x ∷ waiting_but r xs) (waiting_but r xs))) (eq-eqb x.request r same)
+      ∙ rest ∙ sym (ap (λ b. b || list_any (λ (w : Waiting). w.request == k) xs) (ne_eqb x.request k (λ e. other (sym e ∙ same))))
+  by_case (inr apart) rest =
+      ap (λ b. list_any (λ (w : Waiting). w.request == k) (cond (not b) (x ∷ waiting_but r xs) (waiting_but r xs))) (ne_eqb x.request r apart)
+      ∙ ap (λ b. (x.request == k) || b) rest
+
+-- what holds of each that waits
+pub waiting_members : (P : Waiting → Type 0) (xs : List Waiting)
+    → ((w : Waiting) → list_any (λ (v : Waiting). v.request == w.request) xs ≡ true → P w) → AllByRecursion P xs
+waiting_members P [] holds = tt
+waiting_members P (x ∷ xs) holds = (
+  holds x (or_left (x.request == x.request) (list_any (λ (v : Waiting). v.request == x.request) xs) (eq-eqb x.request x.request refl)),
+  waiting_members P xs (λ w stands. holds w (or_right (x.request == w.request) (list_any (λ (v : Waiting). v.request == w.request) xs) stands)),
+)
+
+-- Request r waits now or not, and all others as they did; the clock stands, and system time stays near it.
+pub record IsTimed (way : Bool) (r : ℕ) (old new : Held) : Type 0 where
+  pub room : new.room ≡ old.room
+  pub here : is_waiting r new.timer ≡ way
+  pub rest : (k : ℕ) → k ≢ r → is_waiting k new.timer ≡ is_waiting k old.timer
+  pub clock : new.timer.clock ≡ old.timer.clock
+  pub near : old.timer.system ≤ old.timer.clock + 2 ^ 53 → new.timer.system ≤ new.timer.clock + 2 ^ 53
+
+module _ (r : ℕ) (m : Held) where
+  pub timed_not : {way : Bool} → is_waiting r m.timer ≡ way → IsTimed way r m m
+  timed_not is = record { room = refl; here = is; rest = λ k other. refl; clock = refl; near = λ near. near }
+
+  pub timed_begun : (due : Due) → IsTimed true r m (on_timer (begins_to_wait r due) m)
+  timed_begun due = record {
+    room = refl;
+    here = list_any-append (λ (w : Waiting). w.request == r) m.timer.waiting (record { request = r; due = due } ∷ [])
+        ∙ ap (λ b. is_waiting r m.timer || (b || false)) (eq-eqb r r refl) ∙ or-true (is_waiting r m.timer);
+    rest = λ k other. list_any-append (λ (w : Waiting). w.request == k) m.timer.waiting (record { request = r; due = due } ∷ [])
+        ∙ ap (λ b. is_waiting k m.timer || (b || false)) (ne_eqb r k (λ e. other (sym e))) ∙ or-false (is_waiting k m.timer);
+    clock = refl;
+    near = λ near. near;
   }
 
-  pub timed_cancelled : IsTimed false r m (cancelled r m)
-  timed_cancelled = record {
-    dues = refl;
-    here = ap (λ t. not (t == 0)) (times_without_self r m.queue);
-    rest = λ k other. ap (λ t. not (t == 0)) (times_without_other r k m.queue other);
-    early = refl;
+  pub timed_ended : IsTimed false r m (on_timer (waits_no_more r) m)
+  timed_ended = record {
+    room = refl;
+    here = left_self r m.timer.waiting;
+    rest = λ k other. left_other r k m.timer.waiting other;
+    clock = refl;
+    near = λ near. near;
   }
+
+  -- where system time is set
+  pub timed_set : {way : Bool} (time : ℕ) → is_waiting r m.timer ≡ way → time < 2 ^ 53 → IsTimed way r m (on_timer (system_set time) m)
+  timed_set time is small = record { room = refl; here = is; rest = λ k other. refl; clock = refl; near = λ near. omega arith }

@@ -6,7 +6,7 @@ use Rattle.execlib.specs.Libraries.{Description}
 use Rattle.memlist.specs.declared.region.Region.{Region}
 use Rattle.msgport.specs.Ports.{MessagePorts, message_made, no_ports}
 use Rattle.execlist.specs.Pool.{all_free}
-use Rattle.timerdev.specs.Timing.{no_requests}
+use Rattle.timerdev.specs.Timing.{new_timer}
 use Rattle.sigsem.specs.Semaphores.{Semaphores, no_sems, is_open, entered, queued as sem_queued, dropped}
 use Rattle.execheap.specs.Table as table
 use Rattle.execheap.specs.Numbered.{Numbered, most_tasks}
@@ -26,7 +26,7 @@ unused regions pool known tick_micros = record {
   ports = reserved pool (no_ports pool (pool + pool));
   sems = no_sems pool most_tasks;
   requests = all_free pool;
-  timing = no_requests pool tick_micros;
+  timing = record { room = pool; timer = new_timer tick_micros };
 }
 
 -- the key of a node with that priority, and that name or none

@@ -1,17 +1,15 @@
--- The public ports, and the requests that wait, in the order in which the machine keeps them; how a message is replied, and how a request is begun.
-use Rattle.std.specs.Prelude.{ℕ, ℤ, pos, negsuc, ◌<◌, Bool, if◌then◌else◌, nat_eq, find, List, Option, None, Some}
+-- The public ports in the order in which the machine keeps them; how a message is replied, and what is to be done for the reply of a
+-- request.
+use Rattle.std.specs.Prelude.{ℕ, ℤ, pos, negsuc, ◌<◌, Bool, if◌then◌else◌, nat_eq, List, Option, None, Some}
 use Rattle.std.specs.Option.{option_map}
 use Rattle.execlist.specs.Order.{enqueue}
-use Rattle.iorequest.specs.declared.request.Begun.{Begun}
-use Rattle.iorequest.specs.declared.request.Begun.TheVariants.{Finish, Queue}
 use Rattle.iorequest.specs.Request.{is_under_way}
 use Rattle.msgport.specs.declared.action.Action.{Action}
 use Rattle.msgport.specs.declared.action.Action.TheVariants as action
 use Rattle.msgport.specs.Port.{acting}
 use Rattle.msgport.specs.Ports.{nt_freemsg, nt_replymsg}
-use Rattle.execmodel.specs.State.{Heap, Timer, Waiting, Memory}
-use Rattle.execmodel.specs.Requests.{acting_at, ended, heap_begun, outcome_at, replying_port, answering_port, reply_taken, request_of}
-use Rattle.execmodel.specs.Timing.{is_due, sooner}
+use Rattle.execmodel.specs.State.{Heap, Memory}
+use Rattle.execmodel.specs.Requests.{acting_at, ended, replying_port, answering_port, reply_taken, request_of}
 use Rattle.execheap.specs.declared.awaited.Awaited.{Awaited}
 use Rattle.execheap.specs.declared.awaited.Awaited.TheVariants as awaited
 use Rattle.iorequest.specs.declared.request.ReqState.{ReqState}
@@ -39,23 +37,7 @@ replying message heap = replying_at (content_of message heap).reply heap
 
 -- ---- requests
 
--- a request waits, before the first that is due later
-abbrev pub listed_to_wait : ℕ → ℕ → Timer → Timer
-listed_to_wait request due timer =
-    record timer { waiting = enqueue sooner timer.waiting (record { request = request; due = due }) }
-
-abbrev pub timer_listed : Begun → ℕ → Timer → Timer
-timer_listed (Queue due) request timer = listed_to_wait request due timer
-timer_listed (Finish error) request timer = timer
-
--- a request is begun, with its quick bit set or not: it is under way and waits, or it is done at once
-unfoldable pub begun_listed : Bool → ℕ → Memory → Memory
-begun_listed quick request memory = record memory {
-  heap = heap_begun (outcome_at request memory) quick memory.timer.clock request memory.heap;
-  timer = timer_listed (outcome_at request memory) request memory.timer;
-}
-
--- what is to be done for the reply of a request that is begun so, if it is done at once by a reply
+-- what is to be done for the reply of a request that is begun, with its quick bit set or not, if it is done at once by a reply
 unfoldable pub acting_begun : Bool → ℕ → Memory → Action
 acting_begun quick request memory = acting_at (replying_port quick request memory) memory.heap
 
@@ -78,10 +60,6 @@ unfoldable pub awaited_for : ℕ → Heap → Awaited
 awaited_for request heap =
     if is_under_way (request_of request heap) then awaited.UnderWay (port_of (request_of request heap).port heap).bit
     else awaited.Done (request_of request heap).error
-
--- the first of the requests that wait that is due
-unfoldable pub due_listed : Timer → Option ℕ
-due_listed timer = option_map (λ (w : Waiting). w.request) (find (is_due timer.clock) timer.waiting)
 
 -- a request, if there is one, is done with error 0, and waits no more
 abbrev pub ended_if : Option ℕ → Memory → Memory

@@ -11,9 +11,10 @@ use Rattle.sigsem.specs.Semaphores.{Semaphores, sem_at, waiters_of}
 use Rattle.iorequest.specs.declared.request.Request.{Request as TimerRequest}
 use Rattle.iorequest.specs.Request.{is_under_way}
 use Rattle.iorequest.specs.Requests.{is_request, request_at}
-use Rattle.timerdev.specs.Timing.{Timing, due_at, is_queued}
+use Rattle.timerdev.specs.Held.{Held}
+use Rattle.timerdev.specs.Timing.{Timer, Waiting, is_waiting}
 use Rattle.taskscript.specs.File.{LibraryData}
-use Rattle.execmodel.specs.State.{Object, Plain, ListHead, Node, MsgPort, Message, Semaphore, Library, Request, Block, Heap, PublicPort, Waiting, Timer, Memory}
+use Rattle.execmodel.specs.State.{Object, Plain, ListHead, Node, MsgPort, Message, Semaphore, Library, Request, Block, Heap, PublicPort, Memory}
 use Rattle.execmodel.specs.Lists.{is_list, is_node}
 use Rattle.execmodel.specs.Ports as model
 use Rattle.execmodel.specs.Semaphores.{is_semaphore}
@@ -35,7 +36,7 @@ pub record Numbered : Type 0 where
   pub ports : MessagePorts
   pub sems : Semaphores
   pub requests : Pooled TimerRequest
-  pub timing : Timing
+  pub timing : Held
 
 -- the addresses of the objects of a kind, by number
 abbrev pub places : Kind → Numbered → List (Option ℕ)
@@ -101,17 +102,13 @@ abbrev pub shown_library : Description → LibraryData
 shown_library library = record { name = library.name; version = library.version; size = library.size }
 
 -- a request that waits, by its number
-abbrev pub shown_waiting : Numbered → ℕ → Waiting
-shown_waiting s r = record { request = address_in (places variant.Request s) r; due = due_at s.timing.dues r }
+abbrev pub shown_waiting : Numbered → Waiting → Waiting
+shown_waiting s w = record w { request = address_in (places variant.Request s) w.request }
 
 abbrev pub shown_timer : Numbered → Timer
-shown_timer s = record {
-  clock = s.timing.clock;
-  tick_micros = s.timing.tick_micros;
-  waiting = map (shown_waiting s) s.timing.queue;
-}
+shown_timer s = record s.timing.timer { waiting = map (shown_waiting s) s.timing.timer.waiting }
 
--- The memory that objects by number stand for. Its public ports, and the requests that wait, stand in the order in which they are kept.
+-- the memory that objects by number stand for, its public ports in the order in which they are kept
 abbrev pub shown_memory : Numbered → Memory
 shown_memory s = record {
   regions = s.table.memory.regions;
@@ -158,18 +155,20 @@ pub record IsApt (ports : MessagePorts) (sems : Semaphores) : Type 0 where
   pub each_task : length sems.places ≡ most_tasks
 
 -- Each request has its message from the beginning on. Just a request that is under way is held as a message and waits for the timer; one whose
--- reply is queued lives, and the port that has it is its reply port. The clock has room for the longest time of a request.
+-- reply is queued lives, and the port that has it is its reply port. The clock has room for the longest time of a request, and system time
+-- is ahead of it by no more than such a time.
 pub record IsInTime (s : Numbered) : Type 0 where
   pub each_message : length s.ports.messages.slots ≡ s.table.pool + s.table.pool
-  pub each_due : length s.timing.dues ≡ s.table.pool
+  pub each_time : s.timing.room ≡ s.table.pool
   pub made : (r : ℕ) → r < s.table.pool → IsTrue (is_message (message_of_request r s) s.ports)
   pub held : (r : ℕ) → is_held (message_of_request r s) s.ports ≡ is_way_at r s.requests
   pub none_held : (m : ℕ) → m < s.table.pool → is_held m s.ports ≡ false
-  pub waits : (r : ℕ) → is_queued r s.timing ≡ is_way_at r s.requests
+  pub waits : (r : ℕ) → is_waiting r s.timing.timer ≡ is_way_at r s.requests
   pub live : (r p : ℕ) → home s.ports.places (message_of_request r s) ≡ Some p → IsSome (slot (places variant.Request s) r)
   pub at_reply_port : (r p : ℕ) → home s.ports.places (message_of_request r s) ≡ Some p
       → slot (places variant.Port s) p ≡ Some (request_at r s.requests).port
-  pub early : s.timing.clock < 2 ^ 63
+  pub early : s.timing.timer.clock < 2 ^ 63
+  pub near : s.timing.timer.system ≤ s.timing.timer.clock + 2 ^ 53
 
 -- A linked node and its list are objects that live, and what holds the objects of a kind gives the numbers that the table gives.
 pub record IsKept (s : Numbered) : Type 0 where

@@ -2,7 +2,7 @@
 use Rattle.std.specs.Prelude.{ℕ, ℤ, pos, Bool, if◌then◌else◌, Option, None, Some}
 use Rattle.execlist.specs.Pool.{Pooled}
 use Rattle.iorequest.specs.declared.request.Begun.{Begun}
-use Rattle.iorequest.specs.declared.request.Begun.TheVariants.{Finish, Queue}
+use Rattle.iorequest.specs.declared.request.Begun.TheVariants.{Finish, NewTime, Queue, Until}
 use Rattle.iorequest.specs.declared.request.Request.{Request}
 use Rattle.iorequest.specs.declared.request.ReqState.{ReqState}
 use Rattle.iorequest.specs.declared.request.ReqState.TheVariants.{Idle, UnderWay, Quick, Replied}
@@ -12,11 +12,12 @@ use Rattle.msgport.specs.declared.action.Action.{Action}
 use Rattle.msgport.specs.declared.action.Action.TheVariants as action
 use Rattle.msgport.specs.Port.{acting}
 use Rattle.msgport.specs.Ports.{MessagePorts, held, let_go, nt_replymsg, port_at, posted, taken_out}
-use Rattle.timerdev.specs.Timing.{Timing, added, cancelled}
+use Rattle.timerdev.specs.Held.{on_timer}
+use Rattle.timerdev.specs.Timing.{AtClock, AtSystem, Due, Timer, begins_to_wait, system_set, waits_no_more}
 use Rattle.execheap.specs.declared.awaited.Awaited.{Awaited}
 use Rattle.execheap.specs.declared.awaited.Awaited.TheVariants as awaited
 use Rattle.execheap.specs.declared.kind.Kind.TheVariants as variant
-use Rattle.execheap.specs.Table.{number_at}
+use Rattle.execheap.specs.Table.{Tabled, number_at}
 use Rattle.execheap.specs.Numbered.{Numbered, message_of_request}
 
 -- an action on the requests
@@ -24,15 +25,15 @@ abbrev pub on_requests : (Pooled Request → Pooled Request) → Numbered → Nu
 on_requests f s = record s { requests = f s.requests }
 
 -- an action on the timer
-abbrev pub on_timing : (Timing → Timing) → Numbered → Numbered
-on_timing f s = record s { timing = f s.timing }
+abbrev pub on_timing : (Timer → Timer) → Numbered → Numbered
+on_timing f s = record s { timing = on_timer f s.timing }
 
 -- ---- replies
 
 -- the number of the port that begins at an address, if there is one and a port does
-abbrev pub port_number : Option ℕ → Numbered → Option ℕ
-port_number None s = None
-port_number (Some address) s = number_at variant.Port address s.table
+abbrev pub port_number : Option ℕ → Tabled → Option ℕ
+port_number None table = None
+port_number (Some address) table = number_at variant.Port address table
 
 -- message m is held no more, and stands last in a port, if there is one
 abbrev pub put_at : Option ℕ → ℕ → MessagePorts → MessagePorts
@@ -46,7 +47,7 @@ acting_at (Some p) ports = acting (port_at p ports)
 
 -- the port where the reply of a request is put that finishes
 abbrev pub answering : Request → Numbered → Option ℕ
-answering q s = port_number (reply_port q) s
+answering q s = port_number (reply_port q) s.table
 
 -- request r, which holds that, is done, with an error, and its reply is put
 abbrev pub done_with : ℤ → Request → ℕ → Numbered → Numbered
@@ -59,20 +60,26 @@ done_with error q r s = record s {
 
 -- request r as it is begun
 abbrev pub begun_as : Bool → ℕ → Numbered → Request
-begun_as quick r s = begun quick s.timing.clock (request_at r s.requests)
+begun_as quick r s = begun quick s.timing.timer.system (request_at r s.requests)
 
 -- how request r goes on that is begun now
 abbrev pub goes_on : ℕ → Numbered → Begun
-goes_on r s = outcome s.timing.clock (request_at r s.requests)
+goes_on r s = outcome s.timing.timer.clock s.timing.timer.system (request_at r s.requests)
 
--- request r is begun: it is under way, held, and waits, or it is done at once
-abbrev pub begun_so : Begun → Bool → ℕ → Numbered → Numbered
-begun_so (Queue due) quick r s = record s {
+-- request r is begun, is held, and waits for that time
+abbrev pub begun_until : Due → Bool → ℕ → Numbered → Numbered
+begun_until due quick r s = record s {
   requests = with_request r (begun_as quick r s) s.requests;
   ports = held (message_of_request r s) s.ports;
-  timing = added r due s.timing;
+  timing = on_timer (begins_to_wait r due) s.timing;
 }
+
+-- request r is begun: it is under way, or it is done at once, where system time may become another
+abbrev pub begun_so : Begun → Bool → ℕ → Numbered → Numbered
+begun_so (Queue due) quick r s = begun_until (AtClock due) quick r s
+begun_so (Until time) quick r s = begun_until (AtSystem time) quick r s
 begun_so (Finish error) quick r s = done_with error (begun_as quick r s) r s
+begun_so (NewTime time) quick r s = on_timing (system_set time) (done_with (pos 0) (begun_as quick r s) r s)
 
 abbrev pub begun_now : Bool → ℕ → Numbered → Numbered
 begun_now quick r s = begun_so (goes_on r s) quick r s
@@ -80,19 +87,21 @@ begun_now quick r s = begun_so (goes_on r s) quick r s
 -- what is to be done for the reply of a request that is begun so
 abbrev pub acting_so : Begun → Bool → ℕ → Numbered → Action
 acting_so (Queue due) quick r s = action.Nothing
+acting_so (Until time) quick r s = action.Nothing
 acting_so (Finish error) quick r s = acting_at (answering (begun_as quick r s) s) s.ports
+acting_so (NewTime time) quick r s = acting_at (answering (begun_as quick r s) s) s.ports
 
 -- ---- finished
 
 -- request r, which is under way, is done, with an error, and waits no more
 abbrev pub ended : ℤ → ℕ → Numbered → Numbered
-ended error r s = on_timing (cancelled r) (done_with error (request_at r s.requests) r s)
+ended error r s = on_timing (waits_no_more r) (done_with error (request_at r s.requests) r s)
 
 -- what is to be done for the reply of request r when it is done
 abbrev pub acting_ended : ℕ → Numbered → Action
 acting_ended r s = acting_at (answering (request_at r s.requests) s) s.ports
 
--- the request that is due first, if one is, is done with error 0
+-- a request, if there is one, is done with error 0
 abbrev pub ended_if : Option ℕ → Numbered → Numbered
 ended_if None s = s
 ended_if (Some r) s = ended (pos 0) r s

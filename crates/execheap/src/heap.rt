@@ -8,6 +8,7 @@ ghost use Rattle.execmodel.specs.Memory.{block_at, can_be_asked, extents, freed,
 ghost use Rattle.execmodel.specs.Objects.{place_for_object};
 ghost use Rattle.execmodel.specs.Lists.{is_list, is_node, free_list_alert, free_node_alert, link_alert, insert_alert, linked_alert, list_alert, find_alert};
 ghost use Rattle.execmodel.specs.Lists.{added_head, added_tail, enqueued, inserted, unlinked, removed_head, removed_tail, first_of, last_of, succ_of, pred_of, found_node};
+ghost use Rattle.timerdev.specs.Timing.{new_timer};
 ghost use Rattle.execheap.specs.Numbered.{shown_library};
 ghost use Rattle.execheap.specs.Changes.{key_with};
 ghost use Rattle.execheap.specs.Refusals.{alert_of};
@@ -46,8 +47,8 @@ impl<S: ListSpace> Model for Heap<S> {
 
 impl<S: ListSpace> Heap<S> {
     /// The memory of these regions with nothing allocated, and these libraries, at most 32, none of them loaded; of each kind as many objects
-    /// may live as `pool` says, and the clock stands at 0 and gains `tick_micros` microseconds at each tick. An error means that memory of the
-    /// host is lacking, or that `check_regions` refuses the regions, which no machine file's are.
+    /// may live as `pool` says, and clock and system time stand at 0 and gain `tick_micros` microseconds at each tick. An error means that
+    /// memory of the host is lacking, or that `check_regions` refuses the regions, which no machine file's are.
     pub fn new(
         alloc: Global,
         regions: &[Region],
@@ -57,7 +58,7 @@ impl<S: ListSpace> Heap<S> {
     ) -> Result<Self, AllocError>
         requires pool { pool ≤ 1024 }
         requires few { length libraries.now ≤ 32 }
-        ensures { IfOk result (λ h. h ≡ record { regions = regions.now; libraries = map shown_library (map description_of libraries.now); pool = pool; heap = []; public = []; timer = record { clock = 0; tick_micros = tick_micros; waiting = [] } }) }
+        ensures { IfOk result (λ h. h ≡ record { regions = regions.now; libraries = map shown_library (map description_of libraries.now); pool = pool; heap = []; public = []; timer = new_timer tick_micros }) }
     {
         let objects = Objects::new(alloc, regions, pool, libraries, tick_micros)?;
         Ok(Heap { objects })

@@ -12,7 +12,7 @@ use Rattle.execmodel.specs.Objects.{replaced}
 use Rattle.execmodel.specs.Ports.{is_port_at, messages_of, port_of, with_port, appended, performed}
 use Rattle.exectrace.specs.Trace.{Timer as TimerLine}
 use Rattle.execmodel.specs.Requests.{is_request, is_request_at, request_of, with_request, where_port, answering_port, appended_at, acting_at, with_reply, finished_at, ended, finishes}
-use Rattle.execmodel.specs.Timing.{is_due, sooner, due_next, waits_no_more}
+use Rattle.timerdev.specs.Timing.{sooner, next_of, due_next, until_next, waits_no_more}
 use Rattle.execmodel.specs.Agreement.{times, once_if}
 use Rattle.execmodel.specs.Laws.{times_waiting}
 use Rattle.execmodel.proofs.Heaps.{true_is_not_false}
@@ -174,7 +174,7 @@ others_wait other request timer apart =
     ap (λ q. times other q) (who_left request timer.waiting)
     ∙ times_others other request (map (λ (x : Queued). x.request) timer.waiting) apart
 
--- ---- a request that is due waits
+-- ---- a request that is found among those that wait waits
 
 cons_stands : (r x : ℕ) (q p : List ℕ) → (0 < times r q → 0 < times r p) → 0 < times r (x ∷ q) → 0 < times r (x ∷ p)
 cons_stands r x q p more = tested (nat_eq r x)
@@ -220,23 +220,32 @@ named_stands : (found : Option Queued) (request : ℕ) (waiting : List Queued) �
 named_stands None request waiting stands e = none_some (sym e)
 named_stands (Some w) request waiting stands e = subst (λ r. 0 < times_waiting r waiting) (some_number e) (stands w refl)
 
+next_stands : (passes : Queued → Bool) (request : ℕ) (timer : Timer) → next_of passes timer ≡ Some request
+    → 0 < times_waiting request timer.waiting
+unfolding next_of
+next_stands passes request timer e =
+    filtered_stands passes request timer.waiting
+    (named_stands (chosen (sooner timer) (filter passes timer.waiting)) request (filter passes timer.waiting)
+    (chosen_stands (sooner timer) (filter passes timer.waiting)) e)
+
 pub due_stands : (request : ℕ) (timer : Timer) → due_next timer ≡ Some request → 0 < times_waiting request timer.waiting
 unfolding due_next
-due_stands request timer e =
-    filtered_stands (is_due timer.clock) request timer.waiting
-    (named_stands (chosen sooner (filter (is_due timer.clock) timer.waiting)) request (filter (is_due timer.clock) timer.waiting)
-    (chosen_stands sooner (filter (is_due timer.clock) timer.waiting)) e)
+due_stands request timer e = next_stands _ request timer e
+
+pub until_stands : (request : ℕ) (timer : Timer) → until_next timer ≡ Some request → 0 < times_waiting request timer.waiting
+unfolding until_next
+until_stands request timer e = next_stands _ request timer e
 
 once_true : (b : Bool) → 0 < once_if b → b ≡ true
 once_true true h = refl
 once_true false h = absurd (omega (arith, h))
 
-pub due_under_way : (request : ℕ) (s : State) → due_next s.memory.timer ≡ Some request → IsTidy s
+pub waits_under_way : (request : ℕ) (s : State) → 0 < times_waiting request s.memory.timer.waiting → IsTidy s
     → is_under_way (request_of request s.memory.heap) ≡ true
-due_under_way request s due tidy =
+waits_under_way request s waits tidy =
     ap (λ (q : TimerRequest). is_under_way q) (request_is request s.memory.heap)
     ∙ once_true (is_under_way (asked_at (post_at s.memory.heap request)))
-    (subst (λ n. 0 < n) (tidy.order.waits request) (due_stands request s.memory.timer due))
+    (subst (λ n. 0 < n) (tidy.order.waits request) waits)
 
 -- ---- a request finishes
 
@@ -305,7 +314,7 @@ ended_asks error request s under =
       begins = λ way. true_is_not_false (sym way ∙ finished_rests error (request_of request s.memory.heap));
     })
 
--- ---- a request that is due finishes
+-- ---- a request that waits finishes
 
 pub marks_of : (found : Option ℕ) (request : ℕ) (o : Outcome) → o.marks ≡ [] → (with_reply found request o).marks ≡ reply_marks found request
 marks_of None request o none = none
@@ -319,18 +328,21 @@ pub reply_calm : (found : Option ℕ) (request : ℕ) → IsCalm (reply_marks fo
 reply_calm None request = λ p. refl
 reply_calm (Some port) request = λ p. refl
 
--- what comes of that: the blocks and the requests that wait, the schedule; and the regions, the clock, and how many programs there are, stay
+-- what comes of that: the blocks and the requests that wait, the schedule; and the regions, the clock and system time, and how many programs
+-- there are, stay
 pub record Finishing (s : State) (marks : List Mark) (r : State) : Type 0 where
   pub regions : r.memory.regions ≡ s.memory.regions
   pub clock : r.memory.timer.clock ≡ s.memory.timer.clock
+  pub system : r.memory.timer.system ≡ s.memory.timer.system
   pub tick_micros : r.memory.timer.tick_micros ≡ s.memory.timer.tick_micros
   pub programs : length r.scripts.programs ≡ length s.scripts.programs
   pub asks : Asks s marks r.memory.heap r.memory.timer.waiting
   pub tasks : Reaches marks s.schedule r.schedule
 
-pub finishing : (request : ℕ) (s : State) → due_next s.memory.timer ≡ Some request → Finishing s (finishes request s).marks (finishes request s).state
+pub finishing : (request : ℕ) (s : State) → 0 < times_waiting request s.memory.timer.waiting
+    → Finishing s (finishes request s).marks (finishes request s).state
 unfolding finishes
-finishing request s due =
+finishing request s waits =
     let found = answering_port request s.memory.heap in
     let act = acting_at found s.memory.heap in
     let next = on_memory (ended (pos 0) request) s in
@@ -340,9 +352,10 @@ finishing request s due =
     (record {
       regions = ap (λ (m : Memory). m.regions) (performed_memory act next) ∙ unfold ended in refl;
       clock = ap (λ (m : Memory). m.timer.clock) (performed_memory act next) ∙ unfold ended in refl;
+      system = ap (λ (m : Memory). m.timer.system) (performed_memory act next) ∙ unfold ended in refl;
       tick_micros = ap (λ (m : Memory). m.timer.tick_micros) (performed_memory act next) ∙ unfold ended in refl;
       programs = ap (λ (scripts : Scripts). length scripts.programs) (performed_scripts act next);
       asks = subst (λ (m : Memory). Asks s (reply_marks found request) m.heap m.timer.waiting) (sym (performed_memory act next))
-          (ended_asks (pos 0) request s (due_under_way request s due));
+          (ended_asks (pos 0) request s (waits_under_way request s waits));
       tasks = performed_reaches act (reply_marks found request) next (reply_calm found request);
     }))

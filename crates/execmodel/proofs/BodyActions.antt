@@ -20,7 +20,7 @@ use Rattle.taskscript.specs.declared.word.ports.PortWord.TheVariants as ports
 use Rattle.taskscript.specs.declared.word.interrupts.InterruptWord.{InterruptWord}
 use Rattle.taskscript.specs.declared.word.interrupts.InterruptWord.TheVariants as interrupts
 use Rattle.taskscript.specs.Commands.{CommandData}
-use Rattle.execmodel.specs.State.{Call, Pending, State, Outcome, quiet, says, andthen, unless_stopped, on_schedule, on_memory, on_pending}
+use Rattle.execmodel.specs.State.{Call, Pending, State, Timer as Clock, Outcome, quiet, says, andthen, unless_stopped, on_schedule, on_memory, on_timer, on_pending}
 use Rattle.execmodel.specs.Scheduling.{arrives, signalled}
 use Rattle.execmodel.specs.Calls.{ByBody, argument, name_argument, unless_by, call_in_body}
 use Rattle.execmodel.specs.Signals.{signal_alert}
@@ -29,8 +29,8 @@ use Rattle.execmodel.specs.Ports.{performed, delivered, put_alert, port_alert, r
 use Rattle.execmodel.specs.Bodies.{does_plain_by, does_signals_by, does_ports_by, does_interrupts_by, does_word_by, does_in_body, body_step, runs_body}
 use Rattle.softint.specs.declared.source.Source.{Source}
 use Rattle.softint.specs.declared.source.Source.TheVariants as source
-use Rattle.execmodel.specs.Timing.{due_next}
-use Rattle.execmodel.specs.Requests.{answering_port, acting_at, with_reply, ended, ends_with, finishes, finishes_due, finishes_all_due}
+use Rattle.timerdev.specs.Timing.{due_next, looked_at, until_next}
+use Rattle.execmodel.specs.Requests.{answering_port, acting_at, with_reply, ended, ends_with, finishes, finishes_each, finishes_all_due, finishes_set}
 use Rattle.execmodel.specs.Interrupts.{softint_at, server_at, runs_softint, runs_server, runs_chain, finishes_for}
 
 -- ---- what bodies leave
@@ -237,16 +237,26 @@ found_bodily : (next : State → Outcome) → ((r : State) → Bodily r (next r)
 found_bodily next one None s = quiet_bodily s
 found_bodily next one (Some request) s = then_bodily (finishes request) next s (finished_bodily request s) one
 
-due_bodily : (n : ℕ) (s : State) → Bodily s (finishes_due n s)
-unfolding finishes_due
-due_bodily zero s = quiet_bodily s
-due_bodily (suc n) s = found_bodily (finishes_due n) (due_bodily n) (due_next s.memory.timer) s
+each_bodily : (next : Clock → Option ℕ) (n : ℕ) (s : State) → Bodily s (finishes_each next n s)
+unfolding finishes_each
+each_bodily next zero s = quiet_bodily s
+each_bodily next (suc n) s = found_bodily (finishes_each next n) (each_bodily next n) (next s.memory.timer) s
 
 pub finishing_bodily : (asks : Source) (s : State) → Bodily s (finishes_for asks s)
 unfolding finishes_all_due
 finishing_bodily source.Ports s = quiet_bodily s
-finishing_bodily source.Vertb s = due_bodily _ s
+finishing_bodily source.Vertb s = each_bodily due_next _ s
 finishing_bodily source.Exter s = quiet_bodily s
+
+-- what follows a call on requests
+pub set_told : (s : State) → AreOfBodies (finishes_set s).lines
+unfolding finishes_set
+set_told s = by_test s.memory.timer.is_set
+  where
+    by_test : (test : Bool)
+        → AreOfBodies (if test then finishes_each until_next (length s.memory.timer.waiting) (on_memory (on_timer looked_at) s) else quiet s).lines
+    by_test true = (each_bodily until_next (length s.memory.timer.waiting) (on_memory (on_timer looked_at) s)).told
+    by_test false = tt
 
 -- a serving: what is due finishes, and then the chain of servers runs
 pub served_bodily : (asks : Source) (chain : List ℕ) (s : State) → Bodily s (andthen (finishes_for asks) (runs_chain chain) s)

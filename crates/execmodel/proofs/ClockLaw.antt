@@ -26,12 +26,13 @@ use Rattle.execmodel.specs.Semaphores.{does_semaphores}
 use Rattle.execmodel.specs.Causing.{does_interrupts}
 use Rattle.execmodel.specs.Libraries.{does_libraries}
 use Rattle.execmodel.specs.Requests.{does_requests}
-use Rattle.execmodel.specs.Step.{does, does_word, ends, switches, step, steps, request, tick, ticks, event, events, starts, run}
+use Rattle.execmodel.specs.Step.{ends, switches, step, steps, request, tick, ticks, event, events, starts, run}
 use Rattle.execmodel.specs.Laws.{TheClockCountsTicks}
 use Rattle.execmodel.proofs.Heaps.{true_is_not_false}
+use Rattle.execmodel.proofs.Itself.{word_itself}
 use Rattle.execmodel.proofs.Stopped.{step_stopped, request_stopped}
 use Rattle.execmodel.proofs.Stretches.{Relation, HoldsOfEach, clock_gains, of_request, of_step, of_starts}
-use Rattle.execmodel.proofs.Keeping.{plain_words_change_scripts, signal_words_change_signals_and_states, nesting_words_change_nestings, task_words_change_states_priorities_and_objects, list_words_change_the_memory, memory_words_change_the_memory, port_words_change_ports_signals_and_states, semaphore_words_change_states_and_objects, interrupt_words_change_what_is_caused, library_words_change_the_memory, request_words_change_requests_ports_signals_and_states}
+use Rattle.execmodel.proofs.Keeping.{plain_words_change_scripts, signal_words_change_signals_and_states, nesting_words_change_nestings, task_words_change_states_priorities_and_objects, list_words_change_the_memory, memory_words_change_the_memory, port_words_change_ports_signals_and_states, semaphore_words_change_states_and_objects, interrupt_words_change_what_is_caused, library_words_change_the_memory, request_words_keep}
 use Rattle.execmodel.proofs.Commands.{body_alters}
 use Rattle.execmodel.proofs.Asking.{finishing}
 use Rattle.execmodel.proofs.TidyLaw.{quietly, switches_quiet}
@@ -51,7 +52,7 @@ left part clock micros s o e = (
   sym (micros o.state) ∙ ap (λ (x : State). x.memory.timer.tick_micros) e ∙ micros s,
 )
 
-word_stands : (word : Word) (t : ℕ) (call : Call) (s : State) → Stands s (does_word word t call s).marks (does_word word t call s).state
+pub word_stands : (word : Word) (t : ℕ) (call : Call) (s : State) → Stands s (word_itself word t call s).marks (word_itself word t call s).state
 word_stands (group.Plain word) t call s = left (beside_plain t) (λ x. refl) (λ x. refl) s (does_plain word t call s) (plain_words_change_scripts word t call s)
 word_stands (group.Signals word) t call s = left beside_signals (λ x. refl) (λ x. refl) s (does_signals word t call s) (signal_words_change_signals_and_states word t call s)
 word_stands (group.Nesting word) t call s = left beside_nestings (λ x. refl) (λ x. refl) s (does_nesting word t call s) (nesting_words_change_nestings word t call s)
@@ -62,10 +63,10 @@ word_stands (group.Ports word) t call s = left beside_ports (λ x. refl) (λ x. 
 word_stands (group.Semaphores word) t call s = left beside_semaphores (λ x. refl) (λ x. refl) s (does_semaphores word t call s) (semaphore_words_change_states_and_objects word t call s)
 word_stands (group.Interrupts word) t call s = left beside_interrupts (λ x. refl) (λ x. refl) s (does_interrupts word t call s) (interrupt_words_change_what_is_caused word t call s)
 word_stands (group.Libraries word) t call s = left beside_memory (λ x. refl) (λ x. refl) s (does_libraries word t call s) (library_words_change_the_memory word t call s)
-word_stands (group.Requests word) t call s = left beside_requests (λ x. refl) (λ x. refl) s (does_requests word t call s) (request_words_change_requests_ports_signals_and_states word t call s)
+word_stands (group.Requests word) t call s = left beside_requests (λ x. refl) (λ x. refl) s (does_requests word t call s) (request_words_keep word t call s)
 
 stands : HoldsOfEach Stands
-unfolding ends does
+unfolding ends
 stands = record {
   interrupting = record {
     nothing = λ s. (refl, refl);
@@ -75,7 +76,8 @@ stands = record {
       ap (λ (timer : Timer). timer.tick_micros) (body_alters name command s).timer,
     );
     pending = λ f s. (refl, refl);
-    finishing = λ request s due. ((finishing request s due).clock, (finishing request s due).tick_micros);
+    finishing = λ request s waits. ((finishing request s waits).clock, (finishing request s waits).tick_micros);
+    looking = λ s. (refl, refl);
     ticking = λ s. (refl, refl);
     switching = λ s. quietly Stands s (switches s) (on_schedule rescheduled s) (switches_quiet s) (refl, refl);
   };

@@ -7,10 +7,11 @@ use Rattle.execmodel.specs.State.{Call, Memory, Mark, State, Outcome, on_schedul
 use Rattle.execmodel.specs.Scheduling.{rescheduled}
 use Rattle.execmodel.specs.Ports.{messages_of}
 use Rattle.execmodel.specs.Bodies.{body_step}
-use Rattle.execmodel.specs.Step.{switches, does, ends, starts, events, run}
+use Rattle.execmodel.specs.Step.{switches, ends, starts, events, run}
 use Rattle.execmodel.specs.Marks.{port_turn, turns_at_port}
 use Rattle.execmodel.specs.Laws.{FirstInFirstOut}
 use Rattle.execmodel.proofs.Queues.{Follows, IsOnce, follows_more, follows_once, in_order}
+use Rattle.execmodel.proofs.Itself.{does_itself}
 use Rattle.execmodel.specs.Requests.{finishes}
 use Rattle.execmodel.proofs.Stretches.{Relation, HoldsOfEach, clock_gains, of_starts, of_events}
 use Rattle.execmodel.proofs.Commands.{body_alters}
@@ -62,17 +63,18 @@ ports = record {
       touched_follow s.memory.heap (body_step name command s).marks (body_step name command s).state.memory.heap (body_alters name command s).blocks,
     );
     pending = λ f s. rescheduling s _ refl;
-    finishing = λ request s due tidy. (
-      tidies.interrupting.finishing request s due tidy,
-      asked_follow s _ (finishes request s).state.memory.heap (finishes request s).state.memory.timer.waiting (finishing request s due).asks tidy,
+    finishing = λ request s waits tidy. (
+      tidies.interrupting.finishing request s waits tidy,
+      asked_follow s _ (finishes request s).state.memory.heap (finishes request s).state.memory.timer.waiting (finishing request s waits).asks tidy,
     );
+    looking = λ s tidy. (tidies.interrupting.looking s tidy, λ port. refl);
     ticking = λ s. rescheduling s _ refl;
     switching = λ s. quietly Ports s (switches s) (on_schedule rescheduled s) (switches_quiet s) (rescheduling s _ refl);
   };
   adding = λ t s less. rescheduling s _ refl;
   calling = λ t call s runs is tidy. (
     tidies.calling t call s runs is tidy,
-    called_follow t call s (does t call s) (call_works t call s) tidy,
+    called_follow t call s (does_itself t call s) (call_works t call s) tidy,
   );
   ending = λ t s runs. rescheduling s _ refl;
 }

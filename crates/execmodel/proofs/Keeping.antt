@@ -1,6 +1,6 @@
 -- The words of a group change their part of the state alone.
 use Rattle.std.proofs.Common.{◌≡◌, ℕ, zero, suc, ℤ, Bool, true, false, List, [], ◌∷◌, Option, None, Some, slice_set, ap, ◌∙◌, refl}
-use Rattle.std.specs.Prelude.{◌-◌, negsuc, not, ◌&&◌, if◌then◌else◌, nat_eq, nat_lt, length, slice_index_or, unwrap_or}
+use Rattle.std.specs.Prelude.{◌-◌, pos, negsuc, not, ◌&&◌, if◌then◌else◌, nat_eq, nat_lt, length, slice_index_or, unwrap_or}
 use Rattle.std.specs.Int.{cast_signed, w32}
 use Rattle.execlist.specs.Order.{first}
 use Rattle.signals.specs.Signals.{grant, taken_signals}
@@ -19,17 +19,20 @@ use Rattle.taskscript.specs.declared.word.ports.PortWord.TheVariants as ports
 use Rattle.taskscript.specs.declared.word.semaphores.SemaphoreWord.TheVariants as semaphores
 use Rattle.taskscript.specs.declared.word.interrupts.InterruptWord.TheVariants as interrupts
 use Rattle.taskscript.specs.declared.word.libraries.LibraryWord.TheVariants as libraries
+use Rattle.taskscript.specs.declared.word.requests.RequestWord.{RequestWord}
 use Rattle.taskscript.specs.declared.word.requests.RequestWord.TheVariants as requests
+use Rattle.exectrace.specs.Trace.{Timer as TimerLine}
+use Rattle.timerdev.specs.Timing.{looked_at, until_next}
 use Rattle.iorequest.specs.declared.request.ReqState.{ReqState}
 use Rattle.iorequest.specs.declared.request.ReqState.TheVariants.{Idle, UnderWay, Quick, Replied}
 use Rattle.iorequest.specs.declared.request.Begun.{Begun}
-use Rattle.iorequest.specs.declared.request.Begun.TheVariants.{Finish, Queue}
+use Rattle.iorequest.specs.declared.request.Begun.TheVariants.{Finish, Queue, Until, NewTime}
 use Rattle.iorequest.specs.Request.{idle_request, is_under_way}
 use Rattle.sigsem.specs.declared.semaphore.Obtained.{Obtained}
 use Rattle.msgport.specs.declared.action.Action.{Action}
 use Rattle.msgport.specs.declared.action.Action.TheVariants as action
 use Rattle.sigsem.specs.declared.semaphore.Obtained.TheVariants.{Owner, Waits}
-use Rattle.execmodel.specs.State.{Call, Object, Plain, ListHead, Library, Request, Timer, Memory, Pending, Program, Scripts, State, Outcome, no_program, on_schedule, on_scripts, on_memory}
+use Rattle.execmodel.specs.State.{Call, Object, Plain, ListHead, Library, Request, Timer, Memory, Pending, Program, Scripts, State, Outcome, no_program, says, andthen, on_schedule, on_scripts, on_memory, on_timer}
 use Rattle.execmodel.specs.Pending.{arrived, is_caused, causes, softint_named}
 use Rattle.execmodel.specs.Causing.{does_cause}
 use Rattle.execmodel.specs.Libraries.{base_of, count_of, is_delayed, library_at, library_to_open, library_opened, entered_or_loaded, opened, closed, removed as library_removed, library_alert, close_alert, does_open_library, does_close_library, does_rem_library, does_lib_open_cnt}
@@ -44,17 +47,18 @@ use Rattle.execmodel.specs.Memory.{allocates, placed, place_for, alloc_alert, fr
 use Rattle.execmodel.specs.Lists.{is_list, list_size, is_node, node_size, free_list_alert, new_node_alert, free_node_alert, link_alert, insert_alert, linked_alert, list_alert, find_alert, does_new_list, does_free_list, does_new_node, does_free_node, does_add_head, does_add_tail, does_enqueue, does_insert, does_remove, does_rem_head, does_rem_tail, does_first, does_last, does_succ, does_pred, does_find_name}
 use Rattle.execmodel.specs.Ports.{is_port, is_message, port_size, message_size, port_created, port_alert, message_alert, port_of, loses, messages_of, content_of, delete_alert, add_port_alert, rem_port_alert, reply_port_alert, loose_alert, put_alert, reply_alert, wait_alert, made_public, made_private, replied, delivered, performed, taken, looked, does_create_msg_port, does_delete_msg_port, does_add_port, does_rem_port, does_find_port, does_port_signal, does_port_cause, does_port_ignore, does_new_msg, does_free_msg, does_msg_word, does_set_msg_word, does_msg_type, does_put_msg, does_get_msg, does_wait_port, does_reply_msg}
 use Rattle.execmodel.specs.Semaphores.{awaited_by, free_sem_alert, heir, is_semaphore, is_tried_again, leaving_queue, obtain_alert, obtains, outcome_for, passes, release_alert, sem_of, semaphore_size, woken, does_new_sem, does_free_sem, does_obtain_semaphore, does_attempt_semaphore, does_release_semaphore}
-use Rattle.execmodel.specs.Requests.{is_request, request_size, request_of, request_alert, resting_alert, delete_request_alert, send_alert, do_alert, wait_io_alert, set_io_alert, answering_port, acting_at, with_reply, ended, outcome_at, timer_begun, begun_at, replying_port, looks_for, aborts, does_create_io_request, does_delete_io_request, does_open_device, does_close_device, does_set_io, does_do_io, does_send_io, does_check_io, does_wait_io, does_abort_io, does_io_secs, does_io_micros, does_io_error, does_io_flags}
-use Rattle.execmodel.specs.Keeping.{without_progress, without_progress_of, without_states, without_priorities, without_signals, beside_plain, beside_signals, beside_nestings, beside_memory, beside_ports, beside_interrupts, beside_semaphores, beside_tasks, beside_requests, without_caused, without_waiting, without_blocks_and_waiting, PlainWordsChangeScripts, SignalWordsChangeSignalsAndStates, NestingWordsChangeNestings, TaskWordsChangeStatesPrioritiesAndObjects, ListWordsChangeTheMemory, MemoryWordsChangeTheMemory, PortWordsChangePortsSignalsAndStates, SemaphoreWordsChangeStatesAndObjects, InterruptWordsChangeWhatIsCaused, LibraryWordsChangeTheMemory, RequestWordsChangeRequestsPortsSignalsAndStates}
+use Rattle.execmodel.specs.Requests.{does_requests, finishes, finishes_each, finishes_set, is_request, request_size, request_of, request_alert, resting_alert, delete_request_alert, send_alert, do_alert, wait_io_alert, set_io_alert, answering_port, acting_at, with_reply, ended, outcome_at, timer_begun, begun_at, replying_port, looks_for, aborts, does_create_io_request, does_delete_io_request, does_open_device, does_close_device, does_set_io, does_do_io, does_send_io, does_check_io, does_wait_io, does_abort_io, does_io_secs, does_io_micros, does_io_error, does_io_flags}
+use Rattle.execmodel.specs.Keeping.{Keeps, without_progress, without_progress_of, without_states, without_priorities, without_signals, beside_plain, beside_signals, beside_nestings, beside_memory, beside_ports, beside_interrupts, beside_semaphores, beside_tasks, beside_requests, without_caused, clock_alone, without_blocks_system_and_waiting, PlainWordsChangeScripts, SignalWordsChangeSignalsAndStates, NestingWordsChangeNestings, TaskWordsChangeStatesPrioritiesAndObjects, ListWordsChangeTheMemory, MemoryWordsChangeTheMemory, PortWordsChangePortsSignalsAndStates, SemaphoreWordsChangeStatesAndObjects, InterruptWordsChangeWhatIsCaused, LibraryWordsChangeTheMemory, RequestWordsChangeRequestsPortsSignalsAndStates}
+use Rattle.execmodel.proofs.BodyActions.{finishes_found}
 
 -- a part that both ways keep
-either : {A : Type 0} (part : State → A) (a : A) (test : Bool) (o p : Outcome) → part o.state ≡ a → part p.state ≡ a
+pub either : {A : Type 0} (part : State → A) (a : A) (test : Bool) (o p : Outcome) → part o.state ≡ a → part p.state ≡ a
     → part (if test then o else p).state ≡ a
 either part a true o p first second = first
 either part a false o p first second = second
 
 -- A call that may be refused keeps a part that stays where the machine stops, and that the call keeps where it is not refused.
-unless_keeps : {A : Type 0} (part : State → A) (alert : Option (List ℕ)) (t : ℕ) (call : Call) (effect : State → Outcome) (s : State)
+pub unless_keeps : {A : Type 0} (part : State → A) (alert : Option (List ℕ)) (t : ℕ) (call : Call) (effect : State → Outcome) (s : State)
     → part (record s { stopped = true }) ≡ part s → part (effect s).state ≡ part s
     → part (unless alert t call effect s).state ≡ part s
 unfolding alerted
@@ -62,7 +66,7 @@ unless_keeps part None t call effect s stops keeps = keeps
 unless_keeps part (Some code) t call effect s stops keeps = stops
 
 -- a block is placed, or there is no place for it
-allocates_keeps : {A : Type 0} (part : State → A) (size : ℕ) (object : Object) (place : Option ℕ) (t : ℕ) (call : Call) (s : State)
+pub allocates_keeps : {A : Type 0} (part : State → A) (size : ℕ) (object : Object) (place : Option ℕ) (t : ℕ) (call : Call) (s : State)
     → part (allocates t call size object None s).state ≡ part s
     → ((address : ℕ) → part (allocates t call size object (Some address) s).state ≡ part s)
     → part (allocates t call size object place s).state ≡ part s
@@ -448,12 +452,13 @@ library_words_change_the_memory libraries.LibOpenCnt t call s =
 
 -- ---- requests
 
--- a state in whose schedule signals and the tasks' states change alone, or in whose memory the blocks and the requests that wait
+-- a state in whose schedule signals and the tasks' states change alone, or in whose memory the blocks, system time and what waits
 request_signals_change : (f : Schedule → Schedule) (s : State) → beside_waits (f s.schedule) ≡ beside_waits s.schedule
     → beside_requests (on_schedule f s) ≡ beside_requests s
 request_signals_change f s keeps = ap (λ (r : Schedule). record (beside_requests s) { schedule = r }) keeps
 
-waiting_change : (f : Memory → Memory) (s : State) → without_blocks_and_waiting (f s.memory) ≡ without_blocks_and_waiting s.memory
+waiting_change : (f : Memory → Memory) (s : State)
+    → without_blocks_system_and_waiting (f s.memory) ≡ without_blocks_system_and_waiting s.memory
     → beside_requests (on_memory f s) ≡ beside_requests s
 waiting_change f s keeps = ap (λ (memory : Memory). record (beside_requests s) { memory = memory }) keeps
 
@@ -469,9 +474,11 @@ reply_keeps : (port : Option ℕ) (request : ℕ) (o : Outcome) (s : State) → 
 reply_keeps None request o s keeps = keeps
 reply_keeps (Some port) request o s keeps = keeps
 
-timer_keeps : (how : Begun) (request : ℕ) (timer : Timer) → without_waiting (timer_begun how request timer) ≡ without_waiting timer
+timer_keeps : (how : Begun) (request : ℕ) (timer : Timer) → clock_alone (timer_begun how request timer) ≡ clock_alone timer
 timer_keeps (Queue due) request timer = refl
+timer_keeps (Until at) request timer = refl
 timer_keeps (Finish error) request timer = refl
+timer_keeps (NewTime time) request timer = refl
 
 begun_keeps : (quick : Bool) (request : ℕ) (s : State) → beside_requests (on_memory (begun_at quick request) s) ≡ beside_requests s
 unfolding begun_at
@@ -503,44 +510,75 @@ aborts_keeps true request t call s =
     (acted_keeps act next ∙ waiting_change (ended (negsuc 1) request) s refl)
 aborts_keeps false request t call s = refl
 
-pub request_words_change_requests_ports_signals_and_states : RequestWordsChangeRequestsPortsSignalsAndStates
+-- a word itself
+pub request_words_keep : (word : RequestWord) (t : ℕ) (call : Call) → Keeps beside_requests (does_requests word t call)
 unfolding does_create_io_request does_delete_io_request does_open_device does_close_device does_set_io does_do_io does_send_io does_check_io does_abort_io does_io_secs does_io_micros does_io_error does_io_flags done answered
-request_words_change_requests_ports_signals_and_states requests.CreateIORequest t call s =
+request_words_keep requests.CreateIORequest t call s =
     either beside_requests _ (nat_eq (argument 0 call) 0) _ _ refl
     (unless_keeps beside_requests (port_alert (argument 0 call) s.memory.heap) t call _ s refl
     (allocates_keeps beside_requests request_size (Request (idle_request (argument 0 call))) (place_for_object is_request request_size s.memory) t call s refl
     (λ address. refl)))
-request_words_change_requests_ports_signals_and_states requests.DeleteIORequest t call s =
+request_words_keep requests.DeleteIORequest t call s =
     either beside_requests _ (nat_eq (argument 0 call) 0) _ _ refl
     (unless_keeps beside_requests (delete_request_alert (argument 0 call) s.memory.heap) t call _ s refl refl)
-request_words_change_requests_ports_signals_and_states requests.OpenDevice t call s =
+request_words_keep requests.OpenDevice t call s =
     unless_keeps beside_requests (resting_alert (argument 2 call) s.memory.heap) t call _ s refl refl
-request_words_change_requests_ports_signals_and_states requests.CloseDevice t call s =
+request_words_keep requests.CloseDevice t call s =
     unless_keeps beside_requests (resting_alert (argument 0 call) s.memory.heap) t call _ s refl refl
-request_words_change_requests_ports_signals_and_states requests.SetIO t call s =
+request_words_keep requests.SetIO t call s =
     unless_keeps beside_requests (set_io_alert (argument 1 call) (argument 0 call) s.memory.heap) t call _ s refl refl
-request_words_change_requests_ports_signals_and_states requests.DoIO t call s =
+request_words_keep requests.DoIO t call s =
     let next = on_memory (begun_at true (argument 0 call)) s in
     either beside_requests _ (is_tried_again t s.scripts) _ _ (wait_io_keeps t call s)
     (unless_keeps beside_requests (do_alert t (argument 0 call) s.memory.heap) t call _ s refl
     (looks_keeps (request_of (argument 0 call) next.memory.heap).state (argument 0 call) t call s next (begun_keeps true (argument 0 call) s)))
-request_words_change_requests_ports_signals_and_states requests.SendIO t call s =
+request_words_keep requests.SendIO t call s =
     let port = replying_port false (argument 0 call) s.memory in
     let act = acting_at port s.memory.heap in
     let next = on_memory (begun_at false (argument 0 call)) s in
     unless_keeps beside_requests (send_alert (argument 0 call) s.memory.heap) t call _ s refl
     (reply_keeps port (argument 0 call) (done t call (performed act next)) s (acted_keeps act next ∙ begun_keeps false (argument 0 call) s))
-request_words_change_requests_ports_signals_and_states requests.CheckIO t call s =
+request_words_keep requests.CheckIO t call s =
     unless_keeps beside_requests (request_alert (argument 0 call) s.memory.heap) t call _ s refl refl
-request_words_change_requests_ports_signals_and_states requests.WaitIO t call s = wait_io_keeps t call s
-request_words_change_requests_ports_signals_and_states requests.AbortIO t call s =
+request_words_keep requests.WaitIO t call s = wait_io_keeps t call s
+request_words_keep requests.AbortIO t call s =
     unless_keeps beside_requests (request_alert (argument 0 call) s.memory.heap) t call _ s refl
     (aborts_keeps (is_under_way (request_of (argument 0 call) s.memory.heap)) (argument 0 call) t call s)
-request_words_change_requests_ports_signals_and_states requests.IOSecs t call s =
+request_words_keep requests.IOSecs t call s =
     unless_keeps beside_requests (request_alert (argument 0 call) s.memory.heap) t call _ s refl refl
-request_words_change_requests_ports_signals_and_states requests.IOMicros t call s =
+request_words_keep requests.IOMicros t call s =
     unless_keeps beside_requests (request_alert (argument 0 call) s.memory.heap) t call _ s refl refl
-request_words_change_requests_ports_signals_and_states requests.IOError t call s =
+request_words_keep requests.IOError t call s =
     unless_keeps beside_requests (request_alert (argument 0 call) s.memory.heap) t call _ s refl refl
-request_words_change_requests_ports_signals_and_states requests.IOFlags t call s =
+request_words_keep requests.IOFlags t call s =
     unless_keeps beside_requests (request_alert (argument 0 call) s.memory.heap) t call _ s refl refl
+
+finish_keeps : (request : ℕ) (s : State) → beside_requests (finishes request s).state ≡ beside_requests s
+unfolding finishes ended
+finish_keeps request s =
+    let found = answering_port request s.memory.heap in
+    let act = acting_at found s.memory.heap in
+    let next = on_memory (ended (pos 0) request) s in
+    reply_keeps found request (says (TimerLine request) (performed act next)) s
+    (acted_keeps act next ∙ waiting_change (ended (pos 0) request) s refl)
+
+found_keeps : (next : State → Outcome) → Keeps beside_requests next → (found : Option ℕ) → Keeps beside_requests (finishes_found next found)
+unfolding andthen
+found_keeps next keeps None s = refl
+found_keeps next keeps (Some request) s = keeps (finishes request s).state ∙ finish_keeps request s
+
+each_keeps : (next : Timer → Option ℕ) (n : ℕ) → Keeps beside_requests (finishes_each next n)
+unfolding finishes_each
+each_keeps next zero s = refl
+each_keeps next (suc n) s = found_keeps (finishes_each next n) (each_keeps next n) (next s.memory.timer) s
+
+set_keeps : Keeps beside_requests finishes_set
+unfolding finishes_set
+set_keeps s =
+    either beside_requests _ s.memory.timer.is_set _ _
+    (each_keeps until_next (length s.memory.timer.waiting) (on_memory (on_timer looked_at) s)) refl
+
+pub request_words_change_requests_ports_signals_and_states : RequestWordsChangeRequestsPortsSignalsAndStates
+unfolding andthen
+request_words_change_requests_ports_signals_and_states word t call s =
+    set_keeps (does_requests word t call s).state ∙ request_words_keep word t call s

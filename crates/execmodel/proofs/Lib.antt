@@ -10,6 +10,7 @@ pub mod Fifo
 pub mod FifoLaw
 pub mod Formed
 pub mod Heaps
+pub mod Itself
 pub mod Libraries
 pub mod Loaded
 pub mod OnLiterals
@@ -30,6 +31,7 @@ pub mod Shifts
 pub mod Stopped
 pub mod Stretches
 pub mod Switching
+pub mod SystemLaw
 pub mod Tidy
 pub mod TidyLaw
 pub mod Waiting

@@ -22,11 +22,12 @@ use Rattle.execmodel.specs.Lists.{is_list, is_list_at, with_nodes, unlinked, lef
 use Rattle.execmodel.specs.Ports.{is_port, is_message, is_port_at, is_message_at, with_port, with_action, appended, taken_off}
 use Rattle.execmodel.specs.Semaphores.{is_semaphore, is_semaphore_at, with_semaphore, left_by_task, entered, queued, dropped, handed_on, released_once}
 use Rattle.execmodel.specs.Libraries.{is_library, is_library_at, number_in, number_of, count_of, with_library}
-use Rattle.execmodel.specs.Step.{switches, settle, ends, does, call_step, task_step, softint_or_task_step, acting, acts, step, tick, run}
+use Rattle.execmodel.specs.Step.{switches, settle, ends, call_step, task_step, softint_or_task_step, acting, acts, step, tick, run}
 use Rattle.execmodel.specs.Laws.{Action, OneStep, OneTick, OneRequest, performed, IsLastClose, StaysLoaded, OpenLibrariesStay}
 use Rattle.execmodel.proofs.Heaps.{block_remade, found_rid, rid, filled, true_is_not_false}
+use Rattle.execmodel.proofs.Itself.{does_itself, ends_followed}
 use Rattle.execmodel.proofs.Formed.{placed_fresh}
-use Rattle.execmodel.proofs.Stretches.{Relation, HoldsOfInterrupts, of_softint, of_settle, of_request, ticked}
+use Rattle.execmodel.proofs.Stretches.{Relation, HoldsOfInterrupts, of_softint, of_set, of_settle, of_request, ticked}
 use Rattle.execmodel.proofs.Commands.{Touches, remains, fills, puts, gets, body_alters}
 use Rattle.execmodel.proofs.Moves.{IsLastClosing, MayGo, Moves, touches, places, frees, relists, unlinks, sets, enters, queues, hands, opens, releases, counts, expunges, drops}
 use Rattle.execmodel.specs.Requests.{finishes}
@@ -279,8 +280,9 @@ kept base = record {
   commanding = λ name command s is.
       touched_keep s.memory.heap (body_step name command s).marks (body_step name command s).state.memory.heap (body_alters name command s).blocks base is;
   pending = λ f s is. refl;
-  finishing = λ request s due is.
-      asked_keep s _ (finishes request s).state.memory.heap (finishes request s).state.memory.timer.waiting (finishing request s due).asks base is;
+  finishing = λ request s waits is.
+      asked_keep s _ (finishes request s).state.memory.heap (finishes request s).state.memory.timer.waiting (finishing request s waits).asks base is;
+  looking = λ s is. refl;
   ticking = λ s is. refl;
   switching = λ s. quietly (Kept base) s (switches s) (on_schedule rescheduled s) (switches_quiet s) (λ is. refl);
 }
@@ -308,8 +310,9 @@ module _ (base : ℕ) (s : State) (tidy : IsTidy s) (is : is_library_at base s.m
   unfolding ends
   called t None first runs calls = inl itself
   called t (Some call) first runs calls =
-      elim (called_keep t call (does t call s) (call_works t call s)) [
-        | inl stays ↦ inl stays
+      elim (called_keep t call (does_itself t call s) (call_works t call s)) [
+        | inl stays ↦ inl (ends_followed (λ r. StaysLoaded base s.memory.heap r.memory.heap)
+            (λ r there. further base s.memory.heap r.memory.heap _ there (of_set (Kept base) (kept base) r)) t call s stays)
         | inr last ↦ inr (record {
           t = t;
           call = call;

@@ -12,9 +12,10 @@ use Rattle.execmodel.specs.Calls.{argument, alerted, unless}
 use Rattle.execmodel.specs.Scheduling.{rescheduled}
 use Rattle.execmodel.specs.Bodies.{body_step}
 use Rattle.execmodel.specs.Memory.{extents, block_at, is_plain, is_named, does_free_mem}
-use Rattle.execmodel.specs.Step.{switches, ends, does, starts, run}
+use Rattle.execmodel.specs.Step.{switches, ends, starts, run}
 use Rattle.execmodel.specs.Laws.{EachByteHasOneOwner, FreeMemRefusesObjects}
 use Rattle.execmodel.proofs.Heaps.{true_is_not_false}
+use Rattle.execmodel.proofs.Itself.{does_itself}
 use Rattle.execmodel.proofs.Stretches.{Relation, HoldsOfEach, of_starts, of_events}
 use Rattle.execmodel.proofs.Commands.{none_some, body_alters}
 use Rattle.execmodel.specs.Requests.{finishes}
@@ -37,17 +38,18 @@ memories = record {
       (body_alters name command s).regions,
     );
     pending = λ f s formed. (formed, refl);
-    finishing = λ request s due formed. (
-      finished_formed s _ (finishes request s).state (finishing request s due) formed,
-      (finishing request s due).regions,
+    finishing = λ request s waits formed. (
+      finished_formed s _ (finishes request s).state (finishing request s waits) formed,
+      (finishing request s waits).regions,
     );
+    looking = λ s formed. (formed, refl);
     ticking = λ s formed. (formed, refl);
     switching = λ s. quietly Memories s (switches s) (on_schedule rescheduled s) (switches_quiet s) (λ formed. (formed, refl));
   };
   adding = λ t s less formed. (formed, refl);
   calling = λ t call s runs is formed. (
-    works_formed t call s (does t call s) (call_works t call s) formed,
-    works_regions t call s (does t call s) (call_works t call s),
+    works_formed t call s (does_itself t call s) (call_works t call s) formed,
+    works_regions t call s (does_itself t call s) (call_works t call s),
   );
   ending = λ t s runs formed. (formed, refl);
 }

@@ -11,10 +11,11 @@ use Rattle.execmodel.specs.Pending.{next_softint}
 use Rattle.execmodel.specs.Bodies.{body_step}
 use Rattle.execmodel.specs.Objects.{object_at}
 use Rattle.execmodel.specs.Semaphores.{sem_of, waiters_of}
-use Rattle.execmodel.specs.Step.{switches, settle, ends, does, call_step, task_step, softint_or_task_step, acting, acts, step, tick, starts, run}
+use Rattle.execmodel.specs.Step.{switches, settle, ends, call_step, task_step, softint_or_task_step, acting, acts, step, tick, starts, run}
 use Rattle.execmodel.specs.Laws.{Action, OneStep, OneTick, OneRequest, performed, IsLastRelease, OwnersChangeAtTheLastRelease, FreeSemaphoresHaveNoWaiters}
 use Rattle.execmodel.proofs.Heaps.{true_is_not_false}
-use Rattle.execmodel.proofs.Stretches.{Relation, HoldsOfInterrupts, HoldsOfEach, of_softint, of_settle, of_request, ticked, of_starts, of_events}
+use Rattle.execmodel.proofs.Itself.{does_itself, ends_followed}
+use Rattle.execmodel.proofs.Stretches.{Relation, HoldsOfInterrupts, HoldsOfEach, of_softint, of_set, of_settle, of_request, ticked, of_starts, of_events}
 use Rattle.execmodel.proofs.Commands.{body_alters}
 use Rattle.execmodel.specs.Requests.{finishes}
 use Rattle.execmodel.proofs.Posts.{IsTidy}
@@ -43,13 +44,14 @@ idle_stays = record {
     commanding = λ name command s idle.
         touched_idle s.memory.heap (body_step name command s).marks (body_step name command s).state.memory.heap (body_alters name command s).blocks idle;
     pending = λ f s idle. idle;
-    finishing = λ request s due.
-        asked_idle s _ (finishes request s).state.memory.heap (finishes request s).state.memory.timer.waiting (finishing request s due).asks;
+    finishing = λ request s waits.
+        asked_idle s _ (finishes request s).state.memory.heap (finishes request s).state.memory.timer.waiting (finishing request s waits).asks;
+    looking = λ s idle. idle;
     ticking = λ s idle. idle;
     switching = λ s. quietly IdleStays s (switches s) (on_schedule rescheduled s) (switches_quiet s) (λ idle. idle);
   };
   adding = λ t s less idle. idle;
-  calling = λ t call s runs is. called_idle t call s (does t call s) (call_works t call s);
+  calling = λ t call s runs is. called_idle t call s (does_itself t call s) (call_works t call s);
   ending = λ t s runs idle. idle;
 }
 
@@ -77,8 +79,9 @@ kept a = record {
   commanding = λ name command s.
       touched_own s.memory.heap (body_step name command s).marks (body_step name command s).state.memory.heap (body_alters name command s).blocks a;
   pending = λ f s. refl;
-  finishing = λ request s due.
-      asked_own s _ (finishes request s).state.memory.heap (finishes request s).state.memory.timer.waiting (finishing request s due).asks a;
+  finishing = λ request s waits.
+      asked_own s _ (finishes request s).state.memory.heap (finishes request s).state.memory.timer.waiting (finishing request s waits).asks a;
+  looking = λ s. refl;
   ticking = λ s. refl;
   switching = λ s. quietly (Kept a) s (switches s) (on_schedule rescheduled s) (switches_quiet s) refl;
 }
@@ -106,8 +109,9 @@ called : (t : ℕ) (call : Option Call) (a : ℕ) (s : State) → IsTidy s → n
 unfolding ends Changes
 called t None a s tidy first runs is = inl refl
 called t (Some call) a s tidy first runs is =
-    elim (called_own t call s (does t call s) (call_works t call s) tidy a) [
-      | inl same ↦ inl same
+    elim (called_own t call s (does_itself t call s) (call_works t call s) tidy a) [
+      | inl same ↦ inl (ends_followed (λ r. owner_in (object_at a r.memory.heap) ≡ owner_in (object_at a s.memory.heap))
+          (λ r e. of_set (Kept a) (kept a) r ∙ e) t call s same)
       | inr (inl none) ↦ inr (inl none)
       | inr (inr last) ↦ inr (inr (record {
         t = t;

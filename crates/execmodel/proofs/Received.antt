@@ -18,11 +18,12 @@ use Rattle.execmodel.specs.Calls.{next_call}
 use Rattle.execmodel.specs.Pending.{next_softint}
 use Rattle.execmodel.specs.Bodies.{body_step}
 use Rattle.execmodel.specs.Semaphores.{woken}
-use Rattle.execmodel.specs.Step.{switches, does, ends, call_step, task_step, softint_or_task_step, acting, acts, step, tick, starts, run}
+use Rattle.execmodel.specs.Step.{switches, ends, call_step, task_step, softint_or_task_step, acting, acts, step, tick, starts, run}
 use Rattle.execmodel.specs.Laws.{OneStep, OneTick, OneRequest, IsToCall, is_own_taking, WaitersHaveReceivedNone, ReceivedSignalsStay}
 use Rattle.execmodel.proofs.Bits.{signal_joined}
 use Rattle.execmodel.proofs.Heaps.{true_is_not_false}
-use Rattle.execmodel.proofs.Stretches.{Relation, HoldsOfInterrupts, HoldsOfEach, of_softint, of_settle, of_request, ticked as ticked_stretch, of_starts, of_events}
+use Rattle.execmodel.proofs.Itself.{does_itself, ends_followed}
+use Rattle.execmodel.proofs.Stretches.{Relation, HoldsOfInterrupts, HoldsOfEach, of_softint, of_set, of_settle, of_request, ticked as ticked_stretch, of_starts, of_events}
 use Rattle.execmodel.proofs.TidyLaw.{quietly, switches_quiet}
 use Rattle.execmodel.specs.Requests.{finishes}
 use Rattle.execmodel.proofs.Asking.{finishing}
@@ -228,10 +229,11 @@ sleep = record {
       reached_none (body_step name command s).marks s.schedule (body_step name command s).state.schedule (body_alters name command s).tasks h.1,
     );
     pending = λ f s h. ((waits.interrupting.pending f s h.0).0, h.1);
-    finishing = λ request s due h. (
-      (waits.interrupting.finishing request s due h.0).0,
-      reached_none (finishes request s).marks s.schedule (finishes request s).state.schedule (finishing request s due).tasks h.1,
+    finishing = λ request s stands h. (
+      (waits.interrupting.finishing request s stands h.0).0,
+      reached_none (finishes request s).marks s.schedule (finishes request s).state.schedule (finishing request s stands).tasks h.1,
     );
+    looking = λ s h. ((waits.interrupting.looking s h.0).0, h.1);
     ticking = λ s h. ((waits.interrupting.ticking s h.0).0, ticked_none s.schedule h.1);
     switching = λ s h. (
       (waits.interrupting.switching s h.0).0,
@@ -241,7 +243,7 @@ sleep = record {
   adding = λ t s less h. ((waits.adding t s less h.0).0, added_none t s.schedule h.1);
   calling = λ t call s runs is h. (
     (waits.calling t call s runs is h.0).0,
-    shifts_none t call s (does t call s) (call_shifts t call s).1 (running_state t s.schedule _ runs (h.0.agrees t)) h.1,
+    shifts_none t call s (does_itself t call s) (call_shifts t call s).1 (running_state t s.schedule _ runs (h.0.agrees t)) h.1,
   );
   ending = λ t s runs h. ((waits.ending t s runs h.0).0, leaves_none t s.schedule h.1);
 }
@@ -352,8 +354,9 @@ still t n = record {
   commanding = λ name command s.
       reached_keeps t n (body_step name command s).marks s.schedule (body_step name command s).state.schedule (body_alters name command s).tasks;
   pending = λ f s h. h;
-  finishing = λ request s due.
-      reached_keeps t n (finishes request s).marks s.schedule (finishes request s).state.schedule (finishing request s due).tasks;
+  finishing = λ request s waits.
+      reached_keeps t n (finishes request s).marks s.schedule (finishes request s).state.schedule (finishing request s waits).tasks;
+  looking = λ s h. h;
   ticking = λ s. ticked_keeps t n s.schedule;
   switching = λ s. quietly (Still t n) s (switches s) (on_schedule rescheduled s) (switches_quiet s) (rescheduled_keeps t n s.schedule);
 }
@@ -369,8 +372,9 @@ called : (j : ℕ) (call : Option Call) (t n : ℕ) (s : State) → next_softint
 unfolding ends leaves_for_good
 called j None t n s first runs is = λ h. inl h
 called j (Some call) t n s first runs is = λ h.
-    elim (shifts_keep t n j call s (does j call s) (call_shifts j call s).1 h) [
-      | inl keeps ↦ inl keeps
+    elim (shifts_keep t n j call s (does_itself j call s) (call_shifts j call s).1 h) [
+      | inl keeps ↦ inl (ends_followed (λ r. has_signal (received t r.schedule) n ≡ true)
+          (λ r. of_set (Still t n) (still t n) r) j call s keeps)
       | inr own ↦ inr (
         call,
         record {

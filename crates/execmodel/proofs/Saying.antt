@@ -1,13 +1,13 @@
 -- No word says the line of a switch, nor does a task that ends, a software interrupt, or what is served.
 use Rattle.std.proofs.Common.{◌≡◌, ℕ, Bool, true, false, List, Option, None, Some, refl}
 use Rattle.std.specs.Prelude.{◌-◌, negsuc, if◌then◌else◌, nat_eq}
-use Rattle.execmodel.specs.State.{Call, State, Outcome, on_memory}
+use Rattle.execmodel.specs.State.{Call, State, Outcome, andthen, on_memory}
 use Rattle.execmodel.specs.Calls.{argument, done, answered, waiting, silent, alerted, unless}
 use Rattle.execmodel.specs.Interrupts.{runs_softint, interrupts}
 use Rattle.execmodel.specs.Causing.{does_interrupts, does_cause}
 use Rattle.execmodel.specs.Libraries.{library_alert, close_alert, does_libraries, does_open_library, does_close_library, does_rem_library, does_lib_open_cnt}
-use Rattle.execmodel.specs.Requests.{does_requests, request_of, request_alert, resting_alert, delete_request_alert, send_alert, do_alert, wait_io_alert, set_io_alert, answering_port, with_reply, begun_at, replying_port, looks_for, aborts, does_create_io_request, does_delete_io_request, does_open_device, does_close_device, does_set_io, does_do_io, does_send_io, does_check_io, does_wait_io, does_abort_io, does_io_secs, does_io_micros, does_io_error, does_io_flags}
-use Rattle.execmodel.specs.Step.{does, does_word, ends}
+use Rattle.execmodel.specs.Requests.{does_requests, finishes_set, request_of, request_alert, resting_alert, delete_request_alert, send_alert, do_alert, wait_io_alert, set_io_alert, answering_port, with_reply, begun_at, replying_port, looks_for, aborts, does_create_io_request, does_delete_io_request, does_open_device, does_close_device, does_set_io, does_do_io, does_send_io, does_check_io, does_wait_io, does_abort_io, does_io_secs, does_io_micros, does_io_error, does_io_flags}
+use Rattle.execmodel.specs.Step.{does, ends}
 use Rattle.execmodel.specs.Laws.{OnlySwitchesSaySo, says_switch}
 use Rattle.taskscript.specs.declared.word.Word.{Word}
 use Rattle.taskscript.specs.declared.word.Word.TheVariants as group
@@ -52,8 +52,9 @@ use Rattle.execmodel.specs.Memory.{does_memory, alloc_alert, free_alert, avail_a
 use Rattle.execmodel.specs.Lists.{does_lists, free_list_alert, new_node_alert, free_node_alert, link_alert, insert_alert, linked_alert, list_alert, find_alert, does_new_list, does_free_list, does_new_node, does_free_node, does_add_head, does_add_tail, does_enqueue, does_insert, does_remove, does_rem_head, does_rem_tail, does_first, does_last, does_succ, does_pred, does_find_name}
 use Rattle.execmodel.specs.Ports.{does_ports, is_port, port_size, port_created, port_alert, message_alert, messages_of, content_of, delete_alert, add_port_alert, rem_port_alert, reply_port_alert, loose_alert, put_alert, reply_alert, wait_alert, replied, taken, looked, does_create_msg_port, does_delete_msg_port, does_add_port, does_rem_port, does_find_port, does_port_signal, does_port_cause, does_port_ignore, does_new_msg, does_free_msg, does_msg_word, does_set_msg_word, does_msg_type, does_put_msg, does_get_msg, does_wait_port, does_reply_msg}
 use Rattle.execmodel.specs.Semaphores.{does_semaphores, awaited_by, free_sem_alert, heir, is_tried_again, leaving_queue, obtain_alert, obtains, outcome_for, passes, release_alert, sem_of, does_new_sem, does_free_sem, does_obtain_semaphore, does_attempt_semaphore, does_release_semaphore}
-use Rattle.execmodel.proofs.BodyActions.{softint_bodily}
-use Rattle.execmodel.proofs.Servings.{none_switched, all_served}
+use Rattle.execmodel.proofs.BodyActions.{softint_bodily, set_told}
+use Rattle.execmodel.proofs.Itself.{word_itself, followed}
+use Rattle.execmodel.proofs.Servings.{none_switched, switched_more, all_served}
 
 -- an outcome without the line of a switch
 abbrev Silent : Outcome → Type 0
@@ -327,7 +328,7 @@ requests_silent requests.IOError t call s =
 requests_silent requests.IOFlags t call s =
     unless_silent (request_alert (argument 0 call) s.memory.heap) t call _ s refl
 
-word_silent : (word : Word) (t : ℕ) (call : Call) (s : State) → Silent (does_word word t call s)
+word_silent : (word : Word) (t : ℕ) (call : Call) (s : State) → Silent (word_itself word t call s)
 word_silent (group.Plain word) t call s = plain_silent word t call s
 word_silent (group.Signals word) t call s = signals_silent word t call s
 word_silent (group.Nesting word) t call s = nesting_silent word t call s
@@ -340,9 +341,17 @@ word_silent (group.Interrupts word) t call s = interrupts_silent word t call s
 word_silent (group.Libraries word) t call s = libraries_silent word t call s
 word_silent (group.Requests word) t call s = requests_silent word t call s
 
+-- nor does what follows a word that set system time
+silent_set : (first : State → Outcome) (s : State) → Silent (first s) → Silent (andthen first finishes_set s)
+unfolding andthen
+silent_set first s one =
+    switched_more (first s).lines (finishes_set (first s).state).lines one
+    (none_switched (finishes_set (first s).state).lines (set_told (first s).state))
+
 call_silent : (t : ℕ) (call : Call) (s : State) → says_switch (does t call s).lines ≡ false
 unfolding does
-call_silent t call s = word_silent call.word t call s
+call_silent t call s =
+    followed Silent t call s (λ word first. silent_set (does_requests word t call) s first) call.word (word_silent call.word t call s)
 
 end_silent : (t : ℕ) (s : State) → says_switch (ends t s).lines ≡ false
 unfolding ends

@@ -14,7 +14,7 @@ use Rattle.scheduler.specs.declared.Switch.TheVariants.{To, Idle}
 use Rattle.taskscript.specs.declared.event.Event.{Event}
 use Rattle.taskscript.specs.declared.event.Event.TheVariants.{Run, Tick, Irq}
 use Rattle.execmodel.specs.State.{State, Outcome, quiet, on_schedule, on_memory, on_timer, on_pending, andthen, unless_stopped, booted}
-use Rattle.execmodel.specs.Timing.{ticked}
+use Rattle.timerdev.specs.Timing.{ticked}
 use Rattle.execmodel.specs.Scheduling.{arrives, displaced, after_switch, switch_of, rescheduled}
 use Rattle.execmodel.specs.Pending.{source_named, with_latch_of, allows_interrupts}
 use Rattle.execmodel.specs.Interrupts.{interrupts}

@@ -56,9 +56,9 @@ use Rattle.execmodel.specs.Semaphores.{awaited_by, dropped, sem_of, free_sem_ale
 use Rattle.execmodel.specs.Causing.{does_interrupts, does_cause}
 use Rattle.execmodel.specs.Libraries.{library_alert, close_alert, does_libraries, does_open_library, does_close_library, does_rem_library, does_lib_open_cnt}
 use Rattle.execmodel.specs.Requests.{does_requests, request_of, request_alert, resting_alert, delete_request_alert, send_alert, do_alert, wait_io_alert, set_io_alert, answering_port, acting_at, with_reply, ended, begun_at, replying_port, looks_for, aborts, does_create_io_request, does_delete_io_request, does_open_device, does_close_device, does_set_io, does_do_io, does_send_io, does_check_io, does_wait_io, does_abort_io, does_io_secs, does_io_micros, does_io_error, does_io_flags}
-use Rattle.execmodel.specs.Step.{does, does_word}
 use Rattle.execmodel.specs.Laws.{is_own_taking}
 use Rattle.execmodel.proofs.Heaps.{true_is_not_false}
+use Rattle.execmodel.proofs.Itself.{word_itself, does_itself}
 use Rattle.execmodel.proofs.Commands.{IsCalm, IsAlike, same, Reaches, rests, IsAltered, performed_reaches, performed_scripts, passed_first, goes_count, answered_count, signal_alters, put_alters, get_alters, reply_alters, cause_alters}
 use Rattle.execmodel.proofs.Moves.{no_caller}
 use Rattle.execmodel.proofs.Bits.{nothing_left}
@@ -558,7 +558,7 @@ requests_shift requests.IOFlags t call s word =
 
 -- ---- any word
 
-word_shifts : (word : Word) (t : ℕ) (call : Call) (s : State) → call.word ≡ word → Shifted t call s (does_word word t call s)
+word_shifts : (word : Word) (t : ℕ) (call : Call) (s : State) → call.word ≡ word → Shifted t call s (word_itself word t call s)
 word_shifts (group.Plain word) t call s is = plain_shifts word t call s
 word_shifts (group.Signals word) t call s is = signals_shift word t call s is
 word_shifts (group.Nesting word) t call s is = nesting_shifts word t call s
@@ -571,6 +571,5 @@ word_shifts (group.Interrupts word) t call s is = interrupts_shift word t call s
 word_shifts (group.Libraries word) t call s is = libraries_shift word t call s
 word_shifts (group.Requests word) t call s is = requests_shift word t call s is
 
-pub call_shifts : (t : ℕ) (call : Call) (s : State) → Shifted t call s (does t call s)
-unfolding does
+pub call_shifts : (t : ℕ) (call : Call) (s : State) → Shifted t call s (does_itself t call s)
 call_shifts t call s = word_shifts call.word t call s refl

@@ -8,15 +8,18 @@ use Rattle.taskscript.specs.declared.event.Event.TheVariants.{Run, Tick, Irq}
 use Rattle.scheduler.specs.Schedule.{ticked as quantum_ticked}
 use Rattle.softint.specs.declared.source.Source.{Source}
 use Rattle.softint.specs.declared.source.Source.TheVariants as source
-use Rattle.execmodel.specs.State.{Call, Pending, State, Mark, Outcome, quiet, says, andthen, unless_stopped, on_schedule, on_memory, on_timer, on_pending}
+use Rattle.execmodel.specs.State.{Call, Pending, Timer as Clock, State, Mark, Outcome, quiet, says, andthen, unless_stopped, on_schedule, on_memory, on_timer, on_pending}
 use Rattle.execmodel.specs.Scheduling.{added}
 use Rattle.execmodel.specs.Calls.{next_call}
 use Rattle.execmodel.specs.Pending.{source_named, taken_off, with_latch_of, next_softint, next_source}
 use Rattle.execmodel.specs.Bodies.{body_step, runs_body}
-use Rattle.execmodel.specs.Timing.{ticked as clock_ticked, due_next}
-use Rattle.execmodel.specs.Requests.{finishes, finishes_due, finishes_all_due}
+use Rattle.timerdev.specs.Timing.{ticked as clock_ticked, due_next, looked_at, until_next}
+use Rattle.execmodel.specs.Requests.{does_requests, finishes, finishes_each, finishes_all_due, finishes_set}
 use Rattle.execmodel.specs.Interrupts.{softint_at, runs_softint, server_at, chain_of, runs_server, runs_chain, text_of_source, counted, finishes_for, serves, servings, interrupts}
+use Rattle.execmodel.specs.Laws.{times_waiting}
+use Rattle.execmodel.proofs.Asking.{due_stands, until_stands}
 use Rattle.execmodel.proofs.BodyActions.{finishes_found}
+use Rattle.execmodel.proofs.Itself.{does_itself, followed}
 use Rattle.execmodel.specs.Step.{switches, settle, does, ends, task_step, call_step, softint_or_task_step, acting, acts, step, steps, request, tick, ticks, all_added, starts, event, events}
 
 -- a relation of the state before, the marks that are left, and the state after
@@ -28,24 +31,26 @@ abbrev pub HoldsOf : Relation → (State → Outcome) → Type 0
 HoldsOf R next = (s : State) → R s (next s).marks (next s).state
 
 -- What holds of each thing that is done beside a task's commands: one command of the body of a software interrupt or a server; other
--- interrupts are pending; a request that is due finishes; the quantum loses one serving; and a switch. It holds where nothing is done, and of
--- one thing after another.
+-- interrupts are pending; a request that waits finishes; system time was set, and is not looked at again; the quantum loses one serving; and a
+-- switch. It holds where nothing is done, and of one thing after another.
 pub record HoldsOfInterrupts (R : Relation) : Type 0 where
   pub nothing : (s : State) → R s [] s
   pub joined : (s : State) (some : List Mark) (r : State) (more : List Mark) (q : State) → R s some r → R r more q → R s (some ++ more) q
   pub commanding : (name : List ℕ) (command : CommandData) → HoldsOf R (body_step name command)
   pub pending : (f : Pending → Pending) (s : State) → R s [] (on_pending f s)
-  pub finishing : (request : ℕ) (s : State) → due_next s.memory.timer ≡ Some request → R s (finishes request s).marks (finishes request s).state
+  pub finishing : (request : ℕ) (s : State) → 0 < times_waiting request s.memory.timer.waiting
+      → R s (finishes request s).marks (finishes request s).state
+  pub looking : (s : State) → R s [] (on_memory (on_timer looked_at) s)
   pub ticking : (s : State) → R s [] (on_schedule quantum_ticked s)
   pub switching : HoldsOf R switches
 
--- What holds of each thing that a machine does, but that a tick moves the clock: that, and of the running task's call, or its end; and that a task
--- is added at the start.
+-- What holds of each thing that a machine does, but that a tick moves the clock: that, and of the running task's call by its word alone, or
+-- its end; and that a task is added at the start.
 pub record HoldsOfEach (R : Relation) : Type 0 where
   pub interrupting : HoldsOfInterrupts R
   pub adding : (t : ℕ) (s : State) → t < length s.scripts.programs → R s [] (on_schedule (added t) s)
   pub calling : (t : ℕ) (call : Call) (s : State) → s.schedule.running ≡ Some t → next_call t s.scripts ≡ Some call
-      → R s (does t call s).marks (does t call s).state
+      → R s (does_itself t call s).marks (does_itself t call s).state
   pub ending : (t : ℕ) (s : State) → s.schedule.running ≡ Some t → R s (ends t s).marks (ends t s).state
 
 -- ---- interrupts
@@ -108,22 +113,42 @@ module _ (R : Relation) (each : HoldsOfInterrupts R) where
   of_counting source.Vertb s = each.ticking s
   of_counting source.Exter s = each.nothing s
 
-  of_found : (next : State → Outcome) → HoldsOf R next → (found : Option ℕ) (s : State) → due_next s.memory.timer ≡ found
+  of_found : (next : State → Outcome) → HoldsOf R next → (found : Option ℕ) (s : State)
+      → ((request : ℕ) → found ≡ Some request → 0 < times_waiting request s.memory.timer.waiting)
       → R s (finishes_found next found s).marks (finishes_found next found s).state
   unfolding andthen
-  of_found next holds None s due = each.nothing s
-  of_found next holds (Some request) s due =
-      each.joined s (finishes request s).marks (finishes request s).state _ _ (each.finishing request s due) (holds (finishes request s).state)
+  of_found next holds None s waits = each.nothing s
+  of_found next holds (Some request) s waits =
+      each.joined s (finishes request s).marks (finishes request s).state _ _ (each.finishing request s (waits request refl))
+      (holds (finishes request s).state)
 
-  of_due : (n : ℕ) → HoldsOf R (finishes_due n)
-  unfolding finishes_due
-  of_due zero s = each.nothing s
-  of_due (suc n) s = of_found (finishes_due n) (of_due n) (due_next s.memory.timer) s refl
+  of_each : (next : Clock → Option ℕ)
+      → ((request : ℕ) (timer : Clock) → next timer ≡ Some request → 0 < times_waiting request timer.waiting)
+      → (n : ℕ) → HoldsOf R (finishes_each next n)
+  unfolding finishes_each
+  of_each next stands zero s = each.nothing s
+  of_each next stands (suc n) s =
+      of_found (finishes_each next n) (of_each next stands n) (next s.memory.timer) s (λ request e. stands request s.memory.timer e)
+
+  -- where system time was set, and where it was not
+  pub of_set : HoldsOf R finishes_set
+  unfolding finishes_set
+  of_set s = by_test s.memory.timer.is_set
+    where
+      looked : State
+      looked = on_memory (on_timer looked_at) s
+
+      all : State → Outcome
+      all r = finishes_each until_next (length s.memory.timer.waiting) r
+
+      by_test : (test : Bool) → R s (if test then all looked else quiet s).marks (if test then all looked else quiet s).state
+      by_test true = each.joined s [] looked _ _ (each.looking s) (of_each until_next until_stands (length s.memory.timer.waiting) looked)
+      by_test false = each.nothing s
 
   of_finishing : (asks : Source) → HoldsOf R (finishes_for asks)
   unfolding finishes_all_due
   of_finishing source.Ports s = each.nothing s
-  of_finishing source.Vertb s = of_due _ s
+  of_finishing source.Vertb s = of_each due_next due_stands _ s
   of_finishing source.Exter s = each.nothing s
 
   of_serves : (asks : Source) → HoldsOf R (serves asks)
@@ -172,10 +197,20 @@ module _ (R : Relation) (each : HoldsOfEach R) where
   nothing : HoldsOf R quiet
   nothing s = each.interrupting.nothing s
 
+  -- a call: its word, and what follows that where it set system time
+  of_call : (t : ℕ) (call : Call) (s : State) → s.schedule.running ≡ Some t → next_call t s.scripts ≡ Some call
+      → R s (does t call s).marks (does t call s).state
+  unfolding does andthen
+  of_call t call s runs is =
+      followed (λ o. R s o.marks o.state) t call s
+      (λ word holds. each.interrupting.joined s (does_requests word t call s).marks (does_requests word t call s).state _ _ holds
+      (of_set R each.interrupting (does_requests word t call s).state))
+      call.word (each.calling t call s runs is)
+
   calls : (t : ℕ) (call : Option Call) (s : State) → s.schedule.running ≡ Some t → next_call t s.scripts ≡ call
       → R s (call_step t call s).marks (call_step t call s).state
   calls t None s runs is = each.ending t s runs
-  calls t (Some call) s runs is = each.calling t call s runs is
+  calls t (Some call) s runs is = of_call t call s runs is
 
   tasks : (running : Option ℕ) (s : State) → s.schedule.running ≡ running → R s (task_step running s).marks (task_step running s).state
   tasks None s runs = nothing s

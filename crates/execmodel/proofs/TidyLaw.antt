@@ -12,8 +12,9 @@ use Rattle.execmodel.specs.Scheduling.{switch_of, rescheduled}
 use Rattle.execmodel.specs.Memory.{extents}
 use Rattle.execmodel.specs.Bodies.{body_step}
 use Rattle.execmodel.specs.Requests.{finishes}
-use Rattle.execmodel.specs.Step.{announced, switches, does, ends, starts, run}
+use Rattle.execmodel.specs.Step.{announced, switches, ends, starts, run}
 use Rattle.execmodel.proofs.Heaps.{true_is_not_false}
+use Rattle.execmodel.proofs.Itself.{does_itself}
 use Rattle.execmodel.proofs.Stretches.{Relation, HoldsOfEach, of_starts, of_events}
 use Rattle.execmodel.proofs.Commands.{Alters, body_alters}
 use Rattle.execmodel.proofs.Posts.{AreInOrder, IsTidy, post_at}
@@ -112,17 +113,18 @@ tidies = record {
       order = altered_order s _ (body_step name command s).state (body_alters name command s) tidy;
     };
     pending = λ f s. rescheduled_tidy s _ refl;
-    finishing = λ request s due tidy. record {
-      formed = finished_formed s _ (finishes request s).state (finishing request s due) tidy.formed;
-      order = asked_order s _ (finishes request s).state.memory.heap (finishes request s).state.memory.timer.waiting (finishing request s due).asks tidy;
+    finishing = λ request s waits tidy. record {
+      formed = finished_formed s _ (finishes request s).state (finishing request s waits) tidy.formed;
+      order = asked_order s _ (finishes request s).state.memory.heap (finishes request s).state.memory.timer.waiting (finishing request s waits).asks tidy;
     };
+    looking = λ s tidy. record { formed = tidy.formed; order = tidy.order };
     ticking = λ s. rescheduled_tidy s _ refl;
     switching = λ s. quietly Tidies s (switches s) (on_schedule rescheduled s) (switches_quiet s) (rescheduled_tidy s _ refl);
   };
   adding = λ t s less. rescheduled_tidy s _ refl;
   calling = λ t call s runs is tidy. record {
-    formed = works_formed t call s (does t call s) (call_works t call s) tidy.formed;
-    order = works_order t call s (does t call s) (call_works t call s) tidy;
+    formed = works_formed t call s (does_itself t call s) (call_works t call s) tidy.formed;
+    order = works_order t call s (does_itself t call s) (call_works t call s) tidy;
   };
   ending = λ t s runs. rescheduled_tidy s _ refl;
 }

@@ -18,14 +18,14 @@ use Rattle.execmodel.specs.State.{Call, Mark, State, Outcome, on_schedule, begun
 use Rattle.execmodel.specs.Scheduling.{arrives, added, displaced, after_switch, rescheduled, switch_of, signalled}
 use Rattle.taskscript.specs.Commands.{CommandData}
 use Rattle.execmodel.specs.Calls.{next_call}
-use Rattle.execmodel.specs.Timing.{due_next}
 use Rattle.execmodel.specs.Bodies.{body_step}
 use Rattle.execmodel.specs.Semaphores.{waiters_of, woken}
-use Rattle.execmodel.specs.Step.{switches, does, ends, starts, events, run}
+use Rattle.execmodel.specs.Step.{switches, ends, starts, events, run}
 use Rattle.execmodel.specs.Marks.{semaphore_turn, turns_at_semaphore}
 use Rattle.execmodel.specs.Agreement.{times}
-use Rattle.execmodel.specs.Laws.{QueuesAgreeWithTheSchedule, SemaphoresPassInOrder}
+use Rattle.execmodel.specs.Laws.{QueuesAgreeWithTheSchedule, SemaphoresPassInOrder, times_waiting}
 use Rattle.execmodel.proofs.Queues.{Follows, IsOnce, follows_more, follows_once, in_order}
+use Rattle.execmodel.proofs.Itself.{does_itself}
 use Rattle.execmodel.proofs.Stretches.{Relation, HoldsOfEach, clock_gains, of_starts, of_events}
 use Rattle.execmodel.proofs.Commands.{IsCalm, Reaches, rests, posts, body_alters}
 use Rattle.execmodel.specs.Requests.{finishes}
@@ -240,9 +240,9 @@ called_pass t call s o (by_taking port request regions same marks heap lives) ru
     (taken_pass port request s.memory.heap (lives sound.tidy) a))
 
 called : (t : ℕ) (call : Call) (s : State) → s.schedule.running ≡ Some t → next_call t s.scripts ≡ Some call
-    → Waits s (does t call s).marks (does t call s).state
+    → Waits s (does_itself t call s).marks (does_itself t call s).state
 called t call s runs is sound =
-    let o = does t call s in
+    let o = does_itself t call s in
     let shifts = call_shifts t call s in
     let follows = called_pass t call s o (call_works t call s) runs sound in (
       record {
@@ -269,14 +269,15 @@ commanded name command s sound =
       follows,
     )
 
-finished : (request : ℕ) (s : State) → due_next s.memory.timer ≡ Some request → Waits s (finishes request s).marks (finishes request s).state
-finished request s due sound =
+finished : (request : ℕ) (s : State) → 0 < times_waiting request s.memory.timer.waiting
+    → Waits s (finishes request s).marks (finishes request s).state
+finished request s waits sound =
     let marks = (finishes request s).marks in
     let r = (finishes request s).state in
-    let ends = finishing request s due in
+    let ends = finishing request s waits in
     let follows = asked_pass s marks r.memory.heap r.memory.timer.waiting ends.asks in (
       record {
-        tidy = tidies.interrupting.finishing request s due sound.tidy;
+        tidy = tidies.interrupting.finishing request s waits sound.tidy;
         idle = asked_idle s marks r.memory.heap r.memory.timer.waiting ends.asks sound.idle;
         counted = ends.programs ∙ sound.counted ∙ sym (reached_count marks s.schedule r.schedule ends.tasks);
         agrees = reached_agrees marks s.schedule r.schedule (queues_of s) (queues_of r) ends.tasks follows sound.agrees;
@@ -320,6 +321,10 @@ waits = record {
       λ a. refl,
     );
     finishing = finished;
+    looking = λ s sound. (
+      record { tidy = tidies.interrupting.looking s sound.tidy; idle = sound.idle; counted = sound.counted; agrees = sound.agrees },
+      λ a. refl,
+    );
     ticking = λ s. rescheduling s ticked (ticked_count s.schedule) (λ sound. ticked_agrees s.schedule (queues_of s) sound.agrees);
     switching = λ s. quietly Waits s (switches s) (on_schedule rescheduled s) (switches_quiet s)
         (rescheduling s rescheduled (rescheduled_count s.schedule) (λ sound. rescheduled_agrees s.schedule (queues_of s) sound.agrees));

@@ -1,7 +1,7 @@
 -- What a call makes of the blocks and of the requests that wait: it makes one of a few things of the blocks, and the same requests wait; or a request
 -- asks something else, or is replied; or its reply is taken out of its port.
 use Rattle.std.proofs.Common.{◌≡◌, ◌≢◌, ℕ, ◌+◌, ◌<◌, Bool, true, false, List, [], ◌∷◌, ◌++◌, Option, None, Some, refl, sym, ap, ◌∙◌, subst, arith}
-use Rattle.std.specs.Prelude.{ℤ, negsuc, not, cond, ◌&&◌, ◌||◌, ◌==◌, if◌then◌else◌, nat_eq}
+use Rattle.std.specs.Prelude.{ℤ, pos, negsuc, not, cond, ◌&&◌, ◌||◌, ◌==◌, if◌then◌else◌, nat_eq}
 use Rattle.std.specs.List.{list_any}
 use Rattle.std.specs.Option.{option_map}
 use Rattle.memlist.proofs.Answered.{nat_eq-same, nat_eq-other, cases_eq, key_same, key_other}
@@ -14,13 +14,13 @@ use Rattle.iorequest.specs.declared.request.Request.{Request as TimerRequest}
 use Rattle.iorequest.specs.declared.request.ReqState.{ReqState}
 use Rattle.iorequest.specs.declared.request.ReqState.TheVariants.{Idle, UnderWay, Quick, Replied}
 use Rattle.iorequest.specs.declared.request.Begun.{Begun}
-use Rattle.iorequest.specs.declared.request.Begun.TheVariants.{Finish, Queue}
-use Rattle.iorequest.specs.Request.{idle_request, is_under_way, is_to_wait, is_open, asks_time, told, begun, finished, done_state, outcome, reply_port}
+use Rattle.iorequest.specs.declared.request.Begun.TheVariants.{Finish, Queue, Until, NewTime}
+use Rattle.iorequest.specs.Request.{idle_request, is_under_way, is_to_wait, is_until, is_open, asks_time, sets_time, told, begun, finished, done_state, outcome, reply_port}
 use Rattle.taskscript.specs.declared.word.Word.{Word}
 use Rattle.taskscript.specs.declared.word.Word.TheVariants as group
 use Rattle.taskscript.specs.declared.word.requests.RequestWord.{RequestWord}
 use Rattle.taskscript.specs.declared.word.requests.RequestWord.TheVariants as requests
-use Rattle.execmodel.specs.State.{Call, Object, Request, Block, Heap, Timer, Memory, Mark, out, put, State, Outcome, on_schedule, on_memory}
+use Rattle.execmodel.specs.State.{Call, Object, Request, Block, Heap, Due, AtClock, AtSystem, Timer, Memory, Mark, out, put, State, Outcome, on_schedule, on_memory}
 use Rattle.execmodel.specs.Calls.{argument, done, answered, waiting, alerted, unless}
 use Rattle.execmodel.specs.Objects.{object_at, is_kind, place_for_object}
 use Rattle.execmodel.specs.Memory.{extents, block_at, placed, allocates, does_memory}
@@ -34,11 +34,11 @@ use Rattle.execmodel.specs.Tasks.{does_tasks}
 use Rattle.execmodel.specs.Lists.{does_lists}
 use Rattle.execmodel.specs.Causing.{does_interrupts}
 use Rattle.execmodel.specs.Libraries.{does_libraries}
-use Rattle.execmodel.specs.Step.{does, does_word}
 use Rattle.execmodel.specs.Keeping.{beside_plain, beside_signals, beside_nestings, beside_memory, beside_ports, beside_interrupts, beside_semaphores, beside_tasks}
 use Rattle.execmodel.specs.Agreement.{once_if}
 use Rattle.execmodel.specs.Laws.{times_waiting}
 use Rattle.execmodel.proofs.Heaps.{true_is_not_false}
+use Rattle.execmodel.proofs.Itself.{word_itself, does_itself}
 use Rattle.execmodel.proofs.Keeping.{plain_words_change_scripts, signal_words_change_signals_and_states, nesting_words_change_nestings, task_words_change_states_priorities_and_objects, list_words_change_the_memory, memory_words_change_the_memory, port_words_change_ports_signals_and_states, semaphore_words_change_states_and_objects, interrupt_words_change_what_is_caused, library_words_change_the_memory}
 use Rattle.execmodel.proofs.Queues.{IsAway}
 use Rattle.execmodel.proofs.Posts.{Post, APort, post_at, messages_at, is_a_port, may_stand, IsTidy, messages_are, request_is, port_is, request_there}
@@ -166,41 +166,57 @@ unfolding do_alert
 may_do t request heap none =
     may_begin (wait_alert t (request_of request heap).port heap) request heap none (is_awaitable_there t (request_of request heap).port heap)
 
-told_port : (now : ℕ) (q : TimerRequest) → (told now q).port ≡ q.port
-told_port now q = tested (asks_time q) _ _
+told_port : (system : ℕ) (q : TimerRequest) → (told system q).port ≡ q.port
+told_port system q = tested (asks_time q) _ _
   where
     tested : (b : Bool) (secs micros : ℕ) → (if b then record q { secs = secs; micros = micros } else q).port ≡ q.port
     tested true secs micros = refl
     tested false secs micros = refl
 
--- a request that is to wait is queued, and any other finishes at once
-is_finish : Begun → Bool
-is_finish (Finish error) = true
-is_finish (Queue due) = false
+-- a request that is to wait is queued, and any other is done at once
+is_done : Begun → Bool
+is_done (Queue due) = false
+is_done (Until at) = false
+is_done (Finish error) = true
+is_done (NewTime time) = true
 
-now_tested : (b : Bool) (due : ℕ) (error other : ℤ) → (if b then Queue due else Finish error) ≡ Finish other → b ≡ false
-unfolding is_finish
-now_tested true due error other e = let bad : true ≡ false = sym (ap is_finish e) in true_is_not_false bad
-now_tested false due error other e = refl
+queued_rests : (b : Bool) (due at : ℕ) → is_done (if b then Until at else Queue due) ≡ false
+unfolding is_done
+queued_rests true due at = refl
+queued_rests false due at = refl
 
-finishes_now : (now : ℕ) (q : TimerRequest) (error : ℤ) → outcome now q ≡ Finish error → is_to_wait q ≡ false
-finishes_now now q error e = now_tested (is_to_wait q) _ _ error e
+-- one that sets system time is not one that waits
+not_both : (command : ℕ) (test : Bool) → nat_eq command 11 ≡ true → (nat_eq command 9 && test) ≡ false
+not_both command test is = cases_eq command 11
+    (λ e. ap (λ k. nat_eq k 9 && test) e)
+    (λ apart. true_is_not_false (sym is ∙ nat_eq-other command 11 apart))
+
+done_tested : (sets waits : Bool) (queued other new : Begun) → (sets ≡ true → waits ≡ false) → is_done queued ≡ false
+    → is_done (if sets then new else (if waits then queued else other)) ≡ true → waits ≡ false
+done_tested true waits queued other new apart rests e = apart refl
+done_tested false true queued other new apart rests e = true_is_not_false (sym e ∙ rests)
+done_tested false false queued other new apart rests e = refl
+
+-- it is done at once just where it does not wait
+done_now : (now system : ℕ) (q : TimerRequest) → is_done (outcome now system q) ≡ true → is_to_wait system q ≡ false
+done_now now system q e =
+    done_tested (sets_time q) (is_to_wait system q) _ _ _ (not_both q.command _) (queued_rests (is_until q) _ _) e
 
 module _ (quick : Bool) (request : ℕ) (s : State) (may : MayBegin request s.memory.heap) where
   -- the request as it is begun, and the blocks with it
   abbrev fresh : TimerRequest
-  fresh = begun quick s.memory.timer.clock (request_of request s.memory.heap)
+  fresh = begun quick s.memory.timer.system (request_of request s.memory.heap)
 
   abbrev mid : Heap
   mid = with_request request fresh s.memory.heap
 
   same_port : fresh.port ≡ (request_of request s.memory.heap).port
-  same_port = told_port s.memory.timer.clock (request_of request s.memory.heap)
+  same_port = told_port s.memory.timer.system (request_of request s.memory.heap)
 
   is_begun : request_of request mid ≡ fresh
   is_begun = request_written request fresh s.memory.heap may.there
 
-  queue_rewritten : (due : ℕ) → IsTidy s
+  queue_rewritten : (due : Due) → IsTidy s
       → IsRewritten request fresh (s.memory.timer.waiting ++ record { request = request; due = due } ∷ []) s
   queue_rewritten due tidy = record {
     there = may.there;
@@ -244,10 +260,12 @@ module _ (quick : Bool) (request : ℕ) (s : State) (may : MayBegin request s.me
       (resting_rewritten request (finished error fresh) s may.there same_port may.rests (finished_rests error fresh)))
 
   begin_asks : (how : Begun)
-      → Asks s (reply_marks (answering_begun how quick s.memory.timer.clock request s.memory.heap) request)
-      (heap_begun how quick s.memory.timer.clock request s.memory.heap) (timer_begun how request s.memory.timer).waiting
-  begin_asks (Queue due) = writes request fresh _ (queue_rewritten due)
+      → Asks s (reply_marks (answering_begun how quick s.memory.timer.system request s.memory.heap) request)
+      (heap_begun how quick s.memory.timer.system request s.memory.heap) (timer_begun how request s.memory.timer).waiting
+  begin_asks (Queue due) = writes request fresh _ (queue_rewritten (AtClock due))
+  begin_asks (Until at) = writes request fresh _ (queue_rewritten (AtSystem at))
   begin_asks (Finish error) = finish_asks error
+  begin_asks (NewTime time) = finish_asks (pos 0)
 
 -- A request that is begun with its quick bit set is not replied at once.
 is_replied : ReqState → Bool
@@ -256,14 +274,19 @@ is_replied _ = false
 
 module _ (request : ℕ) (s : State) (may : MayBegin request s.memory.heap) where
   abbrev asked : TimerRequest
-  asked = begun true s.memory.timer.clock (request_of request s.memory.heap)
+  asked = begun true s.memory.timer.system (request_of request s.memory.heap)
 
   abbrev under : Heap
   under = with_request request asked s.memory.heap
 
   record IsQuiet (how : Begun) : Type 0 where
-    answers_none : answering_begun how true s.memory.timer.clock request s.memory.heap ≡ None
-    none_replied : is_replied (request_of request (heap_begun how true s.memory.timer.clock request s.memory.heap)).state ≡ false
+    answers_none : answering_begun how true s.memory.timer.system request s.memory.heap ≡ None
+    none_replied : is_replied (request_of request (heap_begun how true s.memory.timer.system request s.memory.heap)).state ≡ false
+
+  quick_done : (how : Begun) → outcome_at request s.memory ≡ how → is_done how ≡ true → asked.quick ≡ true
+  quick_done how e done =
+      ap (λ b. true && not b)
+      (done_now s.memory.timer.clock s.memory.timer.system (request_of request s.memory.heap) (ap is_done e ∙ done))
 
   quick_quiet : (error : ℤ) → asked.quick ≡ true → IsQuiet (Finish error)
   unfolding finished_at answering_port is_replied
@@ -279,11 +302,15 @@ module _ (request : ℕ) (s : State) (may : MayBegin request s.memory.heap) wher
       }
 
   do_quiet : (how : Begun) → outcome_at request s.memory ≡ how → IsQuiet how
-  unfolding is_replied
+  unfolding is_replied is_done
   do_quiet (Queue due) e =
       record { answers_none = refl; none_replied = ap (λ (q : TimerRequest). is_replied q.state) (is_begun true request s may) }
-  do_quiet (Finish error) e =
-      quick_quiet error (ap (λ b. true && not b) (finishes_now s.memory.timer.clock (request_of request s.memory.heap) error e))
+  do_quiet (Until at) e =
+      record { answers_none = refl; none_replied = ap (λ (q : TimerRequest). is_replied q.state) (is_begun true request s may) }
+  do_quiet (Finish error) e = quick_quiet error (quick_done (Finish error) e refl)
+  do_quiet (NewTime time) e =
+      let quiet = quick_quiet (pos 0) (quick_done (NewTime time) e refl) in
+      record { answers_none = quiet.answers_none; none_replied = quiet.none_replied }
 
 -- ---- how calls end that begin a request, or end it
 
@@ -491,7 +518,7 @@ grouped : (t : ℕ) (call : Call) (s : State) (part : State → State) → ((x :
 grouped t call s part kept o makes e =
     by_moves makes (ap (λ (timer : Timer). timer.waiting) (sym (kept o.state) ∙ ap (λ (x : State). x.memory.timer) e ∙ kept s))
 
-word_works : (word : Word) (t : ℕ) (call : Call) (s : State) → call.word ≡ word → Works t call s (does_word word t call s)
+word_works : (word : Word) (t : ℕ) (call : Call) (s : State) → call.word ≡ word → Works t call s (word_itself word t call s)
 word_works (group.Plain word) t call s is =
     grouped t call s (beside_plain t) (λ x. refl) (does_plain word t call s) (plain_makes word t call s) (plain_words_change_scripts word t call s)
 word_works (group.Signals word) t call s is =
@@ -514,6 +541,5 @@ word_works (group.Libraries word) t call s is =
     grouped t call s beside_memory (λ x. refl) (does_libraries word t call s) (libraries_make word t call s is) (library_words_change_the_memory word t call s)
 word_works (group.Requests word) t call s is = requests_work word t call s
 
-pub call_works : (t : ℕ) (call : Call) (s : State) → Works t call s (does t call s)
-unfolding does
+pub call_works : (t : ℕ) (call : Call) (s : State) → Works t call s (does_itself t call s)
 call_works t call s = word_works call.word t call s refl

@@ -8,6 +8,8 @@ use Rattle.msgport.specs.declared.message.Message.{Message as Content}
 use Rattle.sigsem.specs.declared.semaphore.Sem.{Sem}
 use Rattle.iorequest.specs.declared.request.Request.{Request as TimerRequest}
 use Rattle.taskscript.specs.File.{LibraryData}
+-- the request of each that waits is its address
+pub use Rattle.timerdev.specs.Timing.{Due, AtClock, AtSystem, Waiting, Timer}
 
 -- what a block of memory holds
 pub data Object : Type 0 where
@@ -44,18 +46,6 @@ Heap = List (ℕ × Block)
 pub record PublicPort : Type 0 where
   pub port : ℕ
   pub key : Key
-
--- a request that waits: its address, and the time when it is due, in microseconds of the clock
-pub record Waiting : Type 0 where
-  pub request : ℕ
-  pub due : ℕ
-
--- timer.device: its clock and what that gains at each tick, both in microseconds, and the requests that wait, in the order in which they were
--- begun
-pub record Timer : Type 0 where
-  pub clock : ℕ
-  pub tick_micros : ℕ
-  pub waiting : List Waiting
 
 -- the regions of memory and the libraries, both in the order of the file, how many objects of each kind may live, the blocks that are
 -- allocated, the public ports in order of arrival, and the timer

@@ -12,7 +12,7 @@ use Rattle.taskscript.specs.declared.word.interrupts.InterruptWord.{InterruptWor
 use Rattle.taskscript.specs.declared.word.libraries.LibraryWord.{LibraryWord}
 use Rattle.taskscript.specs.declared.word.requests.RequestWord.{RequestWord}
 use Rattle.scheduler.specs.Schedule.{Schedule}
-use Rattle.execmodel.specs.State.{Call, Timer, Memory, Pending, Program, Scripts, State, Outcome, program_of, with_program}
+use Rattle.execmodel.specs.State.{Call, Timer, Memory, Pending, Program, Scripts, State, Outcome, andthen, program_of, with_program}
 use Rattle.execmodel.specs.Plain.{does_plain}
 use Rattle.execmodel.specs.Signals.{does_signals}
 use Rattle.execmodel.specs.Nesting.{does_nesting}
@@ -23,7 +23,7 @@ use Rattle.execmodel.specs.Ports.{does_ports}
 use Rattle.execmodel.specs.Semaphores.{does_semaphores}
 use Rattle.execmodel.specs.Causing.{does_interrupts}
 use Rattle.execmodel.specs.Libraries.{does_libraries}
-use Rattle.execmodel.specs.Requests.{does_requests}
+use Rattle.execmodel.specs.Requests.{does_requests, finishes_set}
 
 -- ---- parts blanked out
 
@@ -58,12 +58,12 @@ without_blocks memory = record memory { heap = [] }
 abbrev pub without_blocks_and_public_ports : Memory → Memory
 without_blocks_and_public_ports memory = record memory { heap = []; public = [] }
 
--- a timer for which no request waits
-abbrev pub without_waiting : Timer → Timer
-without_waiting timer = record timer { waiting = [] }
+-- a timer with its clock, and what that gains at each tick, alone: system time, and the requests that wait, are blanked out
+abbrev pub clock_alone : Timer → Timer
+clock_alone timer = record timer { system = 0; is_set = false; waiting = [] }
 
-abbrev pub without_blocks_and_waiting : Memory → Memory
-without_blocks_and_waiting memory = record memory { heap = []; timer = without_waiting memory.timer }
+abbrev pub without_blocks_system_and_waiting : Memory → Memory
+without_blocks_system_and_waiting memory = record memory { heap = []; timer = clock_alone memory.timer }
 
 -- pending interrupts without the software interrupts that are caused
 abbrev pub without_caused : Pending → Pending
@@ -108,7 +108,7 @@ abbrev pub beside_requests : State → State
 beside_requests s = record s {
   scripts = no_scripts;
   schedule = without_signals (without_states s.schedule);
-  memory = without_blocks_and_waiting s.memory;
+  memory = without_blocks_system_and_waiting s.memory;
   pending = without_caused s.pending;
   stopped = false;
 }
@@ -174,5 +174,7 @@ InterruptWordsChangeWhatIsCaused =
 abbrev pub LibraryWordsChangeTheMemory : Type 0
 LibraryWordsChangeTheMemory = (word : LibraryWord) (t : ℕ) (call : Call) → Keeps beside_memory (does_libraries word t call)
 
+-- what follows the word itself, where it set system time, is of it
 abbrev pub RequestWordsChangeRequestsPortsSignalsAndStates : Type 0
-RequestWordsChangeRequestsPortsSignalsAndStates = (word : RequestWord) (t : ℕ) (call : Call) → Keeps beside_requests (does_requests word t call)
+RequestWordsChangeRequestsPortsSignalsAndStates =
+    (word : RequestWord) (t : ℕ) (call : Call) → Keeps beside_requests (andthen (does_requests word t call) finishes_set)

@@ -29,7 +29,8 @@ use Rattle.execmodel.specs.Memory.{block_at, extents, does_free_mem}
 use Rattle.execmodel.specs.Objects.{object_at}
 use Rattle.execmodel.specs.Ports.{is_port_at, messages_of}
 use Rattle.execmodel.specs.Requests.{request_of}
-use Rattle.iorequest.specs.Request.{is_under_way}
+use Rattle.iorequest.specs.Request.{is_under_way, sets_time, time_of}
+use Rattle.timerdev.specs.Timing.{offset}
 use Rattle.execmodel.specs.Semaphores.{sem_of, waiters_of}
 use Rattle.execmodel.specs.Pending.{allows_interrupts, next_softint}
 use Rattle.execmodel.specs.Interrupts.{interrupts, runs_softint}
@@ -276,3 +277,19 @@ pub record CountsTicks (machine : MachineData) (list : List Event) (s : State) :
 abbrev pub TheClockCountsTicks : Type 0
 TheClockCountsTicks =
     (machine : MachineData) (list : List Event) → IsMachine machine → CountsTicks machine list (run machine list).state
+
+-- the running task is to begin a request that sets system time, to that
+pub record IsSetting (s : State) (system : ℕ) : Type 0 where
+  pub t : ℕ
+  pub call : Call
+  pub calls : IsToCall t call s
+  pub begins : (call.word ≡ group.Requests requests.SendIO) ⊎ (call.word ≡ group.Requests requests.DoIO)
+  pub sets : sets_time (request_of (argument 0 call) s.memory.heap) ≡ true
+  pub becomes : system ≡ time_of (request_of (argument 0 call) s.memory.heap)
+
+-- What system time is ahead of the clock, or behind it, stays, unless the running task in this step begins a request that sets system time:
+-- then system time is the time of that request.
+abbrev pub SystemTimeGoesWithTheClock : Type 0
+SystemTimeGoesWithTheClock =
+    OfEveryAction (λ action s o.
+    (offset o.state.memory.timer ≡ offset s.memory.timer) ⊎ ((action ≡ OneStep) × IsSetting s o.state.memory.timer.system))

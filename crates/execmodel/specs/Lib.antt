@@ -15,7 +15,6 @@ pub mod Pending
 pub mod Causing
 pub mod Ports
 pub mod Bodies
-pub mod Timing
 pub mod Requests
 pub mod Interrupts
 pub mod Step

@@ -14,18 +14,18 @@ use Rattle.iorequest.specs.declared.request.Request.{Request as TimerRequest}
 use Rattle.iorequest.specs.declared.request.ReqState.{ReqState}
 use Rattle.iorequest.specs.declared.request.ReqState.TheVariants.{Idle, UnderWay, Quick, Replied}
 use Rattle.iorequest.specs.declared.request.Begun.{Begun}
-use Rattle.iorequest.specs.declared.request.Begun.TheVariants.{Finish, Queue}
+use Rattle.iorequest.specs.declared.request.Begun.TheVariants.{Finish, Queue, Until, NewTime}
 use Rattle.iorequest.specs.Request.{idle_request, is_open, is_under_way, begun, finished, outcome, reply_port}
 use Rattle.iorequest.specs.Requests.{is_unit, unit_error}
 use Rattle.taskscript.specs.declared.word.requests.RequestWord.{RequestWord}
 use Rattle.taskscript.specs.declared.word.requests.RequestWord.TheVariants as word
-use Rattle.execmodel.specs.State.{Call, Object, Request, Heap, Timer as Clock, Memory, State, Outcome, put, out, leaving, quiet, says, andthen, on_schedule, on_memory, on_heap}
+use Rattle.execmodel.specs.State.{Call, Object, Request, Heap, AtClock, AtSystem, Timer as Clock, Memory, State, Outcome, put, out, leaving, quiet, says, andthen, on_schedule, on_memory, on_heap, on_timer}
 use Rattle.execmodel.specs.Calls.{argument, name_argument, done, answered, waiting, unless}
 use Rattle.execmodel.specs.Memory.{allocates as memory_allocated, freed}
 use Rattle.execmodel.specs.Objects.{object_at, is_kind, place_for_object, replaced}
 use Rattle.execmodel.specs.Ports.{appended, is_port_at, is_queued, loses, messages_of, performed, port_alert, port_of, wait_alert, with_port}
 use Rattle.execmodel.specs.Semaphores.{is_tried_again}
-use Rattle.execmodel.specs.Timing.{begins_to_wait, due_next, waits_no_more}
+use Rattle.timerdev.specs.Timing.{begins_to_wait, due_next, looked_at, system_set, until_next, waits_no_more}
 
 -- ---- requests in memory
 
@@ -148,38 +148,44 @@ ends_with error request s =
 
 -- ---- beginning
 
--- a request is under way, begun when the clock tells `now`
+-- a request is under way, begun at that system time
 abbrev pub under_way : Bool → ℕ → ℕ → Heap → Heap
-under_way quick now request heap = with_request request (begun quick now (request_of request heap)) heap
+under_way quick system request heap = with_request request (begun quick system (request_of request heap)) heap
 
 -- a request that is begun is under way, or it is done at once
 abbrev pub heap_begun : Begun → Bool → ℕ → ℕ → Heap → Heap
-heap_begun (Queue due) quick now request heap = under_way quick now request heap
-heap_begun (Finish error) quick now request heap = finished_at error request (under_way quick now request heap)
+heap_begun (Queue due) quick system request heap = under_way quick system request heap
+heap_begun (Until at) quick system request heap = under_way quick system request heap
+heap_begun (Finish error) quick system request heap = finished_at error request (under_way quick system request heap)
+heap_begun (NewTime time) quick system request heap = finished_at (pos 0) request (under_way quick system request heap)
 
--- one that is under way waits
+-- one that is under way waits, for a time of the clock or for a system time; one that sets system time does so
 abbrev pub timer_begun : Begun → ℕ → Clock → Clock
-timer_begun (Queue due) request timer = begins_to_wait request due timer
+timer_begun (Queue due) request timer = begins_to_wait request (AtClock due) timer
+timer_begun (Until at) request timer = begins_to_wait request (AtSystem at) timer
 timer_begun (Finish error) request timer = timer
+timer_begun (NewTime time) request timer = system_set time timer
 
 -- how a request goes on that is begun now
 abbrev pub outcome_at : ℕ → Memory → Begun
-outcome_at request memory = outcome memory.timer.clock (request_of request memory.heap)
+outcome_at request memory = outcome memory.timer.clock memory.timer.system (request_of request memory.heap)
 
 -- a request is begun, with its quick bit set or not: it is under way and waits, or it is done at once
 unfoldable pub begun_at : Bool → ℕ → Memory → Memory
 begun_at quick request memory = record memory {
-  heap = heap_begun (outcome_at request memory) quick memory.timer.clock request memory.heap;
+  heap = heap_begun (outcome_at request memory) quick memory.timer.system request memory.heap;
   timer = timer_begun (outcome_at request memory) request memory.timer;
 }
 
 -- the port where the reply of a request is put that is begun so, if it is done at once
 abbrev pub answering_begun : Begun → Bool → ℕ → ℕ → Heap → Option ℕ
-answering_begun (Queue due) quick now request heap = None
-answering_begun (Finish error) quick now request heap = answering_port request (under_way quick now request heap)
+answering_begun (Queue due) quick system request heap = None
+answering_begun (Until at) quick system request heap = None
+answering_begun (Finish error) quick system request heap = answering_port request (under_way quick system request heap)
+answering_begun (NewTime time) quick system request heap = answering_port request (under_way quick system request heap)
 
 unfoldable pub replying_port : Bool → ℕ → Memory → Option ℕ
-replying_port quick request memory = answering_begun (outcome_at request memory) quick memory.timer.clock request memory.heap
+replying_port quick request memory = answering_begun (outcome_at request memory) quick memory.timer.system request memory.heap
 
 -- ---- requests made and freed
 
@@ -379,20 +385,34 @@ does_requests word.IOMicros t call s = does_io_micros t call s
 does_requests word.IOError t call s = does_io_error t call s
 does_requests word.IOFlags t call s = does_io_flags t call s
 
--- ---- the clock
+-- ---- the clock, and system time
 
--- a request that is due is done, with error 0
+-- a request whose time has come is done, with error 0
 unfoldable pub finishes : ℕ → State → Outcome
 finishes request s =
     with_reply (answering_port request s.memory.heap) request (says (Timer request) (ends_with (pos 0) request s))
 
--- so many requests finish, one after another, while one is due
-unfoldable pub finishes_due : ℕ → State → Outcome
-finishes_due zero s = quiet s
-finishes_due (suc n) s =
-    elim (due_next s.memory.timer) as (λ (x : Option ℕ). Outcome)
-    [ None ↦ quiet s | Some request ↦ andthen (finishes request) (finishes_due n) s ]
+-- so many requests finish, one after another, while there is one that does so next
+unfoldable pub finishes_each : (Clock → Option ℕ) → ℕ → State → Outcome
+finishes_each next zero s = quiet s
+finishes_each next (suc n) s =
+    elim (next s.memory.timer) as (λ (x : Option ℕ). Outcome)
+    [ None ↦ quiet s | Some request ↦ andthen (finishes request) (finishes_each next n) s ]
 
--- all requests that are due finish: by the time when they are due, and those of one time in the order in which they were begun
+-- so many of those whose time has come
+abbrev pub finishes_due : ℕ → State → Outcome
+finishes_due n s = finishes_each due_next n s
+
+-- so many of those that wait for system time and whose time has come
+abbrev pub finishes_until : ℕ → State → Outcome
+finishes_until n s = finishes_each until_next n s
+
+-- all requests whose time has come finish: by the moment when it came, and those of one moment in the order in which they were begun
 unfoldable pub finishes_all_due : State → Outcome
 finishes_all_due s = finishes_due (length s.memory.timer.waiting) s
+
+-- What follows a call on requests: where it set system time, all requests finish that wait for system time and whose time has come. Those
+-- that wait for the clock are not looked at (autodoc timer.device/TR_SETSYSTIME; that this is at once, and after the call's line: own choice).
+unfoldable pub finishes_set : State → Outcome
+finishes_set s =
+    if s.memory.timer.is_set then finishes_until (length s.memory.timer.waiting) (on_memory (on_timer looked_at) s) else quiet s

@@ -645,12 +645,13 @@ AnAwaitedPortIsNotDeleted =
     (Run 6 ∷ [])
     ≡ codes "switch a\na CreateMsgPort -> $00001000\na CreateIORequest $00001000 -> $00001028\na OpenDevice \"timer.device\" $00000000 $00001028 -> $00000000\na SetIO $00001028 $00000009 $00000000 $00004E20\na SendIO $00001028\nalert PORT a DeleteMsgPort\n"
 
-abbrev pub TheTimerHasTwoUnits : Type 0
-TheTimerHasTwoUnits =
+abbrev pub TheTimerHasThreeUnits : Type 0
+TheTimerHasThreeUnits =
     trace
-    (with_timer (makes_reply_port ∷ makes_request 1 ∷ opens_timer 3 1 ∷ its_request IOError 1 ∷ opens_timer 1 1 ∷ opens_timer 3 1 ∷ its_request SendIO 1 ∷ []))
+    (with_timer
+    (makes_reply_port ∷ makes_request 1 ∷ opens_timer 2 1 ∷ its_request IOError 1 ∷ opens_timer 3 1 ∷ opens_timer 2 1 ∷ its_request SendIO 1 ∷ []))
     (Run 7 ∷ [])
-    ≡ codes "switch a\na CreateMsgPort -> $00001000\na CreateIORequest $00001000 -> $00001028\na OpenDevice \"timer.device\" $00000003 $00001028 -> $FFFFFFFF\na IOError $00001028 -> $FFFFFFFF\na OpenDevice \"timer.device\" $00000001 $00001028 -> $00000000\na OpenDevice \"timer.device\" $00000003 $00001028 -> $FFFFFFFF\nalert IO a SendIO\n"
+    ≡ codes "switch a\na CreateMsgPort -> $00001000\na CreateIORequest $00001000 -> $00001028\na OpenDevice \"timer.device\" $00000002 $00001028 -> $FFFFFFFF\na IOError $00001028 -> $FFFFFFFF\na OpenDevice \"timer.device\" $00000003 $00001028 -> $00000000\na OpenDevice \"timer.device\" $00000002 $00001028 -> $FFFFFFFF\nalert IO a SendIO\n"
 
 abbrev pub SendIOClearsTheQuickBitAndTheError : Type 0
 SendIOClearsTheQuickBitAndTheError =
@@ -660,3 +661,95 @@ SendIOClearsTheQuickBitAndTheError =
     ∷ command (Ports GetMsg) (variable (Private 0) ∷ []) ∷ asks 9 20000 1 ∷ its_request SendIO 1 ∷ its_request IOError 1 ∷ []))
     (Run 12 ∷ [])
     ≡ codes "switch a\na CreateMsgPort -> $00001000\na CreateIORequest $00001000 -> $00001028\na OpenDevice \"timer.device\" $00000000 $00001028 -> $00000000\na SetIO $00001028 $00000002 $00000000 $00000000\na DoIO $00001028 -> $FFFFFFFD\na IOFlags $00001028 -> $00000001\na SendIO $00001028\na IOFlags $00001028 -> $00000000\na GetMsg $00001000 -> $00001028\na SetIO $00001028 $00000009 $00000000 $00004E20\na SendIO $00001028\na IOError $00001028 -> $00000000\n"
+
+-- ---- system time
+
+-- what a port holds first is taken out of it
+abbrev pub takes_message : CommandData
+takes_message = command (Ports GetMsg) (variable (Private 0) ∷ [])
+
+abbrev pub ATaskWaitsUntilASystemTime : Type 0
+ATaskWaitsUntilASystemTime =
+    trace (with_timer (makes_reply_port ∷ makes_request 1 ∷ opens_timer 3 1 ∷ asks 9 30000 1 ∷ its_request DoIO 1 ∷ []))
+    (Run 5 ∷ Tick 2 ∷ Run 1 ∷ [])
+    ≡ codes "switch a\na CreateMsgPort -> $00001000\na CreateIORequest $00001000 -> $00001028\na OpenDevice \"timer.device\" $00000003 $00001028 -> $00000000\na SetIO $00001028 $00000009 $00000000 $00007530\na DoIO $00001028 waits\nidle\nserve VERTB\nserve VERTB\ntimer $00001028\nswitch a\na DoIO $00001028 -> $00000000\n"
+
+-- a time that has come when the request begins, and one that comes a microsecond later
+abbrev pub ATimeThatHasComeIsDoneAtOnce : Type 0
+ATimeThatHasComeIsDoneAtOnce =
+    trace
+    (with_timer
+    (makes_reply_port ∷ makes_request 1 ∷ opens_timer 3 1 ∷ asks 9 20000 1 ∷ its_request DoIO 1 ∷ its_request IOFlags 1 ∷ asks 9 20001 1
+    ∷ its_request SendIO 1 ∷ its_request CheckIO 1 ∷ []))
+    (Run 4 ∷ Tick 1 ∷ Run 5 ∷ [])
+    ≡ codes "switch a\na CreateMsgPort -> $00001000\na CreateIORequest $00001000 -> $00001028\na OpenDevice \"timer.device\" $00000003 $00001028 -> $00000000\na SetIO $00001028 $00000009 $00000000 $00004E20\nserve VERTB\na DoIO $00001028 -> $00000000\na IOFlags $00001028 -> $00000001\na SetIO $00001028 $00000009 $00000000 $00004E21\na SendIO $00001028\na CheckIO $00001028 -> $00000000\n"
+
+abbrev pub ASettingWakesATask : Type 0
+ASettingWakesATask =
+    trace
+    (record bare {
+      regions = room 4096;
+      tasks = beside (makes_reply_port ∷ makes_request 1 ∷ opens_timer 3 1 ∷ asks 9 990000 1 ∷ its_request DoIO 1 ∷ [])
+          (makes_reply_port ∷ makes_request 1 ∷ opens_timer 0 1 ∷ asks 11 990000 1 ∷ its_request DoIO 1 ∷ []);
+    })
+    (Run 11 ∷ [])
+    ≡ codes "switch a\na CreateMsgPort -> $00001000\na CreateIORequest $00001000 -> $00001028\na OpenDevice \"timer.device\" $00000003 $00001028 -> $00000000\na SetIO $00001028 $00000009 $00000000 $000F1B30\na DoIO $00001028 waits\nswitch b\nb CreateMsgPort -> $00001050\nb CreateIORequest $00001050 -> $00001078\nb OpenDevice \"timer.device\" $00000000 $00001078 -> $00000000\nb SetIO $00001078 $0000000B $00000000 $000F1B30\nb DoIO $00001078 -> $00000000\ntimer $00001028\nswitch a\na DoIO $00001028 -> $00000000\n"
+
+-- two requests wait for system time, the one that was begun later for the sooner one; the third one sets it to just the later
+abbrev pub sets_past_both : MachineData
+sets_past_both =
+    with_timer
+    (makes_reply_port ∷ makes_request 1 ∷ makes_request 2 ∷ makes_request 3 ∷ opens_timer 3 1 ∷ opens_timer 3 2 ∷ opens_timer 0 3
+    ∷ asks 9 60000 1 ∷ asks 9 50000 2 ∷ asks 11 60000 3 ∷ its_request SendIO 1 ∷ its_request SendIO 2 ∷ its_request SendIO 3
+    ∷ takes_message ∷ takes_message ∷ takes_message ∷ [])
+
+abbrev pub TheSetterIsRepliedFirst : Type 0
+TheSetterIsRepliedFirst =
+    trace sets_past_both (Run 16 ∷ [])
+    ≡ codes "switch a\na CreateMsgPort -> $00001000\na CreateIORequest $00001000 -> $00001028\na CreateIORequest $00001000 -> $00001050\na CreateIORequest $00001000 -> $00001078\na OpenDevice \"timer.device\" $00000003 $00001028 -> $00000000\na OpenDevice \"timer.device\" $00000003 $00001050 -> $00000000\na OpenDevice \"timer.device\" $00000000 $00001078 -> $00000000\na SetIO $00001028 $00000009 $00000000 $0000EA60\na SetIO $00001050 $00000009 $00000000 $0000C350\na SetIO $00001078 $0000000B $00000000 $0000EA60\na SendIO $00001028\na SendIO $00001050\na SendIO $00001078\ntimer $00001050\ntimer $00001028\na GetMsg $00001000 -> $00001078\na GetMsg $00001000 -> $00001050\na GetMsg $00001000 -> $00001028\n"
+
+abbrev pub MarksTellThatTheSetterWasRepliedFirst : Type 0
+MarksTellThatTheSetterWasRepliedFirst =
+    marks sets_past_both (Run 13 ∷ []) ≡ put 0x1000 0x1078 ∷ put 0x1000 0x1050 ∷ put 0x1000 0x1028 ∷ []
+
+abbrev pub ASettingLeavesTheOtherUnitsAlone : Type 0
+ASettingLeavesTheOtherUnitsAlone =
+    trace
+    (with_timer
+    (makes_reply_port ∷ makes_request 1 ∷ makes_request 2 ∷ opens_timer 0 1 ∷ opens_timer 3 2 ∷ asks 9 30000 1 ∷ asks 11 990000 2
+    ∷ its_request SendIO 1 ∷ its_request DoIO 2 ∷ its_request CheckIO 1 ∷ []))
+    (Run 10 ∷ Tick 2 ∷ [])
+    ≡ codes "switch a\na CreateMsgPort -> $00001000\na CreateIORequest $00001000 -> $00001028\na CreateIORequest $00001000 -> $00001050\na OpenDevice \"timer.device\" $00000000 $00001028 -> $00000000\na OpenDevice \"timer.device\" $00000003 $00001050 -> $00000000\na SetIO $00001028 $00000009 $00000000 $00007530\na SetIO $00001050 $0000000B $00000000 $000F1B30\na SendIO $00001028\na DoIO $00001050 -> $00000000\na CheckIO $00001028 -> $00000000\nserve VERTB\nserve VERTB\ntimer $00001028\n"
+
+-- the clock is at 40000 when system time is set back to 10000
+abbrev pub ASettingBackFinishesNothing : Type 0
+ASettingBackFinishesNothing =
+    trace
+    (with_timer
+    (makes_reply_port ∷ makes_request 1 ∷ makes_request 2 ∷ opens_timer 3 1 ∷ opens_timer 1 2 ∷ asks 9 50000 1 ∷ asks 11 10000 2
+    ∷ its_request SendIO 1 ∷ its_request DoIO 2 ∷ asks 10 0 2 ∷ its_request DoIO 2 ∷ its_request IOMicros 2 ∷ []))
+    (Run 7 ∷ Tick 2 ∷ Run 5 ∷ Tick 2 ∷ [])
+    ≡ codes "switch a\na CreateMsgPort -> $00001000\na CreateIORequest $00001000 -> $00001028\na CreateIORequest $00001000 -> $00001050\na OpenDevice \"timer.device\" $00000003 $00001028 -> $00000000\na OpenDevice \"timer.device\" $00000001 $00001050 -> $00000000\na SetIO $00001028 $00000009 $00000000 $0000C350\na SetIO $00001050 $0000000B $00000000 $00002710\nserve VERTB\nserve VERTB\na SendIO $00001028\na DoIO $00001050 -> $00000000\na SetIO $00001050 $0000000A $00000000 $00000000\na DoIO $00001050 -> $00000000\na IOMicros $00001050 -> $00002710\nserve VERTB\nserve VERTB\ntimer $00001028\n"
+
+-- System time is ahead by 100000: the first three come at one moment of the clock, 20000, and the one that was begun last at 15000.
+abbrev pub RequestsOfOneMomentFinishInTheOrderOfBeginning : Type 0
+RequestsOfOneMomentFinishInTheOrderOfBeginning =
+    trace
+    (with_timer
+    (makes_reply_port ∷ makes_request 1 ∷ makes_request 2 ∷ makes_request 3 ∷ makes_request 4
+    ∷ opens_timer 3 1 ∷ opens_timer 0 2 ∷ opens_timer 1 3 ∷ opens_timer 3 4 ∷ asks 11 100000 4 ∷ its_request DoIO 4
+    ∷ asks 9 120000 1 ∷ asks 9 20000 2 ∷ asks 9 20000 3 ∷ asks 9 115000 4
+    ∷ its_request SendIO 2 ∷ its_request SendIO 1 ∷ its_request SendIO 3 ∷ its_request SendIO 4 ∷ []))
+    (Run 19 ∷ Tick 1 ∷ [])
+    ≡ codes "switch a\na CreateMsgPort -> $00001000\na CreateIORequest $00001000 -> $00001028\na CreateIORequest $00001000 -> $00001050\na CreateIORequest $00001000 -> $00001078\na CreateIORequest $00001000 -> $000010A0\na OpenDevice \"timer.device\" $00000003 $00001028 -> $00000000\na OpenDevice \"timer.device\" $00000000 $00001050 -> $00000000\na OpenDevice \"timer.device\" $00000001 $00001078 -> $00000000\na OpenDevice \"timer.device\" $00000003 $000010A0 -> $00000000\na SetIO $000010A0 $0000000B $00000000 $000186A0\na DoIO $000010A0 -> $00000000\na SetIO $00001028 $00000009 $00000000 $0001D4C0\na SetIO $00001050 $00000009 $00000000 $00004E20\na SetIO $00001078 $00000009 $00000000 $00004E20\na SetIO $000010A0 $00000009 $00000000 $0001C138\na SendIO $00001050\na SendIO $00001028\na SendIO $00001078\na SendIO $000010A0\nserve VERTB\ntimer $000010A0\ntimer $00001050\ntimer $00001028\ntimer $00001078\n"
+
+-- a tick under Disable makes the third request due, which is not looked at until interrupts are allowed again
+abbrev pub DisableDoesNotHoldASettingBack : Type 0
+DisableDoesNotHoldASettingBack =
+    trace
+    (with_timer
+    (makes_reply_port ∷ makes_request 1 ∷ makes_request 2 ∷ makes_request 3 ∷ opens_timer 3 1 ∷ opens_timer 3 2 ∷ opens_timer 0 3
+    ∷ asks 9 30000 1 ∷ asks 11 30000 2 ∷ asks 9 10000 3 ∷ its_request SendIO 1 ∷ its_request SendIO 3 ∷ command (Nesting Disable) []
+    ∷ its_request DoIO 2 ∷ command (Nesting Enable) [] ∷ []))
+    (Run 13 ∷ Tick 1 ∷ Run 2 ∷ [])
+    ≡ codes "switch a\na CreateMsgPort -> $00001000\na CreateIORequest $00001000 -> $00001028\na CreateIORequest $00001000 -> $00001050\na CreateIORequest $00001000 -> $00001078\na OpenDevice \"timer.device\" $00000003 $00001028 -> $00000000\na OpenDevice \"timer.device\" $00000003 $00001050 -> $00000000\na OpenDevice \"timer.device\" $00000000 $00001078 -> $00000000\na SetIO $00001028 $00000009 $00000000 $00007530\na SetIO $00001050 $0000000B $00000000 $00007530\na SetIO $00001078 $00000009 $00000000 $00002710\na SendIO $00001028\na SendIO $00001078\na Disable\na DoIO $00001050 -> $00000000\ntimer $00001028\na Enable\nserve VERTB\ntimer $00001078\n"

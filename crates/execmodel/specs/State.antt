@@ -9,7 +9,8 @@ use Rattle.taskscript.specs.File.{MachineData, SoftintData, ServerData, TaskData
 use Rattle.scheduler.specs.Schedule.{Schedule, unstarted}
 use Rattle.softint.specs.Sources.{no_latches}
 use Rattle.softint.specs.declared.latches.Latches.{Latches}
-pub use Rattle.execmodel.specs.Blocks.{Object, Plain, ListHead, Node, MsgPort, Message, Semaphore, Library, Request, Block, Heap, PublicPort, Waiting, Timer, Memory, on_heap, on_timer}
+use Rattle.timerdev.specs.Timing.{new_timer}
+pub use Rattle.execmodel.specs.Blocks.{Object, Plain, ListHead, Node, MsgPort, Message, Semaphore, Library, Request, Block, Heap, PublicPort, Due, AtClock, AtSystem, Waiting, Timer, Memory, on_heap, on_timer}
 
 -- a command of a task with the values that its arguments had when it was first tried, and the place of the command after it; and, where
 -- the task waits in it at a port, the signals that it waits for, else 0
@@ -141,7 +142,8 @@ abbrev pub begun : TaskData → Program
 begun task = begun_with task.code task.start
 
 -- The machine of a file before its start: no task was added, nothing runs, it was not yet told to be idle, and no interrupt was
--- asked for. No memory is allocated, no port is public, and no request waits; the clock of the timer begins at 0 (own choice).
+-- asked for. No memory is allocated, no port is public, and no request waits; the clock of the timer and system time begin at 0 (own
+-- choice).
 unfoldable pub booted : MachineData → State
 booted machine = record {
   schedule = unstarted (length machine.tasks) (map (λ (task : TaskData). task.pri) machine.tasks) (map (λ (task : TaskData). task.name) machine.tasks) machine.quantum;
@@ -152,7 +154,7 @@ booted machine = record {
     pool = machine.pool;
     heap = [];
     public = [];
-    timer = record { clock = 0; tick_micros = machine.tick_micros; waiting = [] };
+    timer = new_timer machine.tick_micros;
   };
   bodies = record { softints = machine.softints; servers = machine.servers };
   pending = record { caused = []; latches = no_latches };

@@ -25,8 +25,8 @@ use Rattle.execmodel.specs.Ports.{does_ports}
 use Rattle.execmodel.specs.Semaphores.{does_semaphores}
 use Rattle.execmodel.specs.Causing.{does_interrupts}
 use Rattle.execmodel.specs.Libraries.{does_libraries}
-use Rattle.execmodel.specs.Requests.{does_requests}
-use Rattle.execmodel.specs.Timing.{ticked}
+use Rattle.execmodel.specs.Requests.{does_requests, finishes_set}
+use Rattle.timerdev.specs.Timing.{ticked}
 use Rattle.softint.specs.declared.source.Source.{Source}
 use Rattle.softint.specs.declared.source.Source.TheVariants.{Vertb}
 
@@ -48,7 +48,7 @@ settle s = unless_stopped (andthen interrupts (unless_stopped switches)) s
 
 -- ---- step
 
--- a call of task t, by the group of its word
+-- a call of task t, by the group of its word; where one sets system time, those that wait for it are looked at after the call's own line
 abbrev pub does_word : Word → ℕ → Call → State → Outcome
 does_word (Plain word) t call s = does_plain word t call s
 does_word (Signals word) t call s = does_signals word t call s
@@ -60,7 +60,7 @@ does_word (Ports word) t call s = does_ports word t call s
 does_word (Semaphores word) t call s = does_semaphores word t call s
 does_word (Interrupts word) t call s = does_interrupts word t call s
 does_word (Libraries word) t call s = does_libraries word t call s
-does_word (Requests word) t call s = does_requests word t call s
+does_word (Requests word) t call s = andthen (does_requests word t call) finishes_set s
 
 unfoldable pub does : ℕ → Call → State → Outcome
 does t call s = does_word call.word t call s
@@ -105,7 +105,7 @@ steps (suc n) s = andthen (steps n) step s
 unfoldable pub request : Source → State → Outcome
 request asks s = unless_stopped (λ s. settle (on_pending (with_latch_of asks true) s)) s
 
--- one tick: the clock gains it, whatever is disabled, and VERTB is requested; a stopped machine does nothing
+-- one tick: the clock and system time gain it, whatever is disabled, and VERTB is requested; a stopped machine does nothing
 unfoldable pub tick : State → Outcome
 tick s = unless_stopped (λ s. request Vertb (on_memory (on_timer ticked) s)) s
 

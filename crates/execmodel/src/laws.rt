@@ -2,7 +2,7 @@
 ghost use Rattle.std.specs.Prelude.{◌≡◌, true, List};
 ghost use Rattle.taskscript.specs.declared.event.Event.{Event};
 ghost use Rattle.execmodel.specs.Keeping.{PlainWordsChangeScripts, SignalWordsChangeSignalsAndStates, NestingWordsChangeNestings, TaskWordsChangeStatesPrioritiesAndObjects, ListWordsChangeTheMemory, MemoryWordsChangeTheMemory, PortWordsChangePortsSignalsAndStates, SemaphoreWordsChangeStatesAndObjects, InterruptWordsChangeWhatIsCaused, LibraryWordsChangeTheMemory, RequestWordsChangeRequestsPortsSignalsAndStates};
-ghost use Rattle.execmodel.specs.Laws.{FirstInFirstOut, EachByteHasOneOwner, FreeMemRefusesObjects, OwnersChangeAtTheLastRelease, FreeSemaphoresHaveNoWaiters, SemaphoresPassInOrder, QueuesAgreeWithTheSchedule, EachStateIsSettled, SwitchesGoToTheChosen, OnlySwitchesSaySo, WaitersHaveReceivedNone, ReceivedSignalsStay, InterruptsKeepNestings, ThreeServingsAtMost, OpenLibrariesStay, ReplyPortsLive, RequestsUnderWayWait, TheClockCountsTicks};
+ghost use Rattle.execmodel.specs.Laws.{FirstInFirstOut, EachByteHasOneOwner, FreeMemRefusesObjects, OwnersChangeAtTheLastRelease, FreeSemaphoresHaveNoWaiters, SemaphoresPassInOrder, QueuesAgreeWithTheSchedule, EachStateIsSettled, SwitchesGoToTheChosen, OnlySwitchesSaySo, WaitersHaveReceivedNone, ReceivedSignalsStay, InterruptsKeepNestings, ThreeServingsAtMost, OpenLibrariesStay, ReplyPortsLive, RequestsUnderWayWait, TheClockCountsTicks, SystemTimeGoesWithTheClock};
 ghost use Rattle.execmodel.specs.State.{State, Outcome, quiet, andthen, unless_stopped};
 ghost use Rattle.execmodel.specs.Step.{event, events};
 
@@ -23,8 +23,8 @@ pub fn an_alert_ends_all()
 /// objects in them; words of ports these, which ports are public, signals, which tasks are ready, running or waiting, and which software
 /// interrupts are caused; words of semaphores the objects and which tasks are ready, running or waiting, words of tasks these and the
 /// priorities, and words of interrupts which software interrupts are caused; words of requests the objects, which requests wait for the timer,
-/// signals, which tasks are ready, running or waiting, and which software interrupts are caused, but neither the clock nor which ports are
-/// public. Each word may change the scripts, and an alert stops the machine.
+/// system time, signals, which tasks are ready, running or waiting, and which software interrupts are caused, but neither the clock nor
+/// which ports are public. Each word may change the scripts, and an alert stops the machine.
 ///
 /// Source: own choice.
 pub fn each_group_keeps_to_its_part()
@@ -119,8 +119,8 @@ pub fn open_stays()
     ensures { OpenLibrariesStay }
 {}
 
-/// The reply port of a request that is under way lives, in every state of every run: so whatever finishes the request, a tick or AbortIO, finds
-/// the port where the reply is to be put. No port that a request under way is to be replied at is deleted.
+/// The reply port of a request that is under way lives, in every state of every run: so whatever finishes the request, a tick, a setting of
+/// system time or AbortIO, finds the port where the reply is to be put. No port that a request under way is to be replied at is deleted.
 ///
 /// Source: RKM Devices, Introduction to Amiga System Devices; that the port may not be deleted: own choice.
 pub fn reply_ports_live()
@@ -140,4 +140,12 @@ pub fn requests_under_way_wait()
 /// Source: RKM Devices, Timer Device; that the clock begins at 0 and counts under Disable too: own choice.
 pub fn the_clock_counts_ticks()
     ensures { TheClockCountsTicks }
+{}
+
+/// System time goes with the clock: what it is ahead of it, or behind it, stays in each step, tick and request of every run, unless the
+/// running task in this step begins a request of the command TR_SETSYSTIME, by SendIO or DoIO; then system time is the time of that request.
+///
+/// Source: RKM Devices, Timer Device; autodoc timer.device/TR_SETSYSTIME; that system time begins with the clock: own choice.
+pub fn system_time_goes_with_the_clock()
+    ensures { SystemTimeGoesWithTheClock }
 {}

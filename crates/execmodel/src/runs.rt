@@ -1,6 +1,6 @@
 //! Whole traces of small machines, and the marks that they leave, as the definitions compute them.
 
-ghost use Rattle.execmodel.specs.Runs.{PrintsOnce, NothingFollowsAnAlert, SignalWakesAHigherTask, EqualPriorityDoesNotPreempt, APreemptedTaskArrivesAnew, AWaitKeepsItsMask, CalculatesAndJumps, ForbidKeepsOthersOff, AnEndedQuantumLetsAnEqualRun, TicksUnderDisableAreServedOnce, ALiveTaskIsFoundByItsName, SizesRoundUp, SuitableRegionsAreTriedByPriority, EqualsStandInOrderOfArrival, AListInUseIsNotFreed, EachKindHasItsPool, MessagesAreTakenInOrderOfArrival, MarksTellWhatCameAndWhatWasTaken, ThePublicPortOfGreatestPriorityIsFound, AReplyGoesToTheReplyPort, ASemaphoreIsHandedToTheFirstThatAsked, MarksTellWhoAskedAndWhoGotIt, ARemovedTaskLeavesTheQueue, MarksTellWhoAskedAndWhoLeft, WhereNoTaskWaitsThereIsNoMark, ASoftintRunsBeforeTheNextCommand, ASoftintMayCauseItselfAgain, SoftintsRunOneAStepByPriority, ASoftintRunsWhereNoTaskRuns, ServersRunByPriorityUntilOneClaims, NoSwitchFollowsAnAlertInABody, NoIdleFollowsAnAlertInABody, NoCommandFollowsAnAlertInASoftint, APortMayCauseASoftint, MarksTellWhatASoftintTook, ARemovedLibraryGoesAtItsLastClose, AnOpeningTakesARemovalBack, TheClockCountsUnderDisable, ATaskSleepsByDoIO, RequestsFinishByTheTimeWhenTheyAreDue, AStraySignalMakesDoIOLookAgain, AnAbortedRequestIsRepliedAtOnce, WaitIOTakesTheReply, MarksTellWhichReplyWasTaken, ARequestThatIsDueNowFinishes, RequestsOfOneTimeFinishInTheOrderOfBeginning, MicrosecondsCountBeyondASecond, AnAwaitedPortIsNotDeleted, TheTimerHasTwoUnits, SendIOClearsTheQuickBitAndTheError};
+ghost use Rattle.execmodel.specs.Runs.{PrintsOnce, NothingFollowsAnAlert, SignalWakesAHigherTask, EqualPriorityDoesNotPreempt, APreemptedTaskArrivesAnew, AWaitKeepsItsMask, CalculatesAndJumps, ForbidKeepsOthersOff, AnEndedQuantumLetsAnEqualRun, TicksUnderDisableAreServedOnce, ALiveTaskIsFoundByItsName, SizesRoundUp, SuitableRegionsAreTriedByPriority, EqualsStandInOrderOfArrival, AListInUseIsNotFreed, EachKindHasItsPool, MessagesAreTakenInOrderOfArrival, MarksTellWhatCameAndWhatWasTaken, ThePublicPortOfGreatestPriorityIsFound, AReplyGoesToTheReplyPort, ASemaphoreIsHandedToTheFirstThatAsked, MarksTellWhoAskedAndWhoGotIt, ARemovedTaskLeavesTheQueue, MarksTellWhoAskedAndWhoLeft, WhereNoTaskWaitsThereIsNoMark, ASoftintRunsBeforeTheNextCommand, ASoftintMayCauseItselfAgain, SoftintsRunOneAStepByPriority, ASoftintRunsWhereNoTaskRuns, ServersRunByPriorityUntilOneClaims, NoSwitchFollowsAnAlertInABody, NoIdleFollowsAnAlertInABody, NoCommandFollowsAnAlertInASoftint, APortMayCauseASoftint, MarksTellWhatASoftintTook, ARemovedLibraryGoesAtItsLastClose, AnOpeningTakesARemovalBack, TheClockCountsUnderDisable, ATaskSleepsByDoIO, RequestsFinishByTheTimeWhenTheyAreDue, AStraySignalMakesDoIOLookAgain, AnAbortedRequestIsRepliedAtOnce, WaitIOTakesTheReply, MarksTellWhichReplyWasTaken, ARequestThatIsDueNowFinishes, RequestsOfOneTimeFinishInTheOrderOfBeginning, MicrosecondsCountBeyondASecond, AnAwaitedPortIsNotDeleted, TheTimerHasThreeUnits, SendIOClearsTheQuickBitAndTheError, ATaskWaitsUntilASystemTime, ATimeThatHasComeIsDoneAtOnce, ASettingWakesATask, TheSetterIsRepliedFirst, MarksTellThatTheSetterWasRepliedFirst, ASettingLeavesTheOtherUnitsAlone, ASettingBackFinishesNothing, RequestsOfOneMomentFinishInTheOrderOfBeginning, DisableDoesNotHoldASettingBack};
 
 /// A task that prints once ends at its next step, and the machine is idle.
 pub fn a_task_prints_once_and_ends()
@@ -224,13 +224,59 @@ pub fn an_awaited_port_is_not_deleted()
     ensures { AnAwaitedPortIsNotDeleted }
 {}
 
-/// The timer has units 0 and 1: a request for another one is not open, which its error tells, and cannot begin.
-pub fn the_timer_has_two_units()
-    ensures { TheTimerHasTwoUnits }
+/// The timer has units 0, 1 and 3: a request for another one is not open, which its error tells, and cannot begin.
+pub fn the_timer_has_three_units()
+    ensures { TheTimerHasThreeUnits }
 {}
 
 /// A request that DoIO has done at once has the quick bit set; SendIO clears it, so that the request is replied. While a request is under way
 /// its error is 0, whatever it was before.
 pub fn send_io_clears_the_quick_bit_and_the_error()
     ensures { SendIOClearsTheQuickBitAndTheError }
+{}
+
+/// A task that waits for a system time that is still to come by DoIO is woken when system time has come to it, at the first tick after it.
+pub fn a_task_waits_until_a_system_time()
+    ensures { ATaskWaitsUntilASystemTime }
+{}
+
+/// A request for a system time that is just the one now is done at once, and quick, as one of time zero is; one for a microsecond later
+/// waits.
+pub fn a_time_that_has_come_is_done_at_once()
+    ensures { ATimeThatHasComeIsDoneAtOnce }
+{}
+
+/// A task that waits for a system time is woken where another task sets system time to it, without a tick.
+pub fn a_setting_wakes_a_task()
+    ensures { ASettingWakesATask }
+{}
+
+/// The request that sets system time is replied first and the line of its call is printed; then those finish whose system time has come, by
+/// their times, each with its line. The marks tell the order of the replies.
+pub fn the_setter_is_replied_first()
+    ensures trace { TheSetterIsRepliedFirst }
+    ensures marks { MarksTellThatTheSetterWasRepliedFirst }
+{}
+
+/// A setting of system time neither finishes nor moves a request of UNIT_MICROHZ: that finishes when the clock has come to its time.
+pub fn a_setting_leaves_the_other_units_alone()
+    ensures { ASettingLeavesTheOtherUnitsAlone }
+{}
+
+/// Where system time is set back, no request finishes, and those that wait for it wait longer; TR_GETSYSTIME tells system time, and not the
+/// clock.
+pub fn a_setting_back_finishes_nothing()
+    ensures { ASettingBackFinishesNothing }
+{}
+
+/// At a tick requests of all units finish by the moment when their times come, those for a system time by what it is ahead of the clock then;
+/// those of one moment in the order in which they were begun, whatever their units.
+pub fn requests_of_one_moment_finish_in_the_order_of_beginning()
+    ensures { RequestsOfOneMomentFinishInTheOrderOfBeginning }
+{}
+
+/// A setting of system time under Disable finishes at once those that wait for it; what a tick has made due under Disable on another unit
+/// finishes after Enable.
+pub fn disable_does_not_hold_a_setting_back()
+    ensures { DisableDoesNotHoldASettingBack }
 {}

@@ -8,6 +8,7 @@ use Rattle.taskscript.specs.declared.file.TaskRecord.{TaskRecord}
 use Rattle.scheduler.specs.Schedule.{unstarted}
 use Rattle.execmodel.specs.State.{booted}
 use Rattle.softint.specs.Sources.{no_latches}
+use Rattle.timerdev.specs.Timing.{new_timer}
 use Rattle.execsim.specs.Agreement.{Seen, Agrees, caused_in_order, in_order, queues_in_order}
 use Rattle.execsim.proofs.Calling.{map-map_as}
 
@@ -33,7 +34,8 @@ booted-pending : (machine : MachineData) → record { caused = []; latches = no_
 unfolding booted order
 booted-pending machine = refl
 
-booted-memory : (machine : MachineData) → record { regions = machine.regions; libraries = machine.libraries; pool = machine.pool; heap = []; public = []; timer = record { clock = 0; tick_micros = machine.tick_micros; waiting = [] } } ≡ queues_in_order (booted machine).memory
+booted-memory : (machine : MachineData)
+    → record { regions = machine.regions; libraries = machine.libraries; pool = machine.pool; heap = []; public = []; timer = new_timer machine.tick_micros } ≡ queues_in_order (booted machine).memory
 unfolding booted order
 booted-memory machine = refl
 
@@ -41,7 +43,7 @@ booted-memory machine = refl
 pub boots : {seen : Seen} (machine : MachineData) (tasks : List TaskRecord) → map task_view tasks ≡ machine.tasks
     → seen.schedule ≡ unstarted (length tasks) (map (λ (t : TaskRecord). t.pri) tasks) (map (λ (t : TaskRecord). t.name.bytes) tasks) machine.quantum
     → seen.scripts ≡ (booted (record machine { tasks = map task_view tasks })).scripts
-    → seen.memory ≡ record { regions = machine.regions; libraries = machine.libraries; pool = machine.pool; heap = []; public = []; timer = record { clock = 0; tick_micros = machine.tick_micros; waiting = [] } }
+    → seen.memory ≡ record { regions = machine.regions; libraries = machine.libraries; pool = machine.pool; heap = []; public = []; timer = new_timer machine.tick_micros }
     → seen.bodies ≡ record { softints = machine.softints; servers = machine.servers } → seen.pending ≡ record { caused = []; latches = no_latches }
     → seen.stopped ≡ false → Agrees seen (booted machine)
 boots {seen} machine tasks states schedule scripts memory bodies pending going =

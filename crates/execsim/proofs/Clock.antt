@@ -15,11 +15,12 @@ use Rattle.softint.specs.declared.source.Source.TheVariants.{Vertb}
 use Rattle.scheduler.specs.declared.Switch.{Switch as Choice}
 use Rattle.scheduler.specs.declared.Switch.TheVariants as switch
 use Rattle.execmodel.specs.State.{Bodies, Call, Mark, Memory, State, Outcome, Timer as Clock, andthen, quiet, on_memory, on_schedule, on_timer}
-use Rattle.execmodel.specs.Keeping.{without_waiting}
+use Rattle.execmodel.specs.Keeping.{clock_alone}
 use Rattle.execmodel.specs.Pending.{source_named}
-use Rattle.execmodel.specs.Step.{does, does_word, ends, switches, announced, steps, request, tick, ticks, starts, event, events}
+use Rattle.execmodel.specs.Step.{ends, switches, announced, steps, request, tick, ticks, starts, event, events}
 use Rattle.execmodel.specs.Scheduling.{rescheduled, switch_of}
-use Rattle.execmodel.specs.Timing.{ticked}
+use Rattle.timerdev.specs.Timing.{ticked}
+use Rattle.execmodel.proofs.Itself.{does_itself, word_itself}
 use Rattle.execmodel.proofs.Keeping as words
 use Rattle.execmodel.proofs.Stretches.{HoldsOfEach, HoldsOfInterrupts, of_request, of_starts, of_steps}
 use Rattle.execsim.specs.Agreement.{Seen, Agrees, FollowsWhileGood}
@@ -31,27 +32,27 @@ use Rattle.execsim.proofs.Keeping.{finish_keeps, keeps_step}
 
 -- the clock stands, and so does what it gains at each tick
 abbrev Stands : State → List Mark → State → Type 0
-Stands s marks r = without_waiting r.memory.timer ≡ without_waiting s.memory.timer
+Stands s marks r = clock_alone r.memory.timer ≡ clock_alone s.memory.timer
 
--- a word of the running task moves no clock
-word_stands : (is : Word) (t : ℕ) (call : Call) (s : State) → without_waiting (does_word is t call s).state.memory.timer ≡ without_waiting s.memory.timer
-word_stands (word.Plain is) t call s = ap (λ (x : State). without_waiting x.memory.timer) (words.plain_words_change_scripts is t call s)
-word_stands (word.Signals is) t call s = ap (λ (x : State). without_waiting x.memory.timer) (words.signal_words_change_signals_and_states is t call s)
-word_stands (word.Nesting is) t call s = ap (λ (x : State). without_waiting x.memory.timer) (words.nesting_words_change_nestings is t call s)
-word_stands (word.Tasks is) t call s = ap (λ (x : State). without_waiting x.memory.timer) (words.task_words_change_states_priorities_and_objects is t call s)
-word_stands (word.Lists is) t call s = ap (λ (x : State). without_waiting x.memory.timer) (words.list_words_change_the_memory is t call s)
-word_stands (word.Memory is) t call s = ap (λ (x : State). without_waiting x.memory.timer) (words.memory_words_change_the_memory is t call s)
-word_stands (word.Ports is) t call s = ap (λ (x : State). without_waiting x.memory.timer) (words.port_words_change_ports_signals_and_states is t call s)
-word_stands (word.Semaphores is) t call s = ap (λ (x : State). without_waiting x.memory.timer) (words.semaphore_words_change_states_and_objects is t call s)
-word_stands (word.Interrupts is) t call s = ap (λ (x : State). without_waiting x.memory.timer) (words.interrupt_words_change_what_is_caused is t call s)
-word_stands (word.Libraries is) t call s = ap (λ (x : State). without_waiting x.memory.timer) (words.library_words_change_the_memory is t call s)
-word_stands (word.Requests is) t call s = ap (λ (x : State). without_waiting x.memory.timer) (words.request_words_change_requests_ports_signals_and_states is t call s)
+-- a word of the running task moves no clock by itself
+word_stands : (is : Word) (t : ℕ) (call : Call) (s : State)
+    → clock_alone (word_itself is t call s).state.memory.timer ≡ clock_alone s.memory.timer
+word_stands (word.Plain is) t call s = ap (λ (x : State). clock_alone x.memory.timer) (words.plain_words_change_scripts is t call s)
+word_stands (word.Signals is) t call s = ap (λ (x : State). clock_alone x.memory.timer) (words.signal_words_change_signals_and_states is t call s)
+word_stands (word.Nesting is) t call s = ap (λ (x : State). clock_alone x.memory.timer) (words.nesting_words_change_nestings is t call s)
+word_stands (word.Tasks is) t call s = ap (λ (x : State). clock_alone x.memory.timer) (words.task_words_change_states_priorities_and_objects is t call s)
+word_stands (word.Lists is) t call s = ap (λ (x : State). clock_alone x.memory.timer) (words.list_words_change_the_memory is t call s)
+word_stands (word.Memory is) t call s = ap (λ (x : State). clock_alone x.memory.timer) (words.memory_words_change_the_memory is t call s)
+word_stands (word.Ports is) t call s = ap (λ (x : State). clock_alone x.memory.timer) (words.port_words_change_ports_signals_and_states is t call s)
+word_stands (word.Semaphores is) t call s = ap (λ (x : State). clock_alone x.memory.timer) (words.semaphore_words_change_states_and_objects is t call s)
+word_stands (word.Interrupts is) t call s = ap (λ (x : State). clock_alone x.memory.timer) (words.interrupt_words_change_what_is_caused is t call s)
+word_stands (word.Libraries is) t call s = ap (λ (x : State). clock_alone x.memory.timer) (words.library_words_change_the_memory is t call s)
+word_stands (word.Requests is) t call s = ap (λ (x : State). clock_alone x.memory.timer) (words.request_words_keep is t call s)
 
-called_stands : (t : ℕ) (call : Call) (s : State) → without_waiting (does t call s).state.memory.timer ≡ without_waiting s.memory.timer
-unfolding does
+called_stands : (t : ℕ) (call : Call) (s : State) → clock_alone (does_itself t call s).state.memory.timer ≡ clock_alone s.memory.timer
 called_stands t call s = word_stands call.word t call s
 
-ended_stands : (t : ℕ) (s : State) → without_waiting (ends t s).state.memory.timer ≡ without_waiting s.memory.timer
+ended_stands : (t : ℕ) (s : State) → clock_alone (ends t s).state.memory.timer ≡ clock_alone s.memory.timer
 unfolding ends
 ended_stands t s = refl
 
@@ -60,9 +61,9 @@ announced_state None s = refl
 announced_state (Some (switch.To t)) s = refl
 announced_state (Some switch.Idle) s = refl
 
-switched_stands : (s : State) → without_waiting (switches s).state.memory.timer ≡ without_waiting s.memory.timer
+switched_stands : (s : State) → clock_alone (switches s).state.memory.timer ≡ clock_alone s.memory.timer
 unfolding switches
-switched_stands s = ap (λ (x : State). without_waiting x.memory.timer) (announced_state (switch_of s.schedule) (on_schedule rescheduled s))
+switched_stands s = ap (λ (x : State). clock_alone x.memory.timer) (announced_state (switch_of s.schedule) (on_schedule rescheduled s))
 
 interrupts_stand : HoldsOfInterrupts Stands
 interrupts_stand = record {
@@ -70,7 +71,8 @@ interrupts_stand = record {
   joined = λ s some r more q before after. after ∙ before;
   commanding = λ name command s. ap (λ (x : Bodies × Clock). x.1) (keeps_step name command s);
   pending = λ f s. refl;
-  finishing = λ request s due. ap (λ (x : Bodies × Clock). x.1) (finish_keeps request s);
+  finishing = λ request s waits. ap (λ (x : Bodies × Clock). x.1) (finish_keeps request s);
+  looking = λ s. refl;
   ticking = λ s. refl;
   switching = switched_stands;
 }
@@ -94,7 +96,7 @@ right-distrib : (a b c : ℕ) → (a + b) * c ≡ a * c + b * c
 right-distrib zero b c = omega arith
 right-distrib (suc a) b c = let rest = right-distrib a b c in omega (arith, rest)
 
-gains_none : (s r : State) → without_waiting r.memory.timer ≡ without_waiting s.memory.timer → Gains 0 s r
+gains_none : (s r : State) → clock_alone r.memory.timer ≡ clock_alone s.memory.timer → Gains 0 s r
 gains_none s r stands =
     let clock : r.memory.timer.clock ≡ s.memory.timer.clock = ap (λ (x : Clock). x.clock) stands in
     record { micros = ap (λ (x : Clock). x.tick_micros) stands; clock = omega (arith, clock) }

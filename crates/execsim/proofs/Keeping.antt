@@ -17,22 +17,22 @@ use Rattle.msgport.specs.declared.action.Action.{Action}
 use Rattle.msgport.specs.declared.action.Action.TheVariants as action
 use Rattle.msgport.specs.Port.{acting}
 use Rattle.execlist.specs.Order.{first}
-use Rattle.execmodel.specs.Keeping.{without_waiting}
+use Rattle.execmodel.specs.Keeping.{clock_alone}
 use Rattle.execmodel.specs.State.{Bodies, Call, Timer as Clock, State, Outcome, quiet, says, andthen, unless_stopped, on_memory, on_heap}
 use Rattle.execmodel.specs.Bodies.{body_step, does_in_body, does_interrupts_by, does_plain_by, does_ports_by, does_signals_by, does_word_by, runs_body}
 use Rattle.execmodel.specs.Calls.{ByBody, argument, call_in_body, unless_by}
 use Rattle.execmodel.specs.Interrupts.{finishes_for, runs_server, server_at}
 use Rattle.execmodel.specs.Pending.{causes}
 use Rattle.execmodel.specs.Ports.{content_of, delivered, messages_of, performed, port_alert, port_of, posted, put_alert, replied_by, reply_alert, taken_by}
-use Rattle.execmodel.specs.Requests.{acting_at, answering_port, ended, ends_with, finishes, finishes_all_due, finishes_due, with_reply}
+use Rattle.execmodel.specs.Requests.{acting_at, answering_port, ended, ends_with, finishes, finishes_all_due, finishes_each, with_reply}
 use Rattle.execmodel.specs.Signals.{signal_alert}
-use Rattle.execmodel.specs.Timing.{due_next}
+use Rattle.timerdev.specs.Timing.{due_next}
 use Rattle.softint.specs.declared.source.Source.{Source}
 use Rattle.softint.specs.declared.source.Source.TheVariants as source
 
--- what interrupts execute, and the timer without the requests that wait
+-- what interrupts execute, and the clock of the timer
 abbrev pub held : State → Bodies × Clock
-held s = (s.bodies, without_waiting s.memory.timer)
+held s = (s.bodies, clock_alone s.memory.timer)
 
 abbrev pub Holds : (State → Outcome) → Type 0
 Holds next = (s : State) → held (next s).state ≡ held s
@@ -157,22 +157,20 @@ finish_keeps request s =
     ∙ keeps_performed (acting_at (answering_port request s.memory.heap) s.memory.heap) (on_memory (ended (pos 0) request) s)
     ∙ keeps_ended request s
 
--- so many requests finish, by the first one
-abbrev finishes_from : ℕ → Option ℕ → State → Outcome
-finishes_from n found s = elim found as (λ (x : Option ℕ). Outcome) [ None ↦ quiet s | Some request ↦ andthen (finishes request) (finishes_due n) s ]
+-- the request that is found finishes, and then what comes next
+found_keeps : (next : State → Outcome) → Holds next → (found : Option ℕ) (s : State)
+    → held (elim found as (λ (x : Option ℕ). Outcome) [ None ↦ quiet s | Some request ↦ andthen (finishes request) next s ]).state ≡ held s
+unfolding andthen
+found_keeps next keeps None s = refl
+found_keeps next keeps (Some request) s = keeps (finishes request s).state ∙ finish_keeps request s
 
-due_keeps : (n : ℕ) → Holds (finishes_due n)
-unfolding finishes_due andthen
-due_keeps zero s = refl
-due_keeps (suc n) s = by_found (λ request. due_keeps n (finishes request s).state ∙ finish_keeps request s) (due_next s.memory.timer)
-  where
-    by_found : ((request : ℕ) → held (finishes_due n (finishes request s).state).state ≡ held s) → (found : Option ℕ)
-        → held (finishes_from n found s).state ≡ held s
-    by_found each None = refl
-    by_found each (Some request) = each request
+each_keeps : (next : Clock → Option ℕ) (n : ℕ) → Holds (finishes_each next n)
+unfolding finishes_each
+each_keeps next zero s = refl
+each_keeps next (suc n) s = found_keeps (finishes_each next n) (each_keeps next n) (next s.memory.timer) s
 
 pub finishing_keeps : (asks : Source) → Holds (finishes_for asks)
 unfolding finishes_all_due
 finishing_keeps source.Ports s = refl
-finishing_keeps source.Vertb s = due_keeps (length s.memory.timer.waiting) s
+finishing_keeps source.Vertb s = each_keeps due_next (length s.memory.timer.waiting) s
 finishing_keeps source.Exter s = refl

@@ -1,68 +1,55 @@
 -- How the machine follows the words of requests, and the requests that finish.
-use Rattle.std.proofs.Common.{◌≡◌, ◌≢◌, ℕ, zero, suc, ◌+◌, ◌≤◌, ◌<◌, ◌^◌, Bool, true, false, cond, not, List, [], ◌∷◌, length, Option, None, Some, refl, ap, sym, ◌∙◌, subst, arith}
-use Rattle.std.specs.Prelude.{ℤ, pos, negsuc, ◌==◌, Result, Ok, Err, IfOk, OnOk, OnErr, codes, filter, find, fold, map, nat_eq, nat_lt, if◌then◌else◌}
+use Rattle.std.proofs.Common.{◌≡◌, ◌≢◌, ℕ, zero, suc, ◌+◌, ◌≤◌, ◌<◌, ◌^◌, Bool, true, false, cond, not, ◌&&◌, ◌⊎◌, inl, inr, List, [], ◌∷◌, length, Option, None, Some, refl, ap, sym, ◌∙◌, subst, arith}
+use Rattle.std.specs.Prelude.{ℤ, pos, negsuc, ◌==◌, Result, Ok, Err, IfOk, OnOk, OnErr, codes, filter, map, nat_eq, nat_lt, if◌then◌else◌}
 use Rattle.std.specs.Option.{option_map, unwrap_or}
 use Rattle.std.specs.Int.{cast_unsigned, w32}
 use Rattle.std.proofs.lemmas.Bool.{lt-ltb, le-ltb, eq-eqb}
 use Rattle.memlist.proofs.Answered.{nat_eq-other, nat_eq-same}
 use Rattle.exectrace.specs.Sink.{Tape, Puts}
 use Rattle.exectrace.specs.Trace.{printed, printed_line, Timer}
-use Rattle.execlist.specs.Order.{enqueue, order, is_lower}
-use Rattle.execlist.proofs.OrderLaws.{order_takes, order_leaves_out, found_in_order}
+use Rattle.execlist.specs.Order.{chosen, chosen_or, is_lower}
 use Rattle.scheduler.specs.Schedule.{sets_signals}
 use Rattle.msgport.specs.declared.action.Action.{Action}
 use Rattle.iorequest.specs.declared.request.Request.{Request as TimerRequest}
 use Rattle.iorequest.specs.declared.request.ReqState.{ReqState}
 use Rattle.iorequest.specs.declared.request.ReqState.TheVariants.{Idle, UnderWay, Quick, Replied}
 use Rattle.iorequest.specs.declared.request.Begun.{Begun}
-use Rattle.iorequest.specs.declared.request.Begun.TheVariants.{Finish, Queue}
-use Rattle.iorequest.specs.Request.{begun, done_state, due_of, error_of, finished, idle_request, is_to_wait, is_under_way, is_way}
+use Rattle.iorequest.specs.declared.request.Begun.TheVariants.{Finish, NewTime, Queue, Until}
+use Rattle.iorequest.specs.Request.{begun, done_state, due_of, error_of, finished, idle_request, is_to_wait, is_under_way, is_until, is_way, sets_time, time_of}
 use Rattle.iorequest.specs.Requests.{unit_error}
-use Rattle.execmodel.specs.State.{Call, Heap, Memory, Object, Request, State, Outcome, Timer as Clock, Waiting, quiet, says, andthen, out, on_memory, on_heap}
+use Rattle.execmodel.specs.State.{Call, Heap, Memory, Object, Request, State, Outcome, Timer as Clock, Waiting, quiet, says, andthen, out, on_memory, on_heap, on_timer}
 use Rattle.execmodel.specs.Calls.{argument, name_argument, unless, done, answered, alerted}
 use Rattle.execmodel.specs.Memory.{allocates, freed, placed}
 use Rattle.execmodel.specs.Objects.{is_kind, object_at, place_for_object, replaced}
 use Rattle.execmodel.specs.Ports.{loses, looked, performed, port_alert, port_of}
 use Rattle.execmodel.specs.Semaphores.{is_tried_again}
-use Rattle.execmodel.specs.Timing.{due_next, is_due, sooner}
+use Rattle.timerdev.specs.Timing.{due_next, has_come, is_system, looked_at, next_of, sooner, until_next}
 use Rattle.execmodel.specs.Requests as model
-use Rattle.execmodel.specs.Requests.{acting_at, answering_port, appended_at, begun_at, ended, ends_with, error_word, finished_at, finishes, finishes_all_due, finishes_due, heap_begun, is_command, is_request, is_request_at, looks_for, outcome_at, replying_port, reply_taken, request_alert, request_of, request_of_object, request_size, resting_alert, set_io_alert, timer_begun, where_port, with_reply, with_request}
+use Rattle.execmodel.specs.Requests.{acting_at, answering_port, appended_at, begun_at, ended, ends_with, error_word, finished_at, finishes, finishes_all_due, finishes_each, finishes_set, heap_begun, is_command, is_request, is_request_at, looks_for, replying_port, reply_taken, request_alert, request_of, request_of_object, request_size, resting_alert, set_io_alert, under_way, where_port, with_reply, with_request}
 use Rattle.execmodel.proofs.Heaps.{instead, object_replaced}
 use Rattle.execheap.specs.declared.awaited.Awaited.{Awaited}
 use Rattle.execheap.specs.declared.awaited.Awaited.TheVariants as awaited
 use Rattle.execheap.specs.declared.refusal.Refusal.{Refusal}
-use Rattle.execheap.specs.Listing.{aborted, aborting, acting_begun, acting_finished, awaited_for, begun_listed, due_listed, ended_if, finishing, taken_by_state, taken_if_replied, timer_listed}
+use Rattle.execheap.specs.Listing.{aborted, aborting, acting_begun, acting_finished, awaited_for, ended_if, finishing, taken_by_state, taken_if_replied}
 use Rattle.execheap.specs.Refusals.{alert_of, code_of}
-use Rattle.execsim.specs.Actions.{aborts_or_alerted, finishes_with, performed as performed_seen, performed_or_alerted, tells_or_waits}
-use Rattle.execsim.specs.Agreement.{Seen, Agrees, Follows, queues_in_order, timer_in_order}
+use Rattle.execsim.specs.Actions.{aborts_or_alerted, finishes_all_until, finishes_with, performed as performed_seen, performed_or_alerted, tells_or_waits}
+use Rattle.execsim.specs.Agreement.{Seen, Agrees, Follows, queues_in_order}
 use Rattle.execsim.specs.Endings.{answered_or_alerted, done_or_alerted}
 use Rattle.execsim.proofs.Following.{reads_memory, reads_scripts, moves_memory, moves_schedule, follows_as, follows_change, follows_leaving, follows_nothing, follows_saying, follows_then}
 use Rattle.execsim.proofs.Listing.{follows_allowed, follows_made, follows_refused, heap_changed}
 use Rattle.execsim.proofs.Porting.{performed_moves}
 use Rattle.execsim.proofs.Signalling.{sets_signals-in_order}
 
--- ---- requests that wait: in the order in which they are begun, and in that in which they finish
+-- ---- changes that look at no order
 
 ended-in_order : (error : ℤ) (request : ℕ) (y : Memory) → ended error request (queues_in_order y) ≡ queues_in_order (ended error request y)
 unfolding ended
-ended-in_order error request y =
-    ap (λ waiting. record (queues_in_order y) { heap = (ended error request y).heap; timer = record y.timer { waiting = waiting } })
-    (sym (order_leaves_out Waiting sooner (λ (w : Waiting). not (w.request == request)) y.timer.waiting))
+ended-in_order error request y = refl
 
-timer-in_order : (how : Begun) (request : ℕ) (timer : Clock) → timer_listed how request (timer_in_order timer) ≡ timer_in_order (timer_begun how request timer)
-timer-in_order (Queue due) request timer = ap (λ waiting. record timer { waiting = waiting })
-    (sym (order_takes Waiting sooner timer.waiting (record { request = request; due = due })))
-timer-in_order (Finish error) request timer = refl
-
-begun-in_order : (quick : Bool) (request : ℕ) (y : Memory) → begun_listed quick request (queues_in_order y) ≡ queues_in_order (begun_at quick request y)
-unfolding begun_listed begun_at
-begun-in_order quick request y =
-    ap (λ timer. record (queues_in_order y) { heap = heap_begun (outcome_at request y) quick y.timer.clock request y.heap; timer = timer })
-    (timer-in_order (outcome_at request y) request y.timer)
-
-due-in_order : (timer : Clock) → due_listed (timer_in_order timer) ≡ due_next timer
-unfolding due_listed due_next
-due-in_order timer = ap (option_map (λ (w : Waiting). w.request)) (found_in_order Waiting sooner (is_due timer.clock) timer.waiting)
+begun-in_order : (quick : Bool) (request : ℕ) (y : Memory)
+    → begun_at quick request (queues_in_order y) ≡ queues_in_order (begun_at quick request y)
+unfolding begun_at
+begun-in_order quick request y = refl
 
 -- ---- replies
 
@@ -226,7 +213,7 @@ module _ {m o : Seen} {a b : Tape} (t : ℕ) (call : Call) where
 module _ {m o : Seen} {a b : Tape} (t : ℕ) (call : Call) where
   pub send_tried : (x : Memory) (result : Result Action Refusal) → alert_of result ≡ model.send_alert (argument 0 call) m.memory.heap
       → IfOk result (λ act. act ≡ acting_begun false (argument 0 call) m.memory)
-      → OnOk result (x ≡ begun_listed false (argument 0 call) m.memory) → OnErr result (x ≡ m.memory)
+      → OnOk result (x ≡ begun_at false (argument 0 call) m.memory) → OnErr result (x ≡ m.memory)
       → Follows (performed_or_alerted result t call) (record m { memory = x }) o a b → Follows (model.does_send_io t call) m o a b
   unfolding model.does_send_io acting_begun replying_port
   send_tried x (Ok act) says acts changed kept follows =
@@ -238,7 +225,7 @@ module _ {m o : Seen} {a b : Tape} (t : ℕ) (call : Call) where
       let same : acting_at (replying_port false request s.memory) s.memory.heap ≡ act =
       reads_memory (λ memory. acting_at (replying_port false request memory) memory.heap) (λ y. refl) (sym acts) s e in
       rw same refl)
-      (follows_change (moves_memory (begun_at false request) (begun_listed false request) (begun-in_order false request)
+      (follows_change (moves_memory (begun_at false request) (begun_at false request) (begun-in_order false request)
       (ap (λ y. record m { memory = y }) changed)) follows)))
   send_tried x (Err why) says acts changed kept follows =
       follows_refused t call (λ memory. model.send_alert (argument 0 call) memory.heap) (λ y. refl) _ why says (rw kept at follows)
@@ -321,28 +308,71 @@ wait_refused t call x why says kept follows =
 
 -- ---- beginning and looking
 
--- how a request goes on that begins with its quick bit set
-begun_state : (request : ℕ) (memory : Memory) → is_request_at request memory.heap ≡ true → (waits : Bool)
-    → is_to_wait (request_of request memory.heap) ≡ waits
-    → (request_of request (begun_at true request memory).heap).state ≡ (if waits then UnderWay else Quick)
-unfolding begun_at finished_at answering_port
-begun_state request memory there true waits =
-    let q = request_of request memory.heap in
-    let now = memory.timer.clock in
-    ap (λ (b : Bool). (request_of request (heap_begun (if b then Queue (due_of now q) else Finish (error_of q)) true now request memory.heap)).state) waits
-    ∙ ap (λ (p : TimerRequest). p.state) (holds_given request (begun true now q) memory.heap there)
-begun_state request memory there false rests =
-    let q = request_of request memory.heap in
-    let now = memory.timer.clock in
-    let going = with_request request (begun true now q) memory.heap in
-    let holds = holds_given request (begun true now q) memory.heap there in
-    let quick : (request_of request going).quick ≡ true = ap (λ (p : TimerRequest). p.quick) holds ∙ ap not rests in
-    ap (λ (b : Bool). (request_of request (heap_begun (if b then Queue (due_of now q) else Finish (error_of q)) true now request memory.heap)).state) rests
-    ∙ ap (λ (b : Bool). (request_of request (appended_at (where_port (if b then None else Some (request_of request going).port) going) request
-    (with_request request (finished (error_of q) (request_of request going)) going))).state) quick
-    ∙ ap (λ (p : TimerRequest). p.state)
-    (holds_given request (finished (error_of q) (request_of request going)) going (stays_request request (begun true now q) memory.heap there))
-    ∙ ap done_state quick
+-- a request that sets system time does not add
+sets_no_more : (command : ℕ) → nat_eq command 11 ≡ true → nat_eq command 9 ≡ false
+sets_no_more command sets = nat_eq-other command 9
+    (λ is. let none : false ≡ true = ap (λ (c : ℕ). nat_eq c 11) (sym is) ∙ sets in cc)
+
+-- how a request goes on that begins with its quick bit set: it is under way, where it is to wait, and else done quick
+module _ (request : ℕ) (memory : Memory) (there : is_request_at request memory.heap ≡ true) where
+  -- the request as it is before
+  abbrev asks : TimerRequest
+  asks = request_of request memory.heap
+
+  abbrev going : Heap
+  going = under_way true memory.timer.system request memory.heap
+
+  goes : request_of request going ≡ begun true memory.timer.system asks
+  goes = holds_given request (begun true memory.timer.system asks) memory.heap there
+
+  ends_quick : (error : ℤ) → is_to_wait memory.timer.system asks ≡ false
+      → (request_of request (finished_at error request going)).state ≡ Quick
+  unfolding finished_at answering_port
+  ends_quick error rests =
+      let quick : (request_of request going).quick ≡ true = ap (λ (p : TimerRequest). p.quick) goes ∙ ap not rests in
+      ap (λ (b : Bool). (request_of request
+      (appended_at (where_port (if b then None else Some (request_of request going).port) going) request
+      (with_request request (finished error (request_of request going)) going))).state) quick
+      ∙ ap (λ (p : TimerRequest). p.state)
+      (holds_given request (finished error (request_of request going)) going
+      (stays_request request (begun true memory.timer.system asks) memory.heap there))
+      ∙ ap done_state quick
+
+  -- its state, where it goes on so
+  abbrev state_so : Begun → ReqState
+  state_so how = (request_of request (heap_begun how true memory.timer.system request memory.heap)).state
+
+  -- how it goes on, by whether it sets system time and whether it is to wait
+  abbrev goes_by : Bool → Bool → Begun
+  goes_by sets waits =
+      if sets then NewTime (time_of asks)
+      else (if waits then (if is_until asks then Until (time_of asks) else Queue (due_of memory.timer.clock asks))
+      else Finish (error_of asks))
+
+  begun_state : (sets waits : Bool) → sets_time asks ≡ sets → is_to_wait memory.timer.system asks ≡ waits
+      → (request_of request (begun_at true request memory).heap).state ≡ (if waits then UnderWay else Quick)
+  unfolding begun_at
+  begun_state sets waits is to_wait =
+      ap (λ (b : Bool). state_so (goes_by b (is_to_wait memory.timer.system asks))) is
+      ∙ ap (λ (b : Bool). state_so (goes_by sets b)) to_wait
+      ∙ by_case sets waits is to_wait
+    where
+      -- whether it is to wait, by whether it adds
+      waits_if : Bool → Bool
+      waits_if adds = adds && (if is_until asks then nat_lt memory.timer.system (time_of asks) else not (nat_eq (time_of asks) 0))
+
+      by_until : (until : Bool) → state_so (if until then Until (time_of asks) else Queue (due_of memory.timer.clock asks)) ≡ UnderWay
+      by_until true = ap (λ (p : TimerRequest). p.state) goes
+      by_until false = ap (λ (p : TimerRequest). p.state) goes
+
+      by_case : (sets waits : Bool) → sets_time asks ≡ sets → is_to_wait memory.timer.system asks ≡ waits
+          → state_so (goes_by sets waits) ≡ (if waits then UnderWay else Quick)
+      by_case true true is to_wait =
+          let none : false ≡ true = sym (ap waits_if (sets_no_more asks.command is)) ∙ to_wait in
+          absurd cc
+      by_case true false is to_wait = ends_quick (pos 0) to_wait
+      by_case false true is to_wait = by_until (is_until asks)
+      by_case false false is to_wait = ends_quick (error_of asks) to_wait
 
 -- a request that may begin is there
 there_to_begin : {A : Type 0} (there : Bool) (code : A) (others : Option A) → None ≡ cond (not there) (Some code) others → there ≡ true
@@ -370,17 +400,18 @@ module _ {m o : Seen} {a b : Tape} (t : ℕ) (call : Call) where
       (follows_refused t call (λ memory. model.do_alert t (argument 0 call) memory.heap) (λ y. refl) _ why says (rw kept at follows))
 
   pub do_found : (x : Memory) (found : Awaited) → is_tried_again t m.scripts ≡ false → None ≡ model.do_alert t (argument 0 call) m.memory.heap
-      → found ≡ awaited_for (argument 0 call) x.heap → x ≡ begun_listed true (argument 0 call) m.memory
+      → found ≡ awaited_for (argument 0 call) x.heap → x ≡ begun_at true (argument 0 call) m.memory
       → Follows (tells_or_waits found t call) (record m { memory = x }) o a b → Follows (model.does_do_io t call) m o a b
-  unfolding model.do_alert begun_listed begun_at
+  unfolding model.do_alert begun_at
   do_found x found first says awaits changed follows =
       let request = argument 0 call in
       let there = there_to_begin (is_request_at request m.memory.heap) _ _ says in
-      let waits = is_to_wait (request_of request m.memory.heap) in
-      let state = begun_state request m.memory there waits refl in
+      let content = request_of request m.memory.heap in
+      let waits = is_to_wait m.memory.timer.system content in
+      let state = begun_state request m.memory there (sets_time content) waits refl refl in
       do_first first (follows_allowed t call (λ memory. model.do_alert t request memory.heap) (λ y. refl) _ says
       (follows_change {g = λ s. looks_for (request_of request s.memory.heap).state request t call s}
-      (moves_memory {n = record m { memory = x }} (begun_at true request) (begun_listed true request) (begun-in_order true request)
+      (moves_memory {n = record m { memory = x }} (begun_at true request) (begun_at true request) (begun-in_order true request)
       (ap (λ y. record m { memory = y }) changed))
       (by_wait waits x (ap (λ (y : Memory). (request_of request y.heap).state) changed ∙ state) awaits follows)))
     where
@@ -453,52 +484,60 @@ none_due : (heap : Heap) (found : Option ℕ) → None ≡ finishing heap found 
 none_due heap None is = refl
 none_due heap (Some other) is = absurd cc
 
-due_same : {m : Seen} (s : State) → Agrees m s → due_next s.memory.timer ≡ due_listed m.memory.timer
-due_same s e = sym (ap (λ (y : Memory). due_listed y.timer) e.memory ∙ due-in_order s.memory.timer)
-
 -- so many requests finish, by the first one
-abbrev finishes_from : ℕ → Option ℕ → State → Outcome
-finishes_from n found s = elim found as (λ (x : Option ℕ). Outcome) [ None ↦ quiet s | Some request ↦ andthen (finishes request) (finishes_due n) s ]
+abbrev finishes_from : (Clock → Option ℕ) → ℕ → Option ℕ → State → Outcome
+finishes_from next n found s =
+    elim found as (λ (x : Option ℕ). Outcome) [ None ↦ quiet s | Some request ↦ andthen (finishes request) (finishes_each next n) s ]
 
-suc_finishes : (left : ℕ) (s : State) (found : Option ℕ) → due_next s.memory.timer ≡ found → finishes_due (suc left) s ≡ finishes_from left found s
-unfolding finishes_due
-suc_finishes left s found is = ap (λ (x : Option ℕ). finishes_from left x s) is
+-- The requests that finish, by which one does so next: what follows is for those whose time has come, and for those that wait for system
+-- time.
+module _ (next : Clock → Option ℕ) where
+  next_same : {m : Seen} (s : State) → Agrees m s → next s.memory.timer ≡ next m.memory.timer
+  next_same s e = sym (ap (λ (y : Memory). next y.timer) e.memory)
 
-module _ {m n : Seen} (is : n ≡ record m { memory = ended_if (due_listed m.memory.timer) m.memory }) where
-  one_finishes : {o : Seen} {a b : Tape} (request : ℕ) (act : Action)
-      → Some (request, act) ≡ finishing m.memory.heap (due_listed m.memory.timer)
-      → Follows (finishes_with request act) n o a b → Follows (finishes request) m o a b
-  unfolding finishes acting_finished
-  one_finishes request act found follows =
-      let known = found_due m.memory.heap request act (due_listed m.memory.timer) found in
-      follows_reply (λ s. answering_port request s.memory.heap) request (follows_as
-      {g = λ s. finishes_with request act (on_memory (ended (pos 0) request) s)}
-      (λ s e. ap (λ (does : Action). finishes_with request does (on_memory (ended (pos 0) request) s))
-      (reads_memory (λ memory. acting_at (answering_port request memory.heap) memory.heap) (λ y. refl) (sym known.1) s e))
-      (follows_change (moves_memory (ended (pos 0) request) (ended (pos 0) request) (ended-in_order (pos 0) request)
-      (is ∙ ap (λ (d : Option ℕ). record m { memory = ended_if d m.memory }) known.0)) follows))
+  suc_finishes : (left : ℕ) (s : State) (found : Option ℕ) → next s.memory.timer ≡ found
+      → finishes_each next (suc left) s ≡ finishes_from next left found s
+  unfolding finishes_each
+  suc_finishes left s found is = ap (λ (x : Option ℕ). finishes_from next left x s) is
 
-  -- a request finishes, and then others
-  pub finishes_next : {o p : Seen} {a b c : Tape} (left request : ℕ) (act : Action)
-      → Some (request, act) ≡ finishing m.memory.heap (due_listed m.memory.timer)
-      → Follows (finishes_with request act) n o a b → Follows (finishes_due left) o p b c → Follows (finishes_due (suc left)) m p a c
-  finishes_next left request act found first others =
-      let known = found_due m.memory.heap request act (due_listed m.memory.timer) found in
-      follows_as {g = andthen (finishes request) (finishes_due left)}
-      (λ s e. suc_finishes left s (Some request) (due_same s e ∙ known.0))
-      (follows_then (one_finishes request act found first) others)
+  module _ {m n : Seen} (is : n ≡ record m { memory = ended_if (next m.memory.timer) m.memory }) where
+    one_finishes : {o : Seen} {a b : Tape} (request : ℕ) (act : Action)
+        → Some (request, act) ≡ finishing m.memory.heap (next m.memory.timer)
+        → Follows (finishes_with request act) n o a b → Follows (finishes request) m o a b
+    unfolding finishes acting_finished
+    one_finishes request act found follows =
+        let known = found_due m.memory.heap request act (next m.memory.timer) found in
+        follows_reply (λ s. answering_port request s.memory.heap) request (follows_as
+        {g = λ s. finishes_with request act (on_memory (ended (pos 0) request) s)}
+        (λ s e. ap (λ (does : Action). finishes_with request does (on_memory (ended (pos 0) request) s))
+        (reads_memory (λ memory. acting_at (answering_port request memory.heap) memory.heap) (λ y. refl) (sym known.1) s e))
+        (follows_change (moves_memory (ended (pos 0) request) (ended (pos 0) request) (ended-in_order (pos 0) request)
+        (is ∙ ap (λ (d : Option ℕ). record m { memory = ended_if d m.memory }) known.0)) follows))
 
-  -- no request is due
-  pub finishes_no_more : (left : ℕ) (t : Tape) → None ≡ finishing m.memory.heap (due_listed m.memory.timer) → Follows (finishes_due left) m n t t
-  unfolding finishes_due
-  finishes_no_more left t none =
-      let known = none_due m.memory.heap (due_listed m.memory.timer) none in
-      let same : n ≡ m = is ∙ ap (λ (d : Option ℕ). record m { memory = ended_if d m.memory }) known in
-      by_left left known (subst (λ (x : Seen). Follows quiet m x t t) (sym same) (follows_nothing m t))
-    where
-      by_left : (left : ℕ) → due_listed m.memory.timer ≡ None → Follows quiet m n t t → Follows (finishes_due left) m n t t
-      by_left zero known stays = stays
-      by_left (suc less) known stays = follows_as {g = quiet} (λ s e. ap (λ (x : Option ℕ). finishes_from less x s) (due_same s e ∙ known)) stays
+    -- a request finishes, and then others
+    finishes_next : {o p : Seen} {a b c : Tape} (left request : ℕ) (act : Action)
+        → Some (request, act) ≡ finishing m.memory.heap (next m.memory.timer)
+        → Follows (finishes_with request act) n o a b → Follows (finishes_each next left) o p b c
+        → Follows (finishes_each next (suc left)) m p a c
+    finishes_next left request act found first others =
+        let known = found_due m.memory.heap request act (next m.memory.timer) found in
+        follows_as {g = andthen (finishes request) (finishes_each next left)}
+        (λ s e. suc_finishes left s (Some request) (next_same s e ∙ known.0))
+        (follows_then (one_finishes request act found first) others)
+
+    -- none finishes any more
+    finishes_no_more : (left : ℕ) (t : Tape) → None ≡ finishing m.memory.heap (next m.memory.timer)
+        → Follows (finishes_each next left) m n t t
+    unfolding finishes_each
+    finishes_no_more left t none =
+        let known = none_due m.memory.heap (next m.memory.timer) none in
+        let same : n ≡ m = is ∙ ap (λ (d : Option ℕ). record m { memory = ended_if d m.memory }) known in
+        by_left left known (subst (λ (x : Seen). Follows quiet m x t t) (sym same) (follows_nothing m t))
+      where
+        by_left : (left : ℕ) → next m.memory.timer ≡ None → Follows quiet m n t t → Follows (finishes_each next left) m n t t
+        by_left zero known stays = stays
+        by_left (suc less) known stays = follows_as {g = quiet}
+            (λ s e. ap (λ (x : Option ℕ). finishes_from next less x s) (next_same s e ∙ known)) stays
 
 -- ---- fewer and fewer wait
 
@@ -509,91 +548,142 @@ few_left keep (x ∷ xs) = by_case (keep x) (few_left keep xs) where
   by_case true ih = omega (arith, ih)
   by_case false ih = omega (arith, ih)
 
--- what is found is left out
-less_left : (test : Waiting → Bool) (xs : List Waiting) (request : ℕ) → option_map (λ (w : Waiting). w.request) (find test xs) ≡ Some request
-    → length (filter (λ (w : Waiting). not (w.request == request)) xs) < length xs
-less_left test [] request is = absurd cc
-less_left test (x ∷ xs) request is = by_case (test x) is (less_left test xs request)
-  where
-    left : List Waiting
-    left = filter (λ (w : Waiting). not (w.request == request)) xs
+-- the request of one that waits, if there is one
+abbrev request_in : Option Waiting → Option ℕ
+request_in found = option_map (λ (w : Waiting). w.request) found
 
-    first_kept : (b : Bool) → length left < length xs → length (cond b (x ∷ left) left) < suc (length xs)
-    first_kept true less = omega (arith, less)
-    first_kept false less = omega (arith, less)
+module _ (key : Waiting → ℤ) where
+  -- who is chosen is the first, or is chosen from the others
+  first_or_other : (x : Waiting) (others : Option Waiting) (request : ℕ) → request_in (chosen_or key x others) ≡ Some request
+      → (x.request ≡ request) ⊎ (request_in others ≡ Some request)
+  first_or_other x None request is = inl cc
+  first_or_other x (Some y) request is = by_case (is_lower key x y) is where
+    by_case : (b : Bool) → request_in (cond b (Some y) (Some x)) ≡ Some request
+        → (x.request ≡ request) ⊎ (request_in (Some y) ≡ Some request)
+    by_case true is = inr is
+    by_case false is = inl cc
 
-    by_case : (b : Bool) → option_map (λ (w : Waiting). w.request) (cond b (Some x) (find test xs)) ≡ Some request
-        → (option_map (λ (w : Waiting). w.request) (find test xs) ≡ Some request → length left < length xs)
-        → length (cond (not (x.request == request)) (x ∷ left) left) < suc (length xs)
-    by_case true is less =
-        let same : x.request ≡ request = cc in
-        let some = few_left (λ (w : Waiting). not (w.request == request)) xs in
-        rw (eq-eqb x.request request same) (omega (arith, some))
-    by_case false is less = first_kept (not (x.request == request)) (less is)
-
-pub shorter : (m n o : Seen) (request : ℕ) (act : Action) → Some (request, act) ≡ finishing m.memory.heap (due_listed m.memory.timer)
-    → n ≡ record m { memory = ended_if (due_listed m.memory.timer) m.memory } → o.memory ≡ n.memory
-    → length o.memory.timer.waiting < length m.memory.timer.waiting
-unfolding ended due_listed
-shorter m n o request act found is kept =
-    let known = found_due m.memory.heap request act (due_listed m.memory.timer) found in
-    let waits : o.memory.timer.waiting ≡ filter (λ (w : Waiting). not (w.request == request)) m.memory.timer.waiting =
-    ap (λ (y : Memory). y.timer.waiting) kept ∙ ap (λ (x : Seen). x.memory.timer.waiting) (is ∙ ap (λ (d : Option ℕ). record m { memory = ended_if d m.memory }) known.0) in
-    rw waits (less_left (is_due m.memory.timer.clock) m.memory.timer.waiting request known.0)
-
--- ---- all that are due
-
-module _ {A : Type 0} (key : A → ℤ) where
-  length-enqueue : (x : A) (xs : List A) → length (enqueue key xs x) ≡ suc (length xs)
-  length-enqueue x [] = refl
-  length-enqueue x (y ∷ ys) = by_case (is_lower key y x) (length-enqueue x ys)
+  -- who is chosen from those that pass a test is left out
+  less_left : (passes : Waiting → Bool) (xs : List Waiting) (request : ℕ) → request_in (chosen key (filter passes xs)) ≡ Some request
+      → length (filter (λ (w : Waiting). not (w.request == request)) xs) < length xs
+  less_left passes [] request is = absurd cc
+  less_left passes (x ∷ xs) request is = by_case (passes x) is (less_left passes xs request)
     where
-      by_case : (b : Bool) → length (enqueue key ys x) ≡ suc (length ys)
-          → length (cond b (x ∷ y ∷ ys) (y ∷ enqueue key ys x)) ≡ suc (suc (length ys))
-      by_case true ih = refl
-      by_case false ih = ap suc ih
+      left : List Waiting
+      left = filter (λ (w : Waiting). not (w.request == request)) xs
 
-  length-fold : (xs ys : List A) → length (fold (enqueue key) ys xs) ≡ length ys + length xs
-  length-fold [] ys = omega arith
-  length-fold (x ∷ xs) ys = let more = length-fold xs (enqueue key ys x) in let one = length-enqueue x ys in omega (arith, more, one)
+      first_kept : (b : Bool) → length left < length xs → length (cond b (x ∷ left) left) < suc (length xs)
+      first_kept true less = omega (arith, less)
+      first_kept false less = omega (arith, less)
 
-  length-order : (xs : List A) → length (order key xs) ≡ length xs
-  unfolding order
-  length-order xs = let all = length-fold xs [] in omega (arith, all)
+      first_leaves : x.request ≡ request → length (cond (not (x.request == request)) (x ∷ left) left) < suc (length xs)
+      first_leaves same =
+          let some = few_left (λ (w : Waiting). not (w.request == request)) xs in
+          rw (eq-eqb x.request request same) (omega (arith, some))
 
--- The requests that finish from now on end what all that were due began: so many may, at least as many as wait.
-pub record EndsTheDue (m : Seen) (a : Tape) (now : Seen) (b : Tape) : Type 0 where
+      by_case : (b : Bool) → request_in (chosen key (cond b (x ∷ filter passes xs) (filter passes xs))) ≡ Some request
+          → (request_in (chosen key (filter passes xs)) ≡ Some request → length left < length xs)
+          → length (cond (not (x.request == request)) (x ∷ left) left) < suc (length xs)
+      by_case true is less =
+          elim (first_or_other x (chosen key (filter passes xs)) request is)
+          [ inl same ↦ first_leaves same | inr other ↦ first_kept (not (x.request == request)) (less other) ]
+      by_case false is less = first_kept (not (x.request == request)) (less is)
+
+-- who finishes next is one that waits
+abbrev pub TakesOne : (Clock → Option ℕ) → Type 0
+TakesOne next = (timer : Clock) (request : ℕ) → next timer ≡ Some request
+    → length (filter (λ (w : Waiting). not (w.request == request)) timer.waiting) < length timer.waiting
+
+pub due_takes_one : TakesOne due_next
+unfolding due_next next_of
+due_takes_one timer request is = less_left (sooner timer) (λ (w : Waiting). has_come timer w.due) timer.waiting request is
+
+pub until_takes_one : TakesOne until_next
+unfolding until_next next_of
+until_takes_one timer request is =
+    less_left (sooner timer) (λ (w : Waiting). is_system w.due && has_come timer w.due) timer.waiting request is
+
+-- ---- all of them
+
+-- all requests finish, one after another, by which one does so next
+abbrev pub finishes_all : (Clock → Option ℕ) → State → Outcome
+finishes_all next s = finishes_each next (length s.memory.timer.waiting) s
+
+-- The requests that finish from now on end what all of them began: so many may, at least as many as wait.
+pub record EndsAll (next : Clock → Option ℕ) (m : Seen) (a : Tape) (now : Seen) (b : Tape) : Type 0 where
   pub left : ℕ
   pub enough : length now.memory.timer.waiting ≤ left
-  pub rest : (n : Seen) (c : Tape) → Follows (finishes_due left) now n b c → Follows finishes_all_due m n a c
+  pub rest : (n : Seen) (c : Tape) → Follows (finishes_each next left) now n b c → Follows (finishes_all next) m n a c
 
-pub all_begin : (m : Seen) (a : Tape) → EndsTheDue m a m a
+module _ (next : Clock → Option ℕ) (takes : TakesOne next) where
+  pub all_begin : (m : Seen) (a : Tape) → EndsAll next m a m a
+  all_begin m a = record {
+    left = length m.memory.timer.waiting;
+    enough = omega arith;
+    rest = λ n c follows. follows_as {g = finishes_each next (length m.memory.timer.waiting)}
+        (λ s e. ap (λ (k : ℕ). finishes_each next k s) (sym (ap (λ (y : Memory). length y.timer.waiting) e.memory))) follows;
+  }
+
+  pub shorter : (m n o : Seen) (request : ℕ) (act : Action) → Some (request, act) ≡ finishing m.memory.heap (next m.memory.timer)
+      → n ≡ record m { memory = ended_if (next m.memory.timer) m.memory } → o.memory ≡ n.memory
+      → length o.memory.timer.waiting < length m.memory.timer.waiting
+  unfolding ended
+  shorter m n o request act found is kept =
+      let known = found_due m.memory.heap request act (next m.memory.timer) found in
+      let waits : o.memory.timer.waiting ≡ filter (λ (w : Waiting). not (w.request == request)) m.memory.timer.waiting =
+      ap (λ (y : Memory). y.timer.waiting) kept
+      ∙ ap (λ (x : Seen). x.memory.timer.waiting) (is ∙ ap (λ (d : Option ℕ). record m { memory = ended_if d m.memory }) known.0) in
+      rw waits (takes m.memory.timer request known.0)
+
+  pub one_less : {m now n o : Seen} {a b c : Tape} (request : ℕ) (act : Action) → EndsAll next m a now b
+      → Some (request, act) ≡ finishing now.memory.heap (next now.memory.timer)
+      → n ≡ record now { memory = ended_if (next now.memory.timer) now.memory }
+      → Follows (finishes_with request act) n o b c → o.memory ≡ n.memory → EndsAll next m a o c
+  one_less {m} {now} {n} {o} {a} {b} {c} request act before found is follows kept =
+      by_left before.left before.enough before.rest
+    where
+      by_left : (left : ℕ) → length now.memory.timer.waiting ≤ left
+          → ((n : Seen) (c : Tape) → Follows (finishes_each next left) now n b c → Follows (finishes_all next) m n a c)
+          → EndsAll next m a o c
+      by_left zero enough rest = let less = shorter now n o request act found is kept in absurd (omega (arith, less, enough))
+      by_left (suc left) enough rest = record {
+        left = left;
+        enough = let less = shorter now n o request act found is kept in omega (arith, less, enough);
+        rest = λ p d others. rest p d (finishes_next next is left request act found follows others);
+      }
+
+  pub all_ended : {m now n : Seen} {a b : Tape} → EndsAll next m a now b → None ≡ finishing now.memory.heap (next now.memory.timer)
+      → n ≡ record now { memory = ended_if (next now.memory.timer) now.memory } → Follows (finishes_all next) m n a b
+  all_ended {n = n} {b = b} before none is = before.rest n b (finishes_no_more next is before.left b none)
+
+pub all_due_ended : {m now n : Seen} {a b : Tape} → EndsAll due_next m a now b
+    → None ≡ finishing now.memory.heap (due_next now.memory.timer)
+    → n ≡ record now { memory = ended_if (due_next now.memory.timer) now.memory } → Follows finishes_all_due m n a b
 unfolding finishes_all_due
-all_begin m a = record {
-  left = length m.memory.timer.waiting;
-  enough = omega arith;
-  rest = λ n c follows. follows_as {g = finishes_due (length m.memory.timer.waiting)}
-      (λ s e. ap (λ (k : ℕ). finishes_due k s)
-      (sym (ap (λ (y : Memory). length y.timer.waiting) e.memory ∙ length-order sooner s.memory.timer.waiting))) follows;
-}
+all_due_ended before none is = all_ended due_next due_takes_one before none is
 
-pub one_less : {m now n o : Seen} {a b c : Tape} (request : ℕ) (act : Action) → EndsTheDue m a now b
-    → Some (request, act) ≡ finishing now.memory.heap (due_listed now.memory.timer)
-    → n ≡ record now { memory = ended_if (due_listed now.memory.timer) now.memory }
-    → Follows (finishes_with request act) n o b c → o.memory ≡ n.memory → EndsTheDue m a o c
-one_less {m} {now} {n} {o} {a} {b} {c} request act before found is follows kept =
-    by_left before.left before.enough before.rest
-  where
-    by_left : (left : ℕ) → length now.memory.timer.waiting ≤ left
-        → ((n : Seen) (c : Tape) → Follows (finishes_due left) now n b c → Follows finishes_all_due m n a c) → EndsTheDue m a o c
-    by_left zero enough rest = let less = shorter now n o request act found is kept in absurd (omega (arith, less, enough))
-    by_left (suc left) enough rest = record {
-      left = left;
-      enough = let less = shorter now n o request act found is kept in omega (arith, less, enough);
-      rest = λ p d others. rest p d (finishes_next is left request act found follows others);
-    }
+-- ---- after a call
 
-pub all_ended : {m now n : Seen} {a b : Tape} → EndsTheDue m a now b
-    → None ≡ finishing now.memory.heap (due_listed now.memory.timer)
-    → n ≡ record now { memory = ended_if (due_listed now.memory.timer) now.memory } → Follows finishes_all_due m n a b
-all_ended {n = n} {b = b} before none is = before.rest n b (finishes_no_more is before.left b none)
+-- by whether system time was set, and those that wait for it were not looked at since
+abbrev finishes_where : Bool → State → Outcome
+finishes_where set s = if set then finishes_all_until (on_memory (on_timer looked_at) s) else quiet s
+
+where_set : {m n : Seen} {a b : Tape} (set : Bool) → m.memory.timer.is_set ≡ set
+    → Follows (finishes_where set) m n a b → Follows finishes_set m n a b
+unfolding finishes_set
+where_set set is follows = follows_as {g = finishes_where set}
+    (λ s e. ap (λ (b : Bool). finishes_where b s) (reads_memory (λ memory. memory.timer.is_set) (λ y. refl) is s e)) follows
+
+module _ {m n : Seen} (is : n ≡ record m { memory = on_timer looked_at m.memory }) where
+  -- those that wait for system time finish
+  pub set_finishes : {o : Seen} {a b : Tape} → m.memory.timer.is_set ≡ true → Follows finishes_all_until n o a b
+      → Follows finishes_set m o a b
+  set_finishes set follows =
+      where_set true set (follows_change (moves_memory (on_timer looked_at) (on_timer looked_at) (λ y. refl) is) follows)
+
+  -- there is nothing to look at
+  pub not_set : (t : Tape) → m.memory.timer.is_set ≡ false → Follows finishes_set m n t t
+  not_set t unset = where_set false unset (subst (λ (x : Seen). Follows quiet m x t t) (sym same) (follows_nothing m t))
+    where
+      same : n ≡ m
+      same = is ∙ ap (λ (b : Bool). record m { memory = on_timer (λ (timer : Clock). record timer { is_set = b }) m.memory }) (sym unset)

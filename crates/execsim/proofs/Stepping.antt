@@ -6,6 +6,9 @@ use Rattle.exectrace.specs.Sink.{Tape, Puts}
 use Rattle.exectrace.specs.Trace.{printed_line, Switch, Idle, Value, Done}
 use Rattle.exectrace.specs.Trace as trace
 use Rattle.taskscript.specs.declared.event.Event.{Event}
+use Rattle.taskscript.specs.declared.word.Word.{Word}
+use Rattle.taskscript.specs.declared.word.Word.TheVariants.{Requests}
+use Rattle.taskscript.specs.declared.word.requests.RequestWord.{RequestWord}
 use Rattle.scheduler.specs.Schedule.{name_of, leaves}
 use Rattle.scheduler.specs.Dispatch as dispatch
 use Rattle.scheduler.specs.declared.Switch.{Switch as Choice}
@@ -15,10 +18,11 @@ use Rattle.softint.specs.declared.source.Source.TheVariants.{Vertb}
 use Rattle.execmodel.specs.State.{Call, Scripts, State, quiet, andthen, program_of, on_schedule, on_memory, on_timer, on_pending, unless_stopped}
 use Rattle.execmodel.specs.Scheduling.{rescheduled, added}
 use Rattle.execmodel.specs.Calls.{next_call}
-use Rattle.execmodel.specs.Timing.{ticked}
+use Rattle.timerdev.specs.Timing.{ticked}
 use Rattle.execmodel.specs.Interrupts.{interrupts, runs_softint}
 use Rattle.execmodel.specs.Pending.{taken_off, with_latch_of}
-use Rattle.execmodel.specs.Step.{announced, switches, settle, ends, call_step, task_step, softint_or_task_step, acting, acts, step, steps, request, tick, ticks, started, all_added, starts, event, events}
+use Rattle.execmodel.specs.Requests.{does_requests, finishes_set}
+use Rattle.execmodel.specs.Step.{announced, switches, settle, does, does_word, ends, call_step, task_step, softint_or_task_step, acting, acts, step, steps, request, tick, ticks, started, all_added, starts, event, events}
 use Rattle.execsim.specs.Actions.{running_task_step, softint_body, softint_seen}
 use Rattle.execsim.specs.Agreement.{Seen, Follows, FollowsWhileGood, Moves}
 use Rattle.execsim.proofs.Following.{andthen-assoc, andthen-quiet, andthen-second, reads_schedule, reads_scripts, reads_stopped, moves_schedule, moves_memory, moves_latch, moves_taken_off, moves_nowhere, moves_then, follows_as, follows_nothing, follows_saying, follows_change, follows_then, follows_nothing_yet, while_good_as, while_good_then}
@@ -57,6 +61,13 @@ settle_going going follows = follows_as {g = andthen interrupts (unless_stopped 
     (λ s e. let same : s.stopped ≡ false = reads_stopped going s e in rw same refl) follows
 
 -- Step
+
+-- a call on requests, and then those that wait for system time, where the call set it
+pub asks_and_sets : {m n o : Seen} {a b c : Tape} (is : RequestWord) (t : ℕ) (call : Call) → call.word ≡ Requests is
+    → Follows (does_requests is t call) m n a b → Follows finishes_set n o b c → Follows (does t call) m o a c
+unfolding does
+asks_and_sets is t call word asks sets = follows_as {g = andthen (does_requests is t call) finishes_set}
+    (λ s e. ap (λ (w : Word). does_word w t call s) word) (follows_then asks sets)
 
 pub ends_as : {m n : Seen} {a b : Tape} (t : ℕ) → n ≡ record m { schedule = leaves t m.schedule }
     → Puts a b (printed_line (trace.Call (name_of m.schedule t) (codes "RemTask") (Value 0 ∷ []) Done)) → Follows (ends t) m n a b

@@ -16,6 +16,7 @@ use Rattle.taskscript.specs.Commands.{CommandData}
 use Rattle.execmodel.specs.State.{Call, Pending, State, Outcome, quiet, says, andthen, unless_stopped, on_schedule}
 use Rattle.execmodel.specs.Bodies.{body_step, runs_body}
 use Rattle.execmodel.specs.Calls.{Caller, ByTask, done, done_by, answered, alerted, alerted_by}
+use Rattle.execmodel.specs.Requests.{finishes_until}
 use Rattle.execmodel.specs.Interrupts.{chain_of, counted, finishes_for, runs_chain, softint_at, text_of_source}
 use Rattle.execmodel.specs.Pending.{allows_interrupts, is_caused, softint_pri, taken_off, with_latch_of}
 use Rattle.execmodel.specs.Ports as model
@@ -87,6 +88,10 @@ aborts_or_alerted (Err why) t call s = alerted (code_of why) t call s
 -- a request that is done says so, and what is to be done for its reply is done
 abbrev pub finishes_with : ℕ → Action → State → Outcome
 finishes_with request act s = says (Timer request) (model.performed act s)
+
+-- all requests that wait for system time and whose time has come finish
+abbrev pub finishes_all_until : State → Outcome
+finishes_all_until s = finishes_until (length s.memory.timer.waiting) s
 
 -- ---- interrupts
 

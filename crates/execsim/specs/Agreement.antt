@@ -1,6 +1,6 @@
 -- How the machine agrees with the abstract machine, and how a part of it follows an action. The abstract state keeps its ready
--- tasks, its public ports and its caused software interrupts in order of arrival, and the requests that wait in the order in which they were begun;
--- the machine keeps each in order of priority, and the requests by the times when they are due. All else is equal.
+-- tasks, its public ports and its caused software interrupts in order of arrival; the machine keeps each in order of priority. All else is
+-- equal.
 use Rattle.std.specs.Prelude.{◌≡◌, ◌≢◌, ℕ, Bool, List}
 use Rattle.exectrace.specs.Sink.{Tape, Puts}
 use Rattle.exectrace.specs.declared.sinks.SinkState.TheVariants.{Good}
@@ -11,10 +11,9 @@ use Rattle.taskscript.specs.File.{SoftintData}
 use Rattle.execlist.specs.Order.{order}
 use Rattle.taskq.specs.Tasks.{pri_at}
 use Rattle.scheduler.specs.Schedule.{Schedule, name_of}
-use Rattle.execmodel.specs.State.{Bodies, Call, Memory, Pending, State, Scripts, Timer, Outcome}
+use Rattle.execmodel.specs.State.{Bodies, Call, Memory, Pending, State, Scripts, Outcome}
 use Rattle.execmodel.specs.Pending.{softint_pri}
 use Rattle.execmodel.specs.Ports.{priority_of_public}
-use Rattle.execmodel.specs.Timing.{sooner}
 
 -- what the layers of the machine show, a field for each
 pub record Seen : Type 0 where
@@ -29,13 +28,9 @@ pub record Seen : Type 0 where
 abbrev pub in_order : Schedule → Schedule
 in_order s = record s { queue = record s.queue { ready = order (pri_at s.queue.pris) s.queue.ready } }
 
--- the timer with the requests that wait in the order in which they are to finish
-abbrev pub timer_in_order : Timer → Timer
-timer_in_order timer = record timer { waiting = order sooner timer.waiting }
-
--- the memory with its public ports in the order in which they are searched, and with its timer in order
+-- the memory with its public ports in the order in which they are searched
 abbrev pub queues_in_order : Memory → Memory
-queues_in_order memory = record memory { public = order priority_of_public memory.public; timer = timer_in_order memory.timer }
+queues_in_order memory = record memory { public = order priority_of_public memory.public }
 
 -- the pending interrupts with the caused ones in the order in which they are to run
 abbrev pub caused_in_order : List SoftintData → Pending → Pending

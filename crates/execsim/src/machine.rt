@@ -8,6 +8,7 @@ ghost use Rattle.taskscript.specs.Events.{ticks as ticks_of};
 ghost use Rattle.taskscript.specs.Records.{library_view, server_view, softint_view, task_view};
 ghost use Rattle.softint.specs.Interrupts.{IsPriority};
 ghost use Rattle.softint.specs.Sources.{no_latches};
+ghost use Rattle.timerdev.specs.Timing.{new_timer};
 ghost use Rattle.execlib.specs.Libraries.{description_of};
 ghost use Rattle.execheap.specs.Numbered.{shown_library};
 ghost use Rattle.execmodel.specs.State.{State, booted, begun, andthen};
@@ -171,7 +172,7 @@ fn heap_of<S: ListSpace>(alloc: Global, file: &MachineFile) -> Result<Heap<S>, A
       pool = file.now.pool;
       heap = [];
       public = [];
-      timer = record { clock = 0; tick_micros = file.now.tick_micros; waiting = [] };
+      timer = new_timer file.now.tick_micros;
     }) }
 {
     let inits = libraries_of(alloc, file.libraries())?;

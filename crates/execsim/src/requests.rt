@@ -1,18 +1,19 @@
-//! Requests of timer.device: how they are made and freed, opened, written, begun, waited for and aborted; and how those finish that are due. A
-//! request is named by the address of its block. The calls of `Heap` have the effects on memory; what a reply does to a task is done here.
+//! Requests of timer.device: how they are made and freed, opened, written, begun, waited for and aborted; and how those finish whose time
+//! has come, at a tick or where system time is set. A request is named by the address of its block. The calls of `Heap` have the effects
+//! on memory; what a reply does to a task is done here.
 ghost use Rattle.std.specs.Prelude.{◌≡◌, ◌<◌, ◌^◌, length, false, true, pos, unwrap_or, IfOk, OnErr, OnOk, Some, if◌then◌else◌};
 ghost use Rattle.std.specs.Int.{cast_unsigned, w32};
 ghost use Rattle.iorequest.specs.Request.{is_under_way};
 ghost use Rattle.iorequest.specs.Requests.{unit_error};
 ghost use Rattle.execmodel.specs.State.{on_heap, on_memory, on_timer};
-ghost use Rattle.execmodel.specs.Timing.{ticked};
+ghost use Rattle.timerdev.specs.Timing.{due_next, looked_at, ticked, until_next};
 ghost use Rattle.execmodel.specs.Interrupts.{finishes_for};
-ghost use Rattle.execmodel.specs.Requests.{does_requests, finishes_all_due, opened_for, request_alert, request_of, resting_alert, timer_unit};
+ghost use Rattle.execmodel.specs.Requests.{does_requests, finishes_all_due, finishes_set, opened_for, request_alert, request_of, resting_alert, timer_unit};
 ghost use Rattle.execmodel.specs.Requests.{does_create_io_request, does_delete_io_request, does_open_device, does_close_device, does_set_io, does_do_io, does_send_io};
 ghost use Rattle.execmodel.specs.Requests.{does_check_io, does_wait_io, does_abort_io, does_io_secs, does_io_micros, does_io_error, does_io_flags};
-ghost use Rattle.execheap.specs.Listing.{IsSignal, due_listed, ended_if, finishing};
+ghost use Rattle.execheap.specs.Listing.{IsSignal, ended_if, finishing};
 ghost use Rattle.execheap.specs.Refusals.{alert_of};
-ghost use Rattle.execsim.specs.Actions.{aborts_or_alerted, finishes_with, tells_or_waits};
+ghost use Rattle.execsim.specs.Actions.{aborts_or_alerted, finishes_all_until, finishes_with, tells_or_waits};
 ghost use Rattle.execsim.specs.Agreement.{Follows};
 ghost use Rattle.execsim.specs.Time.{HasTimeFor};
 ghost use Rattle.execsim.specs.Views.{call_view};
@@ -376,7 +377,7 @@ impl<S: ListSpace> Kernel<S> {
 
     // ---- the clock
 
-    /// The clock gains a tick.
+    /// The clock and system time gain a tick.
     pub(crate) fn gain_tick(&mut self)
         requires { HasTimeFor 1 self.old }
         ensures { self.new ≡ record self.old { memory = on_timer ticked self.old.memory } }
@@ -384,10 +385,10 @@ impl<S: ListSpace> Kernel<S> {
         self.memory.tick();
     }
 
-    /// The first request that is due, if there is one, is done, and waits no more; answered with what is to be done for its reply.
+    /// The first request whose time has come, if there is one, is done, and waits no more; answered with what is to be done for its reply.
     fn take_due(&mut self) -> Option<(u32, Action)>
-        ensures answer { result ≡ finishing self.old.memory.heap (due_listed self.old.memory.timer) }
-        ensures next { self.new ≡ record self.old { memory = ended_if (due_listed self.old.memory.timer) self.old.memory } }
+        ensures answer { result ≡ finishing self.old.memory.heap (due_next self.old.memory.timer) }
+        ensures next { self.new ≡ record self.old { memory = ended_if (due_next self.old.memory.timer) self.old.memory } }
     {
         self.memory.finish_due()
     }
@@ -401,8 +402,8 @@ impl<S: ListSpace> Kernel<S> {
         self.perform(action);
     }
 
-    /// All requests that are due finish, one after another: by the time when they are due, and those of one time in the order in which they
-    /// were begun.
+    /// All requests whose time has come finish, one after another: by the moment when it came, and those of one moment in the order in
+    /// which they were begun.
     fn finish_all_due<W: Sink>(&mut self, out: &mut W)
         ensures { Follows finishes_all_due self.old self.new (W.tape out.old) (W.tape out.new) }
     {
@@ -411,13 +412,52 @@ impl<S: ListSpace> Kernel<S> {
         }
     }
 
-    /// For VERTB all requests finish that are due.
+    /// For VERTB all requests finish whose time has come.
     pub(crate) fn finish_for<W: Sink>(&mut self, source: Source, out: &mut W)
         ensures { Follows (finishes_for source) self.old self.new (W.tape out.old) (W.tape out.new) }
     {
         match source {
             Source::Vertb => self.finish_all_due(out),
             Source::Ports | Source::Exter => {}
+        }
+    }
+
+    // ---- system time
+
+    /// Answers whether system time was set, and those that wait for it were not looked at since; now they are looked at.
+    fn take_setting(&mut self) -> bool
+        ensures answer { result ≡ self.old.memory.timer.is_set }
+        ensures next { self.new ≡ record self.old { memory = on_timer looked_at self.old.memory } }
+    {
+        self.memory.take_setting()
+    }
+
+    /// The first request that waits for system time and whose time has come, if there is one, is done, and waits no more; answered with
+    /// what is to be done for its reply.
+    fn take_until(&mut self) -> Option<(u32, Action)>
+        ensures answer { result ≡ finishing self.old.memory.heap (until_next self.old.memory.timer) }
+        ensures next { self.new ≡ record self.old { memory = ended_if (until_next self.old.memory.timer) self.old.memory } }
+    {
+        self.memory.finish_until()
+    }
+
+    /// All requests that wait for system time and whose time has come finish, one after another: by their times, and those of one time in
+    /// the order in which they were begun.
+    fn finish_all_until<W: Sink>(&mut self, out: &mut W)
+        ensures { Follows finishes_all_until self.old self.new (W.tape out.old) (W.tape out.new) }
+    {
+        while let Some((request, action)) = self.take_until() {
+            self.announce_due(request, action, out);
+        }
+    }
+
+    /// What follows a call on requests: where it set system time, all requests finish that wait for system time and whose time has come.
+    /// Those that wait for the clock are not looked at.
+    pub(crate) fn finish_set<W: Sink>(&mut self, out: &mut W)
+        ensures { Follows finishes_set self.old self.new (W.tape out.old) (W.tape out.new) }
+    {
+        if self.take_setting() {
+            self.finish_all_until(out);
         }
     }
 }

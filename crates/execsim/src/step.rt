@@ -85,7 +85,8 @@ impl<S: ListSpace> Kernel<S> {
 
     // ---- step
 
-    /// A call of task t, by the group of its word.
+    /// A call of task t, by the group of its word. Where it sets system time, those that wait for that are looked at after the call's own
+    /// line.
     #[tactic(auto, unfolding(execmodel::specs::Step::does))]
     fn does<W: Sink>(&mut self, t: TaskId, call: &Call, out: &mut W)
         requires known { t < length self.old.scripts.programs }
@@ -103,7 +104,10 @@ impl<S: ListSpace> Kernel<S> {
             Word::Semaphores(word) => self.does_semaphores(word, t, call, out),
             Word::Interrupts(word) => self.does_interrupts(word, t, call, out),
             Word::Libraries(word) => self.does_libraries(word, t, call, out),
-            Word::Requests(word) => self.does_requests(word, t, call, out),
+            Word::Requests(word) => {
+                self.does_requests(word, t, call, out);
+                self.finish_set(out);
+            }
         }
     }
 

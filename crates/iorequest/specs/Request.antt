@@ -1,10 +1,10 @@
 -- One timer request: how it begins and how it is finished (RKM Devices, Timer Device).
-use Rattle.std.specs.Prelude.{ℕ, ◌+◌, ◌*◌, ◌%◌, ◌/◌, ◌^◌, ℤ, pos, negsuc, nat_eq, Bool, true, false, not, ◌&&◌, is_some, if◌then◌else◌, Option, Some, None}
+use Rattle.std.specs.Prelude.{ℕ, ◌+◌, ◌*◌, ◌%◌, ◌/◌, ◌^◌, ℤ, pos, negsuc, nat_eq, nat_lt, Bool, true, false, not, ◌&&◌, is_some, if◌then◌else◌, Option, Some, None}
 use Rattle.iorequest.specs.declared.request.Request.{Request}
 use Rattle.iorequest.specs.declared.request.ReqState.{ReqState}
 use Rattle.iorequest.specs.declared.request.ReqState.TheVariants.{Idle, UnderWay, Quick, Replied}
 use Rattle.iorequest.specs.declared.request.Begun.{Begun}
-use Rattle.iorequest.specs.declared.request.Begun.TheVariants.{Finish, Queue}
+use Rattle.iorequest.specs.declared.request.Begun.TheVariants.{Finish, Queue, Until, NewTime}
 
 -- a request with that reply port that never was begun, is not open, and whose other fields are 0
 abbrev pub idle_request : ℕ → Request
@@ -42,29 +42,43 @@ adds q = nat_eq q.command 9
 abbrev pub asks_time : Request → Bool
 asks_time q = nat_eq q.command 10
 
--- a request that is to be replied once a positive time is over
-abbrev pub is_to_wait : Request → Bool
-is_to_wait q = adds q && not (nat_eq (time_of q) 0)
+-- TR_SETSYSTIME
+abbrev pub sets_time : Request → Bool
+sets_time q = nat_eq q.command 11
 
--- the time when such a request is due that begins when the clock tells `now`
+-- the request is open for the unit whose requests name a system time, UNIT_WAITUNTIL
+abbrev pub is_until : Request → Bool
+is_until q = is_unit_until q.unit where
+  is_unit_until : Option ℕ → Bool
+  is_unit_until None = false
+  is_unit_until (Some unit) = nat_eq unit 3
+
+-- a request that is to be replied once a positive time is over, or once system time has come to a time that is still to come
+abbrev pub is_to_wait : (system : ℕ) → Request → Bool
+is_to_wait system q = adds q && (if is_until q then nat_lt system (time_of q) else not (nat_eq (time_of q) 0))
+
+-- the time of the clock at which a request is due that begins when the clock tells `now`
 abbrev pub due_of : ℕ → Request → ℕ
 due_of now q = now + time_of q
 
 -- IOERR_NOCMD for a command that the timer does not know, and else 0
 abbrev pub error_of : Request → ℤ
-error_of q = if adds q then pos 0 else (if asks_time q then pos 0 else negsuc 2)
+error_of q = if adds q then pos 0 else (if asks_time q then pos 0 else (if sets_time q then pos 0 else negsuc 2))
 
--- how a request goes on that begins when the clock tells `now`: it is due at a time, or is finished at once
-abbrev pub outcome : ℕ → Request → Begun
-outcome now q = if is_to_wait q then Queue (due_of now q) else Finish (error_of q)
+-- how a request goes on that begins at that time of the clock and that system time: it sets system time, it is due at a time of either, or
+-- it is finished at once
+abbrev pub outcome : (now system : ℕ) → Request → Begun
+outcome now system q =
+    if sets_time q then NewTime (time_of q)
+    else (if is_to_wait system q then (if is_until q then Until (time_of q) else Queue (due_of now q)) else Finish (error_of q))
 
--- the clock in the time field, the seconds modulo 2 to the power 32 (own choice), where the request asks for it
-abbrev pub told : ℕ → Request → Request
-told now q = if asks_time q then record q { secs = now / second % 2 ^ 32; micros = now % second } else q
+-- system time in the time field, the seconds modulo 2 to the power 32 (own choice), where the request asks for it
+abbrev pub told : (system : ℕ) → Request → Request
+told system q = if asks_time q then record q { secs = system / second % 2 ^ 32; micros = system % second } else q
 
 -- the request under way: its error is 0, and IOF_QUICK is as it was said, but cleared where it is to wait
-abbrev pub begun : Bool → ℕ → Request → Request
-begun quick now q = record (told now q) { state = UnderWay; error = pos 0; quick = quick && not (is_to_wait q) }
+abbrev pub begun : Bool → (system : ℕ) → Request → Request
+begun quick system q = record (told system q) { state = UnderWay; error = pos 0; quick = quick && not (is_to_wait system q) }
 
 -- ---- finishing
 

@@ -1,5 +1,5 @@
 -- What calls on timer requests see: each request by its number (RKM Devices, Timer Device).
-use Rattle.std.specs.Prelude.{ℕ, ℤ, pos, negsuc, nat_eq, nat_le, Bool, false, ◌&&◌, is_some, if◌then◌else◌, Option, Some, None, unwrap_or}
+use Rattle.std.specs.Prelude.{ℕ, ℤ, pos, negsuc, nat_eq, nat_le, Bool, false, ◌&&◌, ◌||◌, is_some, if◌then◌else◌, Option, Some, None, unwrap_or}
 use Rattle.execlist.specs.Pool.{Pooled, given, released, slot, written}
 use Rattle.iorequest.specs.declared.fault.ReqFault.{ReqFault}
 use Rattle.iorequest.specs.declared.fault.ReqFault.TheVariants.{InUse, NotOpen}
@@ -46,10 +46,10 @@ request_freed r m = released r m
 abbrev pub with_request : ℕ → Request → Pooled Request → Pooled Request
 with_request r q m = written r q m
 
--- the timer has UNIT_MICROHZ, 0, and UNIT_VBLANK, 1
+-- the timer has UNIT_MICROHZ, 0, UNIT_VBLANK, 1, and UNIT_WAITUNTIL, 3
 abbrev pub is_unit : Option ℕ → Bool
 is_unit None = false
-is_unit (Some unit) = nat_le unit 1
+is_unit (Some unit) = nat_le unit 1 || nat_eq unit 3
 
 -- 0 for a unit of the timer, and else IOERR_OPENFAIL
 abbrev pub unit_error : Option ℕ → ℤ

@@ -1,12 +1,18 @@
 //! One timer request, and what comes of beginning it.
 ghost use Rattle.std.specs.Prelude.{◌≡◌, ◌+◌, ◌<◌, ◌^◌};
-ghost use Rattle.iorequest.specs.Request.{is_under_way, is_open, time_of, begun, outcome};
+ghost use Rattle.iorequest.specs.Request.{is_under_way, is_open, is_until, is_to_wait, time_of, begun, outcome};
 
 /// TR_ADDREQUEST: a reply once a time is over.
 const TR_ADDREQUEST: u16 = 9;
 
-/// TR_GETSYSTIME: the time of the clock.
+/// TR_GETSYSTIME: system time is told.
 const TR_GETSYSTIME: u16 = 10;
+
+/// TR_SETSYSTIME: system time is set.
+const TR_SETSYSTIME: u16 = 11;
+
+/// UNIT_WAITUNTIL: the unit whose requests name a system time.
+pub const UNIT_WAITUNTIL: u32 = 3;
 
 /// IOERR_NOCMD: the device does not know the command.
 const IOERR_NOCMD: i8 = -3;
@@ -52,6 +58,10 @@ pub enum Begun {
     Finish(i8),
     /// It is due at that time, in microseconds of the clock.
     Queue(u64),
+    /// It is due when system time comes to that, in microseconds.
+    Until(u64),
+    /// System time becomes that, in microseconds, and the request is to be finished at once, with error 0.
+    NewTime(u64),
 }
 
 impl Request {
@@ -79,38 +89,63 @@ impl Request {
         u64::from(self.secs) * SECOND + u64::from(self.micros)
     }
 
-    /// What comes of beginning it when the clock tells `now`, in microseconds.
-    pub fn outcome(self, now: u64) -> Begun
-        requires { now + time_of self < 2 ^ 64 }
-        ensures { result ≡ outcome now self }
+    /// Whether its time is a system time: whether it is open for UNIT_WAITUNTIL.
+    pub fn is_until(self) -> bool
+        ensures { result ≡ is_until self }
     {
-        if self.command == TR_ADDREQUEST {
-            if self.time() == 0 {
-                Begun::Finish(0)
+        match self.unit {
+            None => false,
+            Some(unit) => unit == UNIT_WAITUNTIL,
+        }
+    }
+
+    /// Whether it is to wait that begins at system time `sys`, in microseconds.
+    pub fn is_to_wait(self, sys: u64) -> bool
+        ensures { result ≡ is_to_wait sys self }
+    {
+        if self.command != TR_ADDREQUEST {
+            false
+        } else if self.is_until() {
+            sys < self.time()
+        } else {
+            self.time() != 0
+        }
+    }
+
+    /// What comes of beginning it when the clock tells `now` and system time is `sys`, both in microseconds.
+    pub fn outcome(self, now: u64, sys: u64) -> Begun
+        requires { now + time_of self < 2 ^ 64 }
+        ensures { result ≡ outcome now sys self }
+    {
+        if self.command == TR_SETSYSTIME {
+            Begun::NewTime(self.time())
+        } else if self.is_to_wait(sys) {
+            if self.is_until() {
+                Begun::Until(self.time())
             } else {
                 Begun::Queue(now + self.time())
             }
-        } else if self.command == TR_GETSYSTIME {
+        } else if self.command == TR_ADDREQUEST || self.command == TR_GETSYSTIME {
             Begun::Finish(0)
         } else {
             Begun::Finish(IOERR_NOCMD)
         }
     }
 
-    /// The request as it is under way, begun when the clock tells `now`, with that quick bit.
-    pub fn begun(self, quick: bool, now: u64) -> Request
-        ensures { result ≡ begun quick now self }
+    /// The request as it is under way, begun at system time `sys`, in microseconds, with that quick bit.
+    pub fn begun(self, quick: bool, sys: u64) -> Request
+        ensures { result ≡ begun quick sys self }
     {
         let mut next = self;
         next.state = ReqState::UnderWay;
         next.error = 0;
         next.quick = quick;
-        if self.command == TR_ADDREQUEST && self.time() != 0 {
+        if self.is_to_wait(sys) {
             next.quick = false;
         }
         if self.command == TR_GETSYSTIME {
-            next.secs = (now / SECOND % 0x1_0000_0000) as u32;
-            next.micros = (now % SECOND) as u32;
+            next.secs = (sys / SECOND % 0x1_0000_0000) as u32;
+            next.micros = (sys % SECOND) as u32;
         }
         next
     }

@@ -7,7 +7,7 @@ ghost use Rattle.iorequest.specs.Request.{is_under_way, is_open, time_of, begun,
 ghost use Rattle.iorequest.specs.Requests.{is_request, request_at, request_made, request_freed, with_request, in_use_fault, begin_fault, unit_error, opened, closed, written_with, is_under_way_at};
 
 use crate::fault::ReqFault;
-use crate::request::{Begun, ReqState, Request};
+use crate::request::{Begun, ReqState, Request, UNIT_WAITUNTIL};
 use execlist::pool::Pool;
 use std::alloc::{AllocError, Global};
 use std::marker::Model;
@@ -18,7 +18,7 @@ pub type ReqId = usize;
 /// IOERR_OPENFAIL: there is no such device or unit.
 const IOERR_OPENFAIL: i8 = -1;
 
-/// UNIT_VBLANK, the last of the units, which begin with UNIT_MICROHZ, 0.
+/// UNIT_VBLANK, the last of the units that count the time from the beginning of a request; the first is UNIT_MICROHZ, 0.
 const UNIT_VBLANK: u32 = 1;
 
 /// Timer requests.
@@ -99,8 +99,8 @@ impl Requests {
 
     // ---- opening and writing
 
-    /// Opens a request for a unit of the timer, none where another device is meant. UNIT_MICROHZ (0) and UNIT_VBLANK (1) are there; for
-    /// any other the request is not open afterwards.
+    /// Opens a request for a unit of the timer, none where another device is meant. UNIT_MICROHZ (0), UNIT_VBLANK (1) and UNIT_WAITUNTIL
+    /// (3) are there; for any other the request is not open afterwards.
     ///
     /// Answers the error, which the request has then: 0, or IOERR_OPENFAIL (-1). It is InUse where the request is under way (own choice).
     /// Autodoc exec.library/OpenDevice; RKM Devices, Timer Device: units.
@@ -165,18 +165,22 @@ impl Requests {
 
     // ---- beginning and finishing
 
-    /// Begins a request, with IOF_QUICK set or not, when the clock tells `now`, in microseconds. Its error becomes 0, and it is under way
-    /// until `finish`. TR_ADDREQUEST (9) of a positive time clears IOF_QUICK and is due when that time is over; TR_GETSYSTIME (10) puts
-    /// the clock into the time field.
+    /// Begins a request, with IOF_QUICK set or not, when the clock tells `now` and system time is `sys`, both in microseconds. Its error
+    /// becomes 0, and it is under way until `finish`. TR_ADDREQUEST (9) clears IOF_QUICK where it is to wait: for a positive time to be
+    /// over, or, on UNIT_WAITUNTIL, for a system time that is still to come. TR_GETSYSTIME (10) puts system time into the time field, its
+    /// seconds modulo 2 to the power 32 (own choice).
     ///
-    /// Answers how it goes on: `Queue` with the time when it is due, or `Finish` with its error, which is IOERR_NOCMD (-3) for a command
-    /// that the timer does not know. It is InUse where the request is under way, and NotOpen where it is not open (own choice). The sum
-    /// of the clock and the request's time is below 2 to the power 64. Autodoc timer.device: TR_ADDREQUEST, TR_GETSYSTIME.
-    pub fn begin(&mut self, r: ReqId, quick: bool, now: u64) -> Result<Begun, ReqFault>
+    /// Answers how it goes on: `Queue` with the time of the clock when it is due; `Until` with the system time when it is due; `NewTime`
+    /// for TR_SETSYSTIME (11), with what system time becomes: the caller sets it, and finishes the request with error 0; or `Finish` with
+    /// its error, which is IOERR_NOCMD (-3) for a command that the timer does not know. It is InUse where the request is under way, and
+    /// NotOpen where it is not open (own choice). The sum of the clock and the request's time is below 2 to the power 64.
+    /// Autodoc timer.device: TR_ADDREQUEST, TR_GETSYSTIME, TR_SETSYSTIME; RKM Devices, Timer Device: UNIT_WAITUNTIL.
+    pub fn begin(&mut self, r: ReqId, quick: bool, now: u64, sys: u64) -> Result<Begun, ReqFault>
         requires live { IsTrue (is_request r self.old) }
         requires clock { now + time_of (request_at r self.old) < 2 ^ 64 }
-        ensures answer { result ≡ fault_or (begin_fault r self.old) (outcome now (request_at r self.old)) }
-        ensures next { self.new ≡ kept_or (begin_fault r self.old) self.old (with_request r (begun quick now (request_at r self.old)) self.old) }
+        ensures answer { result ≡ fault_or (begin_fault r self.old) (outcome now sys (request_at r self.old)) }
+        ensures next { self.new ≡ kept_or (begin_fault r self.old) self.old
+            (with_request r (begun quick sys (request_at r self.old)) self.old) }
     {
         let request = self.request(r);
         if request.is_under_way() {
@@ -185,8 +189,8 @@ impl Requests {
         if !request.is_open() {
             return Err(ReqFault::NotOpen);
         }
-        self.requests.set(r, request.begun(quick, now));
-        Ok(request.outcome(now))
+        self.requests.set(r, request.begun(quick, sys));
+        Ok(request.outcome(now, sys))
     }
 
     /// Finishes a request that is under way, with an error: one whose IOF_QUICK is set is done quick, any other is replied.
@@ -318,7 +322,7 @@ fn unit_error(unit: Option<u32>) -> i8
     match unit {
         None => IOERR_OPENFAIL,
         Some(unit) => {
-            if unit <= UNIT_VBLANK {
+            if unit <= UNIT_VBLANK || unit == UNIT_WAITUNTIL {
                 0
             } else {
                 IOERR_OPENFAIL

@@ -1,2 +1,8 @@
+pub mod Times
+pub mod Filters
+pub mod Choice
+pub mod Homes
 pub mod Queue
 pub mod Walk
+pub mod Keeping
+pub mod Next

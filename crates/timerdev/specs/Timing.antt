@@ -1,76 +1,96 @@
--- What calls on the timer see: its clock, the due time of each request, and the requests that wait (Devices, timer device).
-use Rattle.std.specs.Prelude.{◌≡◌, ℕ, ℤ, pos, neg_ℤ, ◌+◌, ◌≤◌, ◌==◌, nat_le, Bool, not, List, [], ◌∷◌, length, replicate, find, slice_set, slice_index_or, Option, Some, None, ⊤}
-use Rattle.execlist.specs.Order.{enqueue, without}
-use Rattle.execlist.specs.Lists.{times}
+-- What timer.device keeps: its clock, system time, and the requests that wait, each for a time of the clock or for a system time (Devices,
+-- timer device). A request is a number of whoever keeps it. The requests that wait stand in the order in which they were begun, which is
+-- never sorted: of those whose time has come, the one that finishes next is the earliest among those of the first moment.
+use Rattle.std.specs.Prelude.{ℕ, ℤ, pos, neg_ℤ, ◌+◌, ◌-ℤ◌, ◌==◌, nat_le, Bool, true, false, not, ◌&&◌, List, [], ◌∷◌, ◌++◌, filter, Option}
+use Rattle.std.specs.List.{list_any}
+use Rattle.std.specs.Option.{option_map}
+use Rattle.execlist.specs.Order.{chosen}
 
-pub record Timing : Type 0 where
-  -- the requests that wait, as they are to finish
-  pub queue : List ℕ
-  -- the time for which each request waits, or waited last, in microseconds
-  pub dues : List ℕ
-  -- the microseconds counted so far
+-- the time for which a request waits, in microseconds
+pub data Due : Type 0 where
+  -- a time of the clock (UNIT_MICROHZ, UNIT_VBLANK)
+  AtClock : (time : ℕ) → Due
+  -- a system time (UNIT_WAITUNTIL)
+  AtSystem : (time : ℕ) → Due
+
+-- a request that waits, and what for
+pub record Waiting : Type 0 where
+  pub request : ℕ
+  pub due : Due
+
+-- The clock, system time, and what both gain at each tick, in microseconds; whether system time was set, and those that wait for it were
+-- not looked at since; and the requests that wait, in the order in which they were begun.
+pub record Timer : Type 0 where
   pub clock : ℕ
-  -- the microseconds of one tick
+  pub system : ℕ
   pub tick_micros : ℕ
+  pub is_set : Bool
+  pub waiting : List Waiting
 
--- ---- one request
+-- no request waits; clock and system time begin at 0 (own choice)
+abbrev pub new_timer : ℕ → Timer
+new_timer tick_micros = record { clock = 0; system = 0; tick_micros = tick_micros; is_set = false; waiting = [] }
 
--- the time for which request r waits
-abbrev pub due_at : List ℕ → ℕ → ℕ
-due_at dues r = slice_index_or dues r 0
+-- ---- the clock, and system time
 
--- the sooner a request is due, the greater its key
-abbrev pub sooner : List ℕ → ℕ → ℤ
-sooner dues r = neg_ℤ (pos (due_at dues r))
+-- what system time is ahead of the clock, or behind it
+abbrev pub offset : Timer → ℤ
+offset timer = pos timer.system -ℤ pos timer.clock
 
--- request r waits
-abbrev pub is_queued : ℕ → Timing → Bool
-is_queued r m = not (times r m.queue == 0)
+-- clock and system time gain one tick
+abbrev pub ticked : Timer → Timer
+ticked timer = record timer { clock = timer.clock + timer.tick_micros; system = timer.system + timer.tick_micros }
 
--- the clock has come to the time for which request r waits
-abbrev pub is_due : Timing → ℕ → Bool
-is_due m r = nat_le (due_at m.dues r) m.clock
+-- system time becomes that; the clock stays
+abbrev pub system_set : ℕ → Timer → Timer
+system_set time timer = record timer { system = time; is_set = true }
 
--- the first of the requests that are due
-abbrev pub due_request : Timing → Option ℕ
-due_request m = find (is_due m) m.queue
+-- those that wait for system time were looked at
+abbrev pub looked_at : Timer → Timer
+looked_at timer = record timer { is_set = false }
 
--- ---- changes
+-- ---- one request that waits
 
--- room for so many requests, none of which waits; the clock begins at 0
-abbrev pub no_requests : (requests tick_micros : ℕ) → Timing
-no_requests requests tick_micros = record { queue = []; dues = replicate requests 0; clock = 0; tick_micros = tick_micros }
+-- the moment of the clock at which a time comes: that of a system time moves with the offset
+abbrev pub moment : Timer → Due → ℤ
+moment timer (AtClock time) = pos time
+moment timer (AtSystem time) = pos time -ℤ offset timer
 
--- request r waits for that time, behind those that are due by then
-abbrev pub added : (r due : ℕ) → Timing → Timing
-added r due m = record m { queue = enqueue (sooner (slice_set m.dues r due)) m.queue r; dues = slice_set m.dues r due }
+-- a time has come
+abbrev pub has_come : Timer → Due → Bool
+has_come timer (AtClock time) = nat_le time timer.clock
+has_come timer (AtSystem time) = nat_le time timer.system
 
--- request r waits no more
-abbrev pub cancelled : ℕ → Timing → Timing
-cancelled r m = record m { queue = without r m.queue }
+abbrev pub is_system : Due → Bool
+is_system (AtClock time) = false
+is_system (AtSystem time) = true
 
--- a request that is due waits no more
-abbrev pub taken_off : Option ℕ → Timing → Timing
-taken_off None m = m
-taken_off (Some r) m = cancelled r m
+-- the sooner the moment of a request, the greater its priority
+abbrev pub sooner : Timer → Waiting → ℤ
+sooner timer waiting = neg_ℤ (moment timer waiting.due)
 
--- the clock gains one tick
-abbrev pub ticked : Timing → Timing
-ticked m = record m { clock = m.clock + m.tick_micros }
+-- ---- those that wait
 
--- ---- what the code keeps
+-- a request waits, behind those that were begun before
+abbrev pub begins_to_wait : ℕ → Due → Timer → Timer
+begins_to_wait request due timer = record timer { waiting = timer.waiting ++ record { request = request; due = due } ∷ [] }
 
--- none of the requests is due before that time
-abbrev pub NoneBefore : (ℕ → ℕ) → ℕ → List ℕ → Type 0
-NoneBefore due time queue = (r : ℕ) → 1 ≤ times r queue → time ≤ due r
+-- a request waits no more
+abbrev pub waits_no_more : ℕ → Timer → Timer
+waits_no_more request timer = record timer { waiting = filter (λ (w : Waiting). not (w.request == request)) timer.waiting }
 
--- the due times rise
-abbrev pub Rises : (ℕ → ℕ) → List ℕ → Type 0
-Rises due [] = ⊤
-Rises due (r ∷ queue) = NoneBefore due (due r) queue × Rises due queue
+-- a request waits
+abbrev pub is_waiting : ℕ → Timer → Bool
+is_waiting request timer = list_any (λ (w : Waiting). w.request == request) timer.waiting
 
--- the requests that wait stand in one header, by due time; each request has a due time
-pub record IsHeld (headers requests : ℕ) (dues queue : List ℕ) : Type 0 where
-  pub one_header : headers ≡ 1
-  pub each : requests ≡ length dues
-  pub rises : Rises (due_at dues) queue
+-- the request that finishes next of those that pass a test, if there is one: by the moment, then by the order in which they were begun
+unfoldable pub next_of : (Waiting → Bool) → Timer → Option ℕ
+next_of passes timer = option_map (λ (w : Waiting). w.request) (chosen (sooner timer) (filter passes timer.waiting))
+
+-- the request that finishes next, if the time of one has come
+unfoldable pub due_next : Timer → Option ℕ
+due_next timer = next_of (λ (w : Waiting). has_come timer w.due) timer
+
+-- the same of those that wait for system time
+unfoldable pub until_next : Timer → Option ℕ
+until_next timer = next_of (λ (w : Waiting). is_system w.due && has_come timer w.due) timer

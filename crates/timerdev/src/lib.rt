@@ -1,6 +1,7 @@
-//! The clock of timer.device, and the requests that wait for a moment of it.
+//! The clock of timer.device, system time, and the requests that wait for a moment of either.
 //! Requests are known by number alone: which of them is to finish stands in the answers, and nothing here finishes one.
 #![tactic(auto)]
 
+pub mod first;
 pub mod place;
 pub mod timer;

@@ -8,8 +8,8 @@ ghost use Rattle.execmodel.specs.Memory.{freed, placed};
 ghost use Rattle.execmodel.specs.Objects.{place_for_object};
 ghost use Rattle.execmodel.specs.Ports.{port_alert};
 ghost use Rattle.execmodel.specs.Requests as model;
-ghost use Rattle.execmodel.specs.Timing.{ticked};
-ghost use Rattle.execheap.specs.Listing.{IsSignal, aborted, aborting, acting_begun, awaited_for, begun_listed, due_listed, ended_if, finishing, taken_if_replied};
+ghost use Rattle.timerdev.specs.Timing.{due_next, looked_at, ticked, until_next};
+ghost use Rattle.execheap.specs.Listing.{IsSignal, aborted, aborting, acting_begun, awaited_for, ended_if, finishing, taken_if_replied};
 ghost use Rattle.execheap.specs.Refusals.{alert_of};
 
 use crate::awaited::Awaited;
@@ -118,13 +118,14 @@ impl<S: ListSpace> Heap<S> {
 
     // ---- beginning
 
-    /// Begins a request with IOF_QUICK cleared, and answers what is to be done for its reply, if it is done at once; else it waits until it is
-    /// due. It is refused where no request begins at the address (Handle), where it is under way or not open (Io), where its reply is queued
-    /// (Link), and where its reply port does not live (Handle). Autodoc exec.library/SendIO; the refusals: own choice.
+    /// Begins a request with IOF_QUICK cleared, and answers what is to be done for its reply, if it is done at once; else it waits for its
+    /// time. TR_SETSYSTIME is done at once, and system time is then the time of the request. It is refused where no request begins at the
+    /// address (Handle), where it is under way or not open (Io), where its reply is queued (Link), and where its reply port does not live
+    /// (Handle). Autodocs exec.library/SendIO and timer.device: TR_SETSYSTIME; the refusals: own choice.
     pub fn send_request(&mut self, request: u32) -> Result<Action, Refusal>
         ensures alert { alert_of result ≡ model.send_alert request self.old.heap }
         ensures answer { IfOk result (λ action. action ≡ acting_begun false request self.old) }
-        ensures next { OnOk result (self.new ≡ begun_listed false request self.old) }
+        ensures next { OnOk result (self.new ≡ model.begun_at false request self.old) }
         ensures kept { OnErr result (self.new ≡ self.old) }
     {
         match self.objects.request_to_send(request) {
@@ -133,14 +134,14 @@ impl<S: ListSpace> Heap<S> {
         }
     }
 
-    /// Begins a request with IOF_QUICK set, and answers its error, if it is done at once; else it waits until it is due, and the answer is the
+    /// Begins a request with IOF_QUICK set, and answers its error, if it is done at once; else it waits for its time, and the answer is the
     /// number of the signal by which its reply port tells the task (0 to 31). It is refused as by `send_request`, and where the reply port does
     /// not signal the task (Port). Autodoc exec.library/DoIO; the refusals: own choice.
     pub fn do_request(&mut self, task: TaskId, request: u32) -> Result<Awaited, Refusal>
         ensures alert { alert_of result ≡ model.do_alert task request self.old.heap }
         ensures answer { IfOk result (λ answer. answer ≡ awaited_for request self.new.heap) }
         ensures signal { IfOk result IsSignal }
-        ensures next { OnOk result (self.new ≡ begun_listed true request self.old) }
+        ensures next { OnOk result (self.new ≡ model.begun_at true request self.old) }
         ensures kept { OnErr result (self.new ≡ self.old) }
     {
         match self.objects.request_to_do(task, request) {
@@ -255,10 +256,10 @@ impl<S: ListSpace> Heap<S> {
         }
     }
 
-    // ---- the clock
+    // ---- the clock, and system time
 
-    /// The clock gains the microseconds of a tick. It is to stay below 2 to the power 63, so that the longest time of a request can be added.
-    /// Devices, timer device; own choice: the clock counts ticks alone.
+    /// Clock and system time gain the microseconds of a tick. The clock is to stay below 2 to the power 63, so that the longest time of a
+    /// request can be added. Devices, timer device; own choice: both count ticks alone.
     pub fn tick(&mut self)
         requires { self.old.timer.clock + self.old.timer.tick_micros < 2 ^ 63 }
         ensures { self.new ≡ on_timer ticked self.old }
@@ -266,15 +267,34 @@ impl<S: ListSpace> Heap<S> {
         self.objects.tick();
     }
 
-    /// Finishes the first request that is due by now, with error 0, and answers its address and what is to be done for its reply; none where none
-    /// is due. First is the one that is due first, and of those that are due at one time the one that was begun first. Devices, timer device:
-    /// TR_ADDREQUEST.
+    /// Answers whether system time was set since this was asked last, so that those that wait for it are to be looked at. Own choice.
+    pub fn take_setting(&mut self) -> bool
+        ensures answer { result ≡ self.old.timer.is_set }
+        ensures next { self.new ≡ on_timer looked_at self.old }
+    {
+        self.objects.take_setting()
+    }
+
+    /// Finishes the first request whose time has come, with error 0, and answers its address and what is to be done for its reply; none where
+    /// no time has come. First is the one of the first moment, and of those of one moment the one that was begun first; the moment of a
+    /// request that waits for system time is that time less what system time is ahead of the clock now. Devices, timer device: TR_ADDREQUEST.
     pub fn finish_due(&mut self) -> Option<(u32, Action)>
-        ensures answer { result ≡ finishing self.old.heap (due_listed self.old.timer) }
-        ensures next { self.new ≡ ended_if (due_listed self.old.timer) self.old }
+        ensures answer { result ≡ finishing self.old.heap (due_next self.old.timer) }
+        ensures next { self.new ≡ ended_if (due_next self.old.timer) self.old }
     {
         self.objects.facts();
         let (r, action) = self.objects.finish_due()?;
+        Some((self.objects.address_of(Kind::Request, r), action))
+    }
+
+    /// Finishes, with error 0, the first request that waits for system time and whose time has come, and answers its address and what is to
+    /// be done for its reply; none where there is none. Autodoc timer.device: TR_SETSYSTIME; Devices, timer device: UNIT_WAITUNTIL.
+    pub fn finish_until(&mut self) -> Option<(u32, Action)>
+        ensures answer { result ≡ finishing self.old.heap (until_next self.old.timer) }
+        ensures next { self.new ≡ ended_if (until_next self.old.timer) self.old }
+    {
+        self.objects.facts();
+        let (r, action) = self.objects.finish_until()?;
         Some((self.objects.address_of(Kind::Request, r), action))
     }
 }

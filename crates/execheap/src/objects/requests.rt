@@ -4,10 +4,10 @@ ghost use Rattle.execlist.specs.Lists.{home};
 ghost use Rattle.execlist.specs.Pool.{slot};
 ghost use Rattle.iorequest.specs.declared.request.Request.{Request as TimerRequest};
 ghost use Rattle.iorequest.specs.declared.request.ReqState.TheVariants.{Replied};
-ghost use Rattle.iorequest.specs.Request.{idle_request, is_open, is_under_way, reply_port, time_of};
-ghost use Rattle.iorequest.specs.Requests.{closed, is_request, opened, request_at, unit_error, written_with};
+ghost use Rattle.iorequest.specs.Request.{finished, idle_request, is_open, is_under_way, reply_port, time_of};
+ghost use Rattle.iorequest.specs.Requests.{closed, is_request, opened, request_at, unit_error, with_request, written_with};
 ghost use Rattle.msgport.specs.Ports.{is_message, is_port};
-ghost use Rattle.timerdev.specs.Timing.{due_request, ticked};
+ghost use Rattle.timerdev.specs.Timing.{due_next, looked_at, ticked, until_next};
 ghost use Rattle.execmodel.specs.State.{Request};
 ghost use Rattle.execmodel.specs.Memory.{freed, placed};
 ghost use Rattle.execmodel.specs.Objects.{place_for_object};
@@ -21,11 +21,12 @@ ghost use Rattle.execheap.specs.Requesting.{on_requests, on_timing};
 use crate::awaited::Awaited;
 use crate::kind::Kind;
 use crate::objects::Objects;
+use crate::table::Table;
 use execlist::space::ListSpace;
 use iorequest::request::{Begun, ReqState};
 use iorequest::requests::{ReqId, Requests};
 use msgport::action::Action;
-use msgport::ports::{MsgId, PortId, Ports};
+use msgport::ports::{MsgId, Ports};
 
 /// IOERR_ABORTED (exec/errors.h).
 const IOERR_ABORTED: i8 = -2;
@@ -127,18 +128,39 @@ impl<S: ListSpace> Objects<S> {
     {
         let message = self.message_of(r);
         self.time_is_short(r);
-        match self.requests.begin(r, quick, self.timer.now()).unwrap() {
+        match self
+            .requests
+            .begin(r, quick, self.timer.now(), self.timer.sys_now())
+            .unwrap()
+        {
             Begun::Queue(due) => {
                 self.ports.hold(message).unwrap();
                 self.timer.add(r, due);
                 Action::Nothing
             }
-            Begun::Finish(error) => {
-                let port = match self.requests.finish(r, error) {
-                    Some(address) => self.table.number_at(Kind::Port, address),
-                    None => None,
-                };
-                put_reply(&mut self.ports, port, message)
+            Begun::Until(time) => {
+                self.ports.hold(message).unwrap();
+                self.timer.add_until(r, time);
+                Action::Nothing
+            }
+            Begun::Finish(error) => finish(
+                &self.table,
+                &mut self.requests,
+                &mut self.ports,
+                r,
+                error,
+                message,
+            ),
+            Begun::NewTime(time) => {
+                self.timer.set_sys(time);
+                finish(
+                    &self.table,
+                    &mut self.requests,
+                    &mut self.ports,
+                    r,
+                    0,
+                    message,
+                )
             }
         }
     }
@@ -146,7 +168,7 @@ impl<S: ListSpace> Objects<S> {
     /// The time of a request is no longer than its seconds and microseconds can tell.
     fn time_is_short(&self, r: ReqId)
         requires { IsTrue (is_request r self.now.requests) }
-        ensures { time_of (request_at r self.now.requests) < 2 ^ 63 }
+        ensures { time_of (request_at r self.now.requests) < 2 ^ 53 }
     {
         let _ = self.requests.secs(r);
         let _ = self.requests.micros(r);
@@ -161,27 +183,55 @@ impl<S: ListSpace> Objects<S> {
     {
         let message = self.message_of(r);
         self.timer.cancel(r);
-        let port = match self.requests.finish(r, IOERR_ABORTED) {
-            Some(address) => self.table.number_at(Kind::Port, address),
-            None => None,
-        };
-        put_reply(&mut self.ports, port, message)
+        finish(
+            &self.table,
+            &mut self.requests,
+            &mut self.ports,
+            r,
+            IOERR_ABORTED,
+            message,
+        )
     }
 
-    /// Ends the first request that is due, if one is, with error 0, and answers its number and what is to be done for its reply.
+    /// Ends the first request whose time has come, if there is one, with error 0, and answers its number and what is to be done for its
+    /// reply.
     pub fn finish_due(&mut self) -> Option<(ReqId, Action)>
-        ensures answer { result ≡ option_map (λ r. (r, next.acting_ended r self.old)) (due_request self.old.timing) }
+        ensures answer { result ≡ option_map (λ r. (r, next.acting_ended r self.old)) (due_next self.old.timing.timer) }
         ensures live { IfSome result (λ pair. IsSome (slot (places variant.Request self.new) pair.0)) }
-        ensures next { self.new ≡ next.ended_if (due_request self.old.timing) self.old }
+        ensures next { self.new ≡ next.ended_if (due_next self.old.timing.timer) self.old }
     {
         self.facts();
         let r = self.timer.due()?;
         let message = self.table.pool() + r;
-        let port = match self.requests.finish(r, 0) {
-            Some(address) => self.table.number_at(Kind::Port, address),
-            None => None,
-        };
-        Some((r, put_reply(&mut self.ports, port, message)))
+        let action = finish(
+            &self.table,
+            &mut self.requests,
+            &mut self.ports,
+            r,
+            0,
+            message,
+        );
+        Some((r, action))
+    }
+
+    /// The same of the first request that waits for system time.
+    pub fn finish_until(&mut self) -> Option<(ReqId, Action)>
+        ensures answer { result ≡ option_map (λ r. (r, next.acting_ended r self.old)) (until_next self.old.timing.timer) }
+        ensures live { IfSome result (λ pair. IsSome (slot (places variant.Request self.new) pair.0)) }
+        ensures next { self.new ≡ next.ended_if (until_next self.old.timing.timer) self.old }
+    {
+        self.facts();
+        let r = self.timer.due_until()?;
+        let message = self.table.pool() + r;
+        let action = finish(
+            &self.table,
+            &mut self.requests,
+            &mut self.ports,
+            r,
+            0,
+            message,
+        );
+        Some((r, action))
     }
 
     // ---- looked for
@@ -219,25 +269,47 @@ impl<S: ListSpace> Objects<S> {
         matches!(self.requests.state(r), ReqState::UnderWay)
     }
 
-    // ---- the clock
+    // ---- the clock, and system time
 
-    /// The clock gains the microseconds of a tick. It is to stay below 2 to the power 63.
+    /// Clock and system time gain the microseconds of a tick. The clock is to stay below 2 to the power 63.
     pub fn tick(&mut self)
-        requires { self.old.timing.clock + self.old.timing.tick_micros < 2 ^ 63 }
+        requires { self.old.timing.timer.clock + self.old.timing.timer.tick_micros < 2 ^ 63 }
         ensures { self.new ≡ on_timing ticked self.old }
     {
         self.timer.tick();
     }
+
+    /// Whether system time was set since this was asked last.
+    pub fn take_setting(&mut self) -> bool
+        ensures value { result ≡ self.old.timing.timer.is_set }
+        ensures next { self.new ≡ on_timing looked_at self.old }
+    {
+        self.timer.take_setting()
+    }
 }
 
-/// Puts a message that may be held at a port as a reply, if there is one, and answers what is to be done for it. It is not held any more.
-fn put_reply<S: ListSpace>(ports: &mut Ports<S>, port: Option<PortId>, message: MsgId) -> Action
-    requires port { IfSome port (λ p. IsTrue (is_port p ports.old)) }
+/// Finishes a request that is under way with an error, puts its message as a reply at its reply port, if it has one that lives and is not
+/// done quick, and answers what is to be done for it. The message is not held any more.
+fn finish<S: ListSpace>(
+    table: &Table<S>,
+    requests: &mut Requests,
+    ports: &mut Ports<S>,
+    r: ReqId,
+    error: i8,
+    message: MsgId,
+) -> Action
+    requires under_way { IsTrue (is_under_way (request_at r requests.old)) }
+    requires port { IfSome (next.port_number (reply_port (request_at r requests.old)) table.now) (λ p. IsTrue (is_port p ports.old)) }
     requires message { IsTrue (is_message message ports.old) }
     requires loose { home ports.old.places message ≡ None }
-    ensures answer { result ≡ next.acting_at port ports.old }
-    ensures next { ports.new ≡ next.put_at port message ports.old }
+    ensures answer { result ≡ next.acting_at (next.port_number (reply_port (request_at r requests.old)) table.now) ports.old }
+    ensures requests { requests.new ≡ with_request r (finished error (request_at r requests.old)) requests.old }
+    ensures ports { ports.new ≡ next.put_at (next.port_number (reply_port (request_at r requests.old)) table.now) message ports.old }
 {
+    let port = match requests.finish(r, error) {
+        Some(address) => table.number_at(Kind::Port, address),
+        None => None,
+    };
     match port {
         Some(p) => ports.reply(p, message).unwrap(),
         None => {

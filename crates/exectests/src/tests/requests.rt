@@ -24,8 +24,8 @@ enum Step {
     Closes(ReqId, Option<Result<(), ReqFault>>),
     /// A request gets a command, seconds and microseconds.
     Sets(ReqId, u16, u32, u32, Option<Result<(), ReqFault>>),
-    /// A request begins, with IOF_QUICK or not, when the clock tells so many microseconds.
-    Begins(ReqId, bool, u32, Option<Result<Begun, ReqFault>>),
+    /// A request begins, with IOF_QUICK or not, at so many microseconds of the clock, and of system time.
+    Begins(ReqId, bool, u32, u64, Option<Result<Begun, ReqFault>>),
     /// A request is finished with an error: its reply port.
     Finishes(ReqId, i8, Option<Option<u32>>),
     /// A request's state, error, seconds, microseconds and quick bit.
@@ -51,7 +51,7 @@ const DONE: Option<Result<(), ReqFault>> = Some(Ok(()));
 const IN_USE: Option<Result<(), ReqFault>> = Some(Err(ReqFault::InUse));
 
 /// What is shown on room for two requests, of which there is none.
-static CASES: [Case; 7] = [
+static CASES: [Case; 9] = [
     Case {
         name: "a new request is idle, not open, and blank",
         steps: &[
@@ -60,18 +60,22 @@ static CASES: [Case; 7] = [
             Has(1, Some((ReqState::Idle, 0, 0, 0, false))),
             IsOpen(1, Some(false)),
             UnderWay(0x1000, false),
-            Begins(1, true, 0, Some(Err(ReqFault::NotOpen))),
+            Begins(1, true, 0, 0, Some(Err(ReqFault::NotOpen))),
         ],
     },
     Case {
-        name: "units 0 and 1 are there, and no other",
+        name: "units 0, 1 and 3 are there, and no other",
         steps: &[
             Makes(0x1000, Ok(1)),
             Opens(1, Some(0), Some(Ok(0))),
             IsOpen(1, Some(true)),
-            Opens(1, Some(3), Some(Ok(-1))),
+            Opens(1, Some(2), Some(Ok(-1))),
             IsOpen(1, Some(false)),
             Has(1, Some((ReqState::Idle, -1, 0, 0, false))),
+            Opens(1, Some(3), Some(Ok(0))),
+            IsOpen(1, Some(true)),
+            Opens(1, Some(4), Some(Ok(-1))),
+            IsOpen(1, Some(false)),
             Opens(1, Some(1), Some(Ok(0))),
             Opens(1, None, Some(Ok(-1))),
             Opens(1, Some(1), Some(Ok(0))),
@@ -85,11 +89,11 @@ static CASES: [Case; 7] = [
             Makes(0x1000, Ok(1)),
             Opens(1, Some(0), Some(Ok(0))),
             Sets(1, 9, 2, 2_000_001, DONE),
-            Begins(1, true, 500, Some(Ok(Begun::Queue(4_000_501)))),
+            Begins(1, true, 500, 9_000_000, Some(Ok(Begun::Queue(4_000_501)))),
             Has(1, Some((ReqState::UnderWay, 0, 2, 2_000_001, false))),
             UnderWay(0x1000, true),
             UnderWay(0x1028, false),
-            Begins(1, true, 500, Some(Err(ReqFault::InUse))),
+            Begins(1, true, 500, 9_000_000, Some(Err(ReqFault::InUse))),
             Frees(1, IN_USE),
             Closes(1, IN_USE),
             Sets(1, 9, 0, 0, IN_USE),
@@ -106,23 +110,75 @@ static CASES: [Case; 7] = [
             Makes(0x1000, Ok(1)),
             Opens(1, Some(0), Some(Ok(0))),
             Sets(1, 9, 0, 0, DONE),
-            Begins(1, true, 7, Some(Ok(Begun::Finish(0)))),
+            Begins(1, true, 7, 8, Some(Ok(Begun::Finish(0)))),
             Finishes(1, 0, Some(None)),
             Has(1, Some((ReqState::Quick, 0, 0, 0, true))),
-            Begins(1, false, 7, Some(Ok(Begun::Finish(0)))),
+            Begins(1, false, 7, 8, Some(Ok(Begun::Finish(0)))),
             Finishes(1, 0, Some(Some(0x1000))),
             Has(1, Some((ReqState::Replied, 0, 0, 0, false))),
         ],
     },
     Case {
-        name: "the clock is told in seconds and microseconds",
+        name: "system time is told in seconds, modulo 2 to the power 32, and microseconds",
         steps: &[
             Makes(0x1000, Ok(1)),
             Opens(1, Some(0), Some(Ok(0))),
             Sets(1, 10, 8, 9, DONE),
-            Begins(1, true, 3_060_000, Some(Ok(Begun::Finish(0)))),
+            Begins(1, true, 1, 3_060_000, Some(Ok(Begun::Finish(0)))),
             Finishes(1, 0, Some(None)),
             Has(1, Some((ReqState::Quick, 0, 3, 60_000, true))),
+            Opens(1, Some(3), Some(Ok(0))),
+            Begins(
+                1,
+                true,
+                1,
+                4_294_967_297_000_002,
+                Some(Ok(Begun::Finish(0))),
+            ),
+            Has(1, Some((ReqState::UnderWay, 0, 1, 2, true))),
+        ],
+    },
+    Case {
+        name: "a request of unit 3 waits for a system time that is still to come",
+        steps: &[
+            Makes(0x1000, Ok(1)),
+            Opens(1, Some(3), Some(Ok(0))),
+            Sets(1, 9, 10, 1, DONE),
+            Begins(
+                1,
+                true,
+                20_000_000,
+                10_000_000,
+                Some(Ok(Begun::Until(10_000_001))),
+            ),
+            Has(1, Some((ReqState::UnderWay, 0, 10, 1, false))),
+            Finishes(1, 0, Some(Some(0x1000))),
+            Begins(1, true, 0, 10_000_001, Some(Ok(Begun::Finish(0)))),
+            Finishes(1, 0, Some(None)),
+            Has(1, Some((ReqState::Quick, 0, 10, 1, true))),
+            Sets(1, 9, 0, 0, DONE),
+            Begins(1, true, 0, 0, Some(Ok(Begun::Finish(0)))),
+        ],
+    },
+    Case {
+        name: "system time is set by a request of any unit, whose time stays",
+        steps: &[
+            Makes(0x1000, Ok(1)),
+            Opens(1, Some(1), Some(Ok(0))),
+            Sets(1, 11, 20, 1_000_007, DONE),
+            Begins(1, true, 5, 6, Some(Ok(Begun::NewTime(21_000_007)))),
+            Has(1, Some((ReqState::UnderWay, 0, 20, 1_000_007, true))),
+            Finishes(1, 0, Some(None)),
+            Opens(1, Some(3), Some(Ok(0))),
+            Begins(
+                1,
+                false,
+                5,
+                30_000_000,
+                Some(Ok(Begun::NewTime(21_000_007))),
+            ),
+            Finishes(1, 0, Some(Some(0x1000))),
+            Has(1, Some((ReqState::Replied, 0, 20, 1_000_007, false))),
         ],
     },
     Case {
@@ -130,12 +186,12 @@ static CASES: [Case; 7] = [
         steps: &[
             Makes(0x1000, Ok(1)),
             Opens(1, Some(0), Some(Ok(0))),
-            Sets(1, 11, 1, 1, DONE),
-            Begins(1, true, 5, Some(Ok(Begun::Finish(-3)))),
+            Sets(1, 12, 1, 1, DONE),
+            Begins(1, true, 5, 6, Some(Ok(Begun::Finish(-3)))),
             Finishes(1, -3, Some(None)),
             Has(1, Some((ReqState::Quick, -3, 1, 1, true))),
             Sets(1, 9, 0, 0, DONE),
-            Begins(1, true, 5, Some(Ok(Begun::Finish(0)))),
+            Begins(1, true, 5, 6, Some(Ok(Begun::Finish(0)))),
             Has(1, Some((ReqState::UnderWay, 0, 0, 0, true))),
         ],
     },
@@ -202,11 +258,12 @@ fn begin(
     r: ReqId,
     quick: bool,
     now: u32,
+    sys: u64,
 ) -> Option<Result<Begun, ReqFault>> {
     if requests.is_request(r) {
         let _secs = requests.secs(r);
         let _micros = requests.micros(r);
-        Some(requests.begin(r, quick, u64::from(now)))
+        Some(requests.begin(r, quick, u64::from(now), sys))
     } else {
         None
     }
@@ -255,7 +312,9 @@ fn take(rt: &impl Abort, q: &mut Requests, case: &str, number: usize, step: Step
         Sets(r, command, secs, micros, wanted) => {
             same(rt, case, number, set(q, r, command, secs, micros), wanted);
         }
-        Begins(r, quick, now, wanted) => same(rt, case, number, begin(q, r, quick, now), wanted),
+        Begins(r, quick, now, sys, wanted) => {
+            same(rt, case, number, begin(q, r, quick, now, sys), wanted);
+        }
         Finishes(r, error, wanted) => same(rt, case, number, finish(q, r, error), wanted),
         Has(r, wanted) => same(rt, case, number, fields(q, r), wanted),
         IsOpen(r, wanted) => same(rt, case, number, is_open(q, r), wanted),

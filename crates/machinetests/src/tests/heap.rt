@@ -1,5 +1,5 @@
-//! Semaphores in the memory of a machine, where a call comes for a task that waits: a task that waits makes none itself.
-use execheap::Heap;
+//! The memory of a machine: semaphores, where a call comes for a task that waits, which makes none itself; and requests by address.
+use execheap::{Action, Awaited, Heap};
 use execlist::plain::PlainSpace;
 use memlist::Region;
 use sigsem::semaphore::Obtained;
@@ -34,5 +34,46 @@ fn a_task_waits_for_one_semaphore_at_a_time(rt: HostRuntime) -> Result<(), Fail>
     );
     let next = [heap.release_semaphore(0, A), heap.release_semaphore(1, B)];
     assert_eq!(&rt; next, [Ok(None), Ok(Some(2))]);
+    Ok(())
+}
+
+/// A port of 40 bytes, and the requests behind it, of 40 each.
+const PORT: u32 = 0x1000;
+
+const WAITS: u32 = 0x1028;
+
+const SETS: u32 = 0x1050;
+
+/// TR_ADDREQUEST on UNIT_WAITUNTIL, and TR_SETSYSTIME on UNIT_MICROHZ: the second ends the first.
+#[test]
+fn a_request_waits_until_system_time_is_set(rt: HostRuntime) -> Result<(), Fail> {
+    let region = Region {
+        base: 0x1000,
+        size: 256,
+        attrs: 1,
+        pri: 0,
+    };
+    let mut heap: Heap<PlainSpace> = Heap::new(rt.alloc(), &[region], 2, &[], 20_000)?;
+    assert_eq!(&rt; heap.new_port(7, 16), Some(PORT));
+    let made = [heap.new_request(PORT), heap.new_request(PORT)];
+    assert_eq!(&rt; made, [Ok(Some(WAITS)), Ok(Some(SETS))]);
+    let opened = [
+        heap.open_device(WAITS, Some(3)),
+        heap.open_device(SETS, Some(0)),
+    ];
+    assert_eq!(&rt; opened, [Ok(0), Ok(0)]);
+    let written = [
+        heap.set_request(WAITS, 9, 5, 1),
+        heap.set_request(SETS, 11, 5, 1),
+    ];
+    assert_eq!(&rt; written, [Ok(()), Ok(())]);
+    assert_eq!(&rt; heap.send_request(WAITS), Ok(Action::Nothing));
+    assert_eq!(&rt; (heap.take_setting(), heap.finish_until()), (false, None));
+    assert_eq!(&rt; heap.do_request(7, SETS), Ok(Awaited::Done(0)));
+    assert_eq!(&rt; heap.take_setting(), true);
+    let signals = Action::Signal(7, 0x1_0000);
+    assert_eq!(&rt; heap.finish_until(), Some((WAITS, signals)));
+    assert_eq!(&rt; (heap.finish_until(), heap.finish_due()), (None, None));
+    assert_eq!(&rt; heap.wait_for_request(7, WAITS), Ok(Awaited::Done(0)));
     Ok(())
 }

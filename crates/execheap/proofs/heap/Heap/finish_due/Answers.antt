@@ -1,39 +1,41 @@
--- The request that is shown to be due first is ended.
+-- The request that is shown to finish next is ended.
 use Rattle.std.proofs.Common.{◌≡◌, Some, ap, sym, ◌∙◌}
 use Rattle.execlist.specs.Pool.{slot}
-use Rattle.timerdev.specs.Timing.{due_request}
+use Rattle.timerdev.specs.Timing.{due_next}
 use Rattle.execmodel.specs.State.{Memory}
 use Rattle.execheap.specs.declared.kind.Kind.TheVariants as variant
-use Rattle.execheap.specs.Listing.{due_listed, ended_if, finishing}
+use Rattle.execheap.specs.Listing.{ended_if, finishing}
 use Rattle.execheap.specs.Numbered.{Numbered, places, shown_memory}
 use Rattle.execheap.specs.Table.{Tabled, slots_of}
-use Rattle.execheap.proofs.RequestAnswers.{due_ended_shown, finishing_none, finishing_some, table_ended}
+use Rattle.execheap.proofs.RequestAnswers.{finishing_none, finishing_some, next_ended_shown, table_ended, due_is_next}
 use Rattle.execheap.proofs.heap.Heap.finish_due.Goals as goal
 
 pub returns-in_err-r-clause-answer : goal.returns-in_err-r-clause-answer
 returns-in_err-r-clause-answer g c =
     let f = c.facts.ensures in
-    c.from_residual.ensures ∙ finishing_none f.sound f.ports f.memory c.in_err-r.ensures.answer
-    ∙ ap (λ (m : Memory). finishing m.heap (due_listed m.timer)) c.self.view_is
+    c.from_residual.ensures
+    ∙ finishing_none f.sound f.ports f.memory due_next (due_is_next c.self.inside.objects) c.in_err-r.ensures.answer
+    ∙ ap (λ (m : Memory). finishing m.heap (due_next m.timer)) c.self.view_is
 
 pub returns-in_err-r-clause-next : goal.returns-in_err-r-clause-next
 returns-in_err-r-clause-next g c =
     let f = c.facts.ensures in
-    ap shown_memory c.finish_due.ensures.next ∙ due_ended_shown f.sound f.ports f.memory
-    ∙ ap (λ (m : Memory). ended_if (due_listed m.timer) m) c.self.view_is
+    ap shown_memory c.finish_due.ensures.next ∙ next_ended_shown f.sound f.ports f.memory due_next (due_is_next c.self.inside.objects)
+    ∙ ap (λ (m : Memory). ended_if (due_next m.timer) m) c.self.view_is
 
 pub returns-clause-answer : goal.returns-clause-answer
 returns-clause-answer g c =
     let f = c.facts.ensures in
     let s = c.self.inside.objects in
     let at : slot (places variant.Request s) c.in_ok-r.r ≡ Some c.address_of.result =
-    ap (λ (t : Tabled). slot (slots_of variant.Request t) c.in_ok-r.r) (sym (table_ended (due_request s.timing) s))
+    ap (λ (t : Tabled). slot (slots_of variant.Request t) c.in_ok-r.r) (sym (table_ended (due_next s.timing.timer) s))
     ∙ ap (λ (x : Numbered). slot (places variant.Request x) c.in_ok-r.r) (sym c.finish_due.ensures.next) ∙ c.address_of.ensures in
-    finishing_some f.sound f.ports f.memory c.in_ok-r.r c.address_of.result c.in_ok-r.action c.in_ok-r.ensures.answer at
-    ∙ ap (λ (m : Memory). finishing m.heap (due_listed m.timer)) c.self.view_is
+    finishing_some f.sound f.ports f.memory due_next (due_is_next s) c.in_ok-r.r c.address_of.result c.in_ok-r.action
+    c.in_ok-r.ensures.answer at
+    ∙ ap (λ (m : Memory). finishing m.heap (due_next m.timer)) c.self.view_is
 
 pub returns-clause-next : goal.returns-clause-next
 returns-clause-next g c =
     let f = c.facts.ensures in
-    ap shown_memory c.finish_due.ensures.next ∙ due_ended_shown f.sound f.ports f.memory
-    ∙ ap (λ (m : Memory). ended_if (due_listed m.timer) m) c.self.view_is
+    ap shown_memory c.finish_due.ensures.next ∙ next_ended_shown f.sound f.ports f.memory due_next (due_is_next c.self.inside.objects)
+    ∙ ap (λ (m : Memory). ended_if (due_next m.timer) m) c.self.view_is

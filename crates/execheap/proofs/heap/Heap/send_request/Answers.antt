@@ -1,8 +1,8 @@
 -- The request that is shown is begun.
 use Rattle.std.proofs.Common.{false, ap, ◌∙◌}
-use Rattle.execheap.specs.Listing.{acting_begun, begun_listed}
+use Rattle.execmodel.specs.Requests.{begun_at}
+use Rattle.execheap.specs.Listing.{acting_begun}
 use Rattle.execheap.specs.Numbered.{shown_memory}
-use Rattle.execheap.proofs.KeptRequests.{not_way}
 use Rattle.execheap.proofs.RequestsShown.{acting_begun_shown, begun_shown}
 use Rattle.execheap.proofs.heap.Heap.send_request.Goals as goal
 
@@ -16,5 +16,5 @@ pub returns-in-Ok-clause-next : goal.returns-in-Ok-clause-next
 returns-in-Ok-clause-next g c =
     let f = c.in-Ok.ensures.known in
     ap shown_memory c.begin_request.ensures.next
-    ∙ begun_shown f.sound f.ports f.memory c.in-Ok.r c.args.request c.in-Ok.ensures.found false (not_way c.in-Ok.r c.self.inside.objects.requests c.in-Ok.ensures.rests)
-    ∙ ap (begun_listed false c.args.request) c.self.view_is
+    ∙ begun_shown f.sound f.ports f.memory c.in-Ok.r c.args.request c.in-Ok.ensures.found false
+    ∙ ap (begun_at false c.args.request) c.self.view_is

@@ -1,23 +1,17 @@
--- A request that rests is held and waits, or is done at once.
-use Rattle.std.proofs.Common.{◌≡◌, ap, refl, sym, subst, ◌∙◌, arith}
-use Rattle.std.specs.Prelude.{IfSome, IsTrue, ◌<◌, ◌^◌}
+-- A request that rests is held and waits, or is done at once, where system time may be set.
+use Rattle.std.proofs.Common.{ap, false, refl, sym, subst, ◌∙◌}
+use Rattle.std.specs.Prelude.{pos, ◌<◌, ◌^◌}
 use Rattle.execlist.specs.Lists.{home}
 use Rattle.iorequest.specs.Request.{finished, is_under_way, outcome, reply_port, time_of}
 use Rattle.iorequest.specs.Requests.{is_request, request_at, with_request}
-use Rattle.msgport.specs.Ports.{is_port}
+use Rattle.timerdev.specs.Timing.{AtClock, AtSystem}
 use Rattle.execheap.specs.Numbered.{IsKnown, Numbered, message_of_request}
 use Rattle.execheap.specs.Requesting as next
 use Rattle.execheap.proofs.KeptPorts as ports
-use Rattle.execheap.proofs.KeptRequests.{kept_queued, message_there, port_lives, request_loose}
-use Rattle.execheap.proofs.RequestCalls.{acting_done, answer_is, begun_done, begun_kept, error_byte, not_refused, port_in, port_told}
-use Rattle.execheap.proofs.objects.Objects.begin_request.Goals.{in-Some, in-None}
+use Rattle.execheap.proofs.KeptRequests.{kept_begun, message_there, not_way, port_lives, request_loose}
+use Rattle.execheap.proofs.RequestCalls.{acting_once, acting_set, answer_is, begun_kept, begun_once, begun_set, error_byte, new_time, not_refused}
+use Rattle.execheap.proofs.Waits.{IsTimed, timed_not, timed_set}
 use Rattle.execheap.proofs.objects.Objects.begin_request.Goals as goal
-
-pub begin-requires-clause-clock : goal.begin-requires-clause-clock
-begin-requires-clause-clock g c =
-    let known = subst IsKnown (sym c.self.view_is) c.message_of-message.ensures.known in
-    let short = subst (λ (s : Numbered). time_of (request_at c.args.r s.requests) < 2 ^ 63) (sym c.self.view_is) c.time_is_short.ensures in
-    omega (arith, c.now.ensures, known.sound.kept.in_time.early, short)
 
 pub unwrap-requires-in-Queue : goal.unwrap-requires-in-Queue
 unwrap-requires-in-Queue g c =
@@ -33,25 +27,50 @@ invariant_of-self g c =
     let known = subst IsKnown (sym c.self.view_is) c.message_of-message.ensures.known in
     let lives = ap (λ (s : Numbered). is_request c.args.r s.requests) c.self.view_is ∙ c.requires.live in
     let is = c.message_of-message.ensures.value ∙ ap (message_of_request c.args.r) (sym c.self.view_is) in
-    kept_queued known.sound c.args.r lives c.message_of-message.result is c.args.quick c.now.result c.in-Queue.due
-    c.begin.new.self c.hold.new.self c.add.new.self
-    (not_refused _ _ _ _ _ _ _ c.begin.ensures.answer c.unwrap.ensures c.begin.ensures.next)
+    let begun = not_refused _ _ _ _ _ _ _ c.begin.ensures.answer c.unwrap.ensures c.begin.ensures.next in
+    kept_begun known.sound c.args.r lives c.message_of-message.result is c.args.quick c.sys_now.result (AtClock c.in-Queue.due)
+    c.begin.new.self c.hold.new.self c.add.new.self begun
     (ports.not_refused _ _ _ _ _ _ _ c.hold.ensures.answer c.unwrap-in-Queue.ensures c.hold.ensures.next) c.add.ensures
 
-port_is : (g : _) (c : goal.After-put_reply-arg-1 g) → c.match-finish.port ≡ port_in c.finish.result c.self.inside.table
-port_is g c = elim c.match-finish.branch [
-  | in-Some w ↦ w.port-is ∙ w.number_at-port.ensures.value ∙ ap (λ o. port_in o c.self.inside.table) (sym w.in-Some.is)
-  | in-None w ↦ w.port-is ∙ ap (λ o. port_in o c.self.inside.table) (sym w.in-None.is)
-]
-
-pub put_reply-requires-clause-port : goal.put_reply-requires-clause-port
-put_reply-requires-clause-port g c =
+pub unwrap-requires-in-Until : goal.unwrap-requires-in-Until
+unwrap-requires-in-Until g c =
     let known = subst IsKnown (sym c.self.view_is) c.message_of-message.ensures.known in
-    subst (λ o. IfSome o (λ p. IsTrue (is_port p c.self.inside.ports))) (sym (port_is g c ∙ port_told known.sound c.finish.result))
-    (port_lives known.sound c.finish.result)
+    let lives = ap (λ (s : Numbered). is_request c.args.r s.requests) c.self.view_is ∙ c.requires.live in
+    let rests = ap (λ (s : Numbered). is_under_way (request_at c.args.r s.requests)) c.self.view_is ∙ c.requires.rests in
+    let loose = ap (λ (s : Numbered). home s.ports.places (message_of_request c.args.r s)) c.self.view_is ∙ c.requires.loose in
+    let is = c.message_of-message.ensures.value ∙ ap (message_of_request c.args.r) (sym c.self.view_is) in
+    rw (c.hold-in-Until.ensures.answer, request_loose known.sound c.args.r c.message_of-message.result lives rests loose is) refl
 
-pub put_reply-requires-clause-message : goal.put_reply-requires-clause-message
-put_reply-requires-clause-message g c =
+pub invariant_of-self-in-Until : goal.invariant_of-self-in-Until
+invariant_of-self-in-Until g c =
+    let known = subst IsKnown (sym c.self.view_is) c.message_of-message.ensures.known in
+    let lives = ap (λ (s : Numbered). is_request c.args.r s.requests) c.self.view_is ∙ c.requires.live in
+    let is = c.message_of-message.ensures.value ∙ ap (message_of_request c.args.r) (sym c.self.view_is) in
+    let begun = not_refused _ _ _ _ _ _ _ c.begin.ensures.answer c.unwrap.ensures c.begin.ensures.next in
+    kept_begun known.sound c.args.r lives c.message_of-message.result is c.args.quick c.sys_now.result (AtSystem c.in-Until.time)
+    c.begin.new.self c.hold-in-Until.new.self c.add_until.new.self begun
+    (ports.not_refused _ _ _ _ _ _ _ c.hold-in-Until.ensures.answer c.unwrap-in-Until.ensures c.hold-in-Until.ensures.next)
+    c.add_until.ensures
+
+pub finish-requires-clause-port : goal.finish-requires-clause-port
+finish-requires-clause-port g c =
+    let known = subst IsKnown (sym c.self.view_is) c.message_of-message.ensures.known in
+    port_lives known.sound (reply_port (request_at c.args.r c.begin.new.self))
+
+pub finish-requires-clause-message : goal.finish-requires-clause-message
+finish-requires-clause-message g c =
+    let known = subst IsKnown (sym c.self.view_is) c.message_of-message.ensures.known in
+    let lives = ap (λ (s : Numbered). is_request c.args.r s.requests) c.self.view_is ∙ c.requires.live in
+    let is = c.message_of-message.ensures.value ∙ ap (message_of_request c.args.r) (sym c.self.view_is) in
+    message_there known.sound c.args.r c.message_of-message.result lives is
+
+pub finish-requires-in-NewTime-clause-port : goal.finish-requires-in-NewTime-clause-port
+finish-requires-in-NewTime-clause-port g c =
+    let known = subst IsKnown (sym c.self.view_is) c.message_of-message.ensures.known in
+    port_lives known.sound (reply_port (request_at c.args.r c.begin.new.self))
+
+pub finish-requires-in-NewTime-clause-message : goal.finish-requires-in-NewTime-clause-message
+finish-requires-in-NewTime-clause-message g c =
     let known = subst IsKnown (sym c.self.view_is) c.message_of-message.ensures.known in
     let lives = ap (λ (s : Numbered). is_request c.args.r s.requests) c.self.view_is ∙ c.requires.live in
     let is = c.message_of-message.ensures.value ∙ ap (message_of_request c.args.r) (sym c.self.view_is) in
@@ -63,41 +82,82 @@ invariant_of-self-in-Finish g c =
     let lives = ap (λ (s : Numbered). is_request c.args.r s.requests) c.self.view_is ∙ c.requires.live in
     let rests = ap (λ (s : Numbered). is_under_way (request_at c.args.r s.requests)) c.self.view_is ∙ c.requires.rests in
     let is = c.message_of-message.ensures.value ∙ ap (message_of_request c.args.r) (sym c.self.view_is) in
-    let goes = ap (λ n. outcome n (request_at c.args.r c.self.inside.requests)) (sym c.now.ensures)
-    ∙ sym (answer_is _ _ _ _ c.begin.ensures.answer c.unwrap.ensures) ∙ c.in-Finish.is in
-    let at = port_is g c.before ∙ ap (λ o. port_in o c.self.inside.table) c.finish.ensures.answer
-    ∙ port_told known.sound (reply_port (request_at c.args.r c.begin.new.self)) in
-    begun_kept known.sound c.args.r lives c.args.quick c.now.result c.now.ensures c.begin.new.self
-    (not_refused _ _ _ _ _ _ _ c.begin.ensures.answer c.unwrap.ensures c.begin.ensures.next) c.in-Finish.error goes c.match-finish.port at
-    rests c.message_of-message.result is c.finish.new.self c.put_reply.new.ports
-    (c.finish.ensures.next ∙ ap (λ e. with_request c.args.r (finished e (request_at c.args.r c.begin.new.self)) c.begin.new.self)
-    (error_byte c.self.inside.timer.clock (request_at c.args.r c.self.inside.requests) c.in-Finish.error goes)) c.put_reply.ensures.next
+    let begun = not_refused _ _ _ _ _ _ _ c.begin.ensures.answer c.unwrap.ensures c.begin.ensures.next in
+    begun_kept known.sound c.args.r lives c.args.quick c.sys_now.result c.sys_now.ensures c.begin.new.self begun _
+    c.message_of-message.result is
+    c.finish.new.requests c.finish.new.ports c.finish.ensures.requests c.finish.ensures.ports c.self.inside.timer
+    (timed_not c.args.r c.self.inside.timer (known.sound.kept.in_time.waits c.args.r ∙ not_way c.args.r c.self.inside.requests rests))
 
-pub returns-after-finish-clause-answer : goal.returns-after-finish-clause-answer
-returns-after-finish-clause-answer g c =
+pub invariant_of-self-in-NewTime : goal.invariant_of-self-in-NewTime
+invariant_of-self-in-NewTime g c =
     let known = subst IsKnown (sym c.self.view_is) c.message_of-message.ensures.known in
     let lives = ap (λ (s : Numbered). is_request c.args.r s.requests) c.self.view_is ∙ c.requires.live in
-    let goes = ap (λ n. outcome n (request_at c.args.r c.self.inside.requests)) (sym c.now.ensures)
+    let rests = ap (λ (s : Numbered). is_under_way (request_at c.args.r s.requests)) c.self.view_is ∙ c.requires.rests in
+    let is = c.message_of-message.ensures.value ∙ ap (message_of_request c.args.r) (sym c.self.view_is) in
+    let begun = not_refused _ _ _ _ _ _ _ c.begin.ensures.answer c.unwrap.ensures c.begin.ensures.next in
+    let goes = (λ i. outcome (sym c.now.ensures i) (sym c.sys_now.ensures i) (request_at c.args.r c.self.inside.requests))
+    ∙ sym (answer_is _ _ _ _ c.begin.ensures.answer c.unwrap.ensures) ∙ c.in-NewTime.is in
+    let short = subst (λ (s : Numbered). time_of (request_at c.args.r s.requests) < 2 ^ 53) (sym c.self.view_is) c.time_is_short.ensures in
+    let time = new_time c.self.inside.timer.timer.clock c.self.inside.timer.timer.system (request_at c.args.r c.self.inside.requests)
+    c.in-NewTime.time goes in
+    begun_kept known.sound c.args.r lives c.args.quick c.sys_now.result c.sys_now.ensures c.begin.new.self begun _
+    c.message_of-message.result is
+    c.finish-in-NewTime.new.requests c.finish-in-NewTime.new.ports
+    c.finish-in-NewTime.ensures.requests c.finish-in-NewTime.ensures.ports c.set_sys.new.self
+    (subst (λ t. IsTimed false c.args.r c.self.inside.timer t) (sym c.set_sys.ensures)
+    (timed_set c.args.r c.self.inside.timer c.in-NewTime.time
+    (known.sound.kept.in_time.waits c.args.r ∙ not_way c.args.r c.self.inside.requests rests)
+    (subst (λ n. n < 2 ^ 53) (sym time) short)))
+
+pub returns-in-Finish-clause-answer : goal.returns-in-Finish-clause-answer
+returns-in-Finish-clause-answer g c =
+    let known = subst IsKnown (sym c.self.view_is) c.message_of-message.ensures.known in
+    let lives = ap (λ (s : Numbered). is_request c.args.r s.requests) c.self.view_is ∙ c.requires.live in
+    let begun = not_refused _ _ _ _ _ _ _ c.begin.ensures.answer c.unwrap.ensures c.begin.ensures.next in
+    let goes = (λ i. outcome (sym c.now.ensures i) (sym c.sys_now.ensures i) (request_at c.args.r c.self.inside.requests))
     ∙ sym (answer_is _ _ _ _ c.begin.ensures.answer c.unwrap.ensures) ∙ c.in-Finish.is in
-    let at = port_is g c.before ∙ ap (λ o. port_in o c.self.inside.table) c.finish.ensures.answer
-    ∙ port_told known.sound (reply_port (request_at c.args.r c.begin.new.self)) in
-    c.put_reply.ensures.answer
-    ∙ acting_done known.sound c.args.r lives c.args.quick c.now.result c.now.ensures c.begin.new.self
-    (not_refused _ _ _ _ _ _ _ c.begin.ensures.answer c.unwrap.ensures c.begin.ensures.next) c.in-Finish.error goes c.match-finish.port at
+    c.finish.ensures.answer ∙ acting_once known.sound c.args.r lives c.args.quick c.sys_now.result c.sys_now.ensures c.begin.new.self
+    begun c.in-Finish.error goes
     ∙ ap (λ s. next.acting_so (next.goes_on c.args.r s) c.args.quick c.args.r s) c.self.view_is
 
-pub returns-after-finish-clause-next : goal.returns-after-finish-clause-next
-returns-after-finish-clause-next g c =
+pub returns-in-Finish-clause-next : goal.returns-in-Finish-clause-next
+returns-in-Finish-clause-next g c =
     let known = subst IsKnown (sym c.self.view_is) c.message_of-message.ensures.known in
     let lives = ap (λ (s : Numbered). is_request c.args.r s.requests) c.self.view_is ∙ c.requires.live in
     let is = c.message_of-message.ensures.value ∙ ap (message_of_request c.args.r) (sym c.self.view_is) in
-    let goes = ap (λ n. outcome n (request_at c.args.r c.self.inside.requests)) (sym c.now.ensures)
+    let begun = not_refused _ _ _ _ _ _ _ c.begin.ensures.answer c.unwrap.ensures c.begin.ensures.next in
+    let goes = (λ i. outcome (sym c.now.ensures i) (sym c.sys_now.ensures i) (request_at c.args.r c.self.inside.requests))
     ∙ sym (answer_is _ _ _ _ c.begin.ensures.answer c.unwrap.ensures) ∙ c.in-Finish.is in
-    let at = port_is g c.before ∙ ap (λ o. port_in o c.self.inside.table) c.finish.ensures.answer
-    ∙ port_told known.sound (reply_port (request_at c.args.r c.begin.new.self)) in
-    begun_done known.sound c.args.r lives c.args.quick c.now.result c.now.ensures c.begin.new.self
-    (not_refused _ _ _ _ _ _ _ c.begin.ensures.answer c.unwrap.ensures c.begin.ensures.next) c.in-Finish.error goes c.match-finish.port at
-    c.message_of-message.result is c.finish.new.self c.put_reply.new.ports
-    (c.finish.ensures.next ∙ ap (λ e. with_request c.args.r (finished e (request_at c.args.r c.begin.new.self)) c.begin.new.self)
-    (error_byte c.self.inside.timer.clock (request_at c.args.r c.self.inside.requests) c.in-Finish.error goes)) c.put_reply.ensures.next
+    begun_once known.sound c.args.r lives c.args.quick c.sys_now.result c.sys_now.ensures c.begin.new.self begun c.in-Finish.error
+    c.message_of-message.result is
+    c.finish.new.requests c.finish.new.ports
+    (c.finish.ensures.requests ∙ ap (λ e. with_request c.args.r (finished e (request_at c.args.r c.begin.new.self)) c.begin.new.self)
+    (error_byte c.self.inside.timer.timer.clock c.self.inside.timer.timer.system (request_at c.args.r c.self.inside.requests)
+    c.in-Finish.error goes))
+    c.finish.ensures.ports goes
+    ∙ ap (next.begun_now c.args.quick c.args.r) c.self.view_is
+
+pub returns-in-NewTime-clause-answer : goal.returns-in-NewTime-clause-answer
+returns-in-NewTime-clause-answer g c =
+    let known = subst IsKnown (sym c.self.view_is) c.message_of-message.ensures.known in
+    let lives = ap (λ (s : Numbered). is_request c.args.r s.requests) c.self.view_is ∙ c.requires.live in
+    let begun = not_refused _ _ _ _ _ _ _ c.begin.ensures.answer c.unwrap.ensures c.begin.ensures.next in
+    let goes = (λ i. outcome (sym c.now.ensures i) (sym c.sys_now.ensures i) (request_at c.args.r c.self.inside.requests))
+    ∙ sym (answer_is _ _ _ _ c.begin.ensures.answer c.unwrap.ensures) ∙ c.in-NewTime.is in
+    c.finish-in-NewTime.ensures.answer ∙ acting_set known.sound c.args.r lives c.args.quick c.sys_now.result c.sys_now.ensures c.begin.new.self
+    begun c.in-NewTime.time goes
+    ∙ ap (λ s. next.acting_so (next.goes_on c.args.r s) c.args.quick c.args.r s) c.self.view_is
+
+pub returns-in-NewTime-clause-next : goal.returns-in-NewTime-clause-next
+returns-in-NewTime-clause-next g c =
+    let known = subst IsKnown (sym c.self.view_is) c.message_of-message.ensures.known in
+    let lives = ap (λ (s : Numbered). is_request c.args.r s.requests) c.self.view_is ∙ c.requires.live in
+    let is = c.message_of-message.ensures.value ∙ ap (message_of_request c.args.r) (sym c.self.view_is) in
+    let begun = not_refused _ _ _ _ _ _ _ c.begin.ensures.answer c.unwrap.ensures c.begin.ensures.next in
+    let goes = (λ i. outcome (sym c.now.ensures i) (sym c.sys_now.ensures i) (request_at c.args.r c.self.inside.requests))
+    ∙ sym (answer_is _ _ _ _ c.begin.ensures.answer c.unwrap.ensures) ∙ c.in-NewTime.is in
+    begun_set known.sound c.args.r lives c.args.quick c.sys_now.result c.sys_now.ensures c.begin.new.self begun (pos 0)
+    c.message_of-message.result is
+    c.finish-in-NewTime.new.requests c.finish-in-NewTime.new.ports c.finish-in-NewTime.ensures.requests c.finish-in-NewTime.ensures.ports
+    c.in-NewTime.time c.set_sys.new.self c.set_sys.ensures refl goes
     ∙ ap (next.begun_now c.args.quick c.args.r) c.self.view_is

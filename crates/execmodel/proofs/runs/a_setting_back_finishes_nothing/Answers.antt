@@ -1,6 +1,6 @@
 use Rattle.std.proofs.Common.{refl}
 use Rattle.execmodel.proofs.OnLiterals.{runs_on_literals}
-use Rattle.execmodel.proofs.runs.the_timer_has_two_units.Goals as goal
+use Rattle.execmodel.proofs.runs.a_setting_back_finishes_nothing.Goals as goal
 
 pub returns : goal.returns
 unfolding runs_on_literals

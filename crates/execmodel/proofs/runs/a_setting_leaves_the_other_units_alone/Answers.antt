@@ -1,0 +1,7 @@
+use Rattle.std.proofs.Common.{refl}
+use Rattle.execmodel.proofs.OnLiterals.{runs_on_literals}
+use Rattle.execmodel.proofs.runs.a_setting_leaves_the_other_units_alone.Goals as goal
+
+pub returns : goal.returns
+unfolding runs_on_literals
+returns c = refl

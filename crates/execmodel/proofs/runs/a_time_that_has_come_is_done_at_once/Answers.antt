@@ -1,0 +1,7 @@
+use Rattle.std.proofs.Common.{refl}
+use Rattle.execmodel.proofs.OnLiterals.{runs_on_literals}
+use Rattle.execmodel.proofs.runs.a_time_that_has_come_is_done_at_once.Goals as goal
+
+pub returns : goal.returns
+unfolding runs_on_literals
+returns c = refl

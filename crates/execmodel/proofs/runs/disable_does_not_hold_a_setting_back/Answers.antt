@@ -1,0 +1,7 @@
+use Rattle.std.proofs.Common.{refl}
+use Rattle.execmodel.proofs.OnLiterals.{runs_on_literals}
+use Rattle.execmodel.proofs.runs.disable_does_not_hold_a_setting_back.Goals as goal
+
+pub returns : goal.returns
+unfolding runs_on_literals
+returns c = refl
