@@ -1,12 +1,22 @@
 -- Reading up to a limit.
-use Rattle.std.proofs.Common.{◌≡◌, ◌∙◌, ◌<◌, ◌≤◌, ℕ, List, Option, None, Some, length, take, arith, option_map, ap}
-use Rattle.std.specs.Prelude.{IfSome, min}
-use Rattle.std.proofs.lemmas.List.{length-take, take_all}
+use Rattle.std.proofs.Common.{◌≡◌, ◌∙◌, ap, sym, ◌≤◌, ◌-◌, ◌++◌, ◌+◌, ℕ, List, Option, length, length-append, arith}
+use Rattle.std.proofs.KnownBytes.{Consumes-trans}
+use Rattle.std.specs.Io.KnownBytes.{Consumes}
+use Rattle.execsim.specs.Reading.{GaveBeforeFault, IsGivenBefore}
+use Rattle.execsim.specs.declared.reading.ReadFault.{ReadFault}
+use Rattle.execsim.specs.declared.reading.ReadFault.TheVariants.{Failed, TooLong, OutOfMemory}
 
--- where no more than the limit came though there was room for more, all came
-pub whole_within : (known : Option (List ℕ)) (limit room : ℕ) (bytes : List ℕ) → limit < room → IfSome (option_map (take room) known) (λ xs. bytes ≡ xs)
-    → length bytes ≤ limit → IfSome known (λ all. bytes ≡ all)
-whole_within None limit room bytes more read short = tt
-whole_within (Some all) limit room bytes more read short =
-    let len : length bytes ≡ min room (length all) = ap length read ∙ length-take room all in
-    read ∙ take_all room all (omega arith)
+-- what came before a fault counts from where the reading began
+given_in_all : (limit front n all : ℕ) (fault : ReadFault) → front ≤ limit → all ≡ front + n → IsGivenBefore (limit - front) fault n → IsGivenBefore limit fault all
+given_in_all limit front n all TooLong short sum given = omega arith
+given_in_all limit front n all Failed short sum given = omega arith
+given_in_all limit front n all OutOfMemory short sum given = omega arith
+
+-- a fault behind n bytes that came is one of the whole reading
+pub fault_after : (a b c : Option (List ℕ)) (limit n : ℕ) (front : List ℕ) (fault : ReadFault) → Consumes a b front → n ≡ length front → n ≤ limit
+    → GaveBeforeFault (limit - n) fault b c → GaveBeforeFault limit fault a c
+fault_after a b c limit n front fault came size short given = (
+  front ++ given.0,
+  Consumes-trans a b c front given.0 came given.1,
+  given_in_all limit n (length given.0) _ fault short (length-append front given.0 ∙ ap (λ m. m + length given.0) (sym size)) given.2,
+)

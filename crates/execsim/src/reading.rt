@@ -1,7 +1,8 @@
 //! Reading a text whole, up to a limit.
-ghost use Rattle.std.specs.Prelude.{◌≡◌, ◌<◌, ◌≤◌, IfOk, IfSome, IsErrOf, length, vec_len};
+ghost use Rattle.std.specs.Prelude.{◌≡◌, ◌≤◌, ◌+◌, ◌-◌, IfErr, IfOk, IfSome, OnOk, vec_len};
+ghost use Rattle.std.specs.Io.KnownBytes.{IsAtEnd};
 ghost use Rattle.std.specs.IoError.{error_kind};
-ghost use Rattle.execsim.specs.Reading.{read_fault_number, read_fault_of};
+ghost use Rattle.execsim.specs.Reading.{Adds, GaveBeforeFault, read_fault_number, read_fault_of};
 
 use std::alloc::Global;
 use std::io;
@@ -47,22 +48,52 @@ impl From<io::Error> for ReadFault {
     }
 }
 
-/// All bytes that a reader has left, where they are at most `FILE_LIMIT`. Not more than one byte past the limit is read.
+/// How many bytes one read is given room for.
+const PIECE: usize = 8192;
+
+/// Reads once into a piece, and keeps what came behind the bytes so far: how many bytes came, none at the reader's end. There is room for one
+/// byte past the limit, and no more.
+fn read_piece<R: Read>(
+    reader: &mut R,
+    piece: &mut [u8; PIECE],
+    bytes: &mut Vec<u8>,
+) -> Result<usize, ReadFault>
+    requires short { vec_len bytes.old ≤ 4194304 }
+    ensures count { IfOk result (λ n. vec_len bytes.new ≡ vec_len bytes.old + n) }
+    ensures within { vec_len bytes.new ≤ 4194305 }
+    ensures kept { OnOk result (Adds (R.remaining reader.old) (R.remaining reader.new) bytes.old.items bytes.new.items) }
+    ensures end { IfOk result (λ n. n ≡ 0 → IsAtEnd (R.remaining reader.new)) }
+    ensures fault { IfErr result (λ fault. GaveBeforeFault (4194304 - vec_len bytes.old) fault (R.remaining reader.old) (R.remaining reader.new)) }
+{
+    let room = PIECE.min(FILE_LIMIT + 1 - bytes.len());
+    let count = reader.read(&mut piece[..room])?;
+    match bytes.extend_from_slice(&piece[..count]) {
+        Ok(()) => Ok(count),
+        Err(_) => Err(ReadFault::OutOfMemory),
+    }
+}
+
+/// All bytes that a reader has left, where they are at most `FILE_LIMIT`. Not more than one byte past the limit is read, in at most
+/// `FILE_LIMIT + 1` reads: each but the last gives a byte.
 ///
 /// # Errors
 ///
-/// `Failed` where a read answers an error, `TooLong` where there are more bytes, and `OutOfMemory` where memory is refused.
+/// `Failed` where a read answers an error, also one after which it could be made again, `TooLong` where one byte past the limit has come,
+/// and `OutOfMemory` where memory is refused, to the bytes or to the reader.
 ///
 /// Source: own choice.
 pub fn read_limited<R: Read>(alloc: Global, reader: &mut R) -> Result<Vec<u8>, ReadFault>
     ensures within { IfOk result (λ bytes. vec_len bytes ≤ 4194304) }
     ensures whole { IfOk result (λ bytes. IfSome (R.remaining reader.old) (λ all. bytes.items ≡ all)) }
-    ensures too_long { IsErrOf result ReadFault.TooLong → IfSome (R.remaining reader.old) (λ all. 4194304 < length all) }
+    ensures end { OnOk result (IsAtEnd (R.remaining reader.new)) }
+    ensures fault { IfErr result (λ fault. GaveBeforeFault 4194304 fault (R.remaining reader.old) (R.remaining reader.new)) }
 {
     let mut bytes = Vec::new(alloc);
-    reader.take(FILE_LIMIT as u64 + 1).read_to_end(&mut bytes)?;
-    if bytes.len() > FILE_LIMIT {
-        return Err(ReadFault::TooLong);
+    let mut piece = [0; PIECE];
+    while bytes.len() <= FILE_LIMIT {
+        if read_piece(reader, &mut piece, &mut bytes)? == 0 {
+            return Ok(bytes);
+        }
     }
-    Ok(bytes)
+    Err(ReadFault::TooLong)
 }

@@ -51,6 +51,23 @@ code = ["AddTask 1", 'FindTask "client"', "s = NewSem", "ObtainSemaphore s", "Re
 
 const EVENTS: &str = "run 6\nirq PORTS\ntick 2\nrun 9\nirq EXTER\nrun 100\n";
 
+/// A machine file of a task that asks the timer, takes a request back, and asks for what the timer does not know.
+const ASKS_TIMER: &str = r#"[[region]]
+base = 4096
+size = 4096
+attrs = 1
+
+[[task]]
+name = "a"
+pri = 0
+code = ["p = CreateMsgPort", "r = CreateIORequest p", "OpenDevice \"timer.device\" 0 r", "SetIO r 9 0 30000", "SendIO r", "CheckIO r", "CheckIO r", "WaitIO r", "AbortIO r", "SendIO r", "AbortIO r", "WaitIO r", "SetIO r 2 0 0", "DoIO r"]
+"#;
+
+const ASKS_TIMER_EVENTS: &str = "run 5\ntick 1\nrun 1\ntick 1\nrun 8\n";
+
+/// Machine files that are cut, each with its event text.
+static MACHINES: [(&str, &str); 2] = [(MACHINE, EVENTS), (ASKS_TIMER, ASKS_TIMER_EVENTS)];
+
 /// What a run answered, and how many bytes it wrote.
 type Answered = (Result<End, SimFault>, usize);
 
@@ -78,19 +95,21 @@ fn is_taken(answered: Answered) -> bool {
 
 #[test]
 fn a_machine_file_that_ends_anywhere_has_an_answer(rt: HostRuntime) {
-    let (whole, most) = answers(&rt, rt.alloc(), MACHINE.as_bytes(), EVENTS.as_bytes());
-    assert_eq!(&rt; whole, Ok(End::Ran));
-    let mut taken = 0usize;
-    for end in 0..MACHINE.len() {
-        let cut = MACHINE.as_bytes().get(..end).unwrap_or_default();
-        let answered = answers(&rt, rt.alloc(), cut, EVENTS.as_bytes());
-        assert!(&rt; answered.1 <= most, "{end}");
-        if is_taken(answered) {
-            taken = taken.saturating_add(1);
+    for (machine, events) in &MACHINES {
+        let (whole, most) = answers(&rt, rt.alloc(), machine.as_bytes(), events.as_bytes());
+        assert_eq!(&rt; whole, Ok(End::Ran));
+        let mut taken = 0usize;
+        for end in 0..machine.len() {
+            let cut = machine.as_bytes().get(..end).unwrap_or_default();
+            let answered = answers(&rt, rt.alloc(), cut, events.as_bytes());
+            assert!(&rt; answered.1 <= most, "{end}");
+            if is_taken(answered) {
+                taken = taken.saturating_add(1);
+            }
         }
+        // It is a whole file where it ends before a table, behind a table's last key, or within a comment or an empty line.
+        assert!(&rt; taken > 0 && taken < machine.len() / 4, "{taken}");
     }
-    // It is a whole file where it ends before a table, behind a table's last key, or within a comment or an empty line.
-    assert!(&rt; taken > 0 && taken < MACHINE.len() / 4, "{taken}");
 }
 
 #[test]

@@ -42,37 +42,53 @@ const ROTATES_TRACE: &str = "switch c\n\
      switch a\n\
      a Print $00000002\n";
 
-#[derive(Clone, Copy)]
+/// What a writer takes of what it is given.
+#[derive(Clone, Copy, Debug)]
 enum Habit {
-    /// Takes one byte a call.
+    /// All.
+    All,
+    /// One byte a call.
     OneByte,
-    /// Takes what it is given until it holds so many bytes, and then fails.
-    FailsAt(usize),
-    /// Takes what it is given until it holds so many bytes, and then none.
-    StopsAt(usize),
-    /// Takes none fifteen times, and then one byte, again and again.
+    /// None fifteen times, and then one byte, again and again.
     SixteenthTime,
+    /// All until it holds so many bytes, and then it fails.
+    FailsAt(usize),
+    /// All until it holds so many bytes, and then none.
+    StopsAt(usize),
 }
 
-/// A writer with a habit, which counts its calls.
+/// A writer with a habit, which counts its calls, and those that took no byte.
 #[derive(Drop)]
 struct Fickle {
     held: Vec<u8>,
     habit: Habit,
     calls: usize,
+    idle: usize,
+}
+
+impl Fickle {
+    /// How many bytes it takes of this call, or none where it fails.
+    fn most(&self) -> Option<usize> {
+        match self.habit {
+            Habit::All => Some(usize::MAX),
+            Habit::OneByte => Some(1),
+            Habit::SixteenthTime if self.calls % 16 == 0 => Some(1),
+            Habit::SixteenthTime => Some(0),
+            Habit::FailsAt(end) if self.held.len() >= end => None,
+            Habit::FailsAt(end) | Habit::StopsAt(end) => Some(end.saturating_sub(self.held.len())),
+        }
+    }
 }
 
 impl Write for Fickle {
     fn write(&mut self, buf: &[u8]) -> io::Result<usize> {
         self.calls = self.calls.saturating_add(1);
-        let most = match self.habit {
-            Habit::OneByte => 1,
-            Habit::SixteenthTime if self.calls % 16 == 0 => 1,
-            Habit::SixteenthTime => 0,
-            Habit::FailsAt(end) if self.held.len() >= end => {
-                return Err(io::Error::from(io::ErrorKind::BrokenPipe));
-            }
-            Habit::FailsAt(end) | Habit::StopsAt(end) => end.saturating_sub(self.held.len()),
+        let most = self.most();
+        if most.unwrap_or(0) == 0 {
+            self.idle = self.idle.saturating_add(1);
+        }
+        let Some(most) = most else {
+            return Err(io::Error::from(io::ErrorKind::BrokenPipe));
         };
         let count = most.min(buf.len());
         self.held.extend_from_slice(&buf[..count])?;
@@ -84,19 +100,21 @@ impl Write for Fickle {
     }
 }
 
-/// Simulates to a writer of this habit, and compares the answer, the sink's state and the bytes taken; the calls of the writer.
-fn writes(
-    rt: &impl Abort,
-    alloc: Global,
-    habit: Habit,
-    answer: Result<End, SimFault>,
-    state: SinkState,
-    count: usize,
-) -> usize {
+/// A writer's habit, what a run to it answers, the state of its sink then, how many bytes it holds, and how many calls took none.
+type Case = (Habit, Result<End, SimFault>, SinkState, usize, usize);
+
+const WHOLE: Result<End, SimFault> = Ok(End::Ran);
+
+const BROKEN: Result<End, SimFault> = Err(SimFault::Write);
+
+/// Simulates to a writer with a habit, and compares what stands in the case; the calls of the writer.
+fn writes(rt: &impl Abort, alloc: Global, case: Case) -> usize {
+    let (habit, answer, state, count, idle) = case;
     let mut out = WriteSink::new(Fickle {
         held: Vec::new(alloc),
         habit,
         calls: 0,
+        idle: 0,
     });
     let given = simulate(
         alloc,
@@ -104,101 +122,50 @@ fn writes(
         ROTATES_EVENTS.as_bytes(),
         &mut out,
     );
-    assert_eq!(rt; given, answer, "{count}");
-    assert_eq!(rt; out.state(), state, "{count}");
+    assert_eq!(rt; given, answer, "{habit:?}");
+    assert_eq!(rt; out.state(), state, "{habit:?}");
     let writer = out.into_inner();
     assert_eq!(rt;
         Some(writer.held.as_slice()),
         ROTATES_TRACE.as_bytes().get(..count),
-        "{count}"
+        "{habit:?}"
     );
+    assert_eq!(rt; writer.idle, idle, "{habit:?}");
     writer.calls
 }
 
 #[test]
-fn a_writer_that_fails_after_ten_bytes_holds_the_first_ten(rt: HostRuntime) {
-    writes(
-        &rt,
-        rt.alloc(),
-        Habit::FailsAt(10),
-        Err(SimFault::Write),
-        SinkState::Failed,
-        10,
-    );
-}
-
-#[test]
-fn a_writer_that_takes_one_byte_a_call_gets_the_whole_trace(rt: HostRuntime) {
-    let calls = writes(
-        &rt,
-        rt.alloc(),
-        Habit::OneByte,
-        Ok(End::Ran),
-        SinkState::Good,
-        ROTATES_TRACE.len(),
-    );
-    assert_eq!(rt; calls, ROTATES_TRACE.len());
-}
-
-#[test]
-fn a_writer_that_takes_one_byte_at_the_sixteenth_time_gets_the_whole_trace(rt: HostRuntime) {
-    let calls = writes(
-        &rt,
-        rt.alloc(),
-        Habit::SixteenthTime,
-        Ok(End::Ran),
-        SinkState::Good,
-        ROTATES_TRACE.len(),
-    );
-    assert_eq!(rt; calls, 16 * ROTATES_TRACE.len());
-}
-
-#[test]
-fn a_writer_that_takes_all_is_called_once_for_each_line(rt: HostRuntime) {
-    let calls = writes(
-        &rt,
-        rt.alloc(),
-        Habit::FailsAt(1000),
-        Ok(End::Ran),
-        SinkState::Good,
-        ROTATES_TRACE.len(),
-    );
-    // The trace has fourteen lines.
-    assert_eq!(rt; calls, 14);
-}
-
-#[test]
-fn a_writer_that_takes_nothing_is_given_up_after_sixteen_turns(rt: HostRuntime) {
-    let calls = writes(
-        &rt,
-        rt.alloc(),
-        Habit::StopsAt(0),
-        Err(SimFault::Write),
-        SinkState::Empty(16),
-        0,
-    );
-    assert_eq!(rt; calls, 16);
+fn a_writer_that_goes_on_gets_the_whole_trace(rt: HostRuntime) {
+    let length = ROTATES_TRACE.len();
+    // With each: how many calls it has. The trace has fourteen lines, each of which is handed over in one piece.
+    let cases = [
+        (Habit::All, 0, 14),
+        (Habit::OneByte, 0, length),
+        (
+            Habit::SixteenthTime,
+            length.saturating_mul(15),
+            length.saturating_mul(16),
+        ),
+        (Habit::FailsAt(length), 0, 14),
+        (Habit::StopsAt(length), 0, 14),
+    ];
+    for (habit, idle, calls) in cases {
+        let case = (habit, WHOLE, SinkState::Good, length, idle);
+        assert_eq!(&rt; writes(&rt, rt.alloc(), case), calls, "{habit:?}");
+    }
 }
 
 #[test]
 fn a_writer_that_fails_or_stops_at_any_byte_holds_a_part_of_the_trace(rt: HostRuntime) {
     for end in 0..ROTATES_TRACE.len() {
-        writes(
-            &rt,
-            rt.alloc(),
-            Habit::FailsAt(end),
-            Err(SimFault::Write),
-            SinkState::Failed,
-            end,
-        );
-        writes(
-            &rt,
-            rt.alloc(),
-            Habit::StopsAt(end),
-            Err(SimFault::Write),
-            SinkState::Empty(16),
-            end,
-        );
+        // It fails once, and takes none sixteen times; nothing is written to it after that.
+        let cases = [
+            (Habit::FailsAt(end), BROKEN, SinkState::Failed, end, 1),
+            (Habit::StopsAt(end), BROKEN, SinkState::Empty(16), end, 16),
+        ];
+        for case in cases {
+            writes(&rt, rt.alloc(), case);
+        }
     }
 }
 

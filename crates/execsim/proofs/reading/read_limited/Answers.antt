@@ -1,7 +1,10 @@
-use Rattle.std.proofs.Common.{rules, arith}
-use Rattle.execsim.proofs.ReadLemmas.{whole_within}
+use Rattle.std.proofs.Common.{rules}
+use Rattle.std.proofs.lemmas.Result.{err_from_is_err_and}
+use Rattle.execsim.proofs.ReadLemmas.{fault_after}
 use Rattle.execsim.proofs.reading.read_limited.Goals as goal
 
-pub returns-clause-whole : goal.returns-clause-whole
-returns-clause-whole g c = whole_within _ 4194304 c.take.result.limit _ (omega (arith, c.take.ensures.limit))
-    (rw (c.take.ensures.inner, c.new-bytes.ensures.items) at c.in_ok-read_to_end.ensures.bytes) (search rules)
+pub returns-in_err-read_piece-clause-fault : goal.returns-in_err-read_piece-clause-fault
+returns-in_err-read_piece-clause-fault g c =
+    let p = err_from_is_err_and c.from_residual.result c.from_residual.ensures.1 in
+    rw (p.1, p.2) (fault_after _ _ _ 4194304 _ c.loop-piece.bytes.items c.in_err-read_piece.field-0.0 c.loop-piece.invariant.0 c.loop-piece.bytes.ok.0 (search rules)
+    c.in_err-read_piece.ensures.fault)
