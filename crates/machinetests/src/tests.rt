@@ -3,5 +3,6 @@
 mod cut_texts;
 mod heap;
 mod interrupts;
+mod openings;
 mod reading;
 mod writers;

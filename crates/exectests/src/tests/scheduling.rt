@@ -568,3 +568,28 @@ fn each_call_answers_as_its_case_says(rt: HostRuntime) -> Result<(), Fail> {
     }
     Ok(())
 }
+
+#[test]
+fn what_is_left_in_a_loan_is_the_running_tasks(rt: HostRuntime) -> Result<(), Fail> {
+    let name = Name::from("a").unwrap_or_default();
+    let tasks = [TaskInit { name, pri: 0 }];
+    let mut schedule: Sched<PlainSpace> = Sched::new(rt.alloc(), &tasks, 4)?;
+    schedule.add(A);
+    same(&rt, "loans", 0, schedule.reschedule(), Some(Switch::To(A)));
+    if schedule.running().is_some() {
+        schedule.sigs().post(0x3000);
+    }
+    if schedule.running().is_some() {
+        same(&rt, "loans", 1, schedule.nest().forbid().is_ok(), true);
+    }
+    same(&rt, "loans", 2, schedule.may_switch(), false);
+    same(&rt, "loans", 3, schedule.may_interrupt(), true);
+    if schedule.running().is_some() {
+        same(&rt, "loans", 4, schedule.wait(0x1000), Some(0x1000));
+    }
+    if schedule.running().is_some() {
+        same(&rt, "loans", 5, schedule.sigs().received(), 0x2000);
+    }
+    same(&rt, "loans", 6, schedule.running(), Some(A));
+    Ok(())
+}

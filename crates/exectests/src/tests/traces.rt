@@ -1,9 +1,10 @@
 //! Each kind of line in its text, and writers that take little, take nothing or fail.
 use super::comparing::same;
-use exectrace::printing::{put_idle, put_line};
+use exectrace::printing::{put_idle, put_line, put_short_call};
 use exectrace::sinks::written;
 use exectrace::{
-    Arg, Arguments, CallLine, CallOutcome, Line, Name, Sink, SinkState, WriteFault, WriteSink, emit,
+    Arg, Arguments, CallLine, CallOutcome, Line, Name, ShortArg, Sink, SinkState, WriteFault,
+    WriteSink, emit,
 };
 use std::alloc::Global;
 use std::io;
@@ -325,4 +326,23 @@ fn nothing_is_written_after_a_failure(rt: HostRuntime) {
         writer.held.as_slice(),
         b"idle\na ".as_slice(),
     );
+}
+
+#[test]
+fn a_call_whose_name_stands_beside_its_arguments_has_the_same_text(rt: HostRuntime) {
+    let mut out = WriteSink::new(Vec::new(rt.alloc()));
+    let arguments = [ShortArg::Quoted, ShortArg::Value(37)];
+    let answer = CallOutcome::Answers(0x1000);
+    let quoted = name("x.library");
+    put_short_call(
+        &name("a"),
+        "OpenLibrary",
+        &arguments,
+        &quoted,
+        answer,
+        &mut out,
+    );
+    same(&rt, "short", 0, written(&out), Ok(()));
+    let held = out.into_inner();
+    same(&rt, "short", 1, held.as_slice(), OPENING_TEXT.as_bytes());
 }
