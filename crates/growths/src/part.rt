@@ -87,7 +87,7 @@ static REGIONS: [Region; 2] = [
 
 impl Part {
     /// The part of this name.
-    pub fn named(word: &str) -> Option<Part> {
+    pub(crate) fn named(word: &str) -> Option<Part> {
         for (name, part) in &PARTS {
             if *name == word {
                 return Some(*part);
@@ -143,7 +143,7 @@ fn make_service(alloc: Global, part: Part) -> Result<(), Unmade> {
 }
 
 /// Makes a part, and lets it go.
-pub fn make(alloc: Global, part: Part) -> Result<(), Unmade> {
+pub(crate) fn make(alloc: Global, part: Part) -> Result<(), Unmade> {
     match part {
         Part::PlainSpace => make_space::<PlainSpace>(alloc),
         Part::LinkSpace => make_space::<LinkSpace>(alloc),
