@@ -1,5 +1,5 @@
 -- The memory of a machine at first: no object lives.
-use Rattle.std.proofs.Common.{◌≡◌, ℕ, ◌+◌, ◌-◌, List, [], map, true, false, refl, ap, sym, ◌∙◌, subst, arith}
+use Rattle.std.proofs.Common.{◌≡◌, ℕ, ◌+◌, ◌-◌, List, [], Bool, map, true, false, refl, ap, sym, ◌∙◌, subst, arith}
 use Rattle.std.specs.Prelude.{None, Option, is_some, unwrap_or, ◌&&◌}
 use Rattle.std.proofs.lemmas.List.{length-replicate}
 use Rattle.execlib.specs.Libraries.{Description}
@@ -41,8 +41,8 @@ nowhere pool m = ap (λ (q : MessagePorts). home q.places m) (ports_unused pool)
 none_held : (pool m : ℕ) → is_held m (reserved pool (no_ports pool (pool + pool))) ≡ false
 none_held pool m = ap (λ (q : MessagePorts). is_held m q) (ports_unused pool)
 
-in_time_unused : (regions : List Region) (pool : ℕ) (known : List Description) (tick_micros : ℕ) → IsInTime (unused regions pool known tick_micros)
-in_time_unused regions pool known tick_micros = record {
+in_time_unused : (regions : List Region) (pool : ℕ) (known : List Description) (asks : Bool) (tick_micros : ℕ) → IsInTime (unused regions pool known asks tick_micros)
+in_time_unused regions pool known asks tick_micros = record {
   each_message = (made_unused pool).size;
   each_time = refl;
   made = λ r small. (made_unused pool).there (pool + r) (omega arith) (omega (arith, small));
@@ -55,8 +55,8 @@ in_time_unused regions pool known tick_micros = record {
   near = omega arith;
 }
 
-pub kept_unused : (regions : List Region) (pool : ℕ) (known : List Description) (tick_micros : ℕ) → IsKept (unused regions pool known tick_micros)
-kept_unused regions pool known tick_micros = record {
+pub kept_unused : (regions : List Region) (pool : ℕ) (known : List Description) (asks : Bool) (tick_micros : ℕ) → IsKept (unused regions pool known asks tick_micros)
+kept_unused regions pool known asks tick_micros = record {
   live_nodes = λ n linked. (let bad : false ≡ true = ap is_some (sym (slot_new ℕ pool n)) ∙ linked in cc);
   live_lists = λ n h linked. (let bad : false ≡ true = ap is_some (sym (slot_new ℕ pool n) ∙ linked) in cc);
   each_list = length-replicate pool [] ∙ sym (length-replicate {A = Option ℕ} pool None);
@@ -67,9 +67,9 @@ kept_unused regions pool known tick_micros = record {
         (sym (ap (λ (q : MessagePorts). slot q.ports.slots p) (ports_unused pool) ∙ slot_new Port pool p)) ∙ lives in cc);
     each_task = length-replicate {A = Option ℕ} most_tasks None;
   };
-  in_time = in_time_unused regions pool known tick_micros;
+  in_time = in_time_unused regions pool known asks tick_micros;
 } where
-  in_step : (k : Kind) → Fits (own_shape k (unused regions pool known tick_micros)) (pool_of k (table.unused regions pool known))
+  in_step : (k : Kind) → Fits (own_shape k (unused regions pool known asks tick_micros)) (pool_of k (table.unused regions pool known asks))
   in_step variant.Port = ap (λ (q : MessagePorts). shape q.ports) (ports_unused pool) ∙ shape_new Port pool
   in_step variant.Message = front_new pool (reserved pool (no_ports pool (pool + pool))).messages (made_unused pool)
   in_step variant.Semaphore = shape_new Sem pool
@@ -77,21 +77,23 @@ kept_unused regions pool known tick_micros = record {
   in_step variant.List = tt
   in_step variant.Node = tt
 
-pub unused_shown : (regions : List Region) (pool : ℕ) (known : List Description) (tick_micros : ℕ) → shown_memory (unused regions pool known tick_micros)
+pub unused_shown : (regions : List Region) (pool : ℕ) (known : List Description) (asks : Bool) (tick_micros : ℕ) → shown_memory (unused regions pool known asks tick_micros)
     ≡ record {
       regions = regions;
       libraries = map shown_library known;
+      asks = asks;
       pool = pool;
       heap = [];
       public = [];
       timer = new_timer tick_micros;
     }
 unfolding shown_heap
-unused_shown regions pool known tick_micros = λ i. record {
+unused_shown regions pool known asks tick_micros = λ i. record {
   regions = regions;
   libraries = map shown_library known;
+  asks = asks;
   pool = pool;
   heap = [];
-  public = map (shown_public (unused regions pool known tick_micros)) (ports_unused pool i).public;
+  public = map (shown_public (unused regions pool known asks tick_micros)) (ports_unused pool i).public;
   timer = new_timer tick_micros;
 }

@@ -1,4 +1,6 @@
 pub mod Alerts
+pub mod Asked
+pub mod Asking
 pub mod AwaitedPorts
 pub mod Beside
 pub mod Blocks
@@ -27,6 +29,7 @@ pub mod Matching
 pub mod MessagePlaces
 pub mod Messages
 pub mod Nodes
+pub mod Opening
 pub mod Owning
 pub mod Placing
 pub mod Plain

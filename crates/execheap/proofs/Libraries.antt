@@ -197,6 +197,7 @@ module _ (s : Numbered) (sound : IsSound s.table) (formed : IsWellFormed s.table
   library_changed l lies = λ k. record {
     regions = s.table.memory.regions;
     libraries = map shown_library s.table.libs.known;
+    asks = s.table.libs.asks;
     pool = s.table.pool;
     heap = heap_is k;
     public = map (shown_public s) s.ports.public;
@@ -225,6 +226,7 @@ module _ (s : Numbered) (sound : IsSound s.table) (formed : IsWellFormed s.table
   library_placed l size absent known = λ k. record {
     regions = s.table.memory.regions;
     libraries = map shown_library s.table.libs.known;
+    asks = s.table.libs.asks;
     pool = s.table.pool;
     heap = (
         sym (put_shown (shown_block new) a (round size, library_tag i) s.table.memory.blocks)
@@ -253,6 +255,7 @@ module _ (s : Numbered) (sound : IsSound s.table) (formed : IsWellFormed s.table
   library_freed lies = λ k. record {
     regions = s.table.memory.regions;
     libraries = map shown_library s.table.libs.known;
+    asks = s.table.libs.asks;
     pool = s.table.pool;
     heap = (
         map_same (shown_entry new) (shown_entry s) (without_block a s.table.memory).blocks (all_but s.table.memory.blocks sound.matched.tagged)

@@ -17,7 +17,7 @@ use Rattle.execheap.specs.Numbered.{Numbered, IsKept, shown_heap, shown_library,
 use Rattle.execheap.proofs.Blocks.{fit_shown}
 use Rattle.execheap.proofs.Libraries.{base_shown, count_there, delayed_there, library_at_shown, library_changed, library_freed, library_placed, library_there, openings_shown}
 use Rattle.execheap.proofs.LibraryTables.{loads_absent, loads_loaded, loads_nowhere}
-use Rattle.execheap.proofs.Loaded.{lies_at, to_open_known}
+use Rattle.execheap.proofs.Loaded.{lies_at}
 use Rattle.memlist.proofs.Answered.{nat_eq-other}
 
 -- ---- the libraries of the file
@@ -33,7 +33,7 @@ at_shown (d ∷ known) zero = refl
 at_shown (d ∷ known) (suc i) = at_shown known i
 
 module _ {s : Numbered} (kept : IsKept s) (sound : IsSound s.table) (formed : IsWellFormed s.table.memory.regions s.table.memory.blocks) where
-  size_shown : (i : ℕ) → (model.library_at i (shown_memory s)).size ≡ (library.library_at i s.table.libs).size
+  pub size_shown : (i : ℕ) → (model.library_at i (shown_memory s)).size ≡ (library.library_at i s.table.libs).size
   size_shown i = ap (λ (l : LibraryData). l.size) (at_shown s.table.libs.known i)
 
   -- ---- opening
@@ -41,7 +41,7 @@ module _ {s : Numbered} (kept : IsKept s) (sound : IsSound s.table) (formed : Is
   can_open_shown : (version i : ℕ) → model.can_open version (shown_memory s) i ≡ library.can_open version i s.table.libs
   can_open_shown version i = λ k. nat_le version (at_shown s.table.libs.known i k).version && not (nat_eq (openings_shown s sound i formed k) most_openings)
 
-  to_open_shown : (name : List ℕ) (version : ℕ) → model.library_to_open name version (shown_memory s) ≡ library_to_open name version s.table.libs
+  pub to_open_shown : (name : List ℕ) (version : ℕ) → model.library_to_open name version (shown_memory s) ≡ library_to_open name version s.table.libs
   to_open_shown name version =
       ap (option_and_then (model.only_if (model.can_open version (shown_memory s)))) (position_map (λ (l : LibraryData). bytes_eq l.name name) 0 s.table.libs.known)
       ∙ by_number (number_of name s.table.libs)
@@ -56,15 +56,10 @@ module _ {s : Numbered} (kept : IsKept s) (sound : IsSound s.table) (formed : Is
   place_shown i None = ap (λ n. place_for n 1 (shown_memory s)) (size_shown i) ∙ fit_shown s (library.library_at i s.table.libs).size 1
   place_shown i (Some l) = refl
 
-  pub opening_shown : (name : List ℕ) (version : ℕ)
-      → opened_base (library_to_open name version s.table.libs) s.table.libs s.table.memory ≡ model.opening name version (shown_memory s)
-  unfolding model.opening
-  opening_shown name version =
-      sym (ap (λ o. base_opened o (shown_memory s)) (to_open_shown name version) ∙ by_found (library_to_open name version s.table.libs))
-    where
-      by_found : (o : Option ℕ) → base_opened o (shown_memory s) ≡ opened_base o s.table.libs s.table.memory
-      by_found None = refl
-      by_found (Some i) = ap (λ b. base_or_place b i (shown_memory s)) (base_shown s sound i formed) ∙ place_shown i (loaded_at i s.table.libs)
+  -- the base that an opening of a library, or of none, gives
+  pub base_opened_shown : (found : Option ℕ) → base_opened found (shown_memory s) ≡ opened_base found s.table.libs s.table.memory
+  base_opened_shown None = refl
+  base_opened_shown (Some i) = ap (λ b. base_or_place b i (shown_memory s)) (base_shown s sound i formed) ∙ place_shown i (loaded_at i s.table.libs)
 
   -- what an opening of a library makes
   module _ (i : ℕ) (known : i < length s.table.libs.loaded) where
@@ -98,21 +93,12 @@ module _ {s : Numbered} (kept : IsKept s) (sound : IsSound s.table) (formed : Is
         ∙ ap (λ b. placed (library.library_at i s.table.libs).size (Library i 1 false) b (shown_memory s)) (at ∙ sym (fit_shown s (library.library_at i s.table.libs).size 1))
         ∙ ap (λ n. placed n (Library i 1 false) (place_for n 1 (shown_memory s)) (shown_memory s)) (sym (size_shown i))
 
-  pub opened_shown : (name : List ℕ) (version : ℕ) (base : Option ℕ) (t : Tabled)
-      → base ≡ opened_base (library_to_open name version s.table.libs) s.table.libs s.table.memory
-      → t ≡ library_opened (library_to_open name version s.table.libs) base s.table → shown_memory (record s { table = t }) ≡ model.opened name version (shown_memory s)
-  unfolding model.opened
-  opened_shown name version base t is next =
-      ap (λ u. shown_memory (record s { table = u })) next
-      ∙ by_found (library_to_open name version s.table.libs) (to_open_known version s.table.libs name) is
-      ∙ ap (λ o. model.library_opened o (shown_memory s)) (sym (to_open_shown name version))
-    where
-      by_found : (o : Option ℕ) → IfSome o (λ i. i < length s.table.libs.known) → base ≡ opened_base o s.table.libs s.table.memory
-          → shown_memory (record s { table = library_opened o base s.table }) ≡ model.library_opened o (shown_memory s)
-      by_found None known at = refl
-      by_found (Some i) known at =
-          loaded_shown i (omega (arith, known, sound.each_library)) base (loaded_at i s.table.libs) refl at
-          ∙ ap (λ b. entered_or_loaded b i (shown_memory s)) (sym (base_shown s sound i formed))
+  pub library_opened_shown : (found base : Option ℕ) → IfSome found (λ i. i < length s.table.libs.known) → base ≡ opened_base found s.table.libs s.table.memory
+      → shown_memory (record s { table = library_opened found base s.table }) ≡ model.library_opened found (shown_memory s)
+  library_opened_shown None base known at = refl
+  library_opened_shown (Some i) base known at =
+      loaded_shown i (omega (arith, known, sound.each_library)) base (loaded_at i s.table.libs) refl at
+      ∙ ap (λ b. entered_or_loaded b i (shown_memory s)) (sym (base_shown s sound i formed))
 
   -- ---- closing and removing
 

@@ -35,6 +35,7 @@ heap_set : (s : Numbered) (sequences : List (List ℕ)) (homes : List (Option �
 heap_set s sequences homes heap is = λ i. record {
   regions = s.table.memory.regions;
   libraries = map shown_library s.table.libs.known;
+  asks = s.table.libs.asks;
   pool = s.table.pool;
   heap = is i;
   public = map (shown_public s) s.ports.public;

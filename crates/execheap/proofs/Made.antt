@@ -1,22 +1,14 @@
 -- Objects of any kind made: the number and the address.
-use Rattle.std.proofs.Common.{◌≡◌, ℕ, true, false, ap, sym, ◌∙◌}
+use Rattle.std.proofs.Common.{◌≡◌, ℕ, true, false, ap, sym}
 use Rattle.std.specs.Prelude.{Some, None, Option, is_some}
 use Rattle.std.specs.Option.{option_map}
 use Rattle.memlist.specs.Fit.{fit}
-use Rattle.execlist.specs.Pool.{IsStocked, next_number}
-use Rattle.execmodel.specs.Objects.{place_for_object}
+use Rattle.execlist.specs.Pool.{next_number}
 use Rattle.execheap.proofs.Entries.{some_same}
 use Rattle.execheap.specs.declared.kind.Kind.{Kind}
 use Rattle.execheap.specs.Tags.{size_of}
-use Rattle.execheap.specs.Table.{IsSound, object_at_next, pool_of}
-use Rattle.execheap.specs.Numbered.{Numbered, IsKept, shown_memory, test_of}
-use Rattle.execheap.proofs.Showing.{address_of, place_shown}
-
--- where an object is made, the model has it made
-pub place_made : {s : Numbered} → IsKept s → IsSound s.table → (kind : Kind) → IsStocked (pool_of kind s.table) → (made : Option (ℕ × ℕ))
-    → made ≡ object_at_next kind (next_number (pool_of kind s.table)) s.table
-    → address_of made ≡ place_for_object (test_of kind) (size_of kind) (shown_memory s)
-place_made {s} kept sound kind stocked made is = ap address_of is ∙ sym (place_shown s sound kind stocked)
+use Rattle.execheap.specs.Table.{object_at_next, pool_of}
+use Rattle.execheap.specs.Numbered.{Numbered, IsKept}
 
 -- the number and the address of an object that is made
 pub record IsNew (next fits : Option ℕ) (n a : ℕ) : Type 0 where

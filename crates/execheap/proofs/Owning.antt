@@ -24,6 +24,7 @@ pub heap_owned : (s : Numbered) (q : Semaphores) (heap : Heap) → shown_heap (r
 heap_owned s q heap is = λ i. record {
   regions = s.table.memory.regions;
   libraries = map shown_library s.table.libs.known;
+  asks = s.table.libs.asks;
   pool = s.table.pool;
   heap = is i;
   public = map (shown_public s) s.ports.public;

@@ -16,14 +16,14 @@ use Rattle.execlib.specs.Libraries.{count_of, is_delayed}
 use Rattle.execmodel.specs.State.{Object, Plain, Library, Block}
 use Rattle.execmodel.specs.Memory as model
 use Rattle.execmodel.specs.Memory.{freed, place_for, placed}
-use Rattle.execmodel.specs.Objects.{object_at, is_kind, live, place_for_object}
+use Rattle.execmodel.specs.Objects.{is_allowed, object_at, is_kind, live, place_for_object}
 use Rattle.execheap.proofs.Entries.{all_then, find_shown, map_same, put_shown, some_same, where_key_shown}
 use Rattle.execheap.specs.declared.kind.Kind.{Kind}
 use Rattle.execheap.specs.declared.kind.Kind.TheVariants as kind
 use Rattle.execheap.specs.declared.tag.Tagged.{Tagged}
 use Rattle.execheap.specs.declared.tag.Tagged.TheVariants as tag
 use Rattle.execheap.specs.Tags.{is_of, is_same, number_in, size_of, tag_of, tagged}
-use Rattle.execheap.specs.Table.{Tabled, IsSound, IsTagged, counted, number_at, object_at_next, place_of, pool_of, slots_of, with_object, without_object}
+use Rattle.execheap.specs.Table.{Tabled, IsSound, IsTagged, counted, next_object, number_at, object_at_next, place_of, pool_of, slots_of, with_object, without_object}
 use Rattle.execheap.specs.Numbered.{Numbered, object_of, shown_block, shown_entry, shown_heap, shown_library, shown_memory, shown_public, shown_tagged, shown_timer, test_of}
 use Rattle.execheap.proofs.Counting.{all_freed}
 use Rattle.execheap.proofs.Matching.{number_small, other_object}
@@ -139,36 +139,42 @@ live_shown s kind = count_map (shown_entry s) (λ (entry : ℕ × Block). test_o
 abbrev pub address_of : Option (ℕ × ℕ) → Option ℕ
 address_of made = option_map (λ (m : ℕ × ℕ). m.1) made
 
+-- the model allows one more object of a kind where a number of that kind is left
+pub allowed_shown : (s : Numbered) → IsSound s.table → (kind : Kind) → IsStocked (pool_of kind s.table)
+    → is_allowed (test_of kind) (shown_memory s) ≡ is_some (next_number (pool_of kind s.table))
+allowed_shown s sound kind stocked = by_next (next_number (pool_of kind s.table)) refl where
+  vacant : (n : ℕ) → next_number (pool_of kind s.table) ≡ Some n → slot (slots_of kind s.table) n ≡ None
+  vacant n next = subst (λ o. IfSome o (λ m. slot (slots_of kind s.table) m ≡ None)) next stocked.free
+
+  known : (n : ℕ) → next_number (pool_of kind s.table) ≡ Some n → n < length (slots_of kind s.table)
+  known n next = subst (λ o. IfSome o (λ m. m < length (slots_of kind s.table))) next stocked.known
+
+  by_next : (o : Option ℕ) → next_number (pool_of kind s.table) ≡ o → is_allowed (test_of kind) (shown_memory s) ≡ is_some o
+  by_next None none = le-ltb (live (test_of kind) (shown_heap s)) s.table.pool
+      (omega (arith, live_shown s kind, sound.matched.count kind, stocked.full none, sound.each kind))
+  by_next (Some n) next = lt-ltb (live (test_of kind) (shown_heap s)) s.table.pool (omega (
+    arith,
+    live_shown s kind,
+    sound.matched.count kind,
+    sound.each kind,
+    taken_below (slots_of kind s.table) n (vacant n next) (known n next),
+  ))
+
 -- a new object goes where the model has it
 pub place_shown : (s : Numbered) → IsSound s.table → (kind : Kind) → IsStocked (pool_of kind s.table)
-    → place_for_object (test_of kind) (size_of kind) (shown_memory s) ≡ address_of (object_at_next kind (next_number (pool_of kind s.table)) s.table)
+    → place_for_object (test_of kind) (size_of kind) (shown_memory s) ≡ address_of (next_object kind s.table)
 unfolding place_for_object
-place_shown s sound kind stocked = by_next (next_number (pool_of kind s.table)) refl where
-  at : (fits : Option ℕ) (n : ℕ) → fits ≡ address_of (option_map (λ (address : ℕ). (n, address)) fits)
-  at None n = refl
-  at (Some a) n = refl
+place_shown s sound kind stocked =
+    ap (λ b. if b then place_for (size_of kind) 1 (shown_memory s) else None) (allowed_shown s sound kind stocked)
+    ∙ by_next (next_number (pool_of kind s.table))
+  where
+    at : (fits : Option ℕ) (n : ℕ) → fits ≡ address_of (option_map (λ (address : ℕ). (n, address)) fits)
+    at None n = refl
+    at (Some a) n = refl
 
-  by_next : (o : Option ℕ) → next_number (pool_of kind s.table) ≡ o
-      → place_for_object (test_of kind) (size_of kind) (shown_memory s) ≡ address_of (object_at_next kind o s.table)
-  by_next None none = ap (λ b. if b then place_for (size_of kind) 1 (shown_memory s) else None)
-      (le-ltb (live (test_of kind) (shown_heap s)) s.table.pool
-      (omega (arith, live_shown s kind, sound.matched.count kind, stocked.full none, sound.each kind)))
-  by_next (Some n) next =
-      ap (λ b. if b then place_for (size_of kind) 1 (shown_memory s) else None)
-      (lt-ltb (live (test_of kind) (shown_heap s)) s.table.pool (omega (
-        arith,
-        live_shown s kind,
-        sound.matched.count kind,
-        sound.each kind,
-        taken_below (slots_of kind s.table) n (next_vacant_of n next) (next_known_of n next),
-      )))
-      ∙ fit_shown s (size_of kind) 1 ∙ at (fit s.table.memory.regions s.table.memory.blocks (size_of kind) 1) n
-    where
-      next_vacant_of : (n : ℕ) → next_number (pool_of kind s.table) ≡ Some n → slot (slots_of kind s.table) n ≡ None
-      next_vacant_of n next = subst (λ o. IfSome o (λ m. slot (slots_of kind s.table) m ≡ None)) next stocked.free
-
-      next_known_of : (n : ℕ) → next_number (pool_of kind s.table) ≡ Some n → n < length (slots_of kind s.table)
-      next_known_of n next = subst (λ o. IfSome o (λ m. m < length (slots_of kind s.table))) next stocked.known
+    by_next : (o : Option ℕ) → (if is_some o then place_for (size_of kind) 1 (shown_memory s) else None) ≡ address_of (object_at_next kind o s.table)
+    by_next None = refl
+    by_next (Some n) = fit_shown s (size_of kind) 1 ∙ at (fit s.table.memory.regions s.table.memory.blocks (size_of kind) 1) n
 
 -- ---- an object of any kind made or freed, where the others keep what they hold
 
@@ -182,6 +188,7 @@ module _ {s u : Numbered} (sound : IsSound s.table) (kind : Kind) (number a : �
   made_shown object is beside small here public timer = λ i. record {
     regions = (is i).memory.regions;
     libraries = map shown_library (is i).libs.known;
+    asks = (is i).libs.asks;
     pool = (is i).pool;
     heap = (
         ap (λ (t : Tabled). map (shown_entry u) t.memory.blocks) is
@@ -208,6 +215,7 @@ module _ {s u : Numbered} (sound : IsSound s.table) (kind : Kind) (number a : �
   freed_shown formed live is beside public timer = λ i. record {
     regions = (is i).memory.regions;
     libraries = map shown_library (is i).libs.known;
+    asks = (is i).libs.asks;
     pool = (is i).pool;
     heap = (
         ap (λ (t : Tabled). map (shown_entry u) t.memory.blocks) is

@@ -36,6 +36,7 @@ pub times_shown : (f : Timer → Timer) (s : Numbered) → shown_timer (on_timin
 times_shown f s timer = λ i. record {
   regions = s.table.memory.regions;
   libraries = map shown_library s.table.libs.known;
+  asks = s.table.libs.asks;
   pool = s.table.pool;
   heap = timing_beside s (on_held f s.timing) i;
   public = map (shown_public s) s.ports.public;

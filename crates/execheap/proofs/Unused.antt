@@ -1,5 +1,5 @@
 -- A table at first: nothing lives.
-use Rattle.std.proofs.Common.{◌≡◌, ℕ, ◌≤◌, List, true, false, length, refl, ap, sym, ◌∙◌}
+use Rattle.std.proofs.Common.{◌≡◌, ℕ, ◌≤◌, List, Bool, true, false, length, refl, ap, sym, ◌∙◌}
 use Rattle.std.specs.Prelude.{None, Option, is_some}
 use Rattle.std.specs.Option.{option_map}
 use Rattle.std.proofs.lemmas.List.{length-replicate}
@@ -12,24 +12,24 @@ use Rattle.execheap.specs.declared.kind.Kind.{Kind}
 use Rattle.execheap.specs.declared.kind.Kind.TheVariants as kind
 use Rattle.execheap.specs.Table.{IsSound, pool_of, unused}
 
-pub pool_unused : (kind : Kind) (regions : List Region) (pool : ℕ) (known : List Description) → pool_of kind (unused regions pool known) ≡ all_free pool
-pool_unused kind.List regions pool known = refl
-pool_unused kind.Node regions pool known = refl
-pool_unused kind.Port regions pool known = refl
-pool_unused kind.Message regions pool known = refl
-pool_unused kind.Semaphore regions pool known = refl
-pool_unused kind.Request regions pool known = refl
+pub pool_unused : (kind : Kind) (regions : List Region) (pool : ℕ) (known : List Description) (asks : Bool) → pool_of kind (unused regions pool known asks) ≡ all_free pool
+pool_unused kind.List regions pool known asks = refl
+pool_unused kind.Node regions pool known asks = refl
+pool_unused kind.Port regions pool known asks = refl
+pool_unused kind.Message regions pool known asks = refl
+pool_unused kind.Semaphore regions pool known asks = refl
+pool_unused kind.Request regions pool known asks = refl
 
-pub sound_unused : (regions : List Region) (pool : ℕ) (known : List Description) → pool ≤ 1024 → IsSound (unused regions pool known)
-sound_unused regions pool known small = record {
+pub sound_unused : (regions : List Region) (pool : ℕ) (known : List Description) (asks : Bool) → pool ≤ 1024 → IsSound (unused regions pool known asks)
+sound_unused regions pool known asks small = record {
   matched = record {
     tagged = tt;
     complete = λ kind n a live. (let bad : false ≡ true = ap is_some
-        (sym (ap (λ (p : Pooled ℕ). slot p.slots n) (pool_unused kind regions pool known) ∙ slot_new ℕ pool n) ∙ live) in cc);
+        (sym (ap (λ (p : Pooled ℕ). slot p.slots n) (pool_unused kind regions pool known asks) ∙ slot_new ℕ pool n) ∙ live) in cc);
     loaded = λ i base is. (let bad : false ≡ true = ap is_some (sym (ap (option_map (λ (l : Loaded). l.base)) (slot_new Loaded (length known) i)) ∙ is) in cc);
-    count = λ kind. sym (ap (λ (p : Pooled ℕ). taken p.slots) (pool_unused kind regions pool known) ∙ taken_new ℕ pool);
+    count = λ kind. sym (ap (λ (p : Pooled ℕ). taken p.slots) (pool_unused kind regions pool known asks) ∙ taken_new ℕ pool);
   };
-  each = λ kind. ap (λ (p : Pooled ℕ). length p.slots) (pool_unused kind regions pool known) ∙ length-replicate pool None;
+  each = λ kind. ap (λ (p : Pooled ℕ). length p.slots) (pool_unused kind regions pool known asks) ∙ length-replicate pool None;
   kinds = refl;
   each_library = length-replicate {A = Option Loaded} (length known) None;
   small = small;

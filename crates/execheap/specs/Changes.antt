@@ -1,5 +1,5 @@
 -- What the calls on objects by number make of them.
-use Rattle.std.specs.Prelude.{ℕ, zero, suc, ℤ, ◌+◌, ◌-◌, if◌then◌else◌, List, [], ◌∷◌, ◌++◌, drop, length, replicate, slice_set, take, Option, None, Some}
+use Rattle.std.specs.Prelude.{Bool, ℕ, zero, suc, ℤ, ◌+◌, ◌-◌, if◌then◌else◌, List, [], ◌∷◌, ◌++◌, drop, length, replicate, slice_set, take, Option, None, Some}
 use Rattle.execlist.specs.Order.{enqueue, first, without}
 use Rattle.execlist.specs.Lists.{Key, blank, home, last, pri_of, put_after, sequence}
 use Rattle.execlib.specs.Libraries.{Description}
@@ -17,9 +17,9 @@ reserved zero ports = ports
 reserved (suc n) ports = message_made 0 0 (reserved n ports)
 
 -- no block, no object of a pool of so many of each kind, none of these libraries loaded, and a clock at 0 with ticks of so many microseconds
-abbrev pub unused : List Region → ℕ → List Description → ℕ → Numbered
-unused regions pool known tick_micros = record {
-  table = table.unused regions pool known;
+abbrev pub unused : List Region → ℕ → List Description → Bool → ℕ → Numbered
+unused regions pool known asks tick_micros = record {
+  table = table.unused regions pool known asks;
   sequences = replicate pool [];
   homes = replicate pool None;
   keys = replicate pool blank;

@@ -113,6 +113,7 @@ abbrev pub shown_memory : Numbered → Memory
 shown_memory s = record {
   regions = s.table.memory.regions;
   libraries = map shown_library s.table.libs.known;
+  asks = s.table.libs.asks;
   pool = s.table.pool;
   heap = shown_heap s;
   public = map (shown_public s) s.ports.public;

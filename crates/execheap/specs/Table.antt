@@ -1,6 +1,6 @@
 -- Which blocks are objects and which are libraries: for each kind the addresses of its objects by number, and the libraries with their
 -- bases, beside the blocks with their tags.
-use Rattle.std.specs.Prelude.{◌≡◌, ℕ, ◌≤◌, nat_eq, List, [], ◌∷◌, filter, length, slice_index_or, slice_set, Option, None, Some}
+use Rattle.std.specs.Prelude.{◌≡◌, ℕ, ◌≤◌, Bool, nat_eq, List, [], ◌∷◌, filter, length, slice_index_or, slice_set, Option, None, Some}
 use Rattle.std.specs.Option.{option_map, option_and_then}
 use Rattle.std.specs.List.{AllByRecursion}
 use Rattle.memlist.specs.Memory as memlist
@@ -8,9 +8,9 @@ use Rattle.memlist.specs.declared.region.Region.{Region}
 use Rattle.memlist.specs.Blocks.{Blocks, block_at}
 use Rattle.memlist.specs.Fit.{fit}
 use Rattle.memlist.specs.Memory.{allocated, untouched, without_block}
-use Rattle.execlib.specs.declared.library.Loaded.{Loaded}
 use Rattle.execlib.specs.Libraries as library
-use Rattle.execlib.specs.Libraries.{Description, Libraries, library_tag, loaded_at, no_library_loaded}
+use Rattle.execlib.specs.Libraries.{Description, Lent, Libraries, lent, library_tag, no_library_loaded}
+pub use Rattle.execlib.specs.Libraries.{base_at, tag_at}
 use Rattle.execlist.specs.Pool.{Pooled, all_free, given, next_number, released, slot, taken}
 use Rattle.execheap.specs.declared.kind.Kind.{Kind}
 use Rattle.execheap.specs.declared.tag.Tagged.{Tagged}
@@ -36,10 +36,6 @@ slots_of kind t = (pool_of kind t).slots
 abbrev pub number_at : Kind → ℕ → Tabled → Option ℕ
 number_at kind address t = option_and_then (λ (block : ℕ × ℕ). number_in kind (tagged block.1)) (block_at address t.memory.blocks)
 
--- the address of a library by number, if it is loaded
-abbrev pub base_at : ℕ → Libraries → Option ℕ
-base_at i libs = option_map (λ (loaded : Loaded). loaded.base) (loaded_at i libs)
-
 -- the number of the library that begins at an address
 abbrev pub library_at : ℕ → Tabled → Option ℕ
 library_at address t = option_and_then (λ (block : ℕ × ℕ). library_in (tagged block.1)) (block_at address t.memory.blocks)
@@ -51,14 +47,30 @@ abbrev pub free_pools : ℕ → List (Pooled ℕ)
 free_pools pool =
     all_free pool ∷ all_free pool ∷ all_free pool ∷ all_free pool ∷ all_free pool ∷ all_free pool ∷ []
 
--- nothing is allocated, of each kind so many objects may live, and none of these libraries is loaded
-abbrev pub unused : List Region → ℕ → List Description → Tabled
-unused regions pool known = record {
+-- nothing is allocated, of each kind so many objects may live, and none of these libraries is loaded, which are asked to give way or not
+abbrev pub unused : List Region → ℕ → List Description → Bool → Tabled
+unused regions pool known asks = record {
   memory = untouched regions;
   pools = free_pools pool;
   pool = pool;
-  libs = no_library_loaded known;
+  libs = no_library_loaded known asks;
 }
+
+-- libraries and memory, one lent to the other
+abbrev pub with_lent : Lent → Tabled → Tabled
+with_lent l t = record t { memory = l.memory; libs = l.libraries }
+
+-- libraries were asked to give way to a block of so many bytes
+abbrev pub after_asking : (size reqs : ℕ) → Tabled → Tabled
+after_asking size reqs t = with_lent (library.after_asking size reqs (lent t.libs t.memory)) t
+
+-- the same before an object of a kind is made: nothing is asked where the pool has no number left
+abbrev pub ready_for_number : Kind → Option ℕ → Tabled → Tabled
+ready_for_number kind None t = t
+ready_for_number kind (Some number) t = after_asking (size_of kind) 1 t
+
+abbrev pub ready_for : Kind → Tabled → Tabled
+ready_for kind t = ready_for_number kind (next_number (pool_of kind t)) t
 
 -- the number and the address of a new object of a kind, if there is a number left and its block fits
 abbrev pub object_at_next : Kind → Option ℕ → Tabled → Option (ℕ × ℕ)
@@ -87,6 +99,10 @@ without_object kind number address t = record t {
 
 -- ---- libraries
 
+-- other libraries were asked to give way to the one that is opened, where it is to be loaded
+abbrev pub ready_to_open : Option ℕ → Tabled → Tabled
+ready_to_open found t = with_lent (library.ready_to_open found (lent t.libs t.memory)) t
+
 -- a library, if there is one to open, is open once more at a base, or has found no place
 abbrev pub library_opened : (found base : Option ℕ) → Tabled → Tabled
 library_opened found base t =
@@ -112,10 +128,6 @@ place_of (Library i) address t = base_at i t.libs
 abbrev pub IsTagged : Tabled → ℕ × (ℕ × ℕ) → Type 0
 IsTagged t entry =
     (place_of (tagged entry.1.1) entry.0 t ≡ Some entry.0) × (is_plain (tagged entry.1.1) ≡ nat_eq entry.1.1 0)
-
--- the tag of the block that begins at an address
-abbrev pub tag_at : ℕ → Blocks → Option ℕ
-tag_at address blocks = option_map (λ (block : ℕ × ℕ). block.1) (block_at address blocks)
 
 -- how many blocks are objects of a kind
 abbrev pub counted : Kind → Blocks → ℕ

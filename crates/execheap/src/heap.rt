@@ -5,6 +5,7 @@ ghost use Rattle.execlib.specs.Libraries.{description_of};
 ghost use Rattle.memlist.specs.Fit.{avail};
 ghost use Rattle.execmodel.specs.State.{ListHead, Node, Plain, on_heap};
 ghost use Rattle.execmodel.specs.Memory.{block_at, can_be_asked, extents, freed, is_named, place_for, placed};
+ghost use Rattle.execmodel.specs.GivingWay.{after_asking, after_asking_for_object};
 ghost use Rattle.execmodel.specs.Objects.{place_for_object};
 ghost use Rattle.execmodel.specs.Lists.{is_list, is_node, free_list_alert, free_node_alert, link_alert, insert_alert, linked_alert, list_alert, find_alert};
 ghost use Rattle.execmodel.specs.Lists.{added_head, added_tail, enqueued, inserted, unlinked, removed_head, removed_tail, first_of, last_of, succ_of, pred_of, found_node};
@@ -46,31 +47,34 @@ impl<S: ListSpace> Model for Heap<S> {
 }
 
 impl<S: ListSpace> Heap<S> {
-    /// The memory of these regions with nothing allocated, and these libraries, at most 32, none of them loaded; of each kind as many objects
-    /// may live as `pool` says, and clock and system time stand at 0 and gain `tick_micros` microseconds at each tick. An error means that
-    /// memory of the host is lacking, or that `check_regions` refuses the regions, which no machine file's are.
+    /// The memory of these regions with nothing allocated, and these libraries, at most 32, none of them loaded, which are asked to give way
+    /// where memory is lacking if `asks` says so. Of each kind as many objects may live as `pool` says, and clock and system time stand at 0
+    /// and gain `tick_micros` microseconds at each tick. An error means that memory of the host is lacking, or that `check_regions` refuses
+    /// the regions, which no machine file's are.
     pub fn new(
         alloc: Global,
         regions: &[Region],
         pool: u32,
         libraries: &[LibInit],
+        asks: bool,
         tick_micros: u32,
     ) -> Result<Self, AllocError>
         requires pool { pool ≤ 1024 }
         requires few { length libraries.now ≤ 32 }
-        ensures { IfOk result (λ h. h ≡ record { regions = regions.now; libraries = map shown_library (map description_of libraries.now); pool = pool; heap = []; public = []; timer = new_timer tick_micros }) }
+        ensures { IfOk result (λ h. h ≡ record { regions = regions.now; libraries = map shown_library (map description_of libraries.now); asks = asks; pool = pool; heap = []; public = []; timer = new_timer tick_micros }) }
     {
-        let objects = Objects::new(alloc, regions, pool, libraries, tick_micros)?;
+        let objects = Objects::new(alloc, regions, pool, libraries, asks, tick_micros)?;
         Ok(Heap { objects })
     }
 
     // ---- memory
 
     /// Allocates a plain block of a size in bytes, which is rounded up to a multiple of 8, and answers its address: the front of the
-    /// lowest gap of the suitable region of greatest priority. None where nothing fits or the size is 0 (autodoc exec.library/AllocMem).
+    /// lowest gap of the suitable region of greatest priority. Where no gap is large enough and libraries are asked, they give way one after
+    /// another until one is. None where nothing fits then or the size is 0 (autodoc exec.library/AllocMem).
     pub fn alloc_mem(&mut self, size: u32, reqs: u32) -> Option<u32>
-        ensures address { result ≡ place_for size reqs self.old }
-        ensures next { self.new ≡ placed size Plain result self.old }
+        ensures address { result ≡ place_for size reqs (after_asking size reqs self.old) }
+        ensures next { self.new ≡ placed size Plain result (after_asking size reqs self.old) }
     {
         self.objects.allocate(size, reqs)
     }
@@ -96,20 +100,20 @@ impl<S: ListSpace> Heap<S> {
 
     // ---- lists and nodes made and freed
 
-    /// Makes an empty list and answers its address; none where the pool has no list left or its block fits nowhere
-    /// (autodoc amiga.lib/NewList; that it takes the memory: own choice).
+    /// Makes an empty list and answers its address; none where the pool has no list left, which asks nothing, or its block fits nowhere once
+    /// libraries were asked to give way (autodoc amiga.lib/NewList; that it takes the memory: own choice).
     pub fn new_list(&mut self) -> Option<u32>
-        ensures address { result ≡ place_for_object is_list 14 self.old }
-        ensures next { self.new ≡ placed 14 (ListHead []) result self.old }
+        ensures address { result ≡ place_for_object is_list 14 (after_asking_for_object is_list 14 self.old) }
+        ensures next { self.new ≡ placed 14 (ListHead []) result (after_asking_for_object is_list 14 self.old) }
     {
         self.objects.make_list()
     }
 
     /// Makes a node with that priority and that name or none, which is not linked, and answers its address; none where the pool has no
-    /// node left or its block fits nowhere (own choice).
+    /// node left, which asks nothing, or its block fits nowhere once libraries were asked to give way (own choice).
     pub fn new_node(&mut self, pri: i8, name: Option<Name>) -> Option<u32>
-        ensures address { result ≡ place_for_object is_node 14 self.old }
-        ensures next { self.new ≡ placed 14 (Node (key_with pri (option_map (λ text. text.bytes) name))) result self.old }
+        ensures address { result ≡ place_for_object is_node 14 (after_asking_for_object is_node 14 self.old) }
+        ensures next { self.new ≡ placed 14 (Node (key_with pri (option_map (λ text. text.bytes) name))) result (after_asking_for_object is_node 14 self.old) }
     {
         self.objects.make_node(pri, name)
     }

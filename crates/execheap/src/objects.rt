@@ -4,11 +4,12 @@ ghost use Rattle.std.specs.Option.{ForSome};
 ghost use Rattle.execlist.specs.Order.{first};
 ghost use Rattle.execlist.specs.Lists.{home, is_named, last, part_after, part_before, part_from, sequence};
 ghost use Rattle.execlib.specs.Libraries.{description_of};
-ghost use Rattle.memlist.specs.Fit.{asks, avail, fit};
-ghost use Rattle.memlist.specs.Memory.{allocated, can_free, without_block};
+ghost use Rattle.memlist.specs.Fit.{asks, avail};
+ghost use Rattle.memlist.specs.Memory.{can_free, without_block};
 ghost use Rattle.execlist.specs.Pool.{slot};
-ghost use Rattle.execmodel.specs.State.{ListHead, Node};
-ghost use Rattle.execmodel.specs.Memory.{freed, placed};
+ghost use Rattle.execmodel.specs.State.{ListHead, Node, Plain};
+ghost use Rattle.execmodel.specs.Memory.{freed, place_for, placed};
+ghost use Rattle.execmodel.specs.GivingWay.{after_asking, after_asking_for_object};
 ghost use Rattle.execmodel.specs.Objects.{place_for_object};
 ghost use Rattle.execmodel.specs.Lists.{is_list, is_node};
 ghost use Rattle.execheap.specs.declared.kind.Kind.TheVariants as variant;
@@ -79,21 +80,22 @@ impl<S: ListSpace> Model for Objects<S> {
 }
 
 impl<S: ListSpace> Objects<S> {
-    /// Memory of these regions in which nothing is allocated, room for so many objects of each kind, these libraries, none of them loaded, and a
-    /// clock at 0 that gains so many microseconds at each tick.
+    /// Memory of these regions in which nothing is allocated, room for so many objects of each kind, these libraries, none of them loaded,
+    /// which are asked to give way or not, and a clock at 0 that gains so many microseconds at each tick.
     pub fn new(
         alloc: Global,
         regions: &[Region],
         pool: u32,
         libraries: &[LibInit],
+        asks: bool,
         tick_micros: u32,
     ) -> Result<Self, AllocError>
         requires pool { pool ≤ 1024 }
         requires few { length libraries.now ≤ 32 }
-        ensures { IfOk result (λ o. o ≡ unused regions.now pool (map description_of libraries.now) tick_micros) }
+        ensures { IfOk result (λ o. o ≡ unused regions.now pool (map description_of libraries.now) asks tick_micros) }
     {
         let pool = pool as usize;
-        let table = Table::new(alloc, regions, pool, libraries)?;
+        let table = Table::new(alloc, regions, pool, libraries, asks)?;
         let space = S::new(alloc, pool, pool)?;
         let ports = requests::with_requests(Ports::new(alloc, pool, pool + pool)?, pool);
         let sems = Sems::new(alloc, pool, MOST_TASKS)?;
@@ -122,10 +124,10 @@ impl<S: ListSpace> Objects<S> {
 
     // ---- plain blocks
 
-    /// A plain block of so many bytes, if one fits.
+    /// A plain block of so many bytes, if one fits once libraries were asked to give way: its address.
     pub fn allocate(&mut self, size: u32, reqs: u32) -> Option<u32>
-        ensures answer { result ≡ fit self.old.table.memory.regions self.old.table.memory.blocks size reqs }
-        ensures next { self.new ≡ record self.old { table = record self.old.table { memory = allocated size 0 result self.old.table.memory } } }
+        ensures address { result ≡ place_for size reqs (after_asking size reqs (shown_memory self.old)) }
+        ensures next { shown_memory self.new ≡ placed size Plain result (after_asking size reqs (shown_memory self.old)) }
     {
         self.table.allocate(size, reqs)
     }
@@ -170,19 +172,19 @@ impl<S: ListSpace> Objects<S> {
 
     // ---- lists and nodes made and freed
 
-    /// A new empty list, if the pool has one left and its block fits: its address.
+    /// A new empty list, if the pool has one left and its block fits once libraries gave way: its address.
     pub fn make_list(&mut self) -> Option<u32>
-        ensures address { result ≡ place_for_object is_list 14 (shown_memory self.old) }
-        ensures next { shown_memory self.new ≡ placed 14 (ListHead []) result (shown_memory self.old) }
+        ensures address { result ≡ place_for_object is_list 14 (after_asking_for_object is_list 14 (shown_memory self.old)) }
+        ensures next { shown_memory self.new ≡ placed 14 (ListHead []) result (after_asking_for_object is_list 14 (shown_memory self.old)) }
     {
         let (_, list) = self.table.make(Kind::List)?;
         Some(list)
     }
 
-    /// A new node with that key, if the pool has one left and its block fits: its address.
+    /// A new node with that key, if the pool has one left and its block fits once libraries gave way: its address.
     pub fn make_node(&mut self, pri: i8, name: Option<Name>) -> Option<u32>
-        ensures address { result ≡ place_for_object is_node 14 (shown_memory self.old) }
-        ensures next { shown_memory self.new ≡ placed 14 (Node (key_with pri (option_map (λ text. text.bytes) name))) result (shown_memory self.old) }
+        ensures address { result ≡ place_for_object is_node 14 (after_asking_for_object is_node 14 (shown_memory self.old)) }
+        ensures next { shown_memory self.new ≡ placed 14 (Node (key_with pri (option_map (λ text. text.bytes) name))) result (after_asking_for_object is_node 14 (shown_memory self.old)) }
     {
         let (n, node) = self.table.make(Kind::Node)?;
         self.space.set_key(n, pri, name);

@@ -5,7 +5,7 @@ ghost use Rattle.memlist.specs.Fit.{asks, avail, fit};
 ghost use Rattle.memlist.specs.Memory.{IsWellFormed, allocated, can_free, untouched, without_block};
 ghost use Rattle.execlist.specs.Pool.{IsStocked, all_free, slot};
 ghost use Rattle.execlib.specs.Libraries.{close_fault, count_of, description_of, is_loaded, library_to_open, no_library_loaded, opened_base};
-ghost use Rattle.execheap.specs.Table.{IsSound, base_at, free_pools, library_at, library_closed, library_opened, library_removed, next_object, number_at, pool_of, slots_of, unused, with_object, without_object};
+ghost use Rattle.execheap.specs.Table.{IsSound, after_asking, base_at, free_pools, library_at, library_closed, library_opened, library_removed, next_object, number_at, pool_of, ready_for, ready_to_open, slots_of, unused, with_object, without_object};
 
 use crate::kind::Kind;
 use crate::tag::{library_in, number_in, read, tag_of};
@@ -40,20 +40,22 @@ impl<S: ListSpace> Model for Table<S> {
 }
 
 impl<S: ListSpace> Table<S> {
-    /// Memory of these regions in which nothing is allocated, room for so many objects of each kind, and these libraries, none of them loaded.
+    /// Memory of these regions in which nothing is allocated, room for so many objects of each kind, and these libraries, none of them loaded,
+    /// which are asked to give way or not.
     pub fn new(
         alloc: Global,
         regions: &[Region],
         pool: usize,
         libraries: &[LibInit],
+        asks: bool,
     ) -> Result<Self, AllocError>
         requires pool { pool ≤ 1024 }
         requires few { length libraries.now ≤ 32 }
-        ensures { IfOk result (λ t. t ≡ unused regions.now pool (map description_of libraries.now)) }
+        ensures { IfOk result (λ t. t ≡ unused regions.now pool (map description_of libraries.now) asks) }
     {
         let memory = memory_of(alloc, regions)?;
         let pools = pools_of(alloc, pool)?;
-        let libs = Libs::new(alloc, libraries)?;
+        let libs = Libs::new(alloc, libraries, asks)?;
         Ok(Table {
             memory,
             pools,
@@ -72,13 +74,15 @@ impl<S: ListSpace> Table<S> {
 
     // ---- plain blocks
 
-    /// A plain block of so many bytes, if one fits.
+    /// A plain block of so many bytes, if one fits once libraries were asked to give way.
     pub fn allocate(&mut self, size: u32, reqs: u32) -> Option<u32>
-        ensures answer { result ≡ fit self.old.memory.regions self.old.memory.blocks size reqs }
-        ensures next { self.new ≡ record self.old { memory = allocated size 0 result self.old.memory } }
+        ensures answer { let ready = after_asking size reqs self.old in result ≡ fit ready.memory.regions ready.memory.blocks size reqs }
+        ensures next { let ready = after_asking size reqs self.old in self.new ≡ record ready { memory = allocated size 0 result ready.memory } }
+        ensures sound { IsSound self.old }
+        ensures memory { IsWellFormed self.old.memory.regions self.old.memory.blocks }
     {
         self.memory.is_well_formed();
-        self.memory.alloc_mem(size, reqs, 0)
+        self.libs.alloc_mem(size, reqs, 0, &mut self.memory)
     }
 
     /// Frees the plain block that begins at an address, if the size names it.
@@ -126,10 +130,11 @@ impl<S: ListSpace> Table<S> {
         self.pools[kind.code()].get(number)
     }
 
-    /// A new object of a kind, if the pool has one left and its block fits: its number and its address.
+    /// A new object of a kind, if the pool has one left and its block fits once libraries were asked to give way: its number and its
+    /// address. Nothing is asked where the pool has none left.
     pub fn make(&mut self, kind: Kind) -> Option<(usize, u32)>
-        ensures answer { result ≡ next_object kind self.old }
-        ensures next { self.new ≡ with_object kind result self.old }
+        ensures answer { result ≡ next_object kind (ready_for kind self.old) }
+        ensures next { self.new ≡ with_object kind result (ready_for kind self.old) }
         ensures sound { IsSound self.old }
         ensures stocked { IsStocked (pool_of kind self.old) }
         ensures memory { IsWellFormed self.old.memory.regions self.old.memory.blocks }
@@ -139,7 +144,9 @@ impl<S: ListSpace> Table<S> {
         self.pools[code].facts();
         let number = self.pools[code].next()?;
         let tag = tag_of(kind, number);
-        let address = self.memory.alloc_mem(kind.size(), MEMF_PUBLIC, tag)?;
+        let address = self
+            .libs
+            .alloc_mem(kind.size(), MEMF_PUBLIC, tag, &mut self.memory)?;
         self.pools[code].give(address);
         Some((number, address))
     }
@@ -178,10 +185,10 @@ impl<S: ListSpace> Table<S> {
     }
 
     /// Opens the library of a name that has at least a version, loading it first where it is absent, and answers its base; none where there
-    /// is none such, or it can be opened no more, or its block fits nowhere.
+    /// is none such, or it can be opened no more, or its block fits nowhere once others were asked to give way.
     pub fn open_library(&mut self, name: &str, version: u32) -> Option<u32>
-        ensures answer { result ≡ opened_base (library_to_open name.now version self.old.libs) self.old.libs self.old.memory }
-        ensures next { self.new ≡ library_opened (library_to_open name.now version self.old.libs) result self.old }
+        ensures answer { let found = library_to_open name.now version self.old.libs in let ready = ready_to_open found self.old in result ≡ opened_base found ready.libs ready.memory }
+        ensures next { let found = library_to_open name.now version self.old.libs in self.new ≡ library_opened found result (ready_to_open found self.old) }
         ensures sound { IsSound self.old }
         ensures memory { IsWellFormed self.old.memory.regions self.old.memory.blocks }
     {
@@ -217,7 +224,7 @@ impl<S: ListSpace> Table<S> {
 fn memory_of(alloc: Global, regions: &[Region]) -> Result<MemList, AllocError>
     ensures { IfOk result (λ memory. memory ≡ untouched regions.now) }
 {
-    match MemList::new(alloc, regions) {
+    match MemList::new(alloc, regions, u32::MAX) {
         Ok(memory) => Ok(memory),
         Err(_) => Err(AllocError),
     }

@@ -2,8 +2,9 @@
 -- is to be expunged when it is closed for the last time (RKM Libraries, Exec Libraries).
 use Rattle.std.specs.Prelude.{◌≡◌, ℕ, ◌+◌, ◌-◌, ◌≤◌, pos, nat_le, nat_eq, bytes_eq, Bool, true, false, not, ◌&&◌, is_some, if◌then◌else◌, List, [], ◌∷◌, length, map, replicate, slice_set, slice_index_or, Option, Some, None}
 use Rattle.std.specs.List.{position_from, range_with_len}
-use Rattle.std.specs.Option.{option_and_then, option_map_or}
+use Rattle.std.specs.Option.{option_and_then, option_map, option_map_or}
 use Rattle.execlist.specs.Lists.{Key}
+use Rattle.memlist.specs.Blocks.{Blocks, block_at}
 use Rattle.memlist.specs.Fit.{fit}
 use Rattle.memlist.specs.Memory.{Memory, allocated, without_block}
 use Rattle.execlib.specs.declared.fault.LibFault.{LibFault}
@@ -22,6 +23,16 @@ pub record Libraries : Type 0 where
   pub known : List Description
   -- where each is loaded, how often it is open and whether it is to be expunged; none for one that is absent
   pub loaded : List (Option Loaded)
+  -- whether they are asked to give way where a block fits nowhere
+  pub asks : Bool
+
+-- libraries, and the memory that is lent to them: their blocks lie there
+pub record Lent : Type 0 where
+  pub libraries : Libraries
+  pub memory : Memory
+
+abbrev pub lent : Libraries → Memory → Lent
+lent libraries memory = record { libraries = libraries; memory = memory }
 
 -- ---- parts
 
@@ -44,6 +55,10 @@ is_loaded i m = is_some (loaded_at i m)
 abbrev pub base_of : ℕ → Libraries → ℕ
 base_of i m = option_map_or (λ (l : Loaded). l.base) (loaded_at i m) 0
 
+-- the address of a library's block, if it is loaded
+abbrev pub base_at : ℕ → Libraries → Option ℕ
+base_at i m = option_map (λ (l : Loaded). l.base) (loaded_at i m)
+
 -- how often library i is open
 abbrev pub count_of : ℕ → Libraries → ℕ
 count_of i m = option_map_or (λ (l : Loaded). l.count) (loaded_at i m) 0
@@ -64,56 +79,15 @@ library_tag i = 0x80000000 + i
 abbrev pub public_memory : ℕ
 public_memory = 1
 
--- ---- opening
+-- the numbers from 0 up to n
+abbrev pub numbers : ℕ → List ℕ
+numbers n = range_with_len 0 n
 
--- a library may be open so many times (own choice: lib_OpenCnt is a word of 16 bits)
-abbrev pub most_openings : ℕ
-most_openings = 65535
+-- ---- single changes
 
--- library i has at least that version, and may be opened once more
-abbrev pub can_open : (version i : ℕ) → Libraries → Bool
-can_open version i m = nat_le version (library_at i m).version && not (nat_eq (count_of i m) most_openings)
-
-abbrev pub only_if : (ℕ → Bool) → ℕ → Option ℕ
-only_if test i = if test i then Some i else None
-
--- the library that an opening is of, if there is one of the name and it can be opened
-abbrev pub library_to_open : List ℕ → ℕ → Libraries → Option ℕ
-library_to_open name version m = option_and_then (only_if (λ i. can_open version i m)) (number_of name m)
-
--- where a library lies, or where it is going to be loaded, if a gap is large enough
-abbrev pub base_or_fit : Option Loaded → ℕ → Memory → Option ℕ
-base_or_fit None size memory = fit memory.regions memory.blocks size public_memory
-base_or_fit (Some l) size memory = Some l.base
-
-abbrev pub base_for : ℕ → Libraries → Memory → Option ℕ
-base_for i m memory = base_or_fit (loaded_at i m) (library_at i m).size memory
-
--- the answer of an opening of that library
-abbrev pub opened_base : Option ℕ → Libraries → Memory → Option ℕ
-opened_base library m memory = option_and_then (λ i. base_for i m memory) library
-
+-- what is kept of library i becomes another
 abbrev pub with_loaded : ℕ → Option Loaded → Libraries → Libraries
 with_loaded i loaded m = record m { loaded = slice_set m.loaded i loaded }
-
--- a library at that address is open once more, and is not to be expunged any more
-abbrev pub entered : ℕ → Option Loaded → Loaded
-entered base before =
-    record { base = base; count = option_map_or (λ (l : Loaded). l.count) before 0 + 1; delayed_expunge = false }
-
--- the libraries after an opening of one that gave a base, or gave none
-abbrev pub opened : (library base : Option ℕ) → Libraries → Libraries
-opened (Some i) (Some base) m = with_loaded i (Some (entered base (loaded_at i m))) m
-opened _ _ m = m
-
--- the memory in which library i was loaded at a base, if it was not loaded before
-abbrev pub loads : ℕ → Option ℕ → Libraries → Memory → Memory
-loads i base m memory = if is_loaded i m then memory else allocated (library_at i m).size (library_tag i) base memory
-
--- the memory after an opening of a library that gave a base, or gave none
-abbrev pub memory_for : (library base : Option ℕ) → Libraries → Memory → Memory
-memory_for None base m memory = memory
-memory_for (Some i) base m memory = loads i base m memory
 
 -- ---- expunging
 
@@ -162,18 +136,106 @@ removed i m = if leaves_by_removal i m then expunged i m else marked i m
 abbrev pub memory_after_removal : ℕ → Libraries → Memory → Memory
 memory_after_removal i m memory = if leaves_by_removal i m then memory_without i m memory else memory
 
+-- ---- asking
+
+-- a block of so many bytes fits
+abbrev pub fits : (size reqs : ℕ) → Memory → Bool
+fits size reqs memory = is_some (fit memory.regions memory.blocks size reqs)
+
+-- library i, if it is loaded, gives way as if it were removed: it is expunged where it is not open, and else is to be expunged when it is
+-- closed for the last time
+abbrev pub gives_way : ℕ → Lent → Lent
+gives_way i l =
+    if is_loaded i l.libraries then record { libraries = removed i l.libraries; memory = memory_after_removal i l.libraries l.memory } else l
+
+-- library i is asked to give way, unless a block of so many bytes fits already
+abbrev pub asked_one : (size reqs i : ℕ) → Lent → Lent
+asked_one size reqs i l = if fits size reqs l.memory then l else gives_way i l
+
+-- libraries are asked one after another, as long as the block fits nowhere
+abbrev pub asked_each : (size reqs : ℕ) → List ℕ → Lent → Lent
+asked_each size reqs [] l = l
+asked_each size reqs (i ∷ others) l = asked_each size reqs others (asked_one size reqs i l)
+
+-- Before a block of so many bytes is taken, where it fits nowhere, all libraries are asked in the order of the file. A block of no bytes
+-- is never taken, and nothing is asked for it (own choice).
+unfoldable pub after_asking : (size reqs : ℕ) → Lent → Lent
+after_asking size reqs l =
+    if l.libraries.asks && not (nat_eq size 0) then asked_each size reqs (numbers (length l.libraries.known)) l else l
+
+-- ---- opening
+
+-- a library may be open so many times (own choice: lib_OpenCnt is a word of 16 bits)
+abbrev pub most_openings : ℕ
+most_openings = 65535
+
+-- library i has at least that version, and may be opened once more
+abbrev pub can_open : (version i : ℕ) → Libraries → Bool
+can_open version i m = nat_le version (library_at i m).version && not (nat_eq (count_of i m) most_openings)
+
+abbrev pub only_if : (ℕ → Bool) → ℕ → Option ℕ
+only_if test i = if test i then Some i else None
+
+-- the library that an opening is of, if there is one of the name and it can be opened
+abbrev pub library_to_open : List ℕ → ℕ → Libraries → Option ℕ
+library_to_open name version m = option_and_then (only_if (λ i. can_open version i m)) (number_of name m)
+
+-- where a library lies, or where it is going to be loaded, if a gap is large enough
+abbrev pub base_or_fit : Option Loaded → ℕ → Memory → Option ℕ
+base_or_fit None size memory = fit memory.regions memory.blocks size public_memory
+base_or_fit (Some l) size memory = Some l.base
+
+abbrev pub base_for : ℕ → Libraries → Memory → Option ℕ
+base_for i m memory = base_or_fit (loaded_at i m) (library_at i m).size memory
+
+-- libraries and memory before library i is opened: where it is to be loaded, libraries are asked to give way to it
+abbrev pub ready_to_load : ℕ → Lent → Lent
+ready_to_load i l = if is_loaded i l.libraries then l else after_asking (library_at i l.libraries).size public_memory l
+
+-- the same before an opening of a library or of none
+unfoldable pub ready_to_open : Option ℕ → Lent → Lent
+ready_to_open None l = l
+ready_to_open (Some i) l = ready_to_load i l
+
+-- the answer of an opening of that library
+abbrev pub opened_base : Option ℕ → Libraries → Memory → Option ℕ
+opened_base library m memory = option_and_then (λ i. base_for i m memory) library
+
+-- a library at that address is open once more, and is not to be expunged any more
+abbrev pub entered : ℕ → Option Loaded → Loaded
+entered base before =
+    record { base = base; count = option_map_or (λ (l : Loaded). l.count) before 0 + 1; delayed_expunge = false }
+
+-- the libraries after an opening of one that gave a base, or gave none
+abbrev pub opened : (library base : Option ℕ) → Libraries → Libraries
+opened (Some i) (Some base) m = with_loaded i (Some (entered base (loaded_at i m))) m
+opened _ _ m = m
+
+-- the memory in which library i was loaded at a base, if it was not loaded before
+abbrev pub loads : ℕ → Option ℕ → Libraries → Memory → Memory
+loads i base m memory = if is_loaded i m then memory else allocated (library_at i m).size (library_tag i) base memory
+
+-- the memory after an opening of a library that gave a base, or gave none
+abbrev pub memory_for : (library base : Option ℕ) → Libraries → Memory → Memory
+memory_for None base m memory = memory
+memory_for (Some i) base m memory = loads i base m memory
+
 -- ---- what the code keeps
 
 abbrev pub description_of : LibInit → Description
 description_of library = record { name = library.name.bytes; version = library.version; size = library.size }
 
--- all libraries, none of which is loaded
-abbrev pub no_library_loaded : List Description → Libraries
-no_library_loaded known = record { known = known; loaded = replicate (length known) None }
+-- all libraries, none of which is loaded, and whether they are asked to give way
+abbrev pub no_library_loaded : List Description → Bool → Libraries
+no_library_loaded known asks = record { known = known; loaded = replicate (length known) None; asks = asks }
 
--- the numbers from 0 up to n
-abbrev pub numbers : ℕ → List ℕ
-numbers n = range_with_len 0 n
+-- the tag of the block that begins at an address, if one does
+abbrev pub tag_at : ℕ → Blocks → Option ℕ
+tag_at address blocks = option_map (λ (block : ℕ × ℕ). block.1) (block_at address blocks)
+
+-- each loaded library lies in the memory, in a block with its tag
+pub record LieIn (m : Libraries) (memory : Memory) : Type 0 where
+  pub each : (i base : ℕ) → base_at i m ≡ Some base → tag_at base memory.blocks ≡ Some (library_tag i)
 
 -- the key of the node that has a library's name
 abbrev pub key_of : Description → Key

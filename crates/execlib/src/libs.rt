@@ -1,8 +1,10 @@
 //! The libraries of a machine, by number.
 ghost use Rattle.std.specs.Prelude.{◌≡◌, ◌≤◌, ◌<◌, length, map, Some, None, IfOk, IfSome, IsSome, IsTrue, not, nat_eq, [], ◌∷◌};
 ghost use Rattle.memlist.specs.Blocks.{block_at};
+ghost use Rattle.memlist.specs.Fit.{fit};
+ghost use Rattle.memlist.specs.Memory.{allocated};
 ghost use Rattle.execlib.specs.Faults.{fault_or, kept_or};
-ghost use Rattle.execlib.specs.Libraries.{no_library_loaded, description_of, library_at, loaded_at, number_of, is_loaded, base_of, count_of, can_open, library_to_open, base_for, opened_base, opened, memory_for, memory_without, loads, entered, key_of, numbers, most_openings, close_fault, leaves_by_close, closed, memory_after_close, removed, leaves_by_removal, memory_after_removal, expunged, with_loaded};
+ghost use Rattle.execlib.specs.Libraries.{no_library_loaded, description_of, library_at, library_tag, loaded_at, number_of, is_loaded, base_of, count_of, can_open, library_to_open, base_for, opened_base, opened, memory_for, memory_without, loads, entered, key_of, numbers, most_openings, close_fault, leaves_by_close, closed, memory_after_close, removed, leaves_by_removal, memory_after_removal, expunged, with_loaded, LieIn, after_asking, asked_each, gives_way, lent, ready_to_load, ready_to_open};
 
 use crate::fault::LibFault;
 use crate::library::{LibInit, Loaded};
@@ -34,6 +36,7 @@ const FIRST_TAG: u32 = 0x8000_0000;
 pub struct Libs<S: ListSpace> {
     known: Vec<LibInit>,
     loaded: Vec<Option<Loaded>>,
+    asks: bool,
     names: S,
 }
 
@@ -43,18 +46,19 @@ impl<S: ListSpace> Model for Libs<S> {
 
     ghost Value = { Libraries };
 
-    ghost view = { λ q. record { known = map description_of q.known.items; loaded = q.loaded.items } };
+    ghost view = { λ q. record { known = map description_of q.known.items; loaded = q.loaded.items; asks = q.asks } };
 
-    ghost invariant = { λ q. IsKept (S.sequences q.names) (S.keys q.names) (record { known = map description_of q.known.items; loaded = q.loaded.items }) };
+    ghost invariant = { λ q. IsKept (S.sequences q.names) (S.keys q.names) (record { known = map description_of q.known.items; loaded = q.loaded.items; asks = q.asks }) };
 }
 
 impl<S: ListSpace> Libs<S> {
-    /// Libraries of these names, versions and sizes, at most 32, numbered in the order given. None is loaded.
+    /// Libraries of these names, versions and sizes, at most 32, numbered in the order given. None is loaded. With `asks` the loaded ones
+    /// are asked to give way where a block fits nowhere (`alloc_mem`, and `open` where it loads one).
     ///
     /// An error means that memory is lacking.
-    pub fn new(alloc: Global, libraries: &[LibInit]) -> Result<Self, AllocError>
+    pub fn new(alloc: Global, libraries: &[LibInit], asks: bool) -> Result<Self, AllocError>
         requires { length libraries.now ≤ 32 }
-        ensures { IfOk result (λ q. q ≡ no_library_loaded (map description_of libraries.now)) }
+        ensures { IfOk result (λ q. q ≡ no_library_loaded (map description_of libraries.now) asks) }
     {
         let names = names_of(alloc, libraries)?;
         let loaded = Vec::from_elem(alloc, None, libraries.len())?;
@@ -62,22 +66,46 @@ impl<S: ListSpace> Libs<S> {
         Ok(Libs {
             known,
             loaded,
+            asks,
             names,
         })
+    }
+
+    // ---- taking memory
+
+    /// Takes a block of a size in bytes with those requirements and that tag, as `MemList::alloc_mem` does, and answers its address.
+    ///
+    /// Where the libraries are asked, the size is not 0 and no gap is large enough, the loaded ones are asked to give way in the order of
+    /// their numbers: one that is not open is expunged, an open one is to be expunged when it is closed for the last time (LIBF_DELEXP).
+    /// After each of them the gaps are looked at again, and the first that is large enough ends the asking. None is answered where none
+    /// is large enough then; what was expunged or marked stays so. The loaded libraries have to lie in the memory.
+    ///
+    /// Autodocs exec.library/AllocMem, exec.library/RemLibrary; the order of asking: own choice.
+    pub fn alloc_mem(&mut self, size: u32, reqs: u32, tag: u32, memory: &mut MemList) -> Option<u32>
+        requires blocks { LieIn self.old memory.old }
+        ensures answer { result ≡ fit memory.old.regions (after_asking size reqs (lent self.old memory.old)).memory.blocks size reqs }
+        ensures libraries { self.new ≡ (after_asking size reqs (lent self.old memory.old)).libraries }
+        ensures memory { memory.new ≡ allocated size tag result (after_asking size reqs (lent self.old memory.old)).memory }
+    {
+        self.ask(size, reqs, memory);
+        memory.alloc_mem(size, reqs, tag)
     }
 
     // ---- opening and closing
 
     /// Opens the library of a name whose version is at least the one asked for. One that is not loaded is loaded first: it takes a block
-    /// of its size, with MEMF_PUBLIC, whose tag is $80000000 and its number. It is open once more, and is not to be expunged any more.
+    /// of its size, with MEMF_PUBLIC, whose tag is $80000000 and its number, and other libraries give way to it as in `alloc_mem`. It is
+    /// open once more, and is not to be expunged any more.
     ///
-    /// Answers its base, the address of its block. None is answered, and nothing changes, where there is no library of the name, its
-    /// version is lower, it is open 65,535 times, or it is to be loaded and no gap of memory is large enough (the count: own choice).
-    /// Autodoc exec.library/OpenLibrary.
+    /// Answers its base, the address of its block. None is answered, and nothing changes but what gave way, where there is no library of the
+    /// name, its version is lower, it is open 65,535 times, or it is to be loaded and no gap of memory is large enough (the count: own
+    /// choice). The loaded libraries have to lie in the memory. Autodoc exec.library/OpenLibrary.
+    #[tactic(auto, unfolding(crate::specs::Libraries::ready_to_open))]
     pub fn open(&mut self, name: &str, version: u32, memory: &mut MemList) -> Option<u32>
-        ensures answer { result ≡ opened_base (library_to_open name.now version self.old) self.old memory.old }
-        ensures libraries { self.new ≡ opened (library_to_open name.now version self.old) result self.old }
-        ensures memory { memory.new ≡ memory_for (library_to_open name.now version self.old) result self.old memory.old }
+        requires blocks { LieIn self.old memory.old }
+        ensures answer { let found = library_to_open name.now version self.old in let ready = ready_to_open found (lent self.old memory.old) in result ≡ opened_base found ready.libraries ready.memory }
+        ensures libraries { let found = library_to_open name.now version self.old in let ready = ready_to_open found (lent self.old memory.old) in self.new ≡ opened found result ready.libraries }
+        ensures memory { let found = library_to_open name.now version self.old in let ready = ready_to_open found (lent self.old memory.old) in memory.new ≡ memory_for found result ready.libraries ready.memory }
     {
         let i = self.library_to_open(name, version)?;
         let base = self.base_for(i, memory)?;
@@ -189,6 +217,30 @@ impl<S: ListSpace> Libs<S> {
         self.names.find_name(NAMES, None, name)
     }
 
+    // How many libraries there are.
+    fn how_many(&self) -> usize
+        ensures { result ≡ length self.now.known }
+    {
+        self.known.len()
+    }
+
+    // The size of the block that a library takes.
+    fn size_of(&self, i: LibId) -> u32
+        requires { i < length self.now.known }
+        ensures { result ≡ (library_at i self.now).size }
+    {
+        self.known[i].size
+    }
+
+    // The tag of that block.
+    fn tag_of(&self, i: LibId) -> u32
+        requires { i < length self.now.known }
+        ensures { result ≡ library_tag i }
+    {
+        let _ = &self.known;
+        FIRST_TAG + i as u32
+    }
+
     // Whether a library has at least that version and may be opened once more.
     fn can_open(&self, i: LibId, version: u32) -> bool
         requires { i < length self.now.known }
@@ -217,15 +269,58 @@ impl<S: ListSpace> Libs<S> {
 
     // ---- single changes
 
-    // Where a library is; one that is not loaded takes its block.
-    fn base_for(&self, i: LibId, memory: &mut MemList) -> Option<u32>
-        requires { i < length self.now.known }
-        ensures value { result ≡ base_for i self.now memory.old }
-        ensures memory { memory.new ≡ loads i result self.now memory.old }
+    // Where a library is; one that is not loaded takes its block, and others give way to it.
+    fn base_for(&mut self, i: LibId, memory: &mut MemList) -> Option<u32>
+        requires known { i < length self.old.known }
+        requires blocks { LieIn self.old memory.old }
+        ensures value { let ready = ready_to_load i (lent self.old memory.old) in result ≡ base_for i ready.libraries ready.memory }
+        ensures libraries { self.new ≡ (ready_to_load i (lent self.old memory.old)).libraries }
+        ensures memory { let ready = ready_to_load i (lent self.old memory.old) in memory.new ≡ loads i result ready.libraries ready.memory }
     {
         match self.loaded_at(i) {
             Some(loaded) => Some(loaded.base),
-            None => memory.alloc_mem(self.known[i].size, MEMF_PUBLIC, FIRST_TAG + i as u32),
+            None => {
+                let size = self.size_of(i);
+                let tag = self.tag_of(i);
+                self.alloc_mem(size, MEMF_PUBLIC, tag, memory)
+            }
+        }
+    }
+
+    // Where the libraries are asked and a block of so many bytes fits nowhere, they give way one after another until it does.
+    #[tactic(auto, unfolding(crate::specs::Libraries::after_asking))]
+    fn ask(&mut self, size: u32, reqs: u32, memory: &mut MemList)
+        requires blocks { LieIn self.old memory.old }
+        ensures libraries { self.new ≡ (after_asking size reqs (lent self.old memory.old)).libraries }
+        ensures memory { memory.new ≡ (after_asking size reqs (lent self.old memory.old)).memory }
+    {
+        if self.asks && size != 0 {
+            self.ask_each(size, reqs, memory);
+        }
+    }
+
+    // The libraries give way one after another as long as a block of so many bytes fits nowhere.
+    fn ask_each(&mut self, size: u32, reqs: u32, memory: &mut MemList)
+        requires blocks { LieIn self.old memory.old }
+        ensures libraries { self.new ≡ (asked_each size reqs (numbers (length self.old.known)) (lent self.old memory.old)).libraries }
+        ensures memory { memory.new ≡ (asked_each size reqs (numbers (length self.old.known)) (lent self.old memory.old)).memory }
+    {
+        for i in 0..self.how_many() {
+            if memory.fits(size, reqs) {
+                return;
+            }
+            self.give_way(i, memory);
+        }
+    }
+
+    // A library that is loaded gives way as if it were removed.
+    fn give_way(&mut self, i: LibId, memory: &mut MemList)
+        requires blocks { LieIn self.old memory.old }
+        ensures libraries { self.new ≡ (gives_way i (lent self.old memory.old)).libraries }
+        ensures memory { memory.new ≡ (gives_way i (lent self.old memory.old)).memory }
+    {
+        if self.is_loaded(i) {
+            self.remove(i, memory);
         }
     }
 

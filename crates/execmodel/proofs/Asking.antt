@@ -328,10 +328,11 @@ pub reply_calm : (found : Option ℕ) (request : ℕ) → IsCalm (reply_marks fo
 reply_calm None request = λ p. refl
 reply_calm (Some port) request = λ p. refl
 
--- what comes of that: the blocks and the requests that wait, the schedule; and the regions, the clock and system time, and how many programs
--- there are, stay
+-- what comes of that: the blocks and the requests that wait, the schedule; and the regions, whether libraries are asked, the clock and
+-- system time, and how many programs there are, stay
 pub record Finishing (s : State) (marks : List Mark) (r : State) : Type 0 where
   pub regions : r.memory.regions ≡ s.memory.regions
+  pub version : r.memory.asks ≡ s.memory.asks
   pub clock : r.memory.timer.clock ≡ s.memory.timer.clock
   pub system : r.memory.timer.system ≡ s.memory.timer.system
   pub tick_micros : r.memory.timer.tick_micros ≡ s.memory.timer.tick_micros
@@ -351,6 +352,7 @@ finishing request s waits =
     (subst (λ r. Finishing s (reply_marks found request) r) (sym (state_of found request o))
     (record {
       regions = ap (λ (m : Memory). m.regions) (performed_memory act next) ∙ unfold ended in refl;
+      version = ap (λ (m : Memory). m.asks) (performed_memory act next) ∙ unfold ended in refl;
       clock = ap (λ (m : Memory). m.timer.clock) (performed_memory act next) ∙ unfold ended in refl;
       system = ap (λ (m : Memory). m.timer.system) (performed_memory act next) ∙ unfold ended in refl;
       tick_micros = ap (λ (m : Memory). m.timer.tick_micros) (performed_memory act next) ∙ unfold ended in refl;

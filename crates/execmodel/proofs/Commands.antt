@@ -62,9 +62,10 @@ pub data Reaches (marks : List Mark) (s r : Schedule) : Type 0 where
   rests : IsCalm marks → IsAlike s r → Reaches marks s r
   posts : (k mask : ℕ) → IsCalm marks → r ≡ signalled k mask s → Reaches marks s r
 
--- That is what a call makes of a state; and the regions, the timer, and how many programs there are, stay.
+-- That is what a call makes of a state; and the regions, whether libraries are asked, the timer, and how many programs there are, stay.
 pub record Alters (s : State) (marks : List Mark) (r : State) : Type 0 where
   pub regions : r.memory.regions ≡ s.memory.regions
+  pub version : r.memory.asks ≡ s.memory.asks
   pub timer : r.memory.timer ≡ s.memory.timer
   pub blocks : Touches s.memory.heap marks r.memory.heap
   pub programs : length r.scripts.programs ≡ length s.scripts.programs
@@ -147,25 +148,26 @@ shared_count (Some (Shared k)) value scripts = refl
 -- ---- how a call ends
 
 pub rested : (s : State) → Alters s [] s
-rested s = record { regions = refl; timer = refl; blocks = remains; programs = refl; tasks = rests (λ p. refl) (same s.schedule) }
+rested s = record { regions = refl; version = refl; timer = refl; blocks = remains; programs = refl; tasks = rests (λ p. refl) (same s.schedule) }
 
 -- the call of a caller ends after its effect; where it leaves a mark, that comes first
 done_alters : (c : Caller) (call : Call) (s r : State) → Alters s [] r → IsAltered s (done_by c call r)
 unfolding done
 done_alters (ByTask t) call s r a =
-    record { regions = a.regions; timer = a.timer; blocks = a.blocks; programs = goes_count t call.next r.scripts ∙ a.programs; tasks = a.tasks }
+    record { regions = a.regions; version = a.version; timer = a.timer; blocks = a.blocks; programs = goes_count t call.next r.scripts ∙ a.programs; tasks = a.tasks }
 done_alters (ByBody name) call s r a = a
 
 done_marked : (c : Caller) (call : Call) (mark : Mark) (s r : State) → Alters s (mark ∷ []) r → IsAltered s (leaving mark (done_by c call r))
 unfolding done
 done_marked (ByTask t) call mark s r a =
-    record { regions = a.regions; timer = a.timer; blocks = a.blocks; programs = goes_count t call.next r.scripts ∙ a.programs; tasks = a.tasks }
+    record { regions = a.regions; version = a.version; timer = a.timer; blocks = a.blocks; programs = goes_count t call.next r.scripts ∙ a.programs; tasks = a.tasks }
 done_marked (ByBody name) call mark s r a = a
 
 answered_alters : (c : Caller) (call : Call) (value : ℕ) (s r : State) → Alters s [] r → IsAltered s (answered_by c call value r)
 unfolding answered
 answered_alters (ByTask t) call value s r a = record {
   regions = a.regions;
+  version = a.version;
   timer = a.timer;
   blocks = a.blocks;
   programs = answered_count t call.next call.target value r.scripts ∙ a.programs;
@@ -173,6 +175,7 @@ answered_alters (ByTask t) call value s r a = record {
 }
 answered_alters (ByBody name) call value s r a = record {
   regions = a.regions;
+  version = a.version;
   timer = a.timer;
   blocks = a.blocks;
   programs = shared_count call.target value r.scripts ∙ a.programs;
@@ -184,6 +187,7 @@ answered_marked : (c : Caller) (call : Call) (value : ℕ) (mark : Mark) (s r : 
 unfolding answered
 answered_marked (ByTask t) call value mark s r a = record {
   regions = a.regions;
+  version = a.version;
   timer = a.timer;
   blocks = a.blocks;
   programs = answered_count t call.next call.target value r.scripts ∙ a.programs;
@@ -191,6 +195,7 @@ answered_marked (ByTask t) call value mark s r a = record {
 }
 answered_marked (ByBody name) call value mark s r a = record {
   regions = a.regions;
+  version = a.version;
   timer = a.timer;
   blocks = a.blocks;
   programs = shared_count call.target value r.scripts ∙ a.programs;
@@ -201,6 +206,7 @@ silent_alters : (c : Caller) (call : Call) (value : ℕ) (s : State) → IsAlter
 unfolding silent
 silent_alters (ByTask t) call value s = record {
   regions = refl;
+  version = refl;
   timer = refl;
   blocks = remains;
   programs = answered_count t call.next call.target value s.scripts;
@@ -208,6 +214,7 @@ silent_alters (ByTask t) call value s = record {
 }
 silent_alters (ByBody name) call value s = record {
   regions = refl;
+  version = refl;
   timer = refl;
   blocks = remains;
   programs = shared_count call.target value s.scripts;
@@ -224,9 +231,9 @@ unless_alters : (c : Caller) (call : Call) (s : State) (alert : Option (List ℕ
 unfolding alerted
 unless_alters c call s None effect alters = alters refl
 unless_alters (ByTask t) call s (Some code) effect alters =
-    record { regions = refl; timer = refl; blocks = remains; programs = refl; tasks = rests (λ p. refl) (same s.schedule) }
+    record { regions = refl; version = refl; timer = refl; blocks = remains; programs = refl; tasks = rests (λ p. refl) (same s.schedule) }
 unless_alters (ByBody name) call s (Some code) effect alters =
-    record { regions = refl; timer = refl; blocks = remains; programs = refl; tasks = rests (λ p. refl) (same s.schedule) }
+    record { regions = refl; version = refl; timer = refl; blocks = remains; programs = refl; tasks = rests (λ p. refl) (same s.schedule) }
 
 -- ---- the words of a body
 
@@ -234,18 +241,18 @@ pub signal_alters : (c : Caller) (call : Call) (s : State) → IsAltered s (does
 signal_alters c call s =
     unless_alters c call s (signal_alert (argument 0 call) (argument 1 call) s.scripts) _
     (λ none. done_alters c call s _
-    (record { regions = refl; timer = refl; blocks = remains; programs = refl; tasks = posts (argument 0 call - 1) (argument 1 call) (λ p. refl) refl }))
+    (record { regions = refl; version = refl; timer = refl; blocks = remains; programs = refl; tasks = posts (argument 0 call - 1) (argument 1 call) (λ p. refl) refl }))
 
 -- what is done for a message that has arrived
 performed_alters : (act : Action) (s : State) (marks : List Mark) (memory : Memory) → memory.regions ≡ s.memory.regions
-    → memory.timer ≡ s.memory.timer → Touches s.memory.heap marks memory.heap → IsCalm marks → Alters s marks (performed act (record s { memory = memory }))
+    → memory.asks ≡ s.memory.asks → memory.timer ≡ s.memory.timer → Touches s.memory.heap marks memory.heap → IsCalm marks → Alters s marks (performed act (record s { memory = memory }))
 unfolding causes
-performed_alters (action.Signal task mask) s marks memory regions timer blocks calm =
-    record { regions = regions; timer = timer; blocks = blocks; programs = refl; tasks = posts task mask calm refl }
-performed_alters (action.Cause i) s marks memory regions timer blocks calm =
-    record { regions = regions; timer = timer; blocks = blocks; programs = refl; tasks = rests calm (same s.schedule) }
-performed_alters action.Nothing s marks memory regions timer blocks calm =
-    record { regions = regions; timer = timer; blocks = blocks; programs = refl; tasks = rests calm (same s.schedule) }
+performed_alters (action.Signal task mask) s marks memory regions version timer blocks calm =
+    record { regions = regions; version = version; timer = timer; blocks = blocks; programs = refl; tasks = posts task mask calm refl }
+performed_alters (action.Cause i) s marks memory regions version timer blocks calm =
+    record { regions = regions; version = version; timer = timer; blocks = blocks; programs = refl; tasks = rests calm (same s.schedule) }
+performed_alters action.Nothing s marks memory regions version timer blocks calm =
+    record { regions = regions; version = version; timer = timer; blocks = blocks; programs = refl; tasks = rests calm (same s.schedule) }
 
 -- that changes the schedule, and what is caused, alone
 pub performed_reaches : (act : Action) (marks : List Mark) (s : State) → IsCalm marks → Reaches marks s.schedule (performed act s).schedule
@@ -280,7 +287,7 @@ delivered_alters : (kind port message : ℕ) (s : State) → is_port_at port s.m
     → is_queued message s.memory.heap ≡ false → Alters s (put port message ∷ []) (delivered kind port message s)
 unfolding delivered posted typed
 delivered_alters kind port message s is also loose =
-    performed_alters (acting (port_of port s.memory.heap)) s (put port message ∷ []) _ refl refl (lands port message _ s.memory.heap is also loose)
+    performed_alters (acting (port_of port s.memory.heap)) s (put port message ∷ []) _ refl refl refl (lands port message _ s.memory.heap is also loose)
     (λ p. refl)
 
 pub put_alters : (c : Caller) (call : Call) (s : State) → IsAltered s (does_put_msg_by c call s)
@@ -297,7 +304,7 @@ unfolding typed
 replied_alters reply c call message s is loose there =
     either_alters s (nat_eq reply 0) _ _
     (λ none. done_alters c call s _
-    (record { regions = refl; timer = refl; blocks = gives message _ s.memory.heap is; programs = refl; tasks = rests (λ p. refl) (same s.schedule) }))
+    (record { regions = refl; version = refl; timer = refl; blocks = gives message _ s.memory.heap is; programs = refl; tasks = rests (λ p. refl) (same s.schedule) }))
     (λ some. done_marked c call (put reply message) s _ (delivered_alters nt_replymsg reply message s (there some) is loose))
 
 pub reply_alters : (c : Caller) (call : Call) (s : State) → IsAltered s (does_reply_msg_by c call s)
@@ -311,7 +318,7 @@ taken_alters : (port : ℕ) (message : Option ℕ) (c : Caller) (call : Call) (s
 taken_alters port None c call s is e = answered_alters c call 0 s s (rested s)
 taken_alters port (Some message) c call s is e =
     answered_marked c call message (got port message) s _
-    (record { regions = refl; timer = refl; blocks = gets port message is e; programs = refl; tasks = rests (λ p. refl) (same s.schedule) })
+    (record { regions = refl; version = refl; timer = refl; blocks = gets port message is e; programs = refl; tasks = rests (λ p. refl) (same s.schedule) })
 
 pub get_alters : (c : Caller) (call : Call) (s : State) → IsAltered s (does_get_msg_by c call s)
 get_alters c call s =
@@ -322,7 +329,7 @@ get_alters c call s =
 pub cause_alters : (c : Caller) (call : Call) (s : State) → IsAltered s (does_cause_by c call s)
 unfolding causes
 cause_alters c call s =
-    done_alters c call s _ (record { regions = refl; timer = refl; blocks = remains; programs = refl; tasks = rests (λ p. refl) (same s.schedule) })
+    done_alters c call s _ (record { regions = refl; version = refl; timer = refl; blocks = remains; programs = refl; tasks = rests (λ p. refl) (same s.schedule) })
 
 plain_alters : (word : PlainWord) (c : Caller) (call : Call) (s : State) → IsAltered s (does_plain_by word c call s)
 plain_alters plain.Set c call s = silent_alters c call _ s

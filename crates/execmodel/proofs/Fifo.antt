@@ -20,8 +20,8 @@ use Rattle.execmodel.specs.Libraries.{is_library, is_library_at, with_library}
 use Rattle.execmodel.specs.Queues.{Turn, Came, Served, Left}
 use Rattle.execmodel.specs.Marks.{turn_at, turns_at_port}
 use Rattle.execmodel.proofs.Queues.{Turns, Follows, IsAway}
-use Rattle.execmodel.proofs.Heaps.{filled, instead, object_replaced, object_remade, object_placed_here, object_placed_there, object_rid_here, object_rid_there, true_is_not_false}
-use Rattle.execmodel.proofs.Formed.{placed_fresh}
+use Rattle.execmodel.proofs.Heaps.{rid, filled, instead, object_replaced, object_remade, object_placed_here, object_placed_there, object_rid_here, object_rid_there, true_is_not_false}
+use Rattle.execmodel.proofs.Formed.{placed_fresh, counted_formed, rid_formed}
 use Rattle.msgport.specs.Port.{Port}
 use Rattle.msgport.specs.declared.message.Message.{Message as Content}
 use Rattle.sigsem.specs.declared.semaphore.Sem.{Sem}
@@ -30,7 +30,8 @@ use Rattle.std.specs.Ordering.{nat_cmp, eq_by_cmp}
 use Rattle.execmodel.proofs.Commands.{Touches, remains, fills, puts, gets, none_some}
 use Rattle.execmodel.proofs.Posts.{IsTidy, messages_are}
 use Rattle.execmodel.proofs.Asking.{Asks, writes, answers, messages_written, ports_written, without_reply}
-use Rattle.execmodel.proofs.Moves.{IsNew, MayGo, leaving_marks, Moves, touches, places, frees, relists, unlinks, sets, enters, queues, hands, opens, releases, counts, expunges, drops}
+use Rattle.execmodel.proofs.Taking.{IsNew, Takes, nothing, places, recounts, yields}
+use Rattle.execmodel.proofs.Moves.{MayGo, leaving_marks, Moves, touches, takes, frees, relists, unlinks, sets, enters, queues, hands, opens, releases, counts, expunges, drops}
 
 pub both_false : {A : Type 0} (b c : Bool) → (b || c) ≡ false → (b ≡ false → c ≡ false → A) → A
 both_false true c e f = true_is_not_false e
@@ -304,16 +305,40 @@ touched_follow old marks new (gets port message is e) p =
     ∙ ap (λ q. message ∷ q) (sym (ap (λ a. messages_of a new) same ∙ port_there port _ (drop 1 (messages_of port old)) old is)))
     (λ apart. port_elsewhere p port _ (drop 1 (messages_of port old)) old apart)
 
-pub moves_follow : (regions : List Region) (t : ℕ) (call : Call) (old : Heap) (marks : List Mark) (new : Heap) → Moves regions t call old marks new
-    → IsWellFormed regions (extents old) → (p : ℕ) → Follows (messages_of p old) (turns_at_port p marks) (messages_of p new)
-unfolding with_nodes unlinked with_action with_library entered queued dropped handed_on released_once is_list_at is_library_at
-moves_follow regions t call old marks new (touches how) formed p = touched_follow old marks new how p
-moves_follow regions t call old marks new (places size reqs address object is fits) formed p =
+-- a library has no messages, counted or freed
+counted_still : (base count : ℕ) (delayed : Bool) (p : ℕ) (heap : Heap) → is_library_at base heap ≡ true
+    → messages_of p (with_library base count delayed heap) ≡ messages_of p heap
+unfolding with_library is_library_at
+counted_still base count delayed p heap is = still_none base _ is_library p heap refl library_none is
+
+expunged_still : (base p : ℕ) (heap : Heap) → is_library_at base heap ≡ true → messages_of p (rid base heap) ≡ messages_of p heap
+unfolding messages_of is_library_at
+expunged_still base p heap is =
+    cases_eq p base
+    (λ same. ap (λ found. messages_of_object found) (ap (λ a. object_at a (rid base heap)) same ∙ object_rid_here base heap)
+    ∙ sym (ap (λ a. messages_of_object (object_at a heap)) same ∙ no_port is_library library_none (object_at base heap) is))
+    (λ apart. ap (λ found. messages_of_object found) (object_rid_there p base heap apart))
+
+takes_still : (regions : List Region) (old new : Heap) → Takes regions old new → IsWellFormed regions (extents old)
+    → (p : ℕ) → messages_of p new ≡ messages_of p old
+takes_still regions old new nothing formed p = refl
+takes_still regions old new (places size reqs address object is fits) formed p =
     unfold messages_of in cases_eq p address
     (λ same. ap (λ found. messages_of_object found) (ap (λ a. object_at a new) same ∙ object_placed_here address (round size) object old)
     ∙ new_none object is
     ∙ sym (ap (λ found. messages_of_object found) (ap (λ a. object_at a old) same ∙ placed_fresh regions size reqs address old formed fits)))
     (λ apart. ap (λ found. messages_of_object found) (object_placed_there p address _ old apart))
+takes_still regions old new (recounts base count delayed is more rest) formed p =
+    takes_still regions (with_library base count delayed old) new rest (counted_formed regions base count delayed old formed) p
+    ∙ counted_still base count delayed p old (is formed)
+takes_still regions old new (yields base is none rest) formed p =
+    takes_still regions (rid base old) new rest (rid_formed regions base old formed) p ∙ expunged_still base p old (is formed)
+
+pub moves_follow : (regions : List Region) (t : ℕ) (call : Call) (old : Heap) (marks : List Mark) (new : Heap) → Moves regions t call old marks new
+    → IsWellFormed regions (extents old) → (p : ℕ) → Follows (messages_of p old) (turns_at_port p marks) (messages_of p new)
+unfolding with_nodes unlinked with_action entered queued dropped handed_on released_once is_list_at
+moves_follow regions t call old marks new (touches how) formed p = touched_follow old marks new how p
+moves_follow regions t call old marks new (takes how) formed p = takes_still regions old new how formed p
 moves_follow regions t call old marks new (frees address may unneeded) formed p =
     unfold messages_of in cases_eq p address
     (λ same. ap (λ found. messages_of_object found) (ap (λ a. object_at a new) same ∙ object_rid_here address old)
@@ -331,12 +356,8 @@ moves_follow regions t call old marks new (queues semaphore is e) formed p =
 moves_follow regions t call old marks new (hands semaphore owner release is last e) formed p = semaphore_still semaphore _ _ p old is
 moves_follow regions t call old marks new (opens semaphore release is last e) formed p = semaphore_still semaphore _ _ p old is
 moves_follow regions t call old marks new (releases semaphore is last) formed p = semaphore_still semaphore _ _ p old is
-moves_follow regions t call old marks new (counts base count delayed is) formed p = still_none base _ is_library p old refl library_none (is formed)
-moves_follow regions t call old marks new (expunges base is may) formed p =
-    unfold messages_of in cases_eq p base
-    (λ same. ap (λ found. messages_of_object found) (ap (λ a. object_at a new) same ∙ object_rid_here base old)
-    ∙ sym (ap (λ a. messages_of_object (object_at a old)) same ∙ no_port is_library library_none (object_at base old) is))
-    (λ apart. ap (λ found. messages_of_object found) (object_rid_there p base old apart))
+moves_follow regions t call old marks new (counts base count delayed is) formed p = counted_still base count delayed p old (is formed)
+moves_follow regions t call old marks new (expunges base is may) formed p = expunged_still base p old is
 moves_follow regions t call old marks new (drops other apart) formed p =
     subst (λ turns. Follows (messages_of p old) turns (messages_of p new)) (sym (left_marks (awaited_by other old) other p))
     (all_remade (left_by_task other) (task_left_same other) p old)

@@ -15,18 +15,19 @@ use Rattle.memlist.proofs.Fitting.{fitted_well_formed}
 use Rattle.memlist.proofs.Keeping.{freed_well_formed}
 use Rattle.memlist.proofs.Addresses.{fitted_fresh}
 use Rattle.iorequest.specs.declared.request.Request.{Request as TimerRequest}
-use Rattle.execmodel.specs.State.{Call, Object, Request, Block, Heap, Waiting as Queued, Mark, State}
+use Rattle.execmodel.specs.State.{Call, Object, Library, Request, Block, Heap, Waiting as Queued, Mark, State}
 use Rattle.execmodel.specs.Requests.{with_request}
 use Rattle.execmodel.specs.Objects.{object_at, replaced}
 use Rattle.execmodel.specs.Memory.{extents, block_at}
 use Rattle.execmodel.specs.Lists.{with_nodes, unlinked, left_by}
 use Rattle.execmodel.specs.Ports.{with_action, with_port, appended, taken_off}
 use Rattle.execmodel.specs.Semaphores.{with_semaphore, left_by_task, entered, queued, dropped, handed_on, released_once}
-use Rattle.execmodel.specs.Libraries.{with_library}
+use Rattle.execmodel.specs.Libraries.{number_of, with_library}
 use Rattle.execmodel.proofs.Heaps.{rid}
 use Rattle.execmodel.proofs.Commands.{Touches, remains, fills, puts, gets, none_some}
 use Rattle.execmodel.proofs.Asking.{Asks, writes, answers, written, without_reply}
-use Rattle.execmodel.proofs.Moves.{Moves, touches, places, frees, relists, unlinks, sets, enters, queues, hands, opens, releases, counts, expunges, drops}
+use Rattle.execmodel.proofs.Taking.{Takes, nothing, places, recounts, yields}
+use Rattle.execmodel.proofs.Moves.{Moves, touches, takes, frees, relists, unlinks, sets, enters, queues, hands, opens, releases, counts, expunges, drops}
 
 -- where a block lies, and how long it is
 abbrev extent : ℕ × Block → ℕ × (ℕ × ℕ)
@@ -85,15 +86,31 @@ touched_formed regions old marks new (puts port message content is is_message lo
     same_extents regions old new (extents_replaced port _ _ ∙ extents_replaced message _ old) formed
 touched_formed regions old marks new (gets port message is e) formed = same_extents regions old new (extents_replaced port _ old) formed
 
-pub moves_formed : (regions : List Region) (t : ℕ) (call : Call) (old : Heap) (marks : List Mark) (new : Heap) → Moves regions t call old marks new
-    → IsWellFormed regions (extents old) → IsWellFormed regions (extents new)
-unfolding with_nodes unlinked with_action with_port with_semaphore with_library entered queued dropped handed_on released_once
-moves_formed regions t call old marks new (touches how) formed = touched_formed regions old marks new how formed
-moves_formed regions t call old marks new (places size reqs address object is fits) formed =
+pub counted_formed : (regions : List Region) (base count : ℕ) (delayed : Bool) (heap : Heap) → IsWellFormed regions (extents heap)
+    → IsWellFormed regions (extents (with_library base count delayed heap))
+unfolding with_library
+counted_formed regions base count delayed heap formed =
+    same_extents regions heap (map (replaced base (Library (number_of base heap) count delayed)) heap) (extents_replaced base _ heap) formed
+
+pub rid_formed : (regions : List Region) (address : ℕ) (heap : Heap) → IsWellFormed regions (extents heap) → IsWellFormed regions (extents (rid address heap))
+rid_formed regions address heap formed =
+    subst (λ bs. IsWellFormed regions bs) (sym (extents_rid address heap)) (freed_well_formed regions (extents heap) address formed)
+
+takes_formed : (regions : List Region) (old new : Heap) → Takes regions old new → IsWellFormed regions (extents old) → IsWellFormed regions (extents new)
+takes_formed regions old new nothing formed = formed
+takes_formed regions old new (places size reqs address object is fits) formed =
     subst (λ bs. IsWellFormed regions bs) (sym (extents_put address (round size) object old))
     (fitted_well_formed regions (extents old) size reqs 0 address formed fits)
-moves_formed regions t call old marks new (frees address may unneeded) formed =
-    subst (λ bs. IsWellFormed regions bs) (sym (extents_rid address old)) (freed_well_formed regions (extents old) address formed)
+takes_formed regions old new (recounts base count delayed is more rest) formed =
+    takes_formed regions (with_library base count delayed old) new rest (counted_formed regions base count delayed old formed)
+takes_formed regions old new (yields base is none rest) formed = takes_formed regions (rid base old) new rest (rid_formed regions base old formed)
+
+pub moves_formed : (regions : List Region) (t : ℕ) (call : Call) (old : Heap) (marks : List Mark) (new : Heap) → Moves regions t call old marks new
+    → IsWellFormed regions (extents old) → IsWellFormed regions (extents new)
+unfolding with_nodes unlinked with_action with_port with_semaphore entered queued dropped handed_on released_once
+moves_formed regions t call old marks new (touches how) formed = touched_formed regions old marks new how formed
+moves_formed regions t call old marks new (takes how) formed = takes_formed regions old new how formed
+moves_formed regions t call old marks new (frees address may unneeded) formed = rid_formed regions address old formed
 moves_formed regions t call old marks new (relists list nodes is) formed =
     same_extents regions old new (extents_replaced list _ old) formed
 moves_formed regions t call old marks new (unlinks node) formed = same_extents regions old new (extents_remade (left_by node) old) formed
@@ -107,9 +124,8 @@ moves_formed regions t call old marks new (opens semaphore release is last e) fo
     same_extents regions old new (extents_replaced semaphore _ old) formed
 moves_formed regions t call old marks new (releases semaphore is last) formed =
     same_extents regions old new (extents_replaced semaphore _ old) formed
-moves_formed regions t call old marks new (counts base count delayed is) formed = same_extents regions old new (extents_replaced base _ old) formed
-moves_formed regions t call old marks new (expunges base is may) formed =
-    subst (λ bs. IsWellFormed regions bs) (sym (extents_rid base old)) (freed_well_formed regions (extents old) base formed)
+moves_formed regions t call old marks new (counts base count delayed is) formed = counted_formed regions base count delayed old formed
+moves_formed regions t call old marks new (expunges base is may) formed = rid_formed regions base old formed
 moves_formed regions t call old marks new (drops other apart) formed =
     same_extents regions old new (extents_remade (left_by_task other) old) formed
 

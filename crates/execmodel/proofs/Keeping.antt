@@ -27,15 +27,16 @@ use Rattle.iorequest.specs.declared.request.ReqState.{ReqState}
 use Rattle.iorequest.specs.declared.request.ReqState.TheVariants.{Idle, UnderWay, Quick, Replied}
 use Rattle.iorequest.specs.declared.request.Begun.{Begun}
 use Rattle.iorequest.specs.declared.request.Begun.TheVariants.{Finish, Queue, Until, NewTime}
-use Rattle.iorequest.specs.Request.{idle_request, is_under_way}
+use Rattle.iorequest.specs.Request.{is_under_way}
 use Rattle.sigsem.specs.declared.semaphore.Obtained.{Obtained}
 use Rattle.msgport.specs.declared.action.Action.{Action}
 use Rattle.msgport.specs.declared.action.Action.TheVariants as action
 use Rattle.sigsem.specs.declared.semaphore.Obtained.TheVariants.{Owner, Waits}
-use Rattle.execmodel.specs.State.{Call, Object, Plain, ListHead, Library, Request, Timer, Memory, Pending, Program, Scripts, State, Outcome, no_program, says, andthen, on_schedule, on_scripts, on_memory, on_timer}
+use Rattle.execmodel.specs.State.{Call, Object, Plain, ListHead, Library, Timer, Memory, Pending, Program, Scripts, State, Outcome, no_program, says, andthen, on_schedule, on_scripts, on_memory, on_timer}
 use Rattle.execmodel.specs.Pending.{arrived, is_caused, causes, softint_named}
 use Rattle.execmodel.specs.Causing.{does_cause}
-use Rattle.execmodel.specs.Libraries.{base_of, count_of, is_delayed, library_at, library_to_open, library_opened, entered_or_loaded, opened, closed, removed as library_removed, library_alert, close_alert, does_open_library, does_close_library, does_rem_library, does_lib_open_cnt}
+use Rattle.execmodel.specs.Libraries.{base_of, count_of, is_delayed, library_at, library_to_open, ready_to_open, library_opened, entered_or_loaded, opened, closed, removed as library_removed, library_alert, close_alert, does_open_library, does_close_library, does_rem_library, does_lib_open_cnt}
+use Rattle.execmodel.specs.GivingWay.{after_asking, after_asking_for_object}
 use Rattle.execmodel.specs.Scheduling.{arrives, added, reprioritized, signalled}
 use Rattle.execmodel.specs.Calls.{argument, name_argument, stored, goes_on, done, answered, waiting, silent, alerted, unless}
 use Rattle.execmodel.specs.Plain.{does_set, does_add, does_sub, does_and, does_or, jumps, does_jump, does_jump_zero, does_jump_not_zero, does_print}
@@ -43,13 +44,14 @@ use Rattle.execmodel.specs.Signals.{mask_alert, free_signal_alert, signal_alert,
 use Rattle.execmodel.specs.Nesting.{counted, does_forbid, does_permit, does_disable, does_enable}
 use Rattle.execmodel.specs.Tasks.{live_task_alert, set_task_pri_alert, add_task_alert, is_caller, ends_other, does_set_task_pri, does_add_task, does_rem_task, does_find_task}
 use Rattle.execmodel.specs.Objects.{place_for_object}
-use Rattle.execmodel.specs.Memory.{allocates, placed, place_for, alloc_alert, free_alert, avail_alert, does_alloc_mem, does_free_mem, does_avail_mem}
+use Rattle.execmodel.specs.Memory.{allocates, makes_object, placed, place_for, alloc_alert, free_alert, avail_alert, does_alloc_mem, does_free_mem, does_avail_mem}
 use Rattle.execmodel.specs.Lists.{is_list, list_size, is_node, node_size, free_list_alert, new_node_alert, free_node_alert, link_alert, insert_alert, linked_alert, list_alert, find_alert, does_new_list, does_free_list, does_new_node, does_free_node, does_add_head, does_add_tail, does_enqueue, does_insert, does_remove, does_rem_head, does_rem_tail, does_first, does_last, does_succ, does_pred, does_find_name}
-use Rattle.execmodel.specs.Ports.{is_port, is_message, port_size, message_size, port_created, port_alert, message_alert, port_of, loses, messages_of, content_of, delete_alert, add_port_alert, rem_port_alert, reply_port_alert, loose_alert, put_alert, reply_alert, wait_alert, made_public, made_private, replied, delivered, performed, taken, looked, does_create_msg_port, does_delete_msg_port, does_add_port, does_rem_port, does_find_port, does_port_signal, does_port_cause, does_port_ignore, does_new_msg, does_free_msg, does_msg_word, does_set_msg_word, does_msg_type, does_put_msg, does_get_msg, does_wait_port, does_reply_msg}
+use Rattle.execmodel.specs.Ports.{is_port, is_message, port_size, message_size, after_asking_for_port, port_created, port_alert, message_alert, port_of, loses, messages_of, content_of, delete_alert, add_port_alert, rem_port_alert, reply_port_alert, loose_alert, put_alert, reply_alert, wait_alert, made_public, made_private, replied, delivered, performed, taken, looked, does_create_msg_port, does_delete_msg_port, does_add_port, does_rem_port, does_find_port, does_port_signal, does_port_cause, does_port_ignore, does_new_msg, does_free_msg, does_msg_word, does_set_msg_word, does_msg_type, does_put_msg, does_get_msg, does_wait_port, does_reply_msg}
 use Rattle.execmodel.specs.Semaphores.{awaited_by, free_sem_alert, heir, is_semaphore, is_tried_again, leaving_queue, obtain_alert, obtains, outcome_for, passes, release_alert, sem_of, semaphore_size, woken, does_new_sem, does_free_sem, does_obtain_semaphore, does_attempt_semaphore, does_release_semaphore}
 use Rattle.execmodel.specs.Requests.{does_requests, finishes, finishes_each, finishes_set, is_request, request_size, request_of, request_alert, resting_alert, delete_request_alert, send_alert, do_alert, wait_io_alert, set_io_alert, answering_port, acting_at, with_reply, ended, outcome_at, timer_begun, begun_at, replying_port, looks_for, aborts, does_create_io_request, does_delete_io_request, does_open_device, does_close_device, does_set_io, does_do_io, does_send_io, does_check_io, does_wait_io, does_abort_io, does_io_secs, does_io_micros, does_io_error, does_io_flags}
-use Rattle.execmodel.specs.Keeping.{Keeps, without_progress, without_progress_of, without_states, without_priorities, without_signals, beside_plain, beside_signals, beside_nestings, beside_memory, beside_ports, beside_interrupts, beside_semaphores, beside_tasks, beside_requests, without_caused, clock_alone, without_blocks_system_and_waiting, PlainWordsChangeScripts, SignalWordsChangeSignalsAndStates, NestingWordsChangeNestings, TaskWordsChangeStatesPrioritiesAndObjects, ListWordsChangeTheMemory, MemoryWordsChangeTheMemory, PortWordsChangePortsSignalsAndStates, SemaphoreWordsChangeStatesAndObjects, InterruptWordsChangeWhatIsCaused, LibraryWordsChangeTheMemory, RequestWordsChangeRequestsPortsSignalsAndStates}
+use Rattle.execmodel.specs.Keeping.{Keeps, without_progress, without_progress_of, without_states, without_priorities, without_signals, without_blocks, beside_plain, beside_signals, beside_nestings, beside_memory, beside_ports, beside_interrupts, beside_semaphores, beside_tasks, beside_requests, without_caused, clock_alone, without_blocks_system_and_waiting, PlainWordsChangeScripts, SignalWordsChangeSignalsAndStates, NestingWordsChangeNestings, TaskWordsChangeStatesPrioritiesAndObjects, ListWordsChangeTheMemory, MemoryWordsChangeTheMemory, PortWordsChangePortsSignalsAndStates, SemaphoreWordsChangeStatesAndObjects, InterruptWordsChangeWhatIsCaused, LibraryWordsChangeTheMemory, RequestWordsChangeRequestsPortsSignalsAndStates}
 use Rattle.execmodel.proofs.BodyActions.{finishes_found}
+use Rattle.execmodel.proofs.GivingWay.{either_memory, removed_keeps, asking_keeps, asking_for_object_keeps, asking_for_port_keeps, ready_keeps}
 
 -- a part that both ways keep
 pub either : {A : Type 0} (part : State → A) (a : A) (test : Bool) (o p : Outcome) → part o.state ≡ a → part p.state ≡ a
@@ -72,6 +74,18 @@ pub allocates_keeps : {A : Type 0} (part : State → A) (size : ℕ) (object : O
     → part (allocates t call size object place s).state ≡ part s
 allocates_keeps part size object None t call s without placed = without
 allocates_keeps part size object (Some address) t call s without placed = placed address
+
+-- the state before an object is made
+abbrev pub asking_for_object : (Object → Bool) → ℕ → State → State
+asking_for_object kind size s = on_memory (after_asking_for_object kind size) s
+
+-- an object is made, or there is no place for it
+pub makes_keeps : {A : Type 0} (part : State → A) (kind : Object → Bool) (size : ℕ) (object : Object) (t : ℕ) (call : Call) (s : State)
+    → part (allocates t call size object None s).state ≡ part s
+    → ((address : ℕ) → part (allocates t call size object (Some address) s).state ≡ part s)
+    → part (makes_object t call kind size object s).state ≡ part s
+makes_keeps part kind size object t call s without placed =
+    allocates_keeps part size object (place_for_object kind size s.memory) t call s without placed
 
 -- task t makes progress, and no other: what its program was, but for its progress, it stays
 set_again : (t : ℕ) (program : Program) (programs : List Program)
@@ -200,15 +214,22 @@ nesting_words_change_nestings nesting.Enable t call s = counted_keeps t call (af
 
 -- ---- lists and memory
 
+-- a state in whose memory the blocks change alone
+blocks_change : (f : Memory → Memory) (s : State) → without_blocks (f s.memory) ≡ without_blocks s.memory
+    → beside_memory (on_memory f s) ≡ beside_memory s
+blocks_change f s keeps = ap (λ (memory : Memory). record (beside_memory s) { memory = memory }) keeps
+
 pub list_words_change_the_memory : ListWordsChangeTheMemory
 unfolding does_new_list does_free_list does_new_node does_free_node does_add_head does_add_tail does_enqueue does_insert does_remove does_rem_head does_rem_tail does_first does_last does_succ does_pred does_find_name done answered
 list_words_change_the_memory lists.NewList t call s =
-    allocates_keeps beside_memory list_size (ListHead []) (place_for_object is_list list_size s.memory) t call s refl (λ address. refl)
+    makes_keeps beside_memory is_list list_size (ListHead []) t call (asking_for_object is_list list_size s) refl (λ address. refl)
+    ∙ blocks_change (after_asking_for_object is_list list_size) s (asking_for_object_keeps is_list list_size s.memory)
 list_words_change_the_memory lists.FreeList t call s =
     unless_keeps beside_memory (free_list_alert (argument 0 call) s.memory.heap) t call _ s refl refl
 list_words_change_the_memory lists.NewNode t call s =
     unless_keeps beside_memory (new_node_alert (cast_signed w32 (argument 0 call))) t call _ s refl
-    (allocates_keeps beside_memory node_size _ (place_for_object is_node node_size s.memory) t call s refl (λ address. refl))
+    (makes_keeps beside_memory is_node node_size _ t call (asking_for_object is_node node_size s) refl (λ address. refl)
+    ∙ blocks_change (after_asking_for_object is_node node_size) s (asking_for_object_keeps is_node node_size s.memory))
 list_words_change_the_memory lists.FreeNode t call s =
     unless_keeps beside_memory (free_node_alert (argument 0 call) s.memory.heap) t call _ s refl refl
 list_words_change_the_memory lists.AddHead t call s =
@@ -240,12 +261,17 @@ pub memory_words_change_the_memory : MemoryWordsChangeTheMemory
 unfolding does_alloc_mem does_free_mem does_avail_mem done answered
 memory_words_change_the_memory memory.AllocMem t call s =
     unless_keeps beside_memory (alloc_alert (argument 1 call)) t call _ s refl
-    (allocates_keeps beside_memory (argument 0 call) Plain (place_for (argument 0 call) (argument 1 call) s.memory) t call s refl
-    (λ address. refl))
+    (allocates_keeps beside_memory (argument 0 call) Plain _ t call (on_memory (after_asking (argument 0 call) (argument 1 call)) s) refl
+    (λ address. refl)
+    ∙ blocks_change (after_asking (argument 0 call) (argument 1 call)) s (asking_keeps (argument 0 call) (argument 1 call) s.memory))
 memory_words_change_the_memory memory.FreeMem t call s =
     unless_keeps beside_memory (free_alert (argument 0 call) (argument 1 call) s.memory.heap) t call _ s refl refl
 memory_words_change_the_memory memory.AvailMem t call s =
     unless_keeps beside_memory (avail_alert (argument 0 call)) t call _ s refl refl
+
+port_blocks_change : (f : Memory → Memory) (s : State) → without_blocks (f s.memory) ≡ without_blocks s.memory
+    → beside_ports (on_memory f s) ≡ beside_ports s
+port_blocks_change f s keeps = ap (λ (memory : Memory). record (beside_ports s) { memory = record memory { public = [] } }) keeps
 
 port_created_keeps : (t : ℕ) (call : Call) (bit place : Option ℕ) (s : State)
     → beside_ports (port_created t call bit place s).state ≡ beside_ports s
@@ -288,7 +314,10 @@ looked_keeps (Some message) mask t call s r keeps = keeps
 pub port_words_change_ports_signals_and_states : PortWordsChangePortsSignalsAndStates
 unfolding does_create_msg_port does_delete_msg_port does_add_port does_rem_port does_find_port does_port_signal does_port_cause does_port_ignore does_new_msg does_free_msg does_msg_word does_set_msg_word does_msg_type does_put_msg does_get_msg does_wait_port does_reply_msg made_public made_private delivered done answered
 port_words_change_ports_signals_and_states ports.CreateMsgPort t call s =
-    port_created_keeps t call (grant (negsuc 0) (signals_of s.schedule t)) (place_for_object is_port port_size s.memory) s
+    let bit = grant (negsuc 0) (signals_of s.schedule t) in
+    let ready = on_memory (after_asking_for_port bit) s in
+    port_created_keeps t call bit (place_for_object is_port port_size ready.memory) ready
+    ∙ port_blocks_change (after_asking_for_port bit) s (asking_for_port_keeps bit s.memory)
 port_words_change_ports_signals_and_states ports.DeleteMsgPort t call s =
     either beside_ports _ (nat_eq (argument 0 call) 0) _ _ refl
     (unless_keeps beside_ports (delete_alert (argument 0 call) s.memory) t call _ s refl
@@ -306,7 +335,8 @@ port_words_change_ports_signals_and_states ports.PortIgnore t call s =
     unless_keeps beside_ports (port_alert (argument 0 call) s.memory.heap) t call _ s refl refl
 port_words_change_ports_signals_and_states ports.NewMsg t call s =
     unless_keeps beside_ports (reply_port_alert (argument 0 call) s.memory.heap) t call _ s refl
-    (allocates_keeps beside_ports message_size _ (place_for_object is_message message_size s.memory) t call s refl (λ address. refl))
+    (makes_keeps beside_ports is_message message_size _ t call (asking_for_object is_message message_size s) refl (λ address. refl)
+    ∙ port_blocks_change (after_asking_for_object is_message message_size) s (asking_for_object_keeps is_message message_size s.memory))
 port_words_change_ports_signals_and_states ports.FreeMsg t call s =
     unless_keeps beside_ports (loose_alert (argument 0 call) s.memory.heap) t call _ s refl refl
 port_words_change_ports_signals_and_states ports.MsgWord t call s =
@@ -390,8 +420,8 @@ passes_keeps (Some owner) semaphore t call s r keeps = states_change (woken owne
 pub semaphore_words_change_states_and_objects : SemaphoreWordsChangeStatesAndObjects
 unfolding does_new_sem does_free_sem does_obtain_semaphore does_attempt_semaphore does_release_semaphore done answered
 semaphore_words_change_states_and_objects semaphores.NewSem t call s =
-    allocates_keeps beside_semaphores semaphore_size _ (place_for_object is_semaphore semaphore_size s.memory) t call s refl
-    (λ address. refl)
+    makes_keeps beside_semaphores is_semaphore semaphore_size _ t call (asking_for_object is_semaphore semaphore_size s) refl (λ address. refl)
+    ∙ ap (λ (memory : Memory). record (beside_semaphores s) { memory = memory }) (asking_for_object_keeps is_semaphore semaphore_size s.memory)
 semaphore_words_change_states_and_objects semaphores.FreeSem t call s =
     unless_keeps beside_semaphores (free_sem_alert (argument 0 call) s.memory.heap) t call _ s refl refl
 semaphore_words_change_states_and_objects semaphores.ObtainSemaphore t call s =
@@ -410,12 +440,6 @@ interrupt_words_change_what_is_caused interrupts.Cause t call s =
     ap (λ (pending : Pending). record (beside_interrupts s) { pending = pending })
     (caused_keeps (softint_named (unwrap_or (name_argument 0 call) []) s.bodies.softints) s)
 
--- the blocks change alone, whichever of two things is done
-either_memory : (test : Bool) (m n memory : Memory) → record m { heap = [] } ≡ record memory { heap = [] } → record n { heap = [] } ≡ record memory { heap = [] }
-    → record (if test then m else n) { heap = [] } ≡ record memory { heap = [] }
-either_memory true m n memory first second = first
-either_memory false m n memory first second = second
-
 placed_keeps : (size : ℕ) (object : Object) (place : Option ℕ) (memory : Memory)
     → record (placed size object place memory) { heap = [] } ≡ record memory { heap = [] }
 placed_keeps size object None memory = refl
@@ -429,16 +453,12 @@ opened_keeps : (found : Option ℕ) (memory : Memory) → record (library_opened
 opened_keeps None memory = refl
 opened_keeps (Some i) memory = entered_keeps (base_of i memory.heap) i memory
 
--- a state in whose memory the blocks change alone
-blocks_change : (f : Memory → Memory) (s : State) → record (f s.memory) { heap = [] } ≡ record s.memory { heap = [] }
-    → beside_memory (on_memory f s) ≡ beside_memory s
-blocks_change f s keeps = ap (λ (memory : Memory). record (beside_memory s) { memory = memory }) keeps
-
 pub library_words_change_the_memory : LibraryWordsChangeTheMemory
-unfolding does_open_library does_close_library does_rem_library does_lib_open_cnt opened closed library_removed done answered
+unfolding does_open_library does_close_library does_rem_library does_lib_open_cnt opened closed done answered
 library_words_change_the_memory libraries.OpenLibrary t call s =
+    let found = library_to_open (unwrap_or (name_argument 0 call) []) (argument 1 call) s.memory in
     blocks_change (opened (unwrap_or (name_argument 0 call) []) (argument 1 call)) s
-    (opened_keeps (library_to_open (unwrap_or (name_argument 0 call) []) (argument 1 call) s.memory) s.memory)
+    (opened_keeps found (ready_to_open found s.memory) ∙ ready_keeps found s.memory)
 library_words_change_the_memory libraries.CloseLibrary t call s =
     either beside_memory _ (nat_eq (argument 0 call) 0) _ _ refl
     (unless_keeps beside_memory (close_alert (argument 0 call) s.memory.heap) t call _ s refl
@@ -446,7 +466,7 @@ library_words_change_the_memory libraries.CloseLibrary t call s =
     (either_memory (nat_eq (count_of (argument 0 call) s.memory.heap) 1 && is_delayed (argument 0 call) s.memory.heap) _ _ s.memory refl refl)))
 library_words_change_the_memory libraries.RemLibrary t call s =
     unless_keeps beside_memory (library_alert (argument 0 call) s.memory.heap) t call _ s refl
-    (blocks_change (library_removed (argument 0 call)) s (either_memory (nat_eq (count_of (argument 0 call) s.memory.heap) 0) _ _ s.memory refl refl))
+    (blocks_change (library_removed (argument 0 call)) s (removed_keeps (argument 0 call) s.memory))
 library_words_change_the_memory libraries.LibOpenCnt t call s =
     unless_keeps beside_memory (library_alert (argument 0 call) s.memory.heap) t call _ s refl refl
 
@@ -516,8 +536,9 @@ unfolding does_create_io_request does_delete_io_request does_open_device does_cl
 request_words_keep requests.CreateIORequest t call s =
     either beside_requests _ (nat_eq (argument 0 call) 0) _ _ refl
     (unless_keeps beside_requests (port_alert (argument 0 call) s.memory.heap) t call _ s refl
-    (allocates_keeps beside_requests request_size (Request (idle_request (argument 0 call))) (place_for_object is_request request_size s.memory) t call s refl
-    (λ address. refl)))
+    (makes_keeps beside_requests is_request request_size _ t call (asking_for_object is_request request_size s) refl (λ address. refl)
+    ∙ waiting_change (after_asking_for_object is_request request_size) s
+    (ap (λ (memory : Memory). record memory { timer = clock_alone memory.timer }) (asking_for_object_keeps is_request request_size s.memory))))
 request_words_keep requests.DeleteIORequest t call s =
     either beside_requests _ (nat_eq (argument 0 call) 0) _ _ refl
     (unless_keeps beside_requests (delete_request_alert (argument 0 call) s.memory.heap) t call _ s refl refl)

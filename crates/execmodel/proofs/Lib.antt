@@ -9,6 +9,8 @@ pub mod Keeping
 pub mod Fifo
 pub mod FifoLaw
 pub mod Formed
+pub mod GivingWay
+pub mod GivingWayLaw
 pub mod Heaps
 pub mod Itself
 pub mod Libraries
@@ -32,8 +34,10 @@ pub mod Stopped
 pub mod Stretches
 pub mod Switching
 pub mod SystemLaw
+pub mod Taking
 pub mod Tidy
 pub mod TidyLaw
+pub mod Versions
 pub mod Waiting
 pub mod WaitingLaw
 pub mod Works

@@ -21,15 +21,16 @@ use Rattle.execmodel.specs.Memory.{extents, block_at}
 use Rattle.execmodel.specs.Lists.{is_list, is_list_at, with_nodes, unlinked, left_by}
 use Rattle.execmodel.specs.Ports.{is_port, is_message, is_port_at, is_message_at, with_port, with_action, appended, taken_off}
 use Rattle.execmodel.specs.Semaphores.{is_semaphore, is_semaphore_at, with_semaphore, left_by_task, entered, queued, dropped, handed_on, released_once}
-use Rattle.execmodel.specs.Libraries.{is_library, is_library_at, number_in, number_of, count_of, with_library}
+use Rattle.execmodel.specs.Libraries.{is_library, is_library_at, number_in, number_of, count_in, count_of, with_library}
 use Rattle.execmodel.specs.Step.{switches, settle, ends, call_step, task_step, softint_or_task_step, acting, acts, step, tick, run}
 use Rattle.execmodel.specs.Laws.{Action, OneStep, OneTick, OneRequest, performed, IsLastClose, StaysLoaded, OpenLibrariesStay}
 use Rattle.execmodel.proofs.Heaps.{block_remade, found_rid, rid, filled, true_is_not_false}
 use Rattle.execmodel.proofs.Itself.{does_itself, ends_followed}
-use Rattle.execmodel.proofs.Formed.{placed_fresh}
+use Rattle.execmodel.proofs.Formed.{placed_fresh, counted_formed, rid_formed}
 use Rattle.execmodel.proofs.Stretches.{Relation, HoldsOfInterrupts, of_softint, of_set, of_settle, of_request, ticked}
 use Rattle.execmodel.proofs.Commands.{Touches, remains, fills, puts, gets, body_alters}
-use Rattle.execmodel.proofs.Moves.{IsLastClosing, MayGo, Moves, touches, places, frees, relists, unlinks, sets, enters, queues, hands, opens, releases, counts, expunges, drops}
+use Rattle.execmodel.proofs.Taking.{Takes, nothing, places, recounts, yields}
+use Rattle.execmodel.proofs.Moves.{IsLastClosing, MayGo, Moves, touches, takes, frees, relists, unlinks, sets, enters, queues, hands, opens, releases, counts, expunges, drops}
 use Rattle.execmodel.specs.Requests.{finishes}
 use Rattle.execmodel.proofs.Posts.{IsTidy}
 use Rattle.execmodel.proofs.Asking.{Asks, writes, answers, written, without_reply, finishing}
@@ -84,13 +85,13 @@ unchanged : (object : Object) (found : Option Block)
 unchanged object None = refl
 unchanged object (Some block) = refl
 
-block_elsewhere : (a address : ℕ) (object : Object) (heap : Heap) → a ≢ address → block_at a (map (replaced address object) heap) ≡ block_at a heap
+pub block_elsewhere : (a address : ℕ) (object : Object) (heap : Heap) → a ≢ address → block_at a (map (replaced address object) heap) ≡ block_at a heap
 block_elsewhere a address object heap apart =
     block_remade (λ k block. if nat_eq k address then record block { object = object } else block) a heap
     ∙ ap (λ test. option_map (λ (block : Block). if test then record block { object = object } else block) (block_at a heap)) (nat_eq-other a address apart)
     ∙ unchanged object (block_at a heap)
 
-block_rid_there : (a address : ℕ) (heap : Heap) → a ≢ address → block_at a (rid address heap) ≡ block_at a heap
+pub block_rid_there : (a address : ℕ) (heap : Heap) → a ≢ address → block_at a (rid address heap) ≡ block_at a heap
 block_rid_there a address heap apart =
     found_rid a address heap ∙ ap (λ test. cond (not test) (block_at a heap) None) (nat_eq-other a address apart)
 
@@ -134,11 +135,11 @@ task_left_alone t (Semaphore sem waiters) is = true_is_not_false (sym is)
 
 -- ---- what stays loaded
 
-still_library : (base : ℕ) (old new : Heap) → is_library_at base old ≡ true → block_at base new ≡ block_at base old → is_library_at base new ≡ true
+pub still_library : (base : ℕ) (old new : Heap) → is_library_at base old ≡ true → block_at base new ≡ block_at base old → is_library_at base new ≡ true
 unfolding is_library_at
 still_library base old new is e = ap (λ found. is_kind is_library (option_map (λ (block : Block). block.object) found)) e ∙ is
 
-still : (base : ℕ) (old new : Heap) → is_library_at base old ≡ true → block_at base new ≡ block_at base old → StaysLoaded base old new
+pub still : (base : ℕ) (old new : Heap) → is_library_at base old ≡ true → block_at base new ≡ block_at base old → StaysLoaded base old new
 unfolding number_of
 still base old new is e = record {
   loaded = still_library base old new is e;
@@ -153,27 +154,71 @@ further base old mid new one keeps =
     let two = still base mid new one.loaded (keeps one.loaded) in
     record { loaded = two.loaded; number = two.number ∙ one.number; block = two.block ∙ one.block }
 
-pub record IsCounted (n : ℕ) (found new : Option Block) : Type 0 where
+pub joined : (base : ℕ) (old mid new : Heap) → StaysLoaded base old mid → StaysLoaded base mid new → StaysLoaded base old new
+joined base old mid new one two = record { loaded = two.loaded; number = two.number ∙ one.number; block = two.block ∙ one.block }
+
+pub same_count : (base : ℕ) (old new : Heap) → block_at base new ≡ block_at base old → count_of base new ≡ count_of base old
+unfolding count_of
+same_count base old new e = ap (λ found. option_map_or count_in (option_map (λ (block : Block). block.object) found) 0) e
+
+pub record IsCounted (n c : ℕ) (found new : Option Block) : Type 0 where
   pub loaded : is_kind is_library (option_map (λ (block : Block). block.object) new) ≡ true
   pub number : option_map_or number_in (option_map (λ (block : Block). block.object) new) 0 ≡ n
+  pub count : option_map_or count_in (option_map (λ (block : Block). block.object) new) 0 ≡ c
   pub size : option_map (λ (b : Block). b.size) new ≡ option_map (λ (b : Block). b.size) found
 
 counted_found : (number count : ℕ) (delayed : Bool) (found : Option Block)
     → is_kind is_library (option_map (λ (block : Block). block.object) found) ≡ true
-    → IsCounted number found (option_map (λ (block : Block). record block { object = Library number count delayed }) found)
+    → IsCounted number count found (option_map (λ (block : Block). record block { object = Library number count delayed }) found)
 counted_found number count delayed None is = true_is_not_false (sym is)
-counted_found number count delayed (Some block) is = record { loaded = refl; number = refl; size = refl }
+counted_found number count delayed (Some block) is = record { loaded = refl; number = refl; count = refl; size = refl }
 
-counted : (base count : ℕ) (delayed : Bool) (old : Heap) → is_library_at base old ≡ true → StaysLoaded base old (with_library base count delayed old)
+counted_there : (base count : ℕ) (delayed : Bool) (old : Heap) → is_library_at base old ≡ true
+    → IsCounted (number_of base old) count (block_at base old) (block_at base (with_library base count delayed old))
 unfolding is_library_at number_of with_library
-counted base count delayed old is =
+counted_there base count delayed old is =
     let object = Library (option_map_or number_in (object_at base old) 0) count delayed in
     let there =
     block_remade (λ k block. if nat_eq k base then record block { object = object } else block) base old
     ∙ ap (λ test. option_map (λ (block : Block). if test then record block { object = object } else block) (block_at base old)) (nat_eq-same base) in
-    let all = subst (λ new. IsCounted (option_map_or number_in (object_at base old) 0) (block_at base old) new) (sym there)
-    (counted_found (option_map_or number_in (object_at base old) 0) count delayed (block_at base old) is) in
-    record { loaded = all.loaded; number = all.number; block = all.size }
+    subst (λ new. IsCounted (option_map_or number_in (object_at base old) 0) count (block_at base old) new) (sym there)
+    (counted_found (option_map_or number_in (object_at base old) 0) count delayed (block_at base old) is)
+
+-- a library that is open stays loaded and open
+record StaysOpen (base : ℕ) (old new : Heap) : Type 0 where
+  stays : StaysLoaded base old new
+  opened : 1 ≤ count_of base new
+
+pub counted : (base count : ℕ) (delayed : Bool) (old : Heap) → is_library_at base old ≡ true → StaysLoaded base old (with_library base count delayed old)
+unfolding is_library_at number_of
+counted base count delayed old is =
+    let all = counted_there base count delayed old is in record { loaded = all.loaded; number = all.number; block = all.size }
+
+pub counted_open : (base count : ℕ) (delayed : Bool) (old : Heap) → is_library_at base old ≡ true → count_of base (with_library base count delayed old) ≡ count
+unfolding count_of
+counted_open base count delayed old is = (counted_there base count delayed old is).count
+
+still_open : (base : ℕ) (old new : Heap) → is_library_at base old ≡ true → 1 ≤ count_of base old → block_at base new ≡ block_at base old
+    → StaysOpen base old new
+still_open base old new is opened e =
+    record { stays = still base old new is e; opened = subst (λ n. 1 ≤ n) (sym (same_count base old new e)) opened }
+
+recounted : (base other count : ℕ) (delayed : Bool) (old : Heap) → is_library_at base old ≡ true → 1 ≤ count_of base old
+    → is_library_at other old ≡ true → count_of other old ≤ count → StaysOpen base old (with_library other count delayed old)
+recounted base other count delayed old is opened there more =
+    cases_eq base other
+    (λ same. subst (λ k. StaysOpen k old (with_library other count delayed old)) (sym same) (record {
+      stays = counted other count delayed old there;
+      opened = subst (λ n. 1 ≤ n) (sym (counted_open other count delayed old there))
+          (most (count_of other old) (subst (λ k. 1 ≤ count_of k old) same opened) more);
+    }))
+    (λ apart. still_open base old (with_library other count delayed old) is opened (unfold with_library in block_elsewhere base other _ old apart))
+  where
+    most : (n : ℕ) → 1 ≤ n → n ≤ count → 1 ≤ count
+    most n one more = omega (arith, one, more)
+
+pub never : (n : ℕ) → n ≡ 0 → 1 ≤ n → ⊥
+never n e opened = omega (arith, e, opened)
 
 -- ---- whatever a call does
 
@@ -222,14 +267,29 @@ unfolding is_semaphore_at
 at_semaphore base semaphore heap is there =
     apart_from is_semaphore (λ object l. (alone object l).semaphore) base semaphore heap is there
 
+takes_keep : (regions : List Region) (old new : Heap) → Takes regions old new → IsWellFormed regions (extents old) → (base : ℕ)
+    → is_library_at base old ≡ true → 1 ≤ count_of base old → StaysLoaded base old new
+takes_keep regions old new nothing formed base is opened = still base old old is refl
+takes_keep regions old new (places size reqs address object fresh fits) formed base is opened =
+    still base old new is (block_placed_there base address _ old
+    (λ same. fresh_apart (object_at base old) (unfold is_library_at in is) (ap (λ a. object_at a old) same ∙ placed_fresh regions size reqs address old formed fits)))
+takes_keep regions old new (recounts other count delayed there more rest) formed base is opened =
+    let mid = with_library other count delayed old in
+    let one = recounted base other count delayed old is opened (there formed) more in
+    joined base old mid new one.stays
+    (takes_keep regions mid new rest (counted_formed regions other count delayed old formed) base one.stays.loaded one.opened)
+takes_keep regions old new (yields other there none rest) formed base is opened =
+    let one = still_open base old (rid other old) is opened (block_rid_there base other old
+    (λ same. never (count_of base old) (ap (λ k. count_of k old) same ∙ none) opened)) in
+    joined base old (rid other old) new one.stays
+    (takes_keep regions (rid other old) new rest (rid_formed regions other old formed) base one.stays.loaded one.opened)
+
 moves_keep : (regions : List Region) (t : ℕ) (call : Call) (old : Heap) (marks : List Mark) (new : Heap) → Moves regions t call old marks new
     → IsWellFormed regions (extents old) → (base : ℕ) → is_library_at base old ≡ true → 1 ≤ count_of base old
     → StaysLoaded base old new ⊎ IsLastClosing call base old
 unfolding with_nodes unlinked with_action with_port with_semaphore entered queued dropped handed_on released_once is_list_at is_port_at
 moves_keep regions t call old marks new (touches how) formed base is opened = inl (still base old new is (touched_keep old marks new how base is))
-moves_keep regions t call old marks new (places size reqs address object fresh fits) formed base is opened =
-    inl (still base old new is (block_placed_there base address _ old
-    (λ same. fresh_apart (object_at base old) (unfold is_library_at in is) (ap (λ a. object_at a old) same ∙ placed_fresh regions size reqs address old formed fits))))
+moves_keep regions t call old marks new (takes how) formed base is opened = inl (takes_keep regions old new how formed base is opened)
 moves_keep regions t call old marks new (frees address may unneeded) formed base is opened =
     inl (still base old new is (block_rid_there base address old
     (λ same. not_gone (object_at address old) may (subst (λ a. is_kind is_library (object_at a old) ≡ true) same (unfold is_library_at in is)))))
@@ -261,9 +321,6 @@ moves_keep regions t call old marks new (expunges other there may) formed base i
       | inr last ↦ inr (subst (λ k. IsLastClosing call k old) (sym same) last)
     ])
     (λ apart. inl (still base old new is (block_rid_there base other old apart)))
-  where
-    never : (n : ℕ) → n ≡ 0 → 1 ≤ n → ⊥
-    never n e opened = omega (arith, e, opened)
 moves_keep regions t call old marks new (drops other apart) formed base is opened =
     inl (still base old new is (block_remade_alike (left_by_task other) (task_left_alone other) base old is))
 

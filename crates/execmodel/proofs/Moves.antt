@@ -1,14 +1,12 @@
 -- What a call makes of the blocks of memory and of what begins there: one of a few things, whatever the word. The laws of ports, of
 -- semaphores and of memory go by these.
-use Rattle.std.proofs.Common.{◌⊎◌, inl, inr, ◌≡◌, ◌≢◌, ℕ, Bool, true, false, List, [], ◌∷◌, Option, None, Some, refl, sym, ap, ◌∙◌, subst}
-use Rattle.std.specs.Prelude.{◌-◌, negsuc, not, unwrap_or, if◌then◌else◌, nat_eq, nat_lt, is_some, codes, ◌&&◌, ◌||◌}
-use Rattle.std.specs.Ordering.{nat_cmp}
-use Rattle.std.specs.FinMap.{put as put_entry}
+use Rattle.std.proofs.Common.{◌⊎◌, inl, inr, ◌≡◌, ◌≢◌, ℕ, Bool, true, false, List, [], ◌∷◌, Option, None, Some, refl, sym, ap, ◌∙◌, subst, arith}
+use Rattle.std.specs.Prelude.{◌-◌, negsuc, not, unwrap_or, if◌then◌else◌, nat_eq, is_some, codes, ◌&&◌, ◌||◌}
 use Rattle.std.specs.Int.{cast_signed, w32}
 use Rattle.std.specs.Option.{option_map}
-use Rattle.memlist.proofs.Answered.{nat_eq-same, nat_eq-other, cases_eq}
+use Rattle.memlist.proofs.Answered.{nat_eq-same}
 use Rattle.memlist.specs.declared.region.Region.{Region}
-use Rattle.memlist.specs.Fit.{fit, round}
+use Rattle.memlist.specs.Fit.{fit}
 use Rattle.memlist.specs.Memory.{IsWellFormed}
 use Rattle.execlist.specs.Order.{first}
 use Rattle.signals.specs.Signals.{grant}
@@ -46,28 +44,19 @@ use Rattle.execmodel.specs.Plain.{does_plain, does_set, does_add, does_sub, does
 use Rattle.execmodel.specs.Signals.{mask_alert, free_signal_alert, signal_alert, waited, does_signals, does_alloc_signal, does_free_signal, does_set_signal, does_signal, does_wait}
 use Rattle.execmodel.specs.Nesting.{counted, does_nesting, does_forbid, does_permit, does_disable, does_enable}
 use Rattle.execmodel.specs.Tasks.{live_task_alert, set_task_pri_alert, add_task_alert, is_caller, ends_other, does_tasks, does_set_task_pri, does_add_task, does_rem_task, does_find_task}
-use Rattle.execmodel.specs.Objects.{object_at, is_kind, place_for_object, live}
-use Rattle.execmodel.specs.Memory.{extents, allocates, placed, freed, place_for, block_at, is_named, is_plain, alloc_alert, free_alert, avail_alert, does_memory, does_alloc_mem, does_free_mem, does_avail_mem}
+use Rattle.execmodel.specs.Objects.{object_at, is_kind, is_allowed, place_for_object}
+use Rattle.execmodel.specs.GivingWay.{after_asking, after_asking_for_object}
+use Rattle.execmodel.specs.Memory.{extents, allocates, makes_object, placed, freed, place_for, block_at, is_named, is_plain, alloc_alert, free_alert, avail_alert, does_memory, does_alloc_mem, does_free_mem, does_avail_mem}
 use Rattle.execmodel.specs.Lists.{is_list, list_size, is_node, node_size, is_list_at, is_node_at, with_nodes, unlinked, free_list_alert, new_node_alert, free_node_alert, link_alert, insert_alert, linked_alert, list_alert, find_alert, added_head, added_tail, enqueued, inserted, removed_head, removed_tail, does_lists, does_new_list, does_free_list, does_new_node, does_free_node, does_add_head, does_add_tail, does_enqueue, does_insert, does_remove, does_rem_head, does_rem_tail, does_first, does_last, does_succ, does_pred, does_find_name}
-use Rattle.execmodel.specs.Ports.{is_port, is_message, is_port_at, is_message_at, port_size, message_size, port_created, port_alert, message_alert, messages_of, messages_of_object, loses, with_action, with_word, is_queued, is_public, is_awaited_at, delete_alert, add_port_alert, rem_port_alert, reply_port_alert, loose_alert, wait_alert, made_public, made_private, looked, does_ports, does_create_msg_port, does_delete_msg_port, does_add_port, does_rem_port, does_find_port, does_port_signal, does_port_cause, does_port_ignore, does_new_msg, does_free_msg, does_msg_word, does_set_msg_word, does_msg_type, does_put_msg, does_get_msg, does_wait_port, does_reply_msg}
+use Rattle.execmodel.specs.Ports.{is_port, is_message, is_port_at, is_message_at, port_size, message_size, port_created, makes_port, after_asking_for_port, port_alert, message_alert, messages_of, messages_of_object, loses, with_action, with_word, is_queued, is_public, is_awaited_at, delete_alert, add_port_alert, rem_port_alert, reply_port_alert, loose_alert, wait_alert, made_public, made_private, looked, does_ports, does_create_msg_port, does_delete_msg_port, does_add_port, does_rem_port, does_find_port, does_port_signal, does_port_cause, does_port_ignore, does_new_msg, does_free_msg, does_msg_word, does_set_msg_word, does_msg_type, does_put_msg, does_get_msg, does_wait_port, does_reply_msg}
 use Rattle.execmodel.specs.Semaphores.{awaited_by, dropped, entered, queued, handed_on, released_once, obtained, attempted, released, is_open, is_last, is_owned, is_owner, is_semaphore_at, waiters_of, free_sem_alert, heir, is_semaphore, is_tried_again, leaving_queue, obtain_alert, obtains, passes, release_alert, sem_of, sem_of_object, semaphore_size, does_semaphores, does_new_sem, does_free_sem, does_obtain_semaphore, does_attempt_semaphore, does_release_semaphore}
 use Rattle.execmodel.specs.Causing.{does_interrupts, does_cause}
-use Rattle.execmodel.specs.Libraries.{is_library_at, count_of, is_delayed, with_library, base_of, library_at, library_alert, library_to_open, library_opened, entered_or_loaded, opened, close_alert, closed, removed, does_libraries, does_open_library, does_close_library, does_rem_library, does_lib_open_cnt}
+use Rattle.execmodel.specs.Libraries.{is_library_at, count_of, is_delayed, with_library, base_of, library_at, library_alert, library_to_open, library_opened, ready_to_open, entered_or_loaded, opened, close_alert, closed, removed, does_libraries, does_open_library, does_close_library, does_rem_library, does_lib_open_cnt}
 use Rattle.execmodel.proofs.Heaps.{rid, true_is_not_false}
+use Rattle.execmodel.proofs.Taking.{IsNew, Takes, nothing, places, recounts, IsTaking, number_is, after_asking_taking, after_asking_for_object_taking, after_asking_for_port_taking, ready_to_open_taking}
 use Rattle.execmodel.proofs.Posts.{Other, post_in, post_of_object, post_at, is_a_port, is_mail, port_there, message_there}
 use Rattle.execmodel.proofs.Loaded.{base_is_loaded}
 use Rattle.execmodel.proofs.Commands.{Touches, remains, IsAltered, none_some, passed_first, passed_other, is_port_there, is_message_there, is_loose_there, gives, put_alters, get_alters, reply_alters, cause_alters}
-
--- a new object: an empty list or port, a semaphore that no task owns and none waits for, a request that is not under way, or what has no queue
-abbrev pub IsNew : Object → Type 0
-IsNew Plain = Unit {0}
-IsNew (ListHead nodes) = nodes ≡ []
-IsNew (Node key) = Unit {0}
-IsNew (MsgPort port messages) = messages ≡ []
-IsNew (Message content) = Unit {0}
-IsNew (Semaphore sem waiters) = (sem ≡ free_sem) × (waiters ≡ [])
-IsNew (Library number count delayed) = Unit {0}
-IsNew (Request content) = is_under_way content ≡ false
 
 -- an object that may be freed: a port has to be empty, a semaphore free, and a request not under way
 abbrev pub MayGo : Option Object → Type 0
@@ -111,8 +100,7 @@ MayExpunge call base heap = (count_of base heap ≡ 0) ⊎ IsLastClosing call ba
 -- what a call of task t may make of the blocks, and the marks that it leaves
 pub data Moves (regions : List Region) (t : ℕ) (call : Call) : Heap → List Mark → Heap → Type 0 where
   touches : {old new : Heap} {marks : List Mark} → Touches old marks new → Moves regions t call old marks new
-  places : {heap : Heap} (size reqs address : ℕ) (object : Object) → IsNew object → fit regions (extents heap) size reqs ≡ Some address
-      → Moves regions t call heap [] (put_entry nat_cmp address (record { size = round size; object = object }) heap)
+  takes : {old new : Heap} → Takes regions old new → Moves regions t call old [] new
   frees : {heap : Heap} (address : ℕ) → MayGo (object_at address heap) → IsUnneeded address heap → Moves regions t call heap [] (rid address heap)
   relists : {heap : Heap} (list : ℕ) (nodes : List ℕ) → is_list_at list heap ≡ true → Moves regions t call heap [] (with_nodes list nodes heap)
   unlinks : {heap : Heap} (node : ℕ) → Moves regions t call heap [] (unlinked node heap)
@@ -211,24 +199,36 @@ unfolding alerted
 unless_makes t call s None effect makes = makes refl
 unless_makes t call s (Some code) effect makes = (refl, stays)
 
-allocates_makes : (t : ℕ) (call : Call) (s : State) (size reqs : ℕ) (object : Object) (place : Option ℕ) → IsNew object
+-- a call that takes memory
+pub taking_makes : (t : ℕ) (call : Call) (s : State) (o : Outcome) → IsTaking s o → Makes t call s o
+taking_makes t call s o taking =
+    (taking.regions, subst (λ ms. Moves s.memory.regions t call s.memory.heap ms o.state.memory.heap) (sym taking.silent) (takes taking.blocks))
+
+allocates_taking : (t : ℕ) (call : Call) (s : State) (size reqs : ℕ) (object : Object) (place : Option ℕ) → IsNew object
     → ((address : ℕ) → place ≡ Some address → fit s.memory.regions (extents s.memory.heap) size reqs ≡ Some address)
-    → Makes t call s (allocates t call size object place s)
+    → IsTaking s (allocates t call size object place s)
 unfolding answered
-allocates_makes t call s size reqs object None new fits = (refl, stays)
-allocates_makes t call s size reqs object (Some address) new fits = (refl, places size reqs address object new (fits address refl))
+allocates_taking t call s size reqs object None new fits = record { regions = refl; silent = refl; blocks = nothing }
+allocates_taking t call s size reqs object (Some address) new fits =
+    record { regions = refl; silent = refl; blocks = places size reqs address object new (fits address refl) }
 
 -- a place for an object is one where it fits
 fits_there : (test : Bool) (place : Option ℕ) (address : ℕ) → (if test then place else None) ≡ Some address → place ≡ Some address
 fits_there true place address e = e
 fits_there false place address e = none_some (sym e)
 
-pub object_makes : (t : ℕ) (call : Call) (s : State) (kind : Object → Bool) (size : ℕ) (object : Object) → IsNew object
-    → Makes t call s (allocates t call size object (place_for_object kind size s.memory) s)
+object_taking : (t : ℕ) (call : Call) (s : State) (kind : Object → Bool) (size : ℕ) (object : Object) → IsNew object
+    → IsTaking s (makes_object t call kind size object s)
 unfolding place_for_object
+object_taking t call s kind size object new =
+    allocates_taking t call s size 1 object (if is_allowed kind s.memory then place_for size 1 s.memory else None) new
+    (fits_there (is_allowed kind s.memory) (place_for size 1 s.memory))
+
+pub object_makes : (t : ℕ) (call : Call) (s : State) (kind : Object → Bool) (size : ℕ) (object : Object) → IsNew object
+    → Makes t call s (makes_object t call kind size object (on_memory (after_asking_for_object kind size) s))
 object_makes t call s kind size object new =
-    allocates_makes t call s size 1 object (if nat_lt (live kind s.memory.heap) s.memory.pool then place_for size 1 s.memory else None) new
-    (fits_there (nat_lt (live kind s.memory.heap) s.memory.pool) (place_for size 1 s.memory))
+    let asked = on_memory (after_asking_for_object kind size) s in
+    taking_makes t call s _ (after_asking_for_object_taking kind size s _ (object_taking t call asked kind size object new))
 
 -- ---- plain words, signals, nesting
 
@@ -386,8 +386,10 @@ pub memory_makes : (word : MemoryWord) (t : ℕ) (call : Call) (s : State) → M
 unfolding does_alloc_mem does_free_mem does_avail_mem done answered
 memory_makes memory.AllocMem t call s =
     unless_makes t call s (alloc_alert (argument 1 call)) _
-    (λ none. allocates_makes t call s (argument 0 call) (argument 1 call) Plain (place_for (argument 0 call) (argument 1 call) s.memory) tt
-    (λ address e. e))
+    (λ none. let asked = on_memory (after_asking (argument 0 call) (argument 1 call)) s in
+    taking_makes t call s _ (after_asking_taking (argument 0 call) (argument 1 call) s _
+    (allocates_taking t call asked (argument 0 call) (argument 1 call) Plain (place_for (argument 0 call) (argument 1 call) asked.memory) tt
+    (λ address e. e))))
 memory_makes memory.FreeMem t call s =
     unless_makes t call s (free_alert (argument 0 call) (argument 1 call) s.memory.heap) _
     (λ none. (
@@ -401,20 +403,25 @@ memory_makes memory.AvailMem t call s = unless_makes t call s (avail_alert (argu
 
 -- ---- ports
 
-created_makes : (t : ℕ) (call : Call) (bit : ℕ) (s : State) (place : Option ℕ)
+created_taking : (t : ℕ) (call : Call) (bit : ℕ) (s : State) (place : Option ℕ)
     → ((address : ℕ) → place ≡ Some address → fit s.memory.regions (extents s.memory.heap) port_size 1 ≡ Some address)
-    → Makes t call s (port_created t call (Some bit) place s)
+    → IsTaking s (port_created t call (Some bit) place s)
 unfolding answered
-created_makes t call bit s None fits = (refl, stays)
-created_makes t call bit s (Some address) fits = (refl, places port_size 1 address (MsgPort (new_port t bit) []) refl (fits address refl))
+created_taking t call bit s None fits = record { regions = refl; silent = refl; blocks = nothing }
+created_taking t call bit s (Some address) fits =
+    record { regions = refl; silent = refl; blocks = places port_size 1 address (MsgPort (new_port t bit) []) refl (fits address refl) }
 
-port_created_makes : (t : ℕ) (call : Call) (bit : Option ℕ) (s : State)
-    → Makes t call s (port_created t call bit (place_for_object is_port port_size s.memory) s)
+port_taking : (t : ℕ) (call : Call) (bit : Option ℕ) (s : State) → IsTaking s (makes_port t call bit s)
 unfolding answered place_for_object
-port_created_makes t call None s = (refl, stays)
-port_created_makes t call (Some bit) s =
-    created_makes t call bit s (if nat_lt (live is_port s.memory.heap) s.memory.pool then place_for port_size 1 s.memory else None)
-    (fits_there (nat_lt (live is_port s.memory.heap) s.memory.pool) (place_for port_size 1 s.memory))
+port_taking t call None s = record { regions = refl; silent = refl; blocks = nothing }
+port_taking t call (Some bit) s =
+    created_taking t call bit s (if is_allowed is_port s.memory then place_for port_size 1 s.memory else None)
+    (fits_there (is_allowed is_port s.memory) (place_for port_size 1 s.memory))
+
+port_makes : (t : ℕ) (call : Call) (bit : Option ℕ) (s : State)
+    → Makes t call s (makes_port t call bit (on_memory (after_asking_for_port bit) s))
+port_makes t call bit s =
+    taking_makes t call s _ (after_asking_for_port_taking bit s _ (port_taking t call bit (on_memory (after_asking_for_port bit) s)))
 
 port_goes : (found : Option Object) (rest : Option (List ℕ)) → is_kind is_port found ≡ true
     → (if is_some (first (messages_of_object found)) then Some (codes "PORT") else rest) ≡ None → MayGo found
@@ -471,7 +478,7 @@ looked_makes (Some message) mask t call f s = (refl, stays)
 
 pub ports_make : (word : PortWord) (t : ℕ) (call : Call) (s : State) → Makes t call s (does_ports word t call s)
 unfolding does_create_msg_port does_delete_msg_port does_add_port does_rem_port does_find_port does_port_signal does_port_cause does_port_ignore does_new_msg does_free_msg does_msg_word does_set_msg_word does_msg_type does_put_msg does_get_msg does_wait_port does_reply_msg made_public made_private with_word done answered
-ports_make ports.CreateMsgPort t call s = port_created_makes t call (grant (negsuc 0) (signals_of s.schedule t)) s
+ports_make ports.CreateMsgPort t call s = port_makes t call (grant (negsuc 0) (signals_of s.schedule t)) s
 ports_make ports.DeleteMsgPort t call s =
     either_makes t call s (nat_eq (argument 0 call) 0) _ _ (λ is. (refl, stays))
     (λ is. unless_makes t call s (delete_alert (argument 0 call) s.memory) _
@@ -621,31 +628,37 @@ is_library_there : (test : Bool) (code : List ℕ) → (if not test then Some co
 is_library_there true code e = refl
 is_library_there false code e = none_some e
 
-entered_or_loaded_makes : (found : Option ℕ) (i value t : ℕ) (call : Call) (s : State) → base_of i s.memory.heap ≡ found
-    → Makes t call s (answered t call value (on_memory (entered_or_loaded found i) s))
+entered_or_loaded_taking : (found : Option ℕ) (i value t : ℕ) (call : Call) (s : State) → base_of i s.memory.heap ≡ found
+    → IsTaking s (answered t call value (on_memory (entered_or_loaded found i) s))
 unfolding answered
-entered_or_loaded_makes (Some base) i value t call s e =
-    (refl, counts base _ false (λ formed. base_is_loaded s.memory.regions i base s.memory.heap formed e))
-entered_or_loaded_makes None i value t call s e =
+entered_or_loaded_taking (Some base) i value t call s e = record {
+  regions = refl;
+  silent = refl;
+  blocks = recounts base _ false (λ formed. base_is_loaded s.memory.regions i base s.memory.heap formed e) (omega arith) nothing;
+}
+entered_or_loaded_taking None i value t call s e =
     loads (place_for (library_at i s.memory).size 1 s.memory) refl
   where
     loads : (place : Option ℕ) → place_for (library_at i s.memory).size 1 s.memory ≡ place
-        → Makes t call s (answered t call value (on_memory (placed (library_at i s.memory).size (Library i 1 false) place) s))
-    loads None e = (refl, stays)
-    loads (Some address) e = (refl, places (library_at i s.memory).size 1 address (Library i 1 false) tt e)
+        → IsTaking s (answered t call value (on_memory (placed (library_at i s.memory).size (Library i 1 false) place) s))
+    loads None e = record { regions = refl; silent = refl; blocks = nothing }
+    loads (Some address) e =
+        record { regions = refl; silent = refl; blocks = places (library_at i s.memory).size 1 address (Library i 1 false) tt e }
+
+opened_taking : (found : Option ℕ) (value t : ℕ) (call : Call) (s : State)
+    → IsTaking s (answered t call value (on_memory (library_opened found) s))
+unfolding answered
+opened_taking None value t call s = record { regions = refl; silent = refl; blocks = nothing }
+opened_taking (Some i) value t call s = entered_or_loaded_taking (base_of i s.memory.heap) i value t call s refl
 
 opened_makes : (found : Option ℕ) (value t : ℕ) (call : Call) (s : State)
-    → Makes t call s (answered t call value (on_memory (library_opened found) s))
-unfolding answered
-opened_makes None value t call s = (refl, stays)
-opened_makes (Some i) value t call s = entered_or_loaded_makes (base_of i s.memory.heap) i value t call s refl
+    → Makes t call s (answered t call value (on_memory (library_opened found) (on_memory (ready_to_open found) s)))
+opened_makes found value t call s =
+    taking_makes t call s _ (ready_to_open_taking found s _ (opened_taking found value t call (on_memory (ready_to_open found) s)))
 
 pub both_true : {A : Type 0} (b c : Bool) → (b && c) ≡ true → (b ≡ true → c ≡ true → A) → A
 both_true true c e f = f refl e
 both_true false c e f = true_is_not_false (sym e)
-
-number_is : (n k : ℕ) → nat_eq n k ≡ true → n ≡ k
-number_is n k e = cases_eq n k (λ same. same) (λ apart. true_is_not_false (sym e ∙ nat_eq-other n k apart))
 
 closed_makes : (test : Bool) (base t : ℕ) (call : Call) (s : State) → call.word ≡ group.Libraries libraries.CloseLibrary → argument 0 call ≡ base
     → is_library_at base s.memory.heap ≡ true

@@ -18,12 +18,13 @@ use Rattle.execmodel.specs.Lists.{is_list, is_list_at, with_nodes, unlinked, lef
 use Rattle.execmodel.specs.Ports.{is_port, is_message, is_port_at, is_message_at, with_port, with_action, appended, taken_off}
 use Rattle.execmodel.specs.Semaphores.{is_open, is_owned, sem_in, sem_of, sem_of_object, waiters_of, waiters_of_object, owned_next, with_semaphore, left_by_task, entered, queued, dropped, handed_on, released_once}
 use Rattle.execmodel.specs.Libraries.{is_library, is_library_at, with_library}
-use Rattle.execmodel.proofs.Heaps.{filled, instead, object_replaced, object_remade, object_placed_here, object_placed_there, object_rid_here, object_rid_there, true_is_not_false}
-use Rattle.execmodel.proofs.Formed.{placed_fresh}
+use Rattle.execmodel.proofs.Heaps.{rid, filled, instead, object_replaced, object_remade, object_placed_here, object_placed_there, object_rid_here, object_rid_there, true_is_not_false}
+use Rattle.execmodel.proofs.Formed.{placed_fresh, counted_formed, rid_formed}
 use Rattle.execmodel.proofs.Fifo.{port_stays}
 use Rattle.execmodel.proofs.Commands.{Touches, remains, fills, puts, gets, none_some}
 use Rattle.execmodel.proofs.Asking.{Asks, writes, answers, written, ports_written, without_reply}
-use Rattle.execmodel.proofs.Moves.{IsRelease, IsNew, MayGo, Moves, touches, places, frees, relists, unlinks, sets, enters, queues, hands, opens, releases, counts, expunges, drops}
+use Rattle.execmodel.proofs.Taking.{IsNew, Takes, nothing, places, recounts, yields}
+use Rattle.execmodel.proofs.Moves.{IsRelease, MayGo, Moves, touches, takes, frees, relists, unlinks, sets, enters, queues, hands, opens, releases, counts, expunges, drops}
 
 -- nobody waits for what begins at an address, unless a task owns it
 abbrev pub Idle : Option Object → Type 0
@@ -101,18 +102,32 @@ touched_idle old marks new (puts port message content is also loose) idle =
     idle_replaced port _ (filled message content old) (λ e. refl) (idle_replaced message _ old (λ e. refl) idle)
 touched_idle old marks new (gets port message is e) idle = idle_replaced port _ old (λ e. refl) idle
 
-pub moves_idle : (regions : List Region) (t : ℕ) (call : Call) (old : Heap) (marks : List Mark) (new : Heap) → Moves regions t call old marks new
-    → AllIdle old → AllIdle new
-unfolding with_nodes unlinked with_action with_port with_semaphore with_library entered queued dropped handed_on released_once sem_of waiters_of
-moves_idle regions t call old marks new (touches how) idle = touched_idle old marks new how idle
-moves_idle regions t call old marks new (places size reqs address object is fits) idle = λ a.
+rid_idle : (address : ℕ) (heap : Heap) → AllIdle heap → AllIdle (rid address heap)
+rid_idle address heap idle a =
+    cases_eq a address
+    (λ same. subst (λ found. Idle found) (sym (ap (λ k. object_at k (rid address heap)) same ∙ object_rid_here address heap)) (λ e. refl))
+    (λ apart. subst (λ found. Idle found) (sym (object_rid_there a address heap apart)) (idle a))
+
+counted_idle : (base count : ℕ) (delayed : Bool) (heap : Heap) → AllIdle heap → AllIdle (with_library base count delayed heap)
+unfolding with_library
+counted_idle base count delayed heap idle = idle_replaced base _ heap (λ e. refl) idle
+
+takes_idle : (regions : List Region) (old new : Heap) → Takes regions old new → AllIdle old → AllIdle new
+takes_idle regions old new nothing idle = idle
+takes_idle regions old new (places size reqs address object is fits) idle = λ a.
     cases_eq a address
     (λ same. subst (λ found. Idle found) (sym (ap (λ k. object_at k new) same ∙ object_placed_here address (round size) object old)) (new_idle object is))
     (λ apart. subst (λ found. Idle found) (sym (object_placed_there a address _ old apart)) (idle a))
-moves_idle regions t call old marks new (frees address may unneeded) idle = λ a.
-    cases_eq a address
-    (λ same. subst (λ found. Idle found) (sym (ap (λ k. object_at k new) same ∙ object_rid_here address old)) (λ e. refl))
-    (λ apart. subst (λ found. Idle found) (sym (object_rid_there a address old apart)) (idle a))
+takes_idle regions old new (recounts base count delayed is more rest) idle =
+    takes_idle regions (with_library base count delayed old) new rest (counted_idle base count delayed old idle)
+takes_idle regions old new (yields base is none rest) idle = takes_idle regions (rid base old) new rest (rid_idle base old idle)
+
+pub moves_idle : (regions : List Region) (t : ℕ) (call : Call) (old : Heap) (marks : List Mark) (new : Heap) → Moves regions t call old marks new
+    → AllIdle old → AllIdle new
+unfolding with_nodes unlinked with_action with_port with_semaphore entered queued dropped handed_on released_once sem_of waiters_of
+moves_idle regions t call old marks new (touches how) idle = touched_idle old marks new how idle
+moves_idle regions t call old marks new (takes how) idle = takes_idle regions old new how idle
+moves_idle regions t call old marks new (frees address may unneeded) idle = rid_idle address old idle
 moves_idle regions t call old marks new (relists list nodes is) idle = idle_replaced list (ListHead nodes) old (λ e. refl) idle
 moves_idle regions t call old marks new (unlinks node) idle = idle_remade (left_by node) (left_idle node) old idle
 moves_idle regions t call old marks new (sets act port is) idle = idle_replaced port _ old (λ e. refl) idle
@@ -125,11 +140,8 @@ moves_idle regions t call old marks new (hands semaphore owner release is last e
 moves_idle regions t call old marks new (opens semaphore release is last e) idle =
     idle_replaced semaphore _ old (next_idle (waiters_of semaphore old)) idle
 moves_idle regions t call old marks new (releases semaphore is last) idle = idle_replaced semaphore _ old (idle semaphore) idle
-moves_idle regions t call old marks new (counts base count delayed is) idle = idle_replaced base _ old (λ e. refl) idle
-moves_idle regions t call old marks new (expunges base is may) idle = λ a.
-    cases_eq a base
-    (λ same. subst (λ found. Idle found) (sym (ap (λ k. object_at k new) same ∙ object_rid_here base old)) (λ e. refl))
-    (λ apart. subst (λ found. Idle found) (sym (object_rid_there a base old apart)) (idle a))
+moves_idle regions t call old marks new (counts base count delayed is) idle = counted_idle base count delayed old idle
+moves_idle regions t call old marks new (expunges base is may) idle = rid_idle base old idle
 moves_idle regions t call old marks new (drops other apart) idle = idle_remade (left_by_task other) (task_left_idle other) old idle
 
 -- ---- owners
@@ -307,14 +319,40 @@ touched_own old marks new (puts port message content is also loose) a =
     ∙ still_unowned is_message message_free a message _ old refl also
 touched_own old marks new (gets port message is e) a = still_unowned is_port port_free a port _ old refl is
 
+-- a library has no owner, counted or freed
+counted_unowned : (base count : ℕ) (delayed : Bool) (a : ℕ) (heap : Heap) → is_library_at base heap ≡ true
+    → owner_in (object_at a (with_library base count delayed heap)) ≡ owner_in (object_at a heap)
+unfolding with_library is_library_at
+counted_unowned base count delayed a heap is = still_unowned is_library library_free a base _ heap refl is
+
+expunged_unowned : (base a : ℕ) (heap : Heap) → is_library_at base heap ≡ true → owner_in (object_at a (rid base heap)) ≡ owner_in (object_at a heap)
+unfolding is_library_at
+expunged_unowned base a heap is =
+    cases_eq a base
+    (λ same. ap (λ found. owner_in found) (ap (λ k. object_at k (rid base heap)) same ∙ object_rid_here base heap)
+    ∙ sym (ap (λ k. owner_in (object_at k heap)) same ∙ no_owner is_library library_free (object_at base heap) is))
+    (λ apart. ap (λ found. owner_in found) (object_rid_there a base heap apart))
+
+takes_own : (regions : List Region) (old new : Heap) → Takes regions old new → IsWellFormed regions (extents old)
+    → (a : ℕ) → owner_in (object_at a new) ≡ owner_in (object_at a old)
+takes_own regions old new nothing formed a = refl
+takes_own regions old new (places size reqs address object is fits) formed a =
+    cases_eq a address
+    (λ same. ap (λ found. owner_in found) (ap (λ k. object_at k new) same ∙ object_placed_here address (round size) object old)
+    ∙ new_free object is
+    ∙ sym (ap (λ found. owner_in found) (ap (λ k. object_at k old) same ∙ placed_fresh regions size reqs address old formed fits)))
+    (λ apart. ap (λ found. owner_in found) (object_placed_there a address _ old apart))
+takes_own regions old new (recounts base count delayed is more rest) formed a =
+    takes_own regions (with_library base count delayed old) new rest (counted_formed regions base count delayed old formed) a
+    ∙ counted_unowned base count delayed a old (is formed)
+takes_own regions old new (yields base is none rest) formed a =
+    takes_own regions (rid base old) new rest (rid_formed regions base old formed) a ∙ expunged_unowned base a old (is formed)
+
 pub moves_own : (regions : List Region) (t : ℕ) (call : Call) (old : Heap) (marks : List Mark) (new : Heap) → Moves regions t call old marks new
     → IsWellFormed regions (extents old) → (a : ℕ) → Owns t call a old new
-unfolding with_nodes unlinked with_action with_port with_semaphore with_library entered queued dropped handed_on released_once sem_of is_list_at is_port_at is_library_at
+unfolding with_nodes unlinked with_action with_port with_semaphore entered queued dropped handed_on released_once sem_of is_list_at is_port_at
 moves_own regions t call old marks new (touches how) formed a = inl (touched_own old marks new how a)
-moves_own regions t call old marks new (places size reqs address object is fits) formed a =
-    cases_eq a address
-    (λ same. inr (inl (ap (λ found. owner_in found) (ap (λ k. object_at k old) same ∙ placed_fresh regions size reqs address old formed fits))))
-    (λ apart. inl (ap (λ found. owner_in found) (object_placed_there a address _ old apart)))
+moves_own regions t call old marks new (takes how) formed a = inl (takes_own regions old new how formed a)
 moves_own regions t call old marks new (frees address may unneeded) formed a =
     cases_eq a address
     (λ same. inr (inl (ap (λ k. owner_in (object_at k old)) same ∙ gone_free (object_at address old) may)))
@@ -343,11 +381,8 @@ moves_own regions t call old marks new (opens semaphore release is last e) forme
 moves_own regions t call old marks new (releases semaphore is last) formed a =
     by_address t call a semaphore _ old
     (λ same. inl (subst (λ k. owner_in (object_at k new) ≡ owner_in (object_at k old)) (sym same) (same_owner semaphore _ old refl)))
-moves_own regions t call old marks new (counts base count delayed is) formed a = unowned t call is_library library_free a base _ old (is formed)
-moves_own regions t call old marks new (expunges base is may) formed a =
-    cases_eq a base
-    (λ same. inr (inl (ap (λ k. owner_in (object_at k old)) same ∙ no_owner is_library library_free (object_at base old) is)))
-    (λ apart. inl (ap (λ found. owner_in found) (object_rid_there a base old apart)))
+moves_own regions t call old marks new (counts base count delayed is) formed a = inl (counted_unowned base count delayed a old (is formed))
+moves_own regions t call old marks new (expunges base is may) formed a = inl (expunged_unowned base a old is)
 moves_own regions t call old marks new (drops other apart) formed a = inl (remade_owner (left_by_task other) (task_left_owner other) a old)
 
 -- ---- requests, and the clock

@@ -19,8 +19,8 @@ use Rattle.execmodel.specs.Libraries.{is_library, is_library_at, with_library}
 use Rattle.execmodel.specs.Queues.{Came, Served, Left}
 use Rattle.execmodel.specs.Marks.{turns_at_semaphore}
 use Rattle.execmodel.proofs.Queues.{Follows, IsAway}
-use Rattle.execmodel.proofs.Heaps.{filled, instead, object_replaced, object_remade, object_placed_here, object_placed_there, object_rid_here, object_rid_there, true_is_not_false}
-use Rattle.execmodel.proofs.Formed.{placed_fresh}
+use Rattle.execmodel.proofs.Heaps.{rid, filled, instead, object_replaced, object_remade, object_placed_here, object_placed_there, object_rid_here, object_rid_there, true_is_not_false}
+use Rattle.execmodel.proofs.Formed.{placed_fresh, counted_formed, rid_formed}
 use Rattle.execmodel.proofs.Owners.{Idle, AllIdle, free_owner}
 use Rattle.execmodel.proofs.Fifo.{turned, first_is, still_semaphore, first_none, port_stays}
 use Rattle.msgport.specs.Port.{Port}
@@ -29,7 +29,8 @@ use Rattle.sigsem.specs.declared.semaphore.Sem.{Sem}
 use Rattle.memlist.specs.Fit.{round}
 use Rattle.execmodel.proofs.Commands.{Touches, remains, fills, puts, gets}
 use Rattle.execmodel.proofs.Asking.{Asks, writes, answers, written, ports_written, without_reply}
-use Rattle.execmodel.proofs.Moves.{IsNew, MayGo, leaving_marks, Moves, touches, places, frees, relists, unlinks, sets, enters, queues, hands, opens, releases, counts, expunges, drops}
+use Rattle.execmodel.proofs.Taking.{IsNew, Takes, nothing, places, recounts, yields}
+use Rattle.execmodel.proofs.Moves.{MayGo, leaving_marks, Moves, touches, takes, frees, relists, unlinks, sets, enters, queues, hands, opens, releases, counts, expunges, drops}
 
 -- ---- what has no messages
 
@@ -228,17 +229,41 @@ touched_pass old marks new (puts port message content is also loose) p =
     port_still port _ _ p (filled message content old) (port_stays port message _ old is also) ∙ content_still message _ p old also
 touched_pass old marks new (gets port message is e) p = port_still port _ _ p old is
 
-pub moves_pass : (regions : List Region) (t : ℕ) (call : Call) (old : Heap) (marks : List Mark) (new : Heap) → Moves regions t call old marks new
-    → IsWellFormed regions (extents old) → AllIdle old → IsNowhere t old → ((other : ℕ) → WaitsAtOne other old (awaited_by other old))
-    → (p : ℕ) → Follows (waiters_of p old) (turns_at_semaphore p marks) (waiters_of p new)
-unfolding with_nodes unlinked with_action with_library entered queued handed_on released_once is_list_at is_library_at
-moves_pass regions t call old marks new (touches how) formed idle nowhere one p = touched_pass old marks new how p
-moves_pass regions t call old marks new (places size reqs address object is fits) formed idle nowhere one p =
+-- nobody waits for a library, counted or freed
+counted_still : (base count : ℕ) (delayed : Bool) (p : ℕ) (heap : Heap) → is_library_at base heap ≡ true
+    → waiters_of p (with_library base count delayed heap) ≡ waiters_of p heap
+unfolding with_library is_library_at
+counted_still base count delayed p heap is = still_none base _ is_library p heap refl library_none is
+
+expunged_still : (base p : ℕ) (heap : Heap) → is_library_at base heap ≡ true → waiters_of p (rid base heap) ≡ waiters_of p heap
+unfolding waiters_of is_library_at
+expunged_still base p heap is =
+    cases_eq p base
+    (λ same. ap (λ found. waiters_of_object found) (ap (λ a. object_at a (rid base heap)) same ∙ object_rid_here base heap)
+    ∙ sym (ap (λ a. waiters_of_object (object_at a heap)) same ∙ no_port is_library library_none (object_at base heap) is))
+    (λ apart. ap (λ found. waiters_of_object found) (object_rid_there p base heap apart))
+
+takes_still : (regions : List Region) (old new : Heap) → Takes regions old new → IsWellFormed regions (extents old)
+    → (p : ℕ) → waiters_of p new ≡ waiters_of p old
+takes_still regions old new nothing formed p = refl
+takes_still regions old new (places size reqs address object is fits) formed p =
     unfold waiters_of in cases_eq p address
     (λ same. ap (λ found. waiters_of_object found) (ap (λ a. object_at a new) same ∙ object_placed_here address (round size) object old)
     ∙ new_none object is
     ∙ sym (ap (λ found. waiters_of_object found) (ap (λ a. object_at a old) same ∙ placed_fresh regions size reqs address old formed fits)))
     (λ apart. ap (λ found. waiters_of_object found) (object_placed_there p address _ old apart))
+takes_still regions old new (recounts base count delayed is more rest) formed p =
+    takes_still regions (with_library base count delayed old) new rest (counted_formed regions base count delayed old formed) p
+    ∙ counted_still base count delayed p old (is formed)
+takes_still regions old new (yields base is none rest) formed p =
+    takes_still regions (rid base old) new rest (rid_formed regions base old formed) p ∙ expunged_still base p old (is formed)
+
+pub moves_pass : (regions : List Region) (t : ℕ) (call : Call) (old : Heap) (marks : List Mark) (new : Heap) → Moves regions t call old marks new
+    → IsWellFormed regions (extents old) → AllIdle old → IsNowhere t old → ((other : ℕ) → WaitsAtOne other old (awaited_by other old))
+    → (p : ℕ) → Follows (waiters_of p old) (turns_at_semaphore p marks) (waiters_of p new)
+unfolding with_nodes unlinked with_action entered queued handed_on released_once is_list_at
+moves_pass regions t call old marks new (touches how) formed idle nowhere one p = touched_pass old marks new how p
+moves_pass regions t call old marks new (takes how) formed idle nowhere one p = takes_still regions old new how formed p
 moves_pass regions t call old marks new (frees address may unneeded) formed idle nowhere one p =
     unfold waiters_of in cases_eq p address
     (λ same. ap (λ found. waiters_of_object found) (ap (λ a. object_at a new) same ∙ object_rid_here address old)
@@ -272,12 +297,8 @@ moves_pass regions t call old marks new (opens semaphore release is last e) form
     ∙ ap (λ q. drop 1 q) (first_none (waiters_of semaphore old) e)
     ∙ sym (ap (λ a. waiters_of a old) same ∙ first_none (waiters_of semaphore old) e))
     (λ apart. semaphore_elsewhere p semaphore _ (drop 1 (waiters_of semaphore old)) old apart)
-moves_pass regions t call old marks new (counts base count delayed is) formed idle nowhere one p = still_none base _ is_library p old refl library_none (is formed)
-moves_pass regions t call old marks new (expunges base is may) formed idle nowhere one p =
-    unfold waiters_of in cases_eq p base
-    (λ same. ap (λ found. waiters_of_object found) (ap (λ a. object_at a new) same ∙ object_rid_here base old)
-    ∙ sym (ap (λ a. waiters_of_object (object_at a old)) same ∙ no_port is_library library_none (object_at base old) is))
-    (λ apart. ap (λ found. waiters_of_object found) (object_rid_there p base old apart))
+moves_pass regions t call old marks new (counts base count delayed is) formed idle nowhere one p = counted_still base count delayed p old (is formed)
+moves_pass regions t call old marks new (expunges base is may) formed idle nowhere one p = expunged_still base p old is
 moves_pass regions t call old marks new (releases semaphore is last) formed idle nowhere one p =
     cases_eq p semaphore
     (λ same. ap (λ a. waiters_of a new) same ∙ semaphore_there semaphore _ (waiters_of semaphore old) old is ∙ sym (ap (λ a. waiters_of a old) same))

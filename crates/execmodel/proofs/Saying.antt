@@ -50,7 +50,7 @@ use Rattle.execmodel.specs.Tasks.{does_tasks, live_task_alert, set_task_pri_aler
 use Rattle.execmodel.specs.Objects.{place_for_object}
 use Rattle.execmodel.specs.Memory.{does_memory, alloc_alert, free_alert, avail_alert, does_alloc_mem, does_free_mem, does_avail_mem}
 use Rattle.execmodel.specs.Lists.{does_lists, free_list_alert, new_node_alert, free_node_alert, link_alert, insert_alert, linked_alert, list_alert, find_alert, does_new_list, does_free_list, does_new_node, does_free_node, does_add_head, does_add_tail, does_enqueue, does_insert, does_remove, does_rem_head, does_rem_tail, does_first, does_last, does_succ, does_pred, does_find_name}
-use Rattle.execmodel.specs.Ports.{does_ports, is_port, port_size, port_created, port_alert, message_alert, messages_of, content_of, delete_alert, add_port_alert, rem_port_alert, reply_port_alert, loose_alert, put_alert, reply_alert, wait_alert, replied, taken, looked, does_create_msg_port, does_delete_msg_port, does_add_port, does_rem_port, does_find_port, does_port_signal, does_port_cause, does_port_ignore, does_new_msg, does_free_msg, does_msg_word, does_set_msg_word, does_msg_type, does_put_msg, does_get_msg, does_wait_port, does_reply_msg}
+use Rattle.execmodel.specs.Ports.{does_ports, is_port, port_size, after_asking_for_port, port_created, port_alert, message_alert, messages_of, content_of, delete_alert, add_port_alert, rem_port_alert, reply_port_alert, loose_alert, put_alert, reply_alert, wait_alert, replied, taken, looked, does_create_msg_port, does_delete_msg_port, does_add_port, does_rem_port, does_find_port, does_port_signal, does_port_cause, does_port_ignore, does_new_msg, does_free_msg, does_msg_word, does_set_msg_word, does_msg_type, does_put_msg, does_get_msg, does_wait_port, does_reply_msg}
 use Rattle.execmodel.specs.Semaphores.{does_semaphores, awaited_by, free_sem_alert, heir, is_tried_again, leaving_queue, obtain_alert, obtains, outcome_for, passes, release_alert, sem_of, does_new_sem, does_free_sem, does_obtain_semaphore, does_attempt_semaphore, does_release_semaphore}
 use Rattle.execmodel.proofs.BodyActions.{softint_bodily, set_told}
 use Rattle.execmodel.proofs.Itself.{word_itself, followed}
@@ -197,7 +197,9 @@ looked_silent (Some message) mask t call s = refl
 ports_silent : (word : PortWord) (t : ℕ) (call : Call) (s : State) → Silent (does_ports word t call s)
 unfolding does_create_msg_port does_delete_msg_port does_add_port does_rem_port does_find_port does_port_signal does_port_cause does_port_ignore does_new_msg does_free_msg does_msg_word does_set_msg_word does_msg_type does_put_msg does_get_msg does_wait_port does_reply_msg done answered
 ports_silent ports.CreateMsgPort t call s =
-    created_silent t call (grant (negsuc 0) (signals_of s.schedule t)) (place_for_object is_port port_size s.memory) s
+    let bit = grant (negsuc 0) (signals_of s.schedule t) in
+    let ready = on_memory (after_asking_for_port bit) s in
+    created_silent t call bit (place_for_object is_port port_size ready.memory) ready
 ports_silent ports.DeleteMsgPort t call s =
     either_silent (nat_eq (argument 0 call) 0) _ _ refl
     (unless_silent (delete_alert (argument 0 call) s.memory) t call _ s refl)

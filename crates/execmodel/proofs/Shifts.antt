@@ -41,7 +41,7 @@ use Rattle.iorequest.specs.declared.request.ReqState.{ReqState}
 use Rattle.iorequest.specs.declared.request.ReqState.TheVariants.{Idle, UnderWay, Quick, Replied}
 use Rattle.iorequest.specs.Request.{is_under_way}
 use Rattle.msgport.specs.declared.action.Action.{Action}
-use Rattle.execmodel.specs.State.{Call, Scripts, Object, Plain, Memory, asked, passed, State, Outcome, on_schedule, on_memory, on_heap}
+use Rattle.execmodel.specs.State.{Call, Scripts, Memory, asked, passed, State, Outcome, on_schedule, on_memory, on_heap}
 use Rattle.execmodel.specs.Scheduling.{arrives, added, reprioritized}
 use Rattle.execmodel.specs.Calls.{ByTask, argument, done, answered, waiting, silent, alerted, unless, keeps}
 use Rattle.execmodel.specs.Plain.{does_plain, does_set, does_add, does_sub, does_and, does_or, jumps, does_jump, does_jump_zero, does_jump_not_zero, does_print}
@@ -49,9 +49,9 @@ use Rattle.execmodel.specs.Signals.{is_task, mask_alert, free_signal_alert, wait
 use Rattle.execmodel.specs.Nesting.{counted, does_nesting, does_forbid, does_permit, does_disable, does_enable}
 use Rattle.execmodel.specs.Tasks.{live_task_alert, set_task_pri_alert, add_task_alert, is_caller, does_tasks, does_set_task_pri, does_add_task, does_rem_task, does_find_task}
 use Rattle.execmodel.specs.Objects.{place_for_object}
-use Rattle.execmodel.specs.Memory.{allocates, place_for, alloc_alert, free_alert, avail_alert, does_memory, does_alloc_mem, does_free_mem, does_avail_mem}
+use Rattle.execmodel.specs.Memory.{alloc_alert, free_alert, avail_alert, does_memory, does_alloc_mem, does_free_mem, does_avail_mem}
 use Rattle.execmodel.specs.Lists.{free_list_alert, new_node_alert, free_node_alert, link_alert, insert_alert, linked_alert, list_alert, find_alert, does_lists, does_new_list, does_free_list, does_new_node, does_free_node, does_add_head, does_add_tail, does_enqueue, does_insert, does_remove, does_rem_head, does_rem_tail, does_first, does_last, does_succ, does_pred, does_find_name}
-use Rattle.execmodel.specs.Ports.{is_port, port_size, messages_of, port_of, port_created, delete_alert, port_alert, reply_port_alert, loose_alert, message_alert, add_port_alert, rem_port_alert, wait_alert, looked, loses, made_public, made_private, performed, does_ports, does_create_msg_port, does_delete_msg_port, does_add_port, does_rem_port, does_find_port, does_port_signal, does_port_cause, does_port_ignore, does_new_msg, does_free_msg, does_msg_word, does_set_msg_word, does_msg_type, does_put_msg, does_get_msg, does_wait_port, does_reply_msg}
+use Rattle.execmodel.specs.Ports.{is_port, port_size, after_asking_for_port, messages_of, port_of, port_created, delete_alert, port_alert, reply_port_alert, loose_alert, message_alert, add_port_alert, rem_port_alert, wait_alert, looked, loses, made_public, made_private, performed, does_ports, does_create_msg_port, does_delete_msg_port, does_add_port, does_rem_port, does_find_port, does_port_signal, does_port_cause, does_port_ignore, does_new_msg, does_free_msg, does_msg_word, does_set_msg_word, does_msg_type, does_put_msg, does_get_msg, does_wait_port, does_reply_msg}
 use Rattle.execmodel.specs.Semaphores.{awaited_by, dropped, sem_of, free_sem_alert, obtain_alert, release_alert, outcome_for, obtains, passes, heir, is_tried_again, leaving_queue, woken, does_semaphores, does_new_sem, does_free_sem, does_obtain_semaphore, does_attempt_semaphore, does_release_semaphore}
 use Rattle.execmodel.specs.Causing.{does_interrupts, does_cause}
 use Rattle.execmodel.specs.Libraries.{library_alert, close_alert, does_libraries, does_open_library, does_close_library, does_rem_library, does_lib_open_cnt}
@@ -322,17 +322,11 @@ lists_shift lists.Pred t call s =
 lists_shift lists.FindName t call s =
     unless_shifts t call s (find_alert (argument 0 call) s.memory.heap) _ (λ none. answered_stays t call _ s s.memory)
 
--- a call that takes memory
-allocates_stays : (t : ℕ) (call : Call) (s : State) (size : ℕ) (object : Object) (place : Option ℕ)
-    → Shifted t call s (allocates t call size object place s)
-allocates_stays t call s size object None = answered_stays t call 0 s s.memory
-allocates_stays t call s size object (Some address) = answered_stays t call address s _
-
 memory_shifts : (word : MemoryWord) (t : ℕ) (call : Call) (s : State) → Shifted t call s (does_memory word t call s)
 unfolding does_alloc_mem does_free_mem does_avail_mem
 memory_shifts memory.AllocMem t call s =
     unless_shifts t call s (alloc_alert (argument 1 call)) _
-    (λ none. allocates_stays t call s (argument 0 call) Plain (place_for (argument 0 call) (argument 1 call) s.memory))
+    (λ none. answered_stays t call _ s _)
 memory_shifts memory.FreeMem t call s =
     unless_shifts t call s (free_alert (argument 0 call) (argument 1 call) s.memory.heap) _ (λ none. done_stays t call s _)
 memory_shifts memory.AvailMem t call s =
@@ -340,12 +334,12 @@ memory_shifts memory.AvailMem t call s =
 
 -- ---- ports
 
-created_shifts : (t : ℕ) (call : Call) (bit place : Option ℕ) (s : State) → is_own_taking call.word ≡ true
-    → Shifted t call s (port_created t call bit place s)
+created_shifts : (t : ℕ) (call : Call) (bit place : Option ℕ) (s : State) (memory : Memory) → is_own_taking call.word ≡ true
+    → Shifted t call s (port_created t call bit place (record s { memory = memory }))
 unfolding answered allocates_signal
-created_shifts t call None place s taking = (answered_count t call.next call.target 0 s.scripts, stays (λ p. refl) (same s.schedule))
-created_shifts t call (Some bit) None s taking = (answered_count t call.next call.target 0 s.scripts, stays (λ p. refl) (same s.schedule))
-created_shifts t call (Some bit) (Some address) s taking =
+created_shifts t call None place s memory taking = (answered_count t call.next call.target 0 s.scripts, stays (λ p. refl) (same s.schedule))
+created_shifts t call (Some bit) None s memory taking = (answered_count t call.next call.target 0 s.scripts, stays (λ p. refl) (same s.schedule))
+created_shifts t call (Some bit) (Some address) s memory taking =
     (answered_count t call.next call.target address s.scripts, takes (λ p. refl) taking (own_signals t _ s.schedule))
 
 -- of the signals that a task takes it has received none any more
@@ -373,7 +367,9 @@ looked_shifts (Some message) mask t call s taking =
 ports_shift : (word : PortWord) (t : ℕ) (call : Call) (s : State) → call.word ≡ group.Ports word → Shifted t call s (does_ports word t call s)
 unfolding does_create_msg_port does_delete_msg_port does_add_port does_rem_port does_find_port does_port_signal does_port_cause does_port_ignore does_new_msg does_free_msg does_msg_word does_set_msg_word does_msg_type does_put_msg does_get_msg does_wait_port does_reply_msg made_public made_private done
 ports_shift ports.CreateMsgPort t call s word =
-    created_shifts t call (grant (negsuc 0) (signals_of s.schedule t)) (place_for_object is_port port_size s.memory) s (ap is_own_taking word)
+    let bit = grant (negsuc 0) (signals_of s.schedule t) in
+    let memory = after_asking_for_port bit s.memory in
+    created_shifts t call bit (place_for_object is_port port_size memory) s memory (ap is_own_taking word)
 ports_shift ports.DeleteMsgPort t call s word =
     either_shifts t call s (nat_eq (argument 0 call) 0) _ _ (λ is. done_stays t call s s.memory)
     (λ is. unless_shifts t call s (delete_alert (argument 0 call) s.memory) _

@@ -276,7 +276,7 @@ module _ (R : Relation) (each : HoldsOfEach R) (clocked : (s : State) → R s []
   of_ticks zero s = each.interrupting.nothing s
   of_ticks (suc n) s = both R each.interrupting (ticks n) tick (of_ticks n) of_tick s
 
-  of_event : (e : Event) → HoldsOf R (event e)
+  pub of_event : (e : Event) → HoldsOf R (event e)
   unfolding event
   of_event (Run n) s = of_steps R each n s
   of_event (Tick n) s = of_ticks n s

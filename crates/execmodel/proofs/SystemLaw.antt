@@ -7,17 +7,16 @@ use Rattle.msgport.specs.declared.action.Action.{Action}
 use Rattle.iorequest.specs.declared.request.ReqState.{ReqState}
 use Rattle.iorequest.specs.declared.request.ReqState.TheVariants.{Idle, UnderWay, Quick, Replied}
 use Rattle.iorequest.specs.declared.request.Begun.TheVariants.{Finish, Queue, Until, NewTime}
-use Rattle.iorequest.specs.Request.{idle_request, is_under_way, is_to_wait, is_until, due_of, error_of, sets_time, time_of}
+use Rattle.iorequest.specs.Request.{is_under_way, is_to_wait, is_until, due_of, error_of, sets_time, time_of}
 use Rattle.taskscript.specs.declared.word.Word.{Word}
 use Rattle.taskscript.specs.declared.word.Word.TheVariants as group
 use Rattle.taskscript.specs.declared.word.requests.RequestWord.{RequestWord}
 use Rattle.taskscript.specs.declared.word.requests.RequestWord.TheVariants as requests
 use Rattle.timerdev.specs.Timing.{offset}
-use Rattle.execmodel.specs.State.{Call, Request, Timer, Memory, State, Outcome, quiet, andthen, on_schedule, on_memory}
+use Rattle.execmodel.specs.State.{Call, Timer, Memory, State, Outcome, quiet, andthen, on_schedule, on_memory}
 use Rattle.execmodel.specs.Scheduling.{rescheduled}
 use Rattle.execmodel.specs.Calls.{argument, done, answered, waiting, alerted, next_call, unless}
 use Rattle.execmodel.specs.Pending.{next_softint}
-use Rattle.execmodel.specs.Objects.{place_for_object}
 use Rattle.execmodel.specs.Plain.{does_plain}
 use Rattle.execmodel.specs.Signals.{does_signals}
 use Rattle.execmodel.specs.Nesting.{does_nesting}
@@ -34,7 +33,8 @@ use Rattle.execmodel.specs.Keeping.{beside_plain, beside_signals, beside_nesting
 use Rattle.execmodel.specs.Laws.{Action as Act, OneStep, OneTick, OneRequest, performed, IsSetting, SystemTimeGoesWithTheClock}
 use Rattle.execmodel.proofs.Itself.{word_itself, ends_followed}
 use Rattle.execmodel.proofs.Stretches.{Relation, HoldsOfInterrupts, clock_gains, of_softint, of_set, of_settle, of_request}
-use Rattle.execmodel.proofs.Keeping.{either, unless_keeps, allocates_keeps, plain_words_change_scripts, signal_words_change_signals_and_states, nesting_words_change_nestings, task_words_change_states_priorities_and_objects, list_words_change_the_memory, memory_words_change_the_memory, port_words_change_ports_signals_and_states, semaphore_words_change_states_and_objects, interrupt_words_change_what_is_caused, library_words_change_the_memory}
+use Rattle.execmodel.proofs.GivingWay.{asking_for_object_keeps}
+use Rattle.execmodel.proofs.Keeping.{either, unless_keeps, makes_keeps, asking_for_object, plain_words_change_scripts, signal_words_change_signals_and_states, nesting_words_change_nestings, task_words_change_states_priorities_and_objects, list_words_change_the_memory, memory_words_change_the_memory, port_words_change_ports_signals_and_states, semaphore_words_change_states_and_objects, interrupt_words_change_what_is_caused, library_words_change_the_memory}
 use Rattle.execmodel.proofs.Commands.{body_alters, performed_memory}
 use Rattle.execmodel.proofs.Asking.{finishing, state_of}
 use Rattle.execmodel.proofs.ClockLaw.{word_stands}
@@ -152,8 +152,8 @@ unfolding does_create_io_request does_delete_io_request does_open_device does_cl
 requests_leave requests.CreateIORequest t call s =
     inl (either system_of _ (nat_eq (argument 0 call) 0) _ _ refl
     (unless_keeps system_of (port_alert (argument 0 call) s.memory.heap) t call _ s refl
-    (allocates_keeps system_of request_size (Request (idle_request (argument 0 call))) (place_for_object is_request request_size s.memory)
-    t call s refl (λ address. refl))))
+    (makes_keeps system_of is_request request_size _ t call (asking_for_object is_request request_size s) refl (λ address. refl)
+    ∙ ap (λ (m : Memory). m.timer.system) (asking_for_object_keeps is_request request_size s.memory))))
 requests_leave requests.DeleteIORequest t call s =
     inl (either system_of _ (nat_eq (argument 0 call) 0) _ _ refl
     (unless_keeps system_of (delete_request_alert (argument 0 call) s.memory.heap) t call _ s refl refl))

@@ -19,14 +19,15 @@ use Rattle.execmodel.specs.Ports.{is_port, is_message, is_port_at, is_message_at
 use Rattle.execmodel.specs.Semaphores.{is_semaphore, is_semaphore_at, with_semaphore, left_by_task, entered, queued, dropped, handed_on, released_once}
 use Rattle.execmodel.specs.Libraries.{is_library, is_library_at, with_library}
 use Rattle.execmodel.specs.Requests.{request_of, with_request}
-use Rattle.execmodel.proofs.Heaps.{filled, object_placed_here, object_placed_there, object_rid_here, object_rid_there, true_is_not_false}
+use Rattle.execmodel.proofs.Heaps.{rid, filled, object_placed_here, object_placed_there, object_rid_here, object_rid_there, true_is_not_false}
 use Rattle.execmodel.proofs.Queues.{IsAway, away_more, away_drop, away_without}
 use Rattle.execmodel.proofs.Posts.{Post, APort, AMessage, ARequest, Other, post_in, post_of_object, post_at, messages_at, asked_at, is_a_port, is_mail, may_stand, AreInOrder, IsTidy, messages_are, port_is, port_there, message_there, request_there, post_elsewhere, post_here, post_remade, unchanged, queue_changes, content_changes, replaced_in_order}
 use Rattle.execmodel.proofs.Asking.{Asks, writes, answers, IsRewritten, written_here, written_elsewhere, ports_written, without_reply}
-use Rattle.execmodel.proofs.Formed.{placed_fresh}
+use Rattle.execmodel.proofs.Formed.{placed_fresh, counted_formed, rid_formed}
 use Rattle.execmodel.proofs.Fifo.{both_false, is_away, first_none, port_stays, still_semaphore}
 use Rattle.execmodel.proofs.Commands.{Touches, remains, fills, puts, gets}
-use Rattle.execmodel.proofs.Moves.{IsNew, MayGo, IsUnneeded, list_other, semaphore_other, Moves, touches, places, frees, relists, unlinks, sets, enters, queues, hands, opens, releases, counts, expunges, drops}
+use Rattle.execmodel.proofs.Taking.{IsNew, Takes, nothing, places, recounts, yields}
+use Rattle.execmodel.proofs.Moves.{MayGo, IsUnneeded, list_other, semaphore_other, Moves, touches, takes, frees, relists, unlinks, sets, enters, queues, hands, opens, releases, counts, expunges, drops}
 
 -- ---- what nobody sees
 
@@ -179,17 +180,45 @@ module _ (waiting : List Queued) where
       (unfold is_awaited_at in
       unneeded.unawaited (ap (λ k. is_a_port (post_at old k)) (sym same) ∙ order.lives request under)) request under same
 
-  pub moves_order : (regions : List Region) (t : ℕ) (call : Call) (old : Heap) (marks : List Mark) (new : Heap) → Moves regions t call old marks new
-      → IsWellFormed regions (extents old) → AreInOrder (post_at old) waiting → AreInOrder (post_at new) waiting
-  unfolding with_nodes unlinked with_action with_port with_semaphore with_library entered queued dropped handed_on released_once
-  moves_order regions t call old marks new (touches how) formed order = touched_order old marks new how order
-  moves_order regions t call old marks new (places size reqs address object is fits) formed order =
+  -- a library is other to those who post, counted or freed
+  counted_order : (base count : ℕ) (delayed : Bool) (old : Heap) → is_library_at base old ≡ true → AreInOrder (post_at old) waiting
+      → AreInOrder (post_at (with_library base count delayed old)) waiting
+  unfolding with_library is_library_at
+  counted_order base count delayed old is order =
+      unchanged (post_at old) _ waiting order (same_there is_library base _ old is (library_other (object_at base old) is))
+
+  expunged_order : (base : ℕ) (old : Heap) → is_library_at base old ≡ true → AreInOrder (post_at old) waiting
+      → AreInOrder (post_at (rid base old)) waiting
+  unfolding is_library_at
+  expunged_order base old is order =
+      let other = library_other (object_at base old) is in
+      replaced_in_order (post_at old) (post_at (rid base old)) waiting order base Other
+      (ap post_of_object (object_rid_here base old))
+      (λ a apart. ap post_of_object (object_rid_there a base old apart))
+      (ap messages_at other) (ap (λ x. is_under_way (asked_at x)) other) refl refl
+      (λ a. order.stands base a (ap (may_stand a) other)) (other_needless old base other order)
+
+  takes_order : (regions : List Region) (old new : Heap) → Takes regions old new → IsWellFormed regions (extents old) → AreInOrder (post_at old) waiting
+      → AreInOrder (post_at new) waiting
+  takes_order regions old new nothing formed order = order
+  takes_order regions old new (places size reqs address object is fits) formed order =
       let fresh : post_at old address ≡ Other = ap post_of_object (placed_fresh regions size reqs address old formed fits) in
       replaced_in_order (post_at old) (post_at new) waiting order address (post_in object)
       (ap post_of_object (object_placed_here address (round size) object old))
       (λ a apart. ap post_of_object (object_placed_there a address _ old apart))
       (ap messages_at fresh) (ap (λ x. is_under_way (asked_at x)) fresh) (new_messages object is) (new_rests object is)
       (λ a. order.stands address a (ap (may_stand a) fresh)) (other_needless old address fresh order)
+  takes_order regions old new (recounts base count delayed is more rest) formed order =
+      takes_order regions (with_library base count delayed old) new rest (counted_formed regions base count delayed old formed)
+      (counted_order base count delayed old (is formed) order)
+  takes_order regions old new (yields base is none rest) formed order =
+      takes_order regions (rid base old) new rest (rid_formed regions base old formed) (expunged_order base old (is formed) order)
+
+  pub moves_order : (regions : List Region) (t : ℕ) (call : Call) (old : Heap) (marks : List Mark) (new : Heap) → Moves regions t call old marks new
+      → IsWellFormed regions (extents old) → AreInOrder (post_at old) waiting → AreInOrder (post_at new) waiting
+  unfolding with_nodes unlinked with_action with_port with_semaphore entered queued dropped handed_on released_once
+  moves_order regions t call old marks new (touches how) formed order = touched_order old marks new how order
+  moves_order regions t call old marks new (takes how) formed order = takes_order regions old new how formed order
   moves_order regions t call old marks new (frees address may unneeded) formed order =
       replaced_in_order (post_at old) (post_at new) waiting order address Other
       (ap post_of_object (object_rid_here address old))
@@ -209,16 +238,8 @@ module _ (waiting : List Queued) where
   moves_order regions t call old marks new (hands semaphore owner release is last e) formed order = semaphore_order semaphore _ old is refl order
   moves_order regions t call old marks new (opens semaphore release is last e) formed order = semaphore_order semaphore _ old is refl order
   moves_order regions t call old marks new (releases semaphore is last) formed order = semaphore_order semaphore _ old is refl order
-  moves_order regions t call old marks new (counts base count delayed is) formed order =
-      unchanged (post_at old) (post_at new) waiting order
-      (same_there is_library base _ old (unfold is_library_at in is formed) (library_other (object_at base old) (unfold is_library_at in is formed)))
-  moves_order regions t call old marks new (expunges base is may) formed order =
-      let other = library_other (object_at base old) (unfold is_library_at in is) in
-      replaced_in_order (post_at old) (post_at new) waiting order base Other
-      (ap post_of_object (object_rid_here base old))
-      (λ a apart. ap post_of_object (object_rid_there a base old apart))
-      (ap messages_at other) (ap (λ x. is_under_way (asked_at x)) other) refl refl
-      (λ a. order.stands base a (ap (may_stand a) other)) (other_needless old base other order)
+  moves_order regions t call old marks new (counts base count delayed is) formed order = counted_order base count delayed old (is formed) order
+  moves_order regions t call old marks new (expunges base is may) formed order = expunged_order base old is order
   moves_order regions t call old marks new (drops other apart) formed order = remade_order (left_by_task other) (task_left_post other) old order
 
 -- ---- whatever a call makes of requests, and the clock

@@ -4,7 +4,7 @@ use Rattle.memlist.specs.Memory.{IsWellFormed}
 use Rattle.memlist.proofs.Keeping.{untouched_well_formed}
 use Rattle.scheduler.specs.declared.Switch.{Switch}
 use Rattle.scheduler.specs.declared.Switch.TheVariants.{To, Idle}
-use Rattle.taskscript.specs.File.{MachineData}
+use Rattle.taskscript.specs.File.{MachineData, total_of}
 use Rattle.taskscript.specs.Machines.{IsMachine}
 use Rattle.taskscript.specs.declared.event.Event.{Event}
 use Rattle.execmodel.specs.State.{Call, Heap, Memory, Timer, Waiting as Queued, Mark, State, Outcome, on_schedule, booted, andthen}
@@ -132,12 +132,12 @@ tidies = record {
 -- the blocks of a machine before its start, where no request waits
 pub booted_formed : (machine : MachineData) → IsMachine machine → FormedState (booted machine)
 unfolding booted
-booted_formed machine is = untouched_well_formed 1048576 machine.regions is.regions
+booted_formed machine is = untouched_well_formed (total_of machine.version) machine.regions is.regions
 
 pub booted_tidy : (machine : MachineData) → IsMachine machine → IsTidy (booted machine)
 unfolding booted
 booted_tidy machine is = record {
-  formed = untouched_well_formed 1048576 machine.regions is.regions;
+  formed = untouched_well_formed (total_of machine.version) machine.regions is.regions;
   order = record { stands = λ who port barred. tt; lives = λ request under. true_is_not_false (sym under); waits = λ request. refl };
 }
 

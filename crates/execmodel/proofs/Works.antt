@@ -23,7 +23,8 @@ use Rattle.taskscript.specs.declared.word.requests.RequestWord.TheVariants as re
 use Rattle.execmodel.specs.State.{Call, Object, Request, Block, Heap, Due, AtClock, AtSystem, Timer, Memory, Mark, out, put, State, Outcome, on_schedule, on_memory}
 use Rattle.execmodel.specs.Calls.{argument, done, answered, waiting, alerted, unless}
 use Rattle.execmodel.specs.Objects.{object_at, is_kind, place_for_object}
-use Rattle.execmodel.specs.Memory.{extents, block_at, placed, allocates, does_memory}
+use Rattle.execmodel.specs.GivingWay.{after_asking_for_object}
+use Rattle.execmodel.specs.Memory.{extents, block_at, placed, makes_object, does_memory}
 use Rattle.execmodel.specs.Ports.{is_port_at, is_queued, has_message, messages_in, messages_of, messages_of_object, loses, performed, port_alert, wait_alert, does_ports}
 use Rattle.execmodel.specs.Semaphores.{is_tried_again, does_semaphores}
 use Rattle.execmodel.specs.Requests.{is_request, is_request_at, request_size, request_of, request_of_object, with_request, opened_for, closed_device, with_command, is_command, request_alert, resting_alert, delete_request_alert, set_io_alert, can_begin, begin_alert, send_alert, do_alert, state_alert, wait_io_alert, answering_port, where_port, acting_at, appended_at, finished_at, with_reply, ended, heap_begun, timer_begun, outcome_at, begun_at, answering_begun, replying_port, reply_taken, looks_for, begins_and_looks, aborts, does_requests, does_create_io_request, does_delete_io_request, does_open_device, does_close_device, does_set_io, does_do_io, does_send_io, does_check_io, does_wait_io, does_abort_io, does_io_secs, does_io_micros, does_io_error, does_io_flags}
@@ -39,6 +40,7 @@ use Rattle.execmodel.specs.Agreement.{once_if}
 use Rattle.execmodel.specs.Laws.{times_waiting}
 use Rattle.execmodel.proofs.Heaps.{true_is_not_false}
 use Rattle.execmodel.proofs.Itself.{word_itself, does_itself}
+use Rattle.execmodel.proofs.GivingWay.{asking_for_object_keeps}
 use Rattle.execmodel.proofs.Keeping.{plain_words_change_scripts, signal_words_change_signals_and_states, nesting_words_change_nestings, task_words_change_states_priorities_and_objects, list_words_change_the_memory, memory_words_change_the_memory, port_words_change_ports_signals_and_states, semaphore_words_change_states_and_objects, interrupt_words_change_what_is_caused, library_words_change_the_memory}
 use Rattle.execmodel.proofs.Queues.{IsAway}
 use Rattle.execmodel.proofs.Posts.{Post, APort, post_at, messages_at, is_a_port, may_stand, IsTidy, messages_are, request_is, port_is, request_there}
@@ -75,10 +77,12 @@ placed_waiting size object None memory = refl
 placed_waiting size object (Some address) memory = refl
 
 created_works : (t : ℕ) (call : Call) (port : ℕ) (s : State)
-    → Works t call s (allocates t call request_size (Request (idle_request port)) (place_for_object is_request request_size s.memory) s)
+    → Works t call s (makes_object t call is_request request_size (Request (idle_request port)) (on_memory (after_asking_for_object is_request request_size) s))
 created_works t call port s =
+    let asked = after_asking_for_object is_request request_size s.memory in
     by_moves (object_makes t call s is_request request_size (Request (idle_request port)) refl)
-    (unfold answered in placed_waiting request_size (Request (idle_request port)) (place_for_object is_request request_size s.memory) s.memory)
+    (unfold answered in (placed_waiting request_size (Request (idle_request port)) (place_for_object is_request request_size asked) asked
+    ∙ ap (λ (memory : Memory). memory.timer.waiting) (asking_for_object_keeps is_request request_size s.memory)))
 
 request_goes : (found : Option Object) → is_under_way (request_of_object found) ≡ false → is_kind is_request found ≡ true → MayGo found
 request_goes None rests is = tt

@@ -1,5 +1,5 @@
 -- Laws of every run: of each machine that a file may state, and each list of events.
-use Rattle.std.specs.Prelude.{◌≡◌, ◌≢◌, ◌⊎◌, ℕ, ◌*◌, ◌≤◌, ◌≤ℤ◌, map, sum_by, Bool, true, false, bit_and, count_by, All, List, [], ◌∷◌, ◌++◌, None, Some, slice_get, codes}
+use Rattle.std.specs.Prelude.{◌≡◌, ◌≢◌, ◌⊎◌, ℕ, zero, suc, ◌*◌, ◌≤◌, ◌<◌, ◌≤ℤ◌, map, sum_by, length, Bool, true, false, nat_eq, bit_and, count_by, All, List, [], ◌∷◌, ◌++◌, Option, None, Some, is_some, slice_get, codes}
 use Rattle.exectrace.specs.Trace.{Switch, Serve, TraceLine}
 use Rattle.memlist.specs.declared.region.Region.{Region}
 use Rattle.memlist.specs.Pieces.{AreDisjoint, IsTiled}
@@ -20,18 +20,22 @@ use Rattle.taskscript.specs.declared.word.task_signals.SignalWord.TheVariants as
 use Rattle.taskscript.specs.declared.word.ports.PortWord.TheVariants as ports
 use Rattle.taskscript.specs.declared.word.requests.RequestWord.TheVariants as requests
 use Rattle.taskscript.specs.declared.word.semaphores.SemaphoreWord.TheVariants.{ReleaseSemaphore}
-use Rattle.execmodel.specs.State.{Call, Object, Plain, Block, Heap, Waiting as Queued, Mark, State, Outcome}
+use Rattle.execmodel.specs.State.{Call, Object, Plain, Block, Heap, Memory, Waiting as Queued, Mark, State, Outcome}
 use Rattle.execmodel.specs.Calls.{argument, alerted, next_call}
 use Rattle.std.specs.Option.{option_map}
 use Rattle.taskscript.specs.declared.word.libraries.LibraryWord.TheVariants.{CloseLibrary}
-use Rattle.execmodel.specs.Libraries.{is_library_at, number_of, count_of, is_delayed}
-use Rattle.execmodel.specs.Memory.{block_at, extents, does_free_mem}
+use Rattle.execmodel.specs.Keeping.{without_blocks}
+use Rattle.execmodel.specs.GivingWay.{gives_way, after_asking, after_asking_for_object}
+use Rattle.execmodel.specs.Earlier.{earlier_alloc_mem, earlier_new_list, earlier_new_node, earlier_create_msg_port, earlier_new_msg, earlier_new_sem, earlier_create_io_request, earlier_open_library, earlier_run}
+use Rattle.execmodel.specs.Libraries.{is_library_at, number_of, count_of, is_delayed, ready_to_open, does_open_library}
+use Rattle.execmodel.specs.Memory.{block_at, extents, place_for, does_alloc_mem, does_free_mem}
+use Rattle.execmodel.specs.Lists.{does_new_list, does_new_node}
 use Rattle.execmodel.specs.Objects.{object_at}
-use Rattle.execmodel.specs.Ports.{is_port_at, messages_of}
-use Rattle.execmodel.specs.Requests.{request_of}
+use Rattle.execmodel.specs.Ports.{is_port_at, messages_of, does_create_msg_port, does_new_msg}
+use Rattle.execmodel.specs.Requests.{request_of, does_create_io_request}
 use Rattle.iorequest.specs.Request.{is_under_way, sets_time, time_of}
 use Rattle.timerdev.specs.Timing.{offset}
-use Rattle.execmodel.specs.Semaphores.{sem_of, waiters_of}
+use Rattle.execmodel.specs.Semaphores.{sem_of, waiters_of, does_new_sem}
 use Rattle.execmodel.specs.Pending.{allows_interrupts, next_softint}
 use Rattle.execmodel.specs.Interrupts.{interrupts, runs_softint}
 use Rattle.execmodel.specs.Step.{does, ends, step, tick, request, settle, switches, events, run}
@@ -249,6 +253,73 @@ OpenLibrariesStay =
     (base : ℕ) → OfEveryAction (λ action s o.
     is_library_at base s.memory.heap ≡ true → 1 ≤ count_of base s.memory.heap
     → StaysLoaded base s.memory.heap o.state.memory.heap ⊎ ((action ≡ OneStep) × IsLastClose base s))
+
+-- ---- versions of the rules
+
+-- In every state libraries are asked to give way just in version 2 of the rules.
+abbrev pub LibrariesAreAskedInVersionTwo : Type 0
+LibrariesAreAskedInVersionTwo =
+    (machine : MachineData) (list : List Event) → IsMachine machine → (run machine list).state.memory.asks ≡ nat_eq machine.version 2
+
+-- Each word that takes memory takes it as it is: no library is asked before.
+pub record TakesMemoryAsItIs (t : ℕ) (call : Call) (s : State) : Type 0 where
+  pub alloc_mem : does_alloc_mem t call s ≡ earlier_alloc_mem t call s
+  pub new_list : does_new_list t call s ≡ earlier_new_list t call s
+  pub new_node : does_new_node t call s ≡ earlier_new_node t call s
+  pub create_msg_port : does_create_msg_port t call s ≡ earlier_create_msg_port t call s
+  pub new_msg : does_new_msg t call s ≡ earlier_new_msg t call s
+  pub new_sem : does_new_sem t call s ≡ earlier_new_sem t call s
+  pub create_io_request : does_create_io_request t call s ≡ earlier_create_io_request t call s
+  pub open_library : does_open_library t call s ≡ earlier_open_library t call s
+
+-- Where libraries are not asked, each word that takes memory takes it as it is.
+abbrev pub UnaskedWordsTakeMemoryAsItIs : Type 0
+UnaskedWordsTakeMemoryAsItIs = (t : ℕ) (call : Call) (s : State) → s.memory.asks ≡ false → TakesMemoryAsItIs t call s
+
+-- Each run of a machine of version 1 is the run in which all words that take memory take it as it is.
+abbrev pub VersionOneIsTheMachineAsItWas : Type 0
+VersionOneIsTheMachineAsItWas =
+    (machine : MachineData) (list : List Event) → IsMachine machine → machine.version ≡ 1 → run machine list ≡ earlier_run machine list
+
+-- In any version, asking libraries to give way changes the blocks alone; and nothing, where the block has a place already.
+pub record AskingChangesTheBlocks : Type 0 where
+  pub for_a_block : (size reqs : ℕ) (memory : Memory) → without_blocks (after_asking size reqs memory) ≡ without_blocks memory
+  pub for_an_object : (kind : Object → Bool) (size : ℕ) (memory : Memory)
+      → without_blocks (after_asking_for_object kind size memory) ≡ without_blocks memory
+  pub for_a_library : (found : Option ℕ) (memory : Memory) → without_blocks (ready_to_open found memory) ≡ without_blocks memory
+  pub where_it_fits : (size reqs : ℕ) (memory : Memory) → is_some (place_for size reqs memory) ≡ true → after_asking size reqs memory ≡ memory
+
+-- ---- libraries give way
+
+-- the first so many libraries of the file gave way, one after another
+abbrev pub first_gave_way : ℕ → Memory → Memory
+first_gave_way zero memory = memory
+first_gave_way (suc k) memory = gives_way k (first_gave_way k memory)
+
+-- A block of so many bytes was asked for: the first so many libraries of the file gave way, no fewer were enough for the block, and after that
+-- it has a place, or all of them gave way.
+pub record AsksAsFarAsNeeded (size reqs : ℕ) (memory asked : Memory) : Type 0 where
+  pub count : ℕ
+  pub first : asked ≡ first_gave_way count memory
+  pub needed : (fewer : ℕ) → fewer < count → place_for size reqs (first_gave_way fewer memory) ≡ None
+  pub enough : (is_some (place_for size reqs asked) ≡ true) ⊎ (count ≡ length memory.libraries)
+  pub within : count ≤ length memory.libraries
+
+-- Libraries give way as far as a block needs it, and no further.
+abbrev pub LibrariesGiveWayAsFarAsNeeded : Type 0
+LibrariesGiveWayAsFarAsNeeded =
+    (size reqs : ℕ) (memory : Memory) → memory.asks ≡ true → size ≢ 0 → AsksAsFarAsNeeded size reqs memory (after_asking size reqs memory)
+
+-- What is no library stays as it is, and nothing begins where nothing began; a library that is open stays loaded, and as often open.
+pub record OnlyClosedLibrariesGo (old new : Heap) : Type 0 where
+  pub others : (a : ℕ) → is_library_at a old ≡ false → block_at a new ≡ block_at a old
+  pub loaded : (base : ℕ) → is_library_at base old ≡ true → 1 ≤ count_of base old → StaysLoaded base old new
+  pub counts : (base : ℕ) → is_library_at base old ≡ true → 1 ≤ count_of base old → count_of base new ≡ count_of base old
+
+-- In every state asking for a block frees none but those of libraries that are not open.
+abbrev pub OnlyClosedLibrariesGiveWay : Type 0
+OnlyClosedLibrariesGiveWay =
+    (size reqs : ℕ) → InEveryState (λ s. OnlyClosedLibrariesGo s.memory.heap (after_asking size reqs s.memory).heap)
 
 -- ---- requests and the clock
 

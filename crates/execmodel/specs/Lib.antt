@@ -6,8 +6,11 @@ pub mod Plain
 pub mod Signals
 pub mod Nesting
 pub mod Tasks
-pub mod Memory
+pub mod Places
 pub mod Objects
+pub mod Loaded
+pub mod GivingWay
+pub mod Memory
 pub mod Semaphores
 pub mod Lists
 pub mod Libraries
@@ -18,6 +21,7 @@ pub mod Bodies
 pub mod Requests
 pub mod Interrupts
 pub mod Step
+pub mod Earlier
 pub mod Keeping
 pub mod Runs
 pub mod Queues

@@ -1,62 +1,19 @@
 -- Libraries (RKM Libraries, Exec Libraries). A library is absent, or it is loaded and begins at an address, its base. A base that no loaded
 -- library has is the alert HANDLE; a library that is closed more often than opened is the alert LIB (own choice).
-use Rattle.std.specs.Prelude.{ℕ, ◌+◌, ◌-◌, Bool, true, false, not, ◌&&◌, if◌then◌else◌, nat_eq, nat_le, bytes_eq, unwrap_or, slice_index_or, find, map, codes, List, [], Option, None, Some}
+use Rattle.std.specs.Prelude.{ℕ, ◌+◌, ◌-◌, Bool, false, not, ◌&&◌, if◌then◌else◌, nat_eq, nat_le, bytes_eq, unwrap_or, slice_index_or, codes, List, [], Option, None, Some}
 use Rattle.std.specs.List.{position_from}
-use Rattle.std.specs.Option.{option_and_then, option_map, option_map_or}
+use Rattle.std.specs.Option.{option_and_then, option_map_or}
 use Rattle.taskscript.specs.File.{LibraryData}
 use Rattle.taskscript.specs.declared.word.libraries.LibraryWord.{LibraryWord}
 use Rattle.taskscript.specs.declared.word.libraries.LibraryWord.TheVariants as word
-use Rattle.execmodel.specs.State.{Call, Object, Library, Block, Heap, Memory, State, Outcome, on_memory, on_heap}
+use Rattle.execmodel.specs.State.{Call, Library, Heap, Memory, State, Outcome, on_memory, on_heap}
 use Rattle.execmodel.specs.Calls.{argument, name_argument, done, answered, unless}
-use Rattle.execmodel.specs.Memory.{freed, place_for, placed}
-use Rattle.execmodel.specs.Objects.{object_at, is_kind, public_memory, replaced}
+use Rattle.execmodel.specs.Places.{freed, place_for, placed}
+use Rattle.execmodel.specs.Objects.{public_memory}
+use Rattle.execmodel.specs.GivingWay.{after_asking}
+unfoldable pub use Rattle.execmodel.specs.Loaded.{is_library, is_library_at, number_in, count_in, delayed_in, number_of, count_of, is_delayed, with_library, is_numbered, base_of, removed}
 
--- ---- libraries in memory
-
-abbrev pub is_library : Object → Bool
-is_library (Library number count delayed) = true
-is_library _ = false
-
--- a loaded library begins at an address
-unfoldable pub is_library_at : ℕ → Heap → Bool
-is_library_at base heap = is_kind is_library (object_at base heap)
-
--- the number of a library in the order of the file, how often it is open, and whether it is to be expunged
-abbrev pub number_in : Object → ℕ
-number_in (Library number count delayed) = number
-number_in _ = 0
-
-abbrev pub count_in : Object → ℕ
-count_in (Library number count delayed) = count
-count_in _ = 0
-
-abbrev pub delayed_in : Object → Bool
-delayed_in (Library number count delayed) = delayed
-delayed_in _ = false
-
--- the same of the library that begins at an address
-unfoldable pub number_of : ℕ → Heap → ℕ
-number_of base heap = option_map_or number_in (object_at base heap) 0
-
-unfoldable pub count_of : ℕ → Heap → ℕ
-count_of base heap = option_map_or count_in (object_at base heap) 0
-
-unfoldable pub is_delayed : ℕ → Heap → Bool
-is_delayed base heap = option_map_or delayed_in (object_at base heap) false
-
--- the library at a base is open so often, and is to be expunged or not
-unfoldable pub with_library : ℕ → ℕ → Bool → Heap → Heap
-with_library base count delayed heap = map (replaced base (Library (number_of base heap) count delayed)) heap
-
--- an object is library i
-abbrev pub is_numbered : ℕ → Object → Bool
-is_numbered i (Library number count delayed) = nat_eq number i
-is_numbered i _ = false
-
--- the base of library i, if it is loaded
-unfoldable pub base_of : ℕ → Heap → Option ℕ
-base_of i heap =
-    option_map (λ (entry : ℕ × Block). entry.0) (find (λ (entry : ℕ × Block). is_numbered i entry.1.object) heap)
+-- ---- refusals
 
 -- the alert of a call on a library
 unfoldable pub library_alert : ℕ → Heap → Option (List ℕ)
@@ -94,6 +51,16 @@ only_if test i = if test i then Some i else None
 abbrev pub library_to_open : List ℕ → ℕ → Memory → Option ℕ
 library_to_open name version memory = option_and_then (only_if (can_open version memory)) (library_named name memory)
 
+-- the memory before library i is opened: where it is to be loaded, other libraries are asked to give way to it
+abbrev pub ready_to_load : Option ℕ → ℕ → Memory → Memory
+ready_to_load (Some base) i memory = memory
+ready_to_load None i memory = after_asking (library_at i memory).size public_memory memory
+
+-- the memory before an opening of that library, or of none
+unfoldable pub ready_to_open : Option ℕ → Memory → Memory
+ready_to_open None memory = memory
+ready_to_open (Some i) memory = ready_to_load (base_of i memory.heap) i memory
+
 -- where a library lies, or where it is loaded: it takes memory as an object does
 abbrev pub base_or_place : Option ℕ → ℕ → Memory → Option ℕ
 base_or_place (Some base) i memory = Some base
@@ -105,7 +72,9 @@ base_opened (Some i) memory = base_or_place (base_of i memory.heap) i memory
 
 -- the base that an opening gives, or none
 unfoldable pub opening : List ℕ → ℕ → Memory → Option ℕ
-opening name version memory = base_opened (library_to_open name version memory) memory
+opening name version memory =
+    let found = library_to_open name version memory in
+    base_opened found (ready_to_open found memory)
 
 -- a loaded library is open once more, and is not to be expunged any more; an absent one is loaded and open once, if it has a place
 abbrev pub entered_or_loaded : Option ℕ → ℕ → Memory → Memory
@@ -118,7 +87,9 @@ library_opened None memory = memory
 library_opened (Some i) memory = entered_or_loaded (base_of i memory.heap) i memory
 
 unfoldable pub opened : List ℕ → ℕ → Memory → Memory
-opened name version memory = library_opened (library_to_open name version memory) memory
+opened name version memory =
+    let found = library_to_open name version memory in
+    library_opened found (ready_to_open found memory)
 
 -- OpenLibrary name version: answers the base of the library of that name, which is loaded first where it is absent, and is open once more;
 -- 0 where there is none of the name, its version is lower, it is open 65,535 times, or there is no place for it
@@ -149,12 +120,6 @@ does_close_library t call s =
     let base = argument 0 call in
     if nat_eq base 0 then done t call s
     else unless (close_alert base s.memory.heap) t call (λ s. done t call (on_memory (closed base) s)) s
-
--- a library that is not open is freed; an open one is to be expunged when it is closed for the last time
-unfoldable pub removed : ℕ → Memory → Memory
-removed base memory =
-    if nat_eq (count_of base memory.heap) 0 then freed base memory
-    else on_heap (with_library base (count_of base memory.heap) true) memory
 
 -- RemLibrary base: the library is expunged, now or when it is closed for the last time (autodoc exec.library/RemLibrary; the alert: own
 -- choice)

@@ -10,8 +10,9 @@ use Rattle.taskscript.specs.declared.word.lists.ListWord.{ListWord}
 use Rattle.taskscript.specs.declared.word.lists.ListWord.TheVariants as word
 use Rattle.execmodel.specs.State.{Call, Object, ListHead, Node, Block, Heap, State, Outcome, on_memory, on_heap}
 use Rattle.execmodel.specs.Calls.{argument, name_argument, done, answered, unless}
-use Rattle.execmodel.specs.Memory.{allocates, freed}
-use Rattle.execmodel.specs.Objects.{object_at, is_kind, place_for_object}
+use Rattle.execmodel.specs.GivingWay.{after_asking_for_object}
+use Rattle.execmodel.specs.Memory.{makes_object, freed}
+use Rattle.execmodel.specs.Objects.{object_at, is_kind}
 use Rattle.execmodel.specs.Tasks.{is_priority}
 
 -- ---- lists and nodes in memory
@@ -100,7 +101,7 @@ node_size = 14
 
 -- NewList: answers the address of a new empty list, or 0 (autodoc amiga.lib/NewList; that it takes the memory: own choice)
 unfoldable pub does_new_list : ℕ → Call → State → Outcome
-does_new_list t call s = allocates t call list_size (ListHead []) (place_for_object is_list list_size s.memory) s
+does_new_list t call s = makes_object t call is_list list_size (ListHead []) (on_memory (after_asking_for_object is_list list_size) s)
 
 -- the alert of a call that frees a list: it has to be empty
 unfoldable pub free_list_alert : ℕ → Heap → Option (List ℕ)
@@ -124,7 +125,7 @@ does_new_node t call s =
     let pri = cast_signed w32 (argument 0 call) in
     let key : Key = record { pri = pri; name = name_argument 1 call } in
     unless (new_node_alert pri) t call
-    (λ s. allocates t call node_size (Node key) (place_for_object is_node node_size s.memory) s) s
+    (λ s. makes_object t call is_node node_size (Node key) (on_memory (after_asking_for_object is_node node_size) s)) s
 
 -- the alert of a call that frees a node: it must not be linked
 unfoldable pub free_node_alert : ℕ → Heap → Option (List ℕ)

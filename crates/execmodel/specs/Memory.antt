@@ -1,40 +1,14 @@
--- Memory (RKM Libraries, Exec Memory Allocation): blocks that AllocMem gives and FreeMem takes back. The gaps of a region are what its
--- blocks leave; they are stored nowhere.
-use Rattle.std.specs.Prelude.{ℕ, Bool, true, false, not, ◌&&◌, if◌then◌else◌, nat_eq, nat_lt, bit_and, map, codes, List, Option, None, Some}
+-- Memory (RKM Libraries, Exec Memory Allocation): blocks that AllocMem gives and FreeMem takes back.
+use Rattle.std.specs.Prelude.{ℕ, Bool, true, false, not, ◌&&◌, if◌then◌else◌, nat_eq, nat_lt, bit_and, codes, List, Option, None, Some}
 use Rattle.std.specs.Option.{unwrap_or}
-use Rattle.std.specs.Ordering.{nat_cmp}
-use Rattle.std.specs.FinMap.{find, put}
-use Rattle.std.specs.FinMap.Entries.{where_key}
-use Rattle.memlist.specs.Blocks.{Blocks}
-use Rattle.memlist.specs.Fit.{fit, avail, asks, round}
+use Rattle.memlist.specs.Fit.{avail, asks, round}
 use Rattle.taskscript.specs.declared.word.memory.MemoryWord.{MemoryWord}
 use Rattle.taskscript.specs.declared.word.memory.MemoryWord.TheVariants as word
-use Rattle.execmodel.specs.State.{Call, Object, Plain, Block, Heap, Memory, State, Outcome, on_memory}
+use Rattle.execmodel.specs.State.{Call, Object, Plain, Block, Heap, State, Outcome, on_memory}
 use Rattle.execmodel.specs.Calls.{argument, done, answered, unless}
-
--- ---- the heap
-
--- the block that begins at an address
-abbrev pub block_at : ℕ → Heap → Option Block
-block_at address heap = find nat_cmp address heap
-
--- Where the blocks lie, and how long they are: where a block fits, and how much is free, depends on that alone.
-abbrev pub extents : Heap → Blocks
-extents heap = map (λ (entry : ℕ × Block). (entry.0, (entry.1.size, 0))) heap
-
--- the address where a block of so many bytes goes, if there is one
-abbrev pub place_for : ℕ → ℕ → Memory → Option ℕ
-place_for size reqs memory = fit memory.regions (extents memory.heap) size reqs
-
--- an object gets a block of so many bytes at an address, if there is one
-abbrev pub placed : ℕ → Object → Option ℕ → Memory → Memory
-placed size object None memory = memory
-placed size object (Some address) memory =
-    record memory { heap = put nat_cmp address (record { size = round size; object = object }) memory.heap }
-
--- the block that begins at an address is freed; what is free beside it joins it
-abbrev pub freed : ℕ → Memory → Memory
-freed address memory = record memory { heap = where_key nat_cmp (λ other. not (nat_eq other address)) memory.heap }
+use Rattle.execmodel.specs.Objects.{place_for_object}
+use Rattle.execmodel.specs.GivingWay.{after_asking}
+pub use Rattle.execmodel.specs.Places.{block_at, extents, place_for, placed, freed}
 
 -- ---- AllocMem
 
@@ -50,17 +24,26 @@ alloc_bits = 0x10007
 abbrev pub allocates : ℕ → Call → ℕ → Object → Option ℕ → State → Outcome
 allocates t call size object place s = answered t call (unwrap_or place 0) (on_memory (placed size object place) s)
 
+-- a call takes a plain block of a size where it fits, once libraries were asked to give way
+abbrev pub takes_block : ℕ → Call → (size reqs : ℕ) → State → Outcome
+takes_block t call size reqs s = allocates t call size Plain (place_for size reqs s.memory) s
+
+-- a call makes an object of a kind, which takes so many bytes, where the pool allows one more and it fits
+abbrev pub makes_object : ℕ → Call → (Object → Bool) → ℕ → Object → State → Outcome
+makes_object t call kind size object s = allocates t call size object (place_for_object kind size s.memory) s
+
 -- the alert of AllocMem: it knows no other requirements
 abbrev pub alloc_alert : ℕ → Option (List ℕ)
 alloc_alert reqs = if not (has_only alloc_bits reqs) then Some (codes "VALUE") else None
 
 -- AllocMem size reqs: answers the address of a plain block, or 0 where none fits or the size is 0; the front of the lowest gap of the
--- suitable region of greatest priority is taken (autodoc exec.library/AllocMem; size 0, and the alert: own choice)
+-- suitable region of greatest priority is taken, once libraries were asked to give way where no gap is large enough
+-- (autodoc exec.library/AllocMem; size 0, the order of asking, and the alert: own choice)
 unfoldable pub does_alloc_mem : ℕ → Call → State → Outcome
 does_alloc_mem t call s =
     let size = argument 0 call in
     let reqs = argument 1 call in
-    unless (alloc_alert reqs) t call (λ s. allocates t call size Plain (place_for size reqs s.memory) s) s
+    unless (alloc_alert reqs) t call (λ s. takes_block t call size reqs (on_memory (after_asking size reqs) s)) s
 
 -- ---- FreeMem
 

@@ -1,8 +1,8 @@
 -- Objects: what begins at an address, and where a new object goes. An object takes a block of its own, with MEMF_PUBLIC (own choice).
 use Rattle.std.specs.Prelude.{ℕ, Bool, false, if◌then◌else◌, nat_eq, nat_lt, filter, length, Option, None, Some}
 use Rattle.std.specs.Option.{option_map}
-use Rattle.execmodel.specs.State.{Object, Block, Heap, Memory}
-use Rattle.execmodel.specs.Memory.{block_at, place_for}
+use Rattle.execmodel.specs.Blocks.{Object, Block, Heap, Memory}
+use Rattle.execmodel.specs.Places.{block_at, place_for}
 
 -- the object that begins at an address, if a block does
 abbrev pub object_at : ℕ → Heap → Option Object
@@ -25,7 +25,11 @@ public_memory = 1
 abbrev pub live : (Object → Bool) → Heap → ℕ
 live kind heap = length (filter (λ (entry : ℕ × Block). kind entry.1.object) heap)
 
+-- the pool allows one more object of a kind (own choice)
+abbrev pub is_allowed : (Object → Bool) → Memory → Bool
+is_allowed kind memory = nat_lt (live kind memory.heap) memory.pool
+
 -- The address where a new object of a kind goes, which takes so many bytes; there is none where as many live as the pool allows, nor
 -- where no gap is large enough (own choice).
 unfoldable pub place_for_object : (Object → Bool) → ℕ → Memory → Option ℕ
-place_for_object kind size memory = if nat_lt (live kind memory.heap) memory.pool then place_for size public_memory memory else None
+place_for_object kind size memory = if is_allowed kind memory then place_for size public_memory memory else None

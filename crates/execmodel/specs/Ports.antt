@@ -23,7 +23,8 @@ use Rattle.execmodel.specs.State.{Call, Object, MsgPort, Message, Request, Block
 use Rattle.execmodel.specs.Calls.{Caller, ByTask, argument, name_argument, done, done_by, answered, answered_by, waiting, unless, unless_by}
 use Rattle.execmodel.specs.Scheduling.{signalled}
 use Rattle.execmodel.specs.Pending.{causes, softint_named}
-use Rattle.execmodel.specs.Memory.{allocates as memory_allocated, freed, placed}
+use Rattle.execmodel.specs.GivingWay.{after_asking_for_object}
+use Rattle.execmodel.specs.Memory.{makes_object, freed, placed}
 use Rattle.execmodel.specs.Objects.{object_at, is_kind, place_for_object, replaced}
 use Rattle.execmodel.specs.Tasks.{is_priority}
 
@@ -155,11 +156,21 @@ port_created t call (Some bit) (Some address) s =
     answered t call address
     (on_schedule (allocates t (negsuc 0)) (on_memory (placed port_size (MsgPort (new_port t bit) []) (Some address)) s))
 
+-- the memory before a port is made for a task that has a signal left, or none: without a signal nothing is asked (own choice)
+abbrev pub after_asking_for_port : Option ℕ → Memory → Memory
+after_asking_for_port None memory = memory
+after_asking_for_port (Some bit) memory = after_asking_for_object is_port port_size memory
+
+-- a port is made, if the pool allows one more and it fits, and if the caller has a signal left
+abbrev pub makes_port : ℕ → Call → Option ℕ → State → Outcome
+makes_port t call bit s = port_created t call bit (place_for_object is_port port_size s.memory) s
+
 -- CreateMsgPort: answers the address of a new port of the caller, which signals it by a newly allocated signal; or 0
 -- (autodoc exec.library/CreateMsgPort)
 unfoldable pub does_create_msg_port : ℕ → Call → State → Outcome
 does_create_msg_port t call s =
-    port_created t call (grant (negsuc 0) (signals_of s.schedule t)) (place_for_object is_port port_size s.memory) s
+    let bit = grant (negsuc 0) (signals_of s.schedule t) in
+    makes_port t call bit (on_memory (after_asking_for_port bit) s)
 
 -- an object is a request under way whose reply goes to that port
 abbrev pub replies_to : ℕ → Object → Bool
@@ -265,7 +276,7 @@ does_new_msg t call s =
     let reply = argument 0 call in
     let content = new_message reply (argument 1 call) in
     unless (reply_port_alert reply s.memory.heap) t call
-    (λ s. memory_allocated t call message_size (Message content) (place_for_object is_message message_size s.memory) s) s
+    (λ s. makes_object t call is_message message_size (Message content) (on_memory (after_asking_for_object is_message message_size) s)) s
 
 -- the alert of a call on a message that is in no port
 unfoldable pub loose_alert : ℕ → Heap → Option (List ℕ)

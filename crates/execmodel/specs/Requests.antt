@@ -21,8 +21,9 @@ use Rattle.taskscript.specs.declared.word.requests.RequestWord.{RequestWord}
 use Rattle.taskscript.specs.declared.word.requests.RequestWord.TheVariants as word
 use Rattle.execmodel.specs.State.{Call, Object, Request, Heap, AtClock, AtSystem, Timer as Clock, Memory, State, Outcome, put, out, leaving, quiet, says, andthen, on_schedule, on_memory, on_heap, on_timer}
 use Rattle.execmodel.specs.Calls.{argument, name_argument, done, answered, waiting, unless}
-use Rattle.execmodel.specs.Memory.{allocates as memory_allocated, freed}
-use Rattle.execmodel.specs.Objects.{object_at, is_kind, place_for_object, replaced}
+use Rattle.execmodel.specs.GivingWay.{after_asking_for_object}
+use Rattle.execmodel.specs.Memory.{makes_object, freed}
+use Rattle.execmodel.specs.Objects.{object_at, is_kind, replaced}
 use Rattle.execmodel.specs.Ports.{appended, is_port_at, is_queued, loses, messages_of, performed, port_alert, port_of, wait_alert, with_port}
 use Rattle.execmodel.specs.Semaphores.{is_tried_again}
 use Rattle.timerdev.specs.Timing.{begins_to_wait, due_next, looked_at, system_set, until_next, waits_no_more}
@@ -200,7 +201,7 @@ does_create_io_request t call s =
     let port = argument 0 call in
     if nat_eq port 0 then answered t call 0 s
     else unless (port_alert port s.memory.heap) t call
-    (λ s. memory_allocated t call request_size (Request (idle_request port)) (place_for_object is_request request_size s.memory) s) s
+    (λ s. makes_object t call is_request request_size (Request (idle_request port)) (on_memory (after_asking_for_object is_request request_size) s)) s
 
 -- DeleteIORequest request: the request is freed; 0 does nothing (autodoc exec.library/DeleteIORequest; the alerts: own choice)
 unfoldable pub does_delete_io_request : ℕ → Call → State → Outcome

@@ -63,7 +63,7 @@ beside first second = task (codes "a") (pos 0) first ∷ task (codes "b") (negsu
 
 -- a machine without memory and tasks
 abbrev pub bare : MachineData
-bare = record { quantum = 4; tick_micros = 20000; pool = 64; regions = []; libraries = []; softints = []; servers = []; tasks = [] }
+bare = record { version = 1; quantum = 4; tick_micros = 20000; pool = 64; regions = []; libraries = []; softints = []; servers = []; tasks = [] }
 
 -- so many bytes of public memory
 abbrev pub room : ℕ → List Region
@@ -534,6 +534,86 @@ AnOpeningTakesARemovalBack =
     ∷ its_library CloseLibrary ∷ []))
     (Run 7 ∷ [])
     ≡ codes "switch a\na OpenLibrary \"x.library\" $00000000 -> $00001000\na RemLibrary $00001000\na OpenLibrary \"x.library\" $00000000 -> $00001000\na CloseLibrary $00001000\na CloseLibrary $00001000\na LibOpenCnt $00001000 -> $00000000\nalert LIB a CloseLibrary\n"
+
+-- so many bytes of public memory, and two libraries that take 16 bytes each
+abbrev pub with_two_libraries : ℕ → List CommandData → MachineData
+with_two_libraries size code =
+    record bare {
+      regions = room size;
+      libraries = record { name = codes "x"; version = 1; size = 16 } ∷ record { name = codes "y"; version = 1; size = 16 } ∷ [];
+      tasks = alone code;
+    }
+
+-- the same machine in version 2 of the rules, in which libraries give way
+abbrev pub in_version_two : MachineData → MachineData
+in_version_two machine = record machine { version = 2 }
+
+-- a library of a name is opened, with any version, and its base goes into a variable
+abbrev pub opens_into : ℕ → List ℕ → CommandData
+opens_into k name = into k (Libraries OpenLibrary) (quoted name ∷ number 0 ∷ [])
+
+-- a word with the base that a variable holds
+abbrev pub of_library : ℕ → LibraryWord → CommandData
+of_library k word = command (Libraries word) (variable (Private k) ∷ [])
+
+-- so many bytes of public memory
+abbrev pub takes : ℕ → CommandData
+takes size = command (Memory AllocMem) (number size ∷ number 1 ∷ [])
+
+-- x is open and y is not, when there is not enough memory
+abbrev pub lacks_memory_once : List CommandData
+lacks_memory_once =
+    opens_into 0 (codes "x") ∷ opens_into 1 (codes "y") ∷ of_library 1 CloseLibrary ∷ takes 48 ∷ of_library 0 LibOpenCnt
+    ∷ of_library 0 CloseLibrary ∷ asks_for_room ∷ of_library 0 LibOpenCnt ∷ []
+
+abbrev pub LibrariesGiveWay : Type 0
+LibrariesGiveWay = trace (in_version_two (with_two_libraries 64 lacks_memory_once)) (Run 8 ∷ [])
+    ≡ codes "switch a\na OpenLibrary \"x\" $00000000 -> $00001000\na OpenLibrary \"y\" $00000000 -> $00001010\na CloseLibrary $00001010\na AllocMem $00000030 $00000001 -> $00001010\na LibOpenCnt $00001000 -> $00000001\na CloseLibrary $00001000\na AvailMem $00000001 -> $00000010\nalert HANDLE a LibOpenCnt\n"
+
+abbrev pub NoLibraryGivesWayInVersionOne : Type 0
+NoLibraryGivesWayInVersionOne = trace (with_two_libraries 64 lacks_memory_once) (Run 8 ∷ [])
+    ≡ codes "switch a\na OpenLibrary \"x\" $00000000 -> $00001000\na OpenLibrary \"y\" $00000000 -> $00001010\na CloseLibrary $00001010\na AllocMem $00000030 $00000001 -> $00000000\na LibOpenCnt $00001000 -> $00000001\na CloseLibrary $00001000\na AvailMem $00000001 -> $00000020\na LibOpenCnt $00001000 -> $00000000\n"
+
+-- more is asked for than there can be while x is open
+abbrev pub lacks_memory_in_vain : List CommandData
+lacks_memory_in_vain = opens_into 0 (codes "x") ∷ takes 64 ∷ of_library 0 CloseLibrary ∷ asks_for_room ∷ []
+
+abbrev pub WhatWasMarkedInVainStaysSo : Type 0
+WhatWasMarkedInVainStaysSo = trace (in_version_two (with_two_libraries 64 lacks_memory_in_vain)) (Run 4 ∷ [])
+    ≡ codes "switch a\na OpenLibrary \"x\" $00000000 -> $00001000\na AllocMem $00000040 $00000001 -> $00000000\na CloseLibrary $00001000\na AvailMem $00000001 -> $00000040\n"
+
+abbrev pub NothingIsMarkedInVersionOne : Type 0
+NothingIsMarkedInVersionOne = trace (with_two_libraries 64 lacks_memory_in_vain) (Run 4 ∷ [])
+    ≡ codes "switch a\na OpenLibrary \"x\" $00000000 -> $00001000\na AllocMem $00000040 $00000001 -> $00000000\na CloseLibrary $00001000\na AvailMem $00000001 -> $00000030\n"
+
+-- y lies before x; neither is open, and each would make room enough
+abbrev pub TheFirstFitEndsTheAsking : Type 0
+TheFirstFitEndsTheAsking =
+    trace
+    (in_version_two (with_two_libraries 32
+    (opens_into 0 (codes "y") ∷ opens_into 1 (codes "x") ∷ of_library 0 CloseLibrary ∷ of_library 1 CloseLibrary ∷ takes 16 ∷ asks_for_room ∷ [])))
+    (Run 6 ∷ [])
+    ≡ codes "switch a\na OpenLibrary \"y\" $00000000 -> $00001000\na OpenLibrary \"x\" $00000000 -> $00001010\na CloseLibrary $00001000\na CloseLibrary $00001010\na AllocMem $00000010 $00000001 -> $00001010\na AvailMem $00000001 -> $00000000\n"
+
+-- one list may live; x is not open, and would make room for another one
+abbrev pub NothingIsAskedForWhatIsNeverTaken : Type 0
+NothingIsAskedForWhatIsNeverTaken =
+    trace
+    (record (in_version_two (with_two_libraries 32
+    (opens_into 0 (codes "x") ∷ of_library 0 CloseLibrary ∷ command (Lists NewList) [] ∷ command (Lists NewList) [] ∷ takes 0 ∷ asks_for_room
+    ∷ command (Lists NewNode) (number 0 ∷ number 0 ∷ []) ∷ []))) { pool = 1 })
+    (Run 7 ∷ [])
+    ≡ codes "switch a\na OpenLibrary \"x\" $00000000 -> $00001000\na CloseLibrary $00001000\na NewList -> $00001010\na NewList -> $00000000\na AllocMem $00000000 $00000001 -> $00000000\na AvailMem $00000001 -> $00000000\na NewNode $00000000 $00000000 -> $00001000\n"
+
+-- there is room for one library
+abbrev pub ALibraryGivesWayToAnother : Type 0
+ALibraryGivesWayToAnother =
+    trace
+    (in_version_two (with_two_libraries 16
+    (opens_into 0 (codes "x") ∷ of_library 0 CloseLibrary ∷ opens_into 1 (codes "y") ∷ opens_into 0 (codes "x") ∷ of_library 1 CloseLibrary
+    ∷ asks_for_room ∷ [])))
+    (Run 6 ∷ [])
+    ≡ codes "switch a\na OpenLibrary \"x\" $00000000 -> $00001000\na CloseLibrary $00001000\na OpenLibrary \"y\" $00000000 -> $00001000\na OpenLibrary \"x\" $00000000 -> $00000000\na CloseLibrary $00001000\na AvailMem $00000001 -> $00000010\n"
 
 -- a port in the first variable, and a request with it as reply port in another one
 abbrev pub makes_reply_port : CommandData

@@ -16,8 +16,9 @@ use Rattle.taskscript.specs.declared.word.semaphores.SemaphoreWord.TheVariants a
 use Rattle.execmodel.specs.State.{Call, Scripts, Object, Semaphore, Block, Heap, State, Outcome, asked, passed, left, leaving, program_of, on_schedule, on_memory, on_heap}
 use Rattle.execmodel.specs.Calls.{argument, done, answered, waiting, unless}
 use Rattle.execmodel.specs.Scheduling.{arrives}
-use Rattle.execmodel.specs.Memory.{allocates as memory_allocated, freed}
-use Rattle.execmodel.specs.Objects.{object_at, is_kind, place_for_object, replaced}
+use Rattle.execmodel.specs.GivingWay.{after_asking_for_object}
+use Rattle.execmodel.specs.Memory.{makes_object, freed}
+use Rattle.execmodel.specs.Objects.{object_at, is_kind, replaced}
 
 -- ---- semaphores in memory
 
@@ -126,7 +127,7 @@ semaphore_size = 46
 -- own choice)
 unfoldable pub does_new_sem : ℕ → Call → State → Outcome
 does_new_sem t call s =
-    memory_allocated t call semaphore_size (Semaphore free_sem []) (place_for_object is_semaphore semaphore_size s.memory) s
+    makes_object t call is_semaphore semaphore_size (Semaphore free_sem []) (on_memory (after_asking_for_object is_semaphore semaphore_size) s)
 
 -- the alert of a call that frees a semaphore: no task is to own it
 unfoldable pub free_sem_alert : ℕ → Heap → Option (List ℕ)

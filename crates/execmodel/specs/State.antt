@@ -1,6 +1,6 @@
 -- The state of the abstract machine, and what an action makes of it. Nothing in it is linked and nothing is sorted: each
 -- queue is a sequence in order of arrival.
-use Rattle.std.specs.Prelude.{ℕ, Bool, false, if◌then◌else◌, List, [], ◌∷◌, ◌++◌, Option, None, map, length, replicate, slice_index_or, slice_set}
+use Rattle.std.specs.Prelude.{ℕ, Bool, false, if◌then◌else◌, nat_eq, List, [], ◌∷◌, ◌++◌, Option, None, map, length, replicate, slice_index_or, slice_set}
 use Rattle.exectrace.specs.Trace.{Argument, TraceLine}
 use Rattle.taskscript.specs.declared.word.Word.{Word}
 use Rattle.taskscript.specs.declared.variable.Variable.{Variable}
@@ -151,6 +151,7 @@ booted machine = record {
   memory = record {
     regions = machine.regions;
     libraries = machine.libraries;
+    asks = nat_eq machine.version 2;
     pool = machine.pool;
     heap = [];
     public = [];

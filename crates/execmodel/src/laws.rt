@@ -2,7 +2,7 @@
 ghost use Rattle.std.specs.Prelude.{◌≡◌, true, List};
 ghost use Rattle.taskscript.specs.declared.event.Event.{Event};
 ghost use Rattle.execmodel.specs.Keeping.{PlainWordsChangeScripts, SignalWordsChangeSignalsAndStates, NestingWordsChangeNestings, TaskWordsChangeStatesPrioritiesAndObjects, ListWordsChangeTheMemory, MemoryWordsChangeTheMemory, PortWordsChangePortsSignalsAndStates, SemaphoreWordsChangeStatesAndObjects, InterruptWordsChangeWhatIsCaused, LibraryWordsChangeTheMemory, RequestWordsChangeRequestsPortsSignalsAndStates};
-ghost use Rattle.execmodel.specs.Laws.{FirstInFirstOut, EachByteHasOneOwner, FreeMemRefusesObjects, OwnersChangeAtTheLastRelease, FreeSemaphoresHaveNoWaiters, SemaphoresPassInOrder, QueuesAgreeWithTheSchedule, EachStateIsSettled, SwitchesGoToTheChosen, OnlySwitchesSaySo, WaitersHaveReceivedNone, ReceivedSignalsStay, InterruptsKeepNestings, ThreeServingsAtMost, OpenLibrariesStay, ReplyPortsLive, RequestsUnderWayWait, TheClockCountsTicks, SystemTimeGoesWithTheClock};
+ghost use Rattle.execmodel.specs.Laws.{FirstInFirstOut, EachByteHasOneOwner, FreeMemRefusesObjects, OwnersChangeAtTheLastRelease, FreeSemaphoresHaveNoWaiters, SemaphoresPassInOrder, QueuesAgreeWithTheSchedule, EachStateIsSettled, SwitchesGoToTheChosen, OnlySwitchesSaySo, WaitersHaveReceivedNone, ReceivedSignalsStay, InterruptsKeepNestings, ThreeServingsAtMost, OpenLibrariesStay, LibrariesAreAskedInVersionTwo, UnaskedWordsTakeMemoryAsItIs, VersionOneIsTheMachineAsItWas, AskingChangesTheBlocks, ReplyPortsLive, RequestsUnderWayWait, TheClockCountsTicks, SystemTimeGoesWithTheClock, LibrariesGiveWayAsFarAsNeeded, OnlyClosedLibrariesGiveWay};
 ghost use Rattle.execmodel.specs.State.{State, Outcome, quiet, andthen, unless_stopped};
 ghost use Rattle.execmodel.specs.Step.{event, events};
 
@@ -117,6 +117,30 @@ pub fn interrupts()
 /// Source: RKM Libraries, Exec Libraries.
 pub fn open_stays()
     ensures { OpenLibrariesStay }
+{}
+
+/// In version 1 of the rules no library gives way: each run of a machine of version 1 is the run of the machine as it was, in which AllocMem,
+/// NewList, NewNode, CreateMsgPort, NewMsg, NewSem, CreateIORequest and OpenLibrary take memory as it is. In every state of every run libraries
+/// are asked just where the machine is of version 2, and where they are not, each of these words does what it did. In any version asking
+/// changes the blocks and the objects in them alone, and nothing where the block has a place already.
+///
+/// Source: own choice.
+pub fn version_one()
+    ensures run { VersionOneIsTheMachineAsItWas }
+    ensures asked { LibrariesAreAskedInVersionTwo }
+    ensures words { UnaskedWordsTakeMemoryAsItIs }
+    ensures beside { AskingChangesTheBlocks }
+{}
+
+/// Libraries give way as far as a block needs it, and no further: where libraries are asked for a block, the first so many of the file give way,
+/// one after another, no fewer would have been enough, and after that the block has a place, or all of them gave way. In every state of every
+/// run, asking frees no block but those of libraries that are not open: what is no library stays as it is, and an open library stays at its
+/// base, in its block and as often open.
+///
+/// Source: autodoc exec.library/AllocMem; the order of asking: own choice.
+pub fn libraries_give_way()
+    ensures needed { LibrariesGiveWayAsFarAsNeeded }
+    ensures closed { OnlyClosedLibrariesGiveWay }
 {}
 
 /// The reply port of a request that is under way lives, in every state of every run: so whatever finishes the request, a tick, a setting of

@@ -1,6 +1,6 @@
 //! Whole traces of small machines, and the marks that they leave, as the definitions compute them.
 
-ghost use Rattle.execmodel.specs.Runs.{PrintsOnce, NothingFollowsAnAlert, SignalWakesAHigherTask, EqualPriorityDoesNotPreempt, APreemptedTaskArrivesAnew, AWaitKeepsItsMask, CalculatesAndJumps, ForbidKeepsOthersOff, AnEndedQuantumLetsAnEqualRun, TicksUnderDisableAreServedOnce, ALiveTaskIsFoundByItsName, SizesRoundUp, SuitableRegionsAreTriedByPriority, EqualsStandInOrderOfArrival, AListInUseIsNotFreed, EachKindHasItsPool, MessagesAreTakenInOrderOfArrival, MarksTellWhatCameAndWhatWasTaken, ThePublicPortOfGreatestPriorityIsFound, AReplyGoesToTheReplyPort, ASemaphoreIsHandedToTheFirstThatAsked, MarksTellWhoAskedAndWhoGotIt, ARemovedTaskLeavesTheQueue, MarksTellWhoAskedAndWhoLeft, WhereNoTaskWaitsThereIsNoMark, ASoftintRunsBeforeTheNextCommand, ASoftintMayCauseItselfAgain, SoftintsRunOneAStepByPriority, ASoftintRunsWhereNoTaskRuns, ServersRunByPriorityUntilOneClaims, NoSwitchFollowsAnAlertInABody, NoIdleFollowsAnAlertInABody, NoCommandFollowsAnAlertInASoftint, APortMayCauseASoftint, MarksTellWhatASoftintTook, ARemovedLibraryGoesAtItsLastClose, AnOpeningTakesARemovalBack, TheClockCountsUnderDisable, ATaskSleepsByDoIO, RequestsFinishByTheTimeWhenTheyAreDue, AStraySignalMakesDoIOLookAgain, AnAbortedRequestIsRepliedAtOnce, WaitIOTakesTheReply, MarksTellWhichReplyWasTaken, ARequestThatIsDueNowFinishes, RequestsOfOneTimeFinishInTheOrderOfBeginning, MicrosecondsCountBeyondASecond, AnAwaitedPortIsNotDeleted, TheTimerHasThreeUnits, SendIOClearsTheQuickBitAndTheError, ATaskWaitsUntilASystemTime, ATimeThatHasComeIsDoneAtOnce, ASettingWakesATask, TheSetterIsRepliedFirst, MarksTellThatTheSetterWasRepliedFirst, ASettingLeavesTheOtherUnitsAlone, ASettingBackFinishesNothing, RequestsOfOneMomentFinishInTheOrderOfBeginning, DisableDoesNotHoldASettingBack};
+ghost use Rattle.execmodel.specs.Runs.{PrintsOnce, NothingFollowsAnAlert, SignalWakesAHigherTask, EqualPriorityDoesNotPreempt, APreemptedTaskArrivesAnew, AWaitKeepsItsMask, CalculatesAndJumps, ForbidKeepsOthersOff, AnEndedQuantumLetsAnEqualRun, TicksUnderDisableAreServedOnce, ALiveTaskIsFoundByItsName, SizesRoundUp, SuitableRegionsAreTriedByPriority, EqualsStandInOrderOfArrival, AListInUseIsNotFreed, EachKindHasItsPool, MessagesAreTakenInOrderOfArrival, MarksTellWhatCameAndWhatWasTaken, ThePublicPortOfGreatestPriorityIsFound, AReplyGoesToTheReplyPort, ASemaphoreIsHandedToTheFirstThatAsked, MarksTellWhoAskedAndWhoGotIt, ARemovedTaskLeavesTheQueue, MarksTellWhoAskedAndWhoLeft, WhereNoTaskWaitsThereIsNoMark, ASoftintRunsBeforeTheNextCommand, ASoftintMayCauseItselfAgain, SoftintsRunOneAStepByPriority, ASoftintRunsWhereNoTaskRuns, ServersRunByPriorityUntilOneClaims, NoSwitchFollowsAnAlertInABody, NoIdleFollowsAnAlertInABody, NoCommandFollowsAnAlertInASoftint, APortMayCauseASoftint, MarksTellWhatASoftintTook, ARemovedLibraryGoesAtItsLastClose, AnOpeningTakesARemovalBack, LibrariesGiveWay, NoLibraryGivesWayInVersionOne, WhatWasMarkedInVainStaysSo, NothingIsMarkedInVersionOne, TheFirstFitEndsTheAsking, NothingIsAskedForWhatIsNeverTaken, ALibraryGivesWayToAnother, TheClockCountsUnderDisable, ATaskSleepsByDoIO, RequestsFinishByTheTimeWhenTheyAreDue, AStraySignalMakesDoIOLookAgain, AnAbortedRequestIsRepliedAtOnce, WaitIOTakesTheReply, MarksTellWhichReplyWasTaken, ARequestThatIsDueNowFinishes, RequestsOfOneTimeFinishInTheOrderOfBeginning, MicrosecondsCountBeyondASecond, AnAwaitedPortIsNotDeleted, TheTimerHasThreeUnits, SendIOClearsTheQuickBitAndTheError, ATaskWaitsUntilASystemTime, ATimeThatHasComeIsDoneAtOnce, ASettingWakesATask, TheSetterIsRepliedFirst, MarksTellThatTheSetterWasRepliedFirst, ASettingLeavesTheOtherUnitsAlone, ASettingBackFinishesNothing, RequestsOfOneMomentFinishInTheOrderOfBeginning, DisableDoesNotHoldASettingBack};
 
 /// A task that prints once ends at its next step, and the machine is idle.
 pub fn a_task_prints_once_and_ends()
@@ -169,6 +169,35 @@ pub fn a_removed_library_goes_at_its_last_close()
 /// An opening takes the removal of a library back: it stays loaded when it is closed for the last time, and may not be closed once more.
 pub fn an_opening_takes_a_removal_back()
     ensures { AnOpeningTakesARemovalBack }
+{}
+
+/// Where a block finds no place, in version 2 of the rules, a library that is not open is expunged, and an open one stays until it is closed for
+/// the last time. In version 1 neither happens.
+pub fn libraries_give_way()
+    ensures two { LibrariesGiveWay }
+    ensures one { NoLibraryGivesWayInVersionOne }
+{}
+
+/// An open library that was asked to give way is expunged at its last close, also where the block found no place after all. In version 1 it
+/// stays.
+pub fn what_was_marked_in_vain_stays_so()
+    ensures two { WhatWasMarkedInVainStaysSo }
+    ensures one { NothingIsMarkedInVersionOne }
+{}
+
+/// Libraries are asked in the order of the file, wherever they lie, and no more of them than are needed for a place.
+pub fn the_first_fit_ends_the_asking()
+    ensures { TheFirstFitEndsTheAsking }
+{}
+
+/// No library is asked where as many objects of the kind live as may, nor for a block of no bytes. An object of another kind makes it give way.
+pub fn nothing_is_asked_for_what_is_never_taken()
+    ensures { NothingIsAskedForWhatIsNeverTaken }
+{}
+
+/// A library that is to be loaded makes another one give way that is not open; an open one is marked, and the opening answers 0.
+pub fn a_library_gives_way_to_another()
+    ensures { ALibraryGivesWayToAnother }
 {}
 
 /// The clock of timer.device counts under Disable too.

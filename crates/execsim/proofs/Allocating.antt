@@ -6,8 +6,10 @@ use Rattle.exectrace.specs.Sink.{Tape}
 use Rattle.memlist.specs.Fit.{avail}
 use Rattle.execmodel.specs.State.{Call, Memory, Object, Plain, on_memory}
 use Rattle.execmodel.specs.Calls.{argument, done, answered, alerted}
-use Rattle.execmodel.specs.Memory.{has_only, alloc_bits, can_be_asked, allocates, block_at, extents, is_named, place_for, placed, freed, does_alloc_mem, does_free_mem, does_avail_mem}
+use Rattle.execmodel.specs.Memory.{has_only, alloc_bits, can_be_asked, allocates, block_at, extents, is_named, place_for, placed, freed, takes_block, does_alloc_mem, does_free_mem, does_avail_mem}
+use Rattle.execmodel.specs.GivingWay.{after_asking}
 use Rattle.execsim.specs.Agreement.{Seen, Follows, queues_in_order}
+use Rattle.execsim.proofs.GivingWay.{asking-in_order}
 use Rattle.execsim.proofs.Following.{reads_memory, moves_memory, follows_as, follows_change}
 
 pub placed-in_order : (size : ℕ) (object : Object) (place : Option ℕ) (y : Memory)
@@ -20,20 +22,32 @@ module _ {m n : Seen} {a b : Tape} (t : ℕ) (call : Call) where
   unfolding does_alloc_mem
   alloc_refused refused follows = follows_as (λ s e. rw refused refl) follows
 
-  pub alloc_tried : {o : Seen} (place : Option ℕ) → has_only alloc_bits (argument 1 call) ≡ true
-      → place ≡ place_for (argument 0 call) (argument 1 call) m.memory
-      → n ≡ record m { memory = placed (argument 0 call) Plain place m.memory }
+  -- a plain block is taken where it fits
+  block_taken : {o : Seen} (size reqs : ℕ) (place : Option ℕ) → place ≡ place_for size reqs m.memory
+      → n ≡ record m { memory = placed size Plain place m.memory }
+      → Follows (answered t call (unwrap_or place 0)) n o a b → Follows (takes_block t call size reqs) m o a b
+  block_taken size reqs place fits is follows = follows_as
+      {g = allocates t call size Plain place}
+      (λ s e.
+      let same : place_for size reqs s.memory ≡ place = reads_memory (place_for size reqs) (λ y. refl) (sym fits) s e in
+      rw same refl)
+      (follows_change (moves_memory (placed size Plain place) (placed size Plain place) (placed-in_order size Plain place) is) follows)
+
+module _ {m n o : Seen} {a b : Tape} (t : ℕ) (call : Call) where
+  -- libraries are asked to give way, and then the block is taken
+  pub alloc_tried : (place : Option ℕ) → has_only alloc_bits (argument 1 call) ≡ true
+      → place ≡ place_for (argument 0 call) (argument 1 call) (after_asking (argument 0 call) (argument 1 call) m.memory)
+      → n ≡ record m { memory = placed (argument 0 call) Plain place (after_asking (argument 0 call) (argument 1 call) m.memory) }
       → Follows (answered t call (unwrap_or place 0)) n o a b → Follows (does_alloc_mem t call) m o a b
   unfolding does_alloc_mem
-  alloc_tried place allowed fits is follows = follows_as
-      {g = allocates t call (argument 0 call) Plain place}
-      (λ s e.
-      let same : place_for (argument 0 call) (argument 1 call) s.memory ≡ place =
-      reads_memory (place_for (argument 0 call) (argument 1 call)) (λ y. refl) (sym fits) s e in
-      rw (allowed, same) refl)
-      (follows_change (moves_memory (placed (argument 0 call) Plain place) (placed (argument 0 call) Plain place)
-      (placed-in_order (argument 0 call) Plain place) is) follows)
+  alloc_tried place allowed fits is follows =
+      let size = argument 0 call in
+      let reqs = argument 1 call in
+      follows_as {g = λ s. takes_block t call size reqs (on_memory (after_asking size reqs) s)} (λ s e. rw allowed refl)
+      (follows_change (moves_memory {m = m} (after_asking size reqs) (after_asking size reqs) (asking-in_order size reqs) refl)
+      (block_taken t call size reqs place fits is follows))
 
+module _ {m n : Seen} {a b : Tape} (t : ℕ) (call : Call) where
   pub free_refused : is_named (argument 1 call) (block_at (argument 0 call) m.memory.heap) ≡ false
       → Follows (alerted (codes "MEM") t call) m n a b → Follows (does_free_mem t call) m n a b
   unfolding does_free_mem

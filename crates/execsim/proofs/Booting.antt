@@ -1,5 +1,6 @@
 -- The machine of a file agrees with the first state.
 use Rattle.std.proofs.Common.{◌≡◌, List, [], false, length, map, refl, sym, ◌∙◌, subst}
+use Rattle.std.specs.Prelude.{nat_eq}
 use Rattle.std.proofs.lemmas.List.{length-map}
 use Rattle.execlist.specs.Order.{order}
 use Rattle.taskscript.specs.File.{TaskData, MachineData}
@@ -35,7 +36,7 @@ unfolding booted order
 booted-pending machine = refl
 
 booted-memory : (machine : MachineData)
-    → record { regions = machine.regions; libraries = machine.libraries; pool = machine.pool; heap = []; public = []; timer = new_timer machine.tick_micros } ≡ queues_in_order (booted machine).memory
+    → record { regions = machine.regions; libraries = machine.libraries; asks = nat_eq machine.version 2; pool = machine.pool; heap = []; public = []; timer = new_timer machine.tick_micros } ≡ queues_in_order (booted machine).memory
 unfolding booted order
 booted-memory machine = refl
 
@@ -43,7 +44,7 @@ booted-memory machine = refl
 pub boots : {seen : Seen} (machine : MachineData) (tasks : List TaskRecord) → map task_view tasks ≡ machine.tasks
     → seen.schedule ≡ unstarted (length tasks) (map (λ (t : TaskRecord). t.pri) tasks) (map (λ (t : TaskRecord). t.name.bytes) tasks) machine.quantum
     → seen.scripts ≡ (booted (record machine { tasks = map task_view tasks })).scripts
-    → seen.memory ≡ record { regions = machine.regions; libraries = machine.libraries; pool = machine.pool; heap = []; public = []; timer = new_timer machine.tick_micros }
+    → seen.memory ≡ record { regions = machine.regions; libraries = machine.libraries; asks = nat_eq machine.version 2; pool = machine.pool; heap = []; public = []; timer = new_timer machine.tick_micros }
     → seen.bodies ≡ record { softints = machine.softints; servers = machine.servers } → seen.pending ≡ record { caused = []; latches = no_latches }
     → seen.stopped ≡ false → Agrees seen (booted machine)
 boots {seen} machine tasks states schedule scripts memory bodies pending going =

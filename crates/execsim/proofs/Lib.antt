@@ -11,6 +11,7 @@ pub mod Clock
 pub mod Endings
 pub mod Following
 pub mod Forbidding
+pub mod GivingWay
 pub mod Keeping
 pub mod Listing
 pub mod Naming

@@ -6,7 +6,8 @@ use Rattle.std.specs.Option.{unwrap_or}
 use Rattle.exectrace.specs.Sink.{Tape}
 use Rattle.execmodel.specs.State.{Call, Heap, ListHead, Memory, Node, Object, State, Outcome, on_memory}
 use Rattle.execmodel.specs.Calls.{Caller, ByTask, unless, unless_by, argument, name_argument, done, answered, alerted, alerted_by}
-use Rattle.execmodel.specs.Memory.{allocates, placed}
+use Rattle.execmodel.specs.Memory.{allocates, makes_object, placed}
+use Rattle.execmodel.specs.GivingWay.{after_asking_for_object}
 use Rattle.execmodel.specs.Objects.{place_for_object}
 use Rattle.execmodel.specs.Lists.{does_new_list, does_new_node, is_list, is_node, list_size, node_size}
 use Rattle.execmodel.specs.Tasks.{is_priority}
@@ -16,6 +17,7 @@ use Rattle.execsim.specs.Agreement.{Seen, Follows, queues_in_order}
 use Rattle.execsim.specs.Endings.{done_or_alerted, answered_or_alerted}
 use Rattle.execsim.proofs.Allocating.{placed-in_order}
 use Rattle.execsim.proofs.Following.{reads_memory, moves_memory, follows_as, follows_change}
+use Rattle.execsim.proofs.GivingWay.{asking_for_object-in_order}
 
 -- ---- calls that may be refused
 
@@ -114,29 +116,46 @@ unfolding does_new_node
 node_refused t call outside follows = follows_as (λ s e. rw outside refl) follows
 
 module _ {m n o : Seen} {a b : Tape} (t : ℕ) (call : Call) where
-  -- a call that makes an object answers the address that it got
-  pub follows_made : (kind : Object → Bool) (size : ℕ) (object : Object) (place : Option ℕ) → place ≡ place_for_object kind size m.memory
+  -- an object is made where it fits, and the call answers the address that it got
+  object_made : (kind : Object → Bool) (size : ℕ) (object : Object) (place : Option ℕ) → place ≡ place_for_object kind size m.memory
       → n ≡ record m { memory = placed size object place m.memory } → Follows (answered t call (unwrap_or place 0)) n o a b
-      → Follows (λ s. allocates t call size object (place_for_object kind size s.memory) s) m o a b
-  follows_made kind size object place fits is follows = follows_as
+      → Follows (makes_object t call kind size object) m o a b
+  object_made kind size object place fits is follows = follows_as
       {g = allocates t call size object place}
       (λ s e.
       let same : place_for_object kind size s.memory ≡ place = reads_memory (place_for_object kind size) (room-in_order kind size) (sym fits) s e in
       rw same refl)
       (follows_change (moves_memory (placed size object place) (placed size object place) (placed-in_order size object place) is) follows)
 
-  pub list_made : (place : Option ℕ) → place ≡ place_for_object is_list list_size m.memory
-      → n ≡ record m { memory = placed list_size (ListHead []) place m.memory } → Follows (answered t call (unwrap_or place 0)) n o a b
-      → Follows (does_new_list t call) m o a b
+module _ {m n o : Seen} {a b : Tape} (t : ℕ) (call : Call) where
+  -- libraries are asked to give way to an object, and then it is made
+  pub follows_made : (kind : Object → Bool) (size : ℕ) (object : Object) (place : Option ℕ)
+      → place ≡ place_for_object kind size (after_asking_for_object kind size m.memory)
+      → n ≡ record m { memory = placed size object place (after_asking_for_object kind size m.memory) }
+      → Follows (answered t call (unwrap_or place 0)) n o a b
+      → Follows (λ s. makes_object t call kind size object (on_memory (after_asking_for_object kind size) s)) m o a b
+  follows_made kind size object place fits is follows =
+      follows_change (moves_memory {m = m} (after_asking_for_object kind size) (after_asking_for_object kind size)
+      (asking_for_object-in_order kind size) refl)
+      (object_made t call kind size object place fits is follows)
+
+  pub list_made : (place : Option ℕ) → place ≡ place_for_object is_list list_size (after_asking_for_object is_list list_size m.memory)
+      → n ≡ record m { memory = placed list_size (ListHead []) place (after_asking_for_object is_list list_size m.memory) }
+      → Follows (answered t call (unwrap_or place 0)) n o a b → Follows (does_new_list t call) m o a b
   unfolding does_new_list
   list_made place = follows_made is_list list_size (ListHead []) place
 
-  pub node_made : (place : Option ℕ) → is_priority (cast_signed w32 (argument 0 call)) ≡ true → place ≡ place_for_object is_node node_size m.memory
-      → n ≡ record m { memory = placed node_size (Node (record { pri = cast_signed w32 (argument 0 call); name = name_argument 1 call })) place m.memory }
+  pub node_made : (place : Option ℕ) → is_priority (cast_signed w32 (argument 0 call)) ≡ true
+      → place ≡ place_for_object is_node node_size (after_asking_for_object is_node node_size m.memory)
+      → n ≡ record m {
+        memory = placed node_size (Node (record { pri = cast_signed w32 (argument 0 call); name = name_argument 1 call })) place
+            (after_asking_for_object is_node node_size m.memory);
+      }
       → Follows (answered t call (unwrap_or place 0)) n o a b → Follows (does_new_node t call) m o a b
   unfolding does_new_node
-  node_made place inside fits is follows = follows_as
-      {g = λ s. allocates t call node_size (Node (record { pri = cast_signed w32 (argument 0 call); name = name_argument 1 call }))
-      (place_for_object is_node node_size s.memory) s}
+  node_made place inside fits is follows =
+      let node = Node (record { pri = cast_signed w32 (argument 0 call); name = name_argument 1 call }) in
+      follows_as
+      {g = λ s. makes_object t call is_node node_size node (on_memory (after_asking_for_object is_node node_size) s)}
       (λ s e. rw inside refl)
-      (follows_made is_node node_size (Node (record { pri = cast_signed w32 (argument 0 call); name = name_argument 1 call })) place fits is follows)
+      (follows_made is_node node_size node place fits is follows)

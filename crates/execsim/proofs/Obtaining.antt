@@ -10,6 +10,7 @@ use Rattle.sigsem.specs.declared.semaphore.Obtained.TheVariants.{Waits}
 use Rattle.execmodel.specs.State.{Call, Heap, Memory, State, Outcome, Semaphore, asked, passed, on_schedule, on_memory, on_heap}
 use Rattle.execmodel.specs.Calls.{unless, argument, done, answered, waiting, alerted}
 use Rattle.execmodel.specs.Memory.{placed}
+use Rattle.execmodel.specs.GivingWay.{after_asking_for_object}
 use Rattle.execmodel.specs.Objects.{place_for_object}
 use Rattle.execmodel.specs.Scheduling as scheduling
 use Rattle.execmodel.specs.Semaphores as model
@@ -35,8 +36,8 @@ woken-in_order t y = by_test (is_at_semaphore (status_of y t)) (scheduling.arriv
 -- ---- made
 
 pub semaphore_made : {m n o : Seen} {a b : Tape} (t : ℕ) (call : Call) (place : Option ℕ)
-    → place ≡ place_for_object is_semaphore semaphore_size m.memory
-    → n ≡ record m { memory = placed semaphore_size (Semaphore free_sem []) place m.memory }
+    → place ≡ place_for_object is_semaphore semaphore_size (after_asking_for_object is_semaphore semaphore_size m.memory)
+    → n ≡ record m { memory = placed semaphore_size (Semaphore free_sem []) place (after_asking_for_object is_semaphore semaphore_size m.memory) }
     → Follows (answered t call (unwrap_or place 0)) n o a b → Follows (model.does_new_sem t call) m o a b
 unfolding model.does_new_sem
 semaphore_made t call place = follows_made t call is_semaphore semaphore_size (Semaphore free_sem []) place

@@ -1,22 +1,33 @@
 -- How the machine follows the words of libraries.
-use Rattle.std.proofs.Common.{◌≡◌, ◌≢◌, ℕ, [], Bool, false, true, cond, Option, None, Some, List, refl, ap, sym}
+use Rattle.std.proofs.Common.{◌≡◌, ◌≢◌, ℕ, [], false, Option, None, Some, List, refl, ap, sym, ◌∙◌}
 use Rattle.std.specs.Prelude.{Result, OnOk, OnErr, ◌-◌, ◌&&◌, nat_eq, unwrap_or}
 use Rattle.memlist.proofs.Answered.{nat_eq-other}
 use Rattle.exectrace.specs.Sink.{Tape}
-use Rattle.execmodel.specs.State.{Call, Library, Memory, on_heap, on_memory}
+use Rattle.execmodel.specs.State.{Call, Library, Memory, on_memory}
 use Rattle.execmodel.specs.Calls.{argument, name_argument, answered, done, unless}
-use Rattle.execmodel.specs.Memory.{freed, place_for}
+use Rattle.execmodel.specs.Memory.{place_for}
 use Rattle.execmodel.specs.Objects.{public_memory}
-use Rattle.execmodel.specs.Libraries.{base_of, base_opened, base_or_place, close_alert, closed, count_of, does_close_library, does_open_library, entered_or_loaded, is_delayed, library_at, library_opened, library_to_open, opened, opening, removed, with_library}
+use Rattle.execmodel.specs.Libraries.{base_of, base_opened, base_or_place, close_alert, closed, count_of, does_close_library, does_open_library, entered_or_loaded, is_delayed, library_at, library_opened, library_to_open, opened, opening, ready_to_load, ready_to_open}
 use Rattle.execheap.specs.declared.refusal.Refusal.{Refusal}
 use Rattle.execheap.specs.Refusals.{alert_of}
 use Rattle.execsim.specs.Agreement.{Seen, Follows, queues_in_order}
 use Rattle.execsim.specs.Endings.{done_or_alerted}
 use Rattle.execsim.proofs.Allocating.{placed-in_order}
 use Rattle.execsim.proofs.Following.{reads_memory, moves_memory, follows_as, follows_change}
+use Rattle.execsim.proofs.GivingWay.{asking-in_order, freed_or-in_order}
 use Rattle.execsim.proofs.Listing.{heap_changed}
 
 -- ---- the order of the public ports is of no account
+
+loading-in_order : (base : Option ℕ) (i : ℕ) (y : Memory) → ready_to_load base i (queues_in_order y) ≡ queues_in_order (ready_to_load base i y)
+loading-in_order (Some base) i y = refl
+loading-in_order None i y = asking-in_order (library_at i y).size public_memory y
+
+-- the memory before an opening, where libraries were asked to give way
+ready-in_order : (found : Option ℕ) (y : Memory) → ready_to_open found (queues_in_order y) ≡ queues_in_order (ready_to_open found y)
+unfolding ready_to_open
+ready-in_order None y = refl
+ready-in_order (Some i) y = loading-in_order (base_of i y.heap) i y
 
 entered-in_order : (base : Option ℕ) (i : ℕ) (y : Memory) → entered_or_loaded base i (queues_in_order y) ≡ queues_in_order (entered_or_loaded base i y)
 entered-in_order (Some base) i y = refl
@@ -29,34 +40,28 @@ found-in_order (Some i) y = entered-in_order (base_of i y.heap) i y
 
 pub opened-in_order : (name : List ℕ) (version : ℕ) (y : Memory) → opened name version (queues_in_order y) ≡ queues_in_order (opened name version y)
 unfolding opened
-opened-in_order name version y = found-in_order (library_to_open name version y) y
+opened-in_order name version y =
+    let found = library_to_open name version y in
+    ap (library_opened found) (ready-in_order found y) ∙ found-in_order found (ready_to_open found y)
+
+lies-in_order : (base : Option ℕ) (i : ℕ) (y : Memory) → base_or_place base i (queues_in_order y) ≡ base_or_place base i y
+lies-in_order (Some base) i y = refl
+lies-in_order None i y = refl
+
+based-in_order : (found : Option ℕ) (y : Memory) → base_opened found (queues_in_order y) ≡ base_opened found y
+based-in_order None y = refl
+based-in_order (Some i) y = lies-in_order (base_of i y.heap) i y
 
 pub opening-in_order : (name : List ℕ) (version : ℕ) (y : Memory) → opening name version (queues_in_order y) ≡ opening name version y
 unfolding opening
-opening-in_order name version y = based (library_to_open name version y) where
-  lies : (base : Option ℕ) (i : ℕ) → base_or_place base i (queues_in_order y) ≡ base_or_place base i y
-  lies (Some base) i = refl
-  lies None i = refl
-
-  based : (found : Option ℕ) → base_opened found (queues_in_order y) ≡ base_opened found y
-  based None = refl
-  based (Some i) = lies (base_of i y.heap) i
-
--- a library is freed, or is open so often
-freed_or-in_order : (leaves : Bool) (base count : ℕ) (delayed : Bool) (y : Memory)
-    → cond leaves (freed base (queues_in_order y)) (on_heap (with_library base count delayed) (queues_in_order y))
-    ≡ queues_in_order (cond leaves (freed base y) (on_heap (with_library base count delayed) y))
-freed_or-in_order true base count delayed y = refl
-freed_or-in_order false base count delayed y = refl
+opening-in_order name version y =
+    let found = library_to_open name version y in
+    ap (base_opened found) (ready-in_order found y) ∙ based-in_order found (ready_to_open found y)
 
 pub closed-in_order : (base : ℕ) (y : Memory) → closed base (queues_in_order y) ≡ queues_in_order (closed base y)
 unfolding closed
 closed-in_order base y =
     freed_or-in_order (nat_eq (count_of base y.heap) 1 && is_delayed base y.heap) base (count_of base y.heap - 1) (is_delayed base y.heap) y
-
-pub removed-in_order : (base : ℕ) (y : Memory) → removed base (queues_in_order y) ≡ queues_in_order (removed base y)
-unfolding removed
-removed-in_order base y = freed_or-in_order (nat_eq (count_of base y.heap) 0) base (count_of base y.heap) true y
 
 -- ---- the words
 

@@ -15,6 +15,7 @@ use Rattle.msgport.specs.Ports.{new_message, nt_freemsg, nt_message, nt_replymsg
 use Rattle.execmodel.specs.State.{Call, Message, MsgPort, Memory, State, Outcome, put, got, leaving, on_schedule, on_memory, on_heap}
 use Rattle.execmodel.specs.Calls.{Caller, unless, argument, name_argument, done, done_by, answered, answered_by, waiting, alerted}
 use Rattle.execmodel.specs.Memory.{freed, placed}
+use Rattle.execmodel.specs.GivingWay.{after_asking_for_object}
 use Rattle.execmodel.specs.Objects.{place_for_object}
 use Rattle.execmodel.specs.Lists.{or_none}
 use Rattle.execmodel.specs.Pending.{softint_named}
@@ -30,6 +31,7 @@ use Rattle.scheduler.specs.Dispatch.{signalled}
 use Rattle.execmodel.specs.Scheduling.{signalled as model_signalled}
 use Rattle.execsim.specs.Endings.{answered_or_alerted_by, done_or_alerted}
 use Rattle.execsim.proofs.Following.{reads_schedule, reads_memory, reads_bodies, moves_schedule, moves_caused, moves_nowhere, moves_memory, follows_as, follows_change, follows_leaving}
+use Rattle.execsim.proofs.GivingWay.{asking_for_object-in_order}
 use Rattle.execsim.proofs.Listing.{follows_allowed, follows_allowed_by, follows_made, follows_refused, follows_refused_by, heap_changed, room-in_order}
 use Rattle.execsim.proofs.Ordering.{signalled-in_order}
 use Rattle.execsim.proofs.PortOrder.{add_port_alert-in_order, delete_alert-in_order, found-in_order, listed-in_order}
@@ -48,37 +50,57 @@ module _ {m : Seen} {a b : Tape} (t : ℕ) (call : Call) where
       rw same refl)
       follows
 
-  pub created_without_room : {n o : Seen} (bit : ℕ) → Some bit ≡ grant (negsuc 0) (signals_of m.schedule t)
-      → None ≡ place_for_object is_port port_size m.memory
-      → n ≡ record m { memory = placed port_size (MsgPort (new_port t bit) []) None m.memory }
-      → Follows (answered t call 0) n o a b → Follows (model.does_create_msg_port t call) m o a b
+  -- the caller has that signal left, and libraries are asked to give way to its port
+  asked_first : {n : Seen} (bit : ℕ) → Some bit ≡ grant (negsuc 0) (signals_of m.schedule t)
+      → Follows (model.makes_port t call (Some bit)) (record m { memory = after_asking_for_object is_port port_size m.memory }) n a b
+      → Follows (model.does_create_msg_port t call) m n a b
   unfolding model.does_create_msg_port
-  created_without_room bit some none is follows = follows_as {g = answered t call 0}
+  asked_first bit some follows = follows_as
+      {g = λ s. model.makes_port t call (Some bit) (on_memory (after_asking_for_object is_port port_size) s)}
       (λ s e.
       let same : grant (negsuc 0) (signals_of s.schedule t) ≡ Some bit =
       reads_schedule (λ y. grant (negsuc 0) (signals_of y t)) (λ y. refl) (sym some) s e in
-      let full : place_for_object is_port port_size s.memory ≡ None =
-      reads_memory (place_for_object is_port port_size) (room-in_order is_port port_size) (sym none) s e in
-      rw (same, full) refl)
-      (rw is at follows)
+      rw same refl)
+      (follows_change (moves_memory {m = m} (after_asking_for_object is_port port_size) (after_asking_for_object is_port port_size)
+      (asking_for_object-in_order is_port port_size) refl) follows)
 
-  pub created : {n o p : Seen} (bit port : ℕ) → Some bit ≡ grant (negsuc 0) (signals_of m.schedule t)
-      → Some port ≡ place_for_object is_port port_size m.memory
-      → n ≡ record m { memory = placed port_size (MsgPort (new_port t bit) []) (Some port) m.memory }
+-- the caller has that signal left, and there is no room for its port
+full : {m n : Seen} {a b : Tape} (t : ℕ) (call : Call) (bit : ℕ) → None ≡ place_for_object is_port port_size m.memory
+    → Follows (answered t call 0) m n a b → Follows (model.makes_port t call (Some bit)) m n a b
+full t call bit none follows = follows_as {g = answered t call 0}
+    (λ s e.
+    let same : place_for_object is_port port_size s.memory ≡ None =
+    reads_memory (place_for_object is_port port_size) (room-in_order is_port port_size) (sym none) s e in
+    rw same refl) follows
+
+-- the caller has that signal left, and there is room for its port
+port_made : {m n o p : Seen} {a b : Tape} (t : ℕ) (call : Call) (bit port : ℕ) → Some port ≡ place_for_object is_port port_size m.memory
+    → n ≡ record m { memory = placed port_size (MsgPort (new_port t bit) []) (Some port) m.memory }
+    → o ≡ record n { schedule = allocates t (negsuc 0) n.schedule }
+    → Follows (answered t call port) o p a b → Follows (model.makes_port t call (Some bit)) m p a b
+port_made t call bit port room is next follows =
+    let made = placed port_size (MsgPort (new_port t bit) []) (Some port) in
+    follows_as {g = λ s. answered t call port (on_schedule (allocates t (negsuc 0)) (on_memory made s))}
+    (λ s e.
+    let same : place_for_object is_port port_size s.memory ≡ Some port =
+    reads_memory (place_for_object is_port port_size) (room-in_order is_port port_size) (sym room) s e in
+    rw same refl)
+    (follows_change (moves_memory made made (λ y. refl) is)
+    (follows_change (moves_schedule (allocates t (negsuc 0)) (allocates t (negsuc 0)) (allocates-in_order t (negsuc 0)) next) follows))
+
+module _ {m n o : Seen} {a b : Tape} (t : ℕ) (call : Call) where
+  pub created_without_room : (bit : ℕ) → Some bit ≡ grant (negsuc 0) (signals_of m.schedule t)
+      → None ≡ place_for_object is_port port_size (after_asking_for_object is_port port_size m.memory)
+      → n ≡ record m { memory = placed port_size (MsgPort (new_port t bit) []) None (after_asking_for_object is_port port_size m.memory) }
+      → Follows (answered t call 0) n o a b → Follows (model.does_create_msg_port t call) m o a b
+  created_without_room bit some none is follows = asked_first t call bit some (full t call bit none (rw is at follows))
+
+  pub created : {p : Seen} (bit port : ℕ) → Some bit ≡ grant (negsuc 0) (signals_of m.schedule t)
+      → Some port ≡ place_for_object is_port port_size (after_asking_for_object is_port port_size m.memory)
+      → n ≡ record m { memory = placed port_size (MsgPort (new_port t bit) []) (Some port) (after_asking_for_object is_port port_size m.memory) }
       → o ≡ record n { schedule = allocates t (negsuc 0) n.schedule }
       → Follows (answered t call port) o p a b → Follows (model.does_create_msg_port t call) m p a b
-  unfolding model.does_create_msg_port
-  created bit port some room is next follows =
-      let made = placed port_size (MsgPort (new_port t bit) []) (Some port) in
-      follows_as {g = λ s. answered t call port (on_schedule (allocates t (negsuc 0)) (on_memory made s))}
-      (λ s e.
-      let same : grant (negsuc 0) (signals_of s.schedule t) ≡ Some bit =
-      reads_schedule (λ y. grant (negsuc 0) (signals_of y t)) (λ y. refl) (sym some) s e in
-      let free : place_for_object is_port port_size s.memory ≡ Some port =
-      reads_memory (place_for_object is_port port_size) (room-in_order is_port port_size) (sym room) s e in
-      rw (same, free) refl)
-      (follows_change (moves_memory made made (λ y. refl) is)
-      (follows_change (moves_schedule (allocates t (negsuc 0)) (allocates t (negsuc 0)) (allocates-in_order t (negsuc 0)) next) follows))
+  created bit port some room is next follows = asked_first t call bit some (port_made t call bit port room is next follows)
 
 -- ---- ports freed
 
@@ -207,8 +229,8 @@ module _ {m o : Seen} {a b : Tape} (t : ℕ) (call : Call) where
       follows_refused t call (λ memory. model.reply_port_alert (argument 0 call) memory.heap) (λ y. refl) _ why says (rw kept at follows)
 
   pub message_made : (x : Memory) (place : Option ℕ) → None ≡ model.reply_port_alert (argument 0 call) m.memory.heap
-      → place ≡ place_for_object is_message message_size m.memory
-      → x ≡ placed message_size (Message (new_message (argument 0 call) (argument 1 call))) place m.memory
+      → place ≡ place_for_object is_message message_size (after_asking_for_object is_message message_size m.memory)
+      → x ≡ placed message_size (Message (new_message (argument 0 call) (argument 1 call))) place (after_asking_for_object is_message message_size m.memory)
       → Follows (answered t call (unwrap_or place 0)) (record m { memory = x }) o a b → Follows (model.does_new_msg t call) m o a b
   unfolding model.does_new_msg
   message_made x place says fits is follows =

@@ -1,5 +1,5 @@
 -- How the machine follows the words of requests, and the requests that finish.
-use Rattle.std.proofs.Common.{◌≡◌, ◌≢◌, ℕ, zero, suc, ◌+◌, ◌≤◌, ◌<◌, ◌^◌, Bool, true, false, cond, not, ◌&&◌, ◌⊎◌, inl, inr, List, [], ◌∷◌, length, Option, None, Some, refl, ap, sym, ◌∙◌, subst, arith}
+use Rattle.std.proofs.Common.{◌≡◌, ◌≢◌, ℕ, zero, suc, ◌≤◌, ◌<◌, ◌^◌, Bool, true, false, cond, not, ◌&&◌, ◌⊎◌, inl, inr, List, [], ◌∷◌, length, Option, None, Some, refl, ap, sym, ◌∙◌, subst, arith}
 use Rattle.std.specs.Prelude.{ℤ, pos, negsuc, ◌==◌, Result, Ok, Err, IfOk, OnOk, OnErr, codes, filter, map, nat_eq, nat_lt, if◌then◌else◌}
 use Rattle.std.specs.Option.{option_map, unwrap_or}
 use Rattle.std.specs.Int.{cast_unsigned, w32}
@@ -19,13 +19,14 @@ use Rattle.iorequest.specs.Request.{begun, done_state, due_of, error_of, finishe
 use Rattle.iorequest.specs.Requests.{unit_error}
 use Rattle.execmodel.specs.State.{Call, Heap, Memory, Object, Request, State, Outcome, Timer as Clock, Waiting, quiet, says, andthen, out, on_memory, on_heap, on_timer}
 use Rattle.execmodel.specs.Calls.{argument, name_argument, unless, done, answered, alerted}
-use Rattle.execmodel.specs.Memory.{allocates, freed, placed}
+use Rattle.execmodel.specs.Memory.{freed, makes_object, placed}
+use Rattle.execmodel.specs.GivingWay.{after_asking_for_object}
 use Rattle.execmodel.specs.Objects.{is_kind, object_at, place_for_object, replaced}
 use Rattle.execmodel.specs.Ports.{loses, looked, performed, port_alert, port_of}
 use Rattle.execmodel.specs.Semaphores.{is_tried_again}
 use Rattle.timerdev.specs.Timing.{due_next, has_come, is_system, looked_at, next_of, sooner, until_next}
 use Rattle.execmodel.specs.Requests as model
-use Rattle.execmodel.specs.Requests.{acting_at, answering_port, appended_at, begun_at, ended, ends_with, error_word, finished_at, finishes, finishes_all_due, finishes_each, finishes_set, heap_begun, is_command, is_request, is_request_at, looks_for, replying_port, reply_taken, request_alert, request_of, request_of_object, request_size, resting_alert, set_io_alert, under_way, where_port, with_reply, with_request}
+use Rattle.execmodel.specs.Requests.{acting_at, answering_port, appended_at, begun_at, ended, error_word, finished_at, finishes, finishes_all_due, finishes_each, finishes_set, heap_begun, is_request, is_request_at, looks_for, replying_port, reply_taken, request_alert, request_of, request_of_object, request_size, resting_alert, set_io_alert, under_way, where_port, with_reply, with_request}
 use Rattle.execmodel.proofs.Heaps.{instead, object_replaced}
 use Rattle.execheap.specs.declared.awaited.Awaited.{Awaited}
 use Rattle.execheap.specs.declared.awaited.Awaited.TheVariants as awaited
@@ -105,7 +106,8 @@ module _ (request : ℕ) (content : TimerRequest) where
 -- a call on a port that is not 0
 abbrev creates : ℕ → Call → State → Outcome
 creates t call s = unless (port_alert (argument 0 call) s.memory.heap) t call
-    (λ s. allocates t call request_size (Request (idle_request (argument 0 call))) (place_for_object is_request request_size s.memory) s) s
+    (λ s. makes_object t call is_request request_size (Request (idle_request (argument 0 call)))
+    (on_memory (after_asking_for_object is_request request_size) s)) s
 
 -- a command that fits is no alert
 set_alert-inside : (command request : ℕ) → nat_lt command 65536 ≡ true → (heap : Heap) → set_io_alert command request heap ≡ resting_alert request heap
@@ -128,8 +130,8 @@ module _ {m o : Seen} {a b : Tape} (t : ℕ) (call : Call) where
       create_some some (follows_refused t call (λ memory. port_alert (argument 0 call) memory.heap) (λ y. refl) _ why says (rw kept at follows))
 
   pub create_made : (x : Memory) (place : Option ℕ) → argument 0 call ≢ 0 → None ≡ port_alert (argument 0 call) m.memory.heap
-      → place ≡ place_for_object is_request request_size m.memory
-      → x ≡ placed request_size (Request (idle_request (argument 0 call))) place m.memory
+      → place ≡ place_for_object is_request request_size (after_asking_for_object is_request request_size m.memory)
+      → x ≡ placed request_size (Request (idle_request (argument 0 call))) place (after_asking_for_object is_request request_size m.memory)
       → Follows (answered t call (unwrap_or place 0)) (record m { memory = x }) o a b → Follows (model.does_create_io_request t call) m o a b
   create_made x place some says fits is follows =
       create_some some (follows_allowed t call (λ memory. port_alert (argument 0 call) memory.heap) (λ y. refl) _ says

@@ -15,7 +15,8 @@ use taskq::TaskId;
 use taskscript::LibraryWord;
 
 impl<S: ListSpace> Kernel<S> {
-    /// Opens the library of a name with at least that version, if there is one and it has a place.
+    /// Opens the library of a name with at least that version, if there is one and it has a place, once others were asked to give way to it
+    /// where it is to be loaded.
     fn open(&mut self, name: Name, version: u32) -> Option<u32>
         ensures answer { result ≡ opening name.bytes version self.old.memory }
         ensures next { self.new ≡ record self.old { memory = opened name.bytes version self.old.memory } }

@@ -6,6 +6,7 @@ ghost use Rattle.std.specs.Option.{option_map, unwrap_or};
 ghost use Rattle.execmodel.specs.State.{ListHead, Node};
 ghost use Rattle.execmodel.specs.Calls.{alerted};
 ghost use Rattle.execmodel.specs.Memory.{placed};
+ghost use Rattle.execmodel.specs.GivingWay.{after_asking_for_object};
 ghost use Rattle.execmodel.specs.Objects.{place_for_object};
 ghost use Rattle.execmodel.specs.Tasks.{is_priority};
 ghost use Rattle.execmodel.specs.Lists.{find_alert, found_node, is_list, is_node, list_size, node_size, does_lists};
@@ -89,20 +90,24 @@ impl<S: ListSpace> Kernel<S> {
 
     // ---- made and freed
 
-    /// A new empty list, if there is room for one.
+    /// A new empty list, if there is room for one once libraries were asked to give way to it.
     fn make_list(&mut self) -> Option<u32>
-        ensures address { result ≡ place_for_object is_list list_size self.old.memory }
-        ensures next { self.new ≡ record self.old { memory = placed list_size (ListHead []) result self.old.memory } }
+        ensures address { result ≡ place_for_object is_list list_size (after_asking_for_object is_list list_size self.old.memory) }
+        ensures next { self.new ≡ record self.old {
+          memory = placed list_size (ListHead []) result (after_asking_for_object is_list list_size self.old.memory);
+        } }
     {
         self.memory.new_list()
     }
 
-    /// A new node with the priority that the word is, read as a signed one, and with that name or none, if there is room for one.
+    /// A new node with the priority that the word is, read as a signed one, and with that name or none, if there is room for one once
+    /// libraries were asked to give way to it.
     fn make_node(&mut self, pri: u32, name: Option<Name>) -> Option<u32>
         requires inside { IsTrue (is_priority (cast_signed w32 pri)) }
-        ensures address { result ≡ place_for_object is_node node_size self.old.memory }
+        ensures address { result ≡ place_for_object is_node node_size (after_asking_for_object is_node node_size self.old.memory) }
         ensures next { self.new ≡ record self.old {
-          memory = placed node_size (Node (record { pri = cast_signed w32 pri; name = option_map (λ n. n.bytes) name })) result self.old.memory;
+          memory = placed node_size (Node (record { pri = cast_signed w32 pri; name = option_map (λ n. n.bytes) name })) result
+              (after_asking_for_object is_node node_size self.old.memory);
         } }
     {
         self.memory.new_node(pri.cast_signed() as i8, name)

@@ -1,5 +1,5 @@
 //! The machine as its callers see it: made from a machine file, started once, and given one event after another.
-ghost use Rattle.std.specs.Prelude.{◌≡◌, ◌≤◌, [], true, false, All, length, map, sum_by, IfOk};
+ghost use Rattle.std.specs.Prelude.{◌≡◌, ◌≤◌, [], true, false, All, length, map, nat_eq, sum_by, IfOk};
 ghost use Rattle.exectrace.specs.Sink.{Writes};
 ghost use Rattle.exectrace.specs.Trace.{printed};
 ghost use Rattle.exectrace.specs.declared.sinks.SinkState.{SinkState};
@@ -164,11 +164,12 @@ fn libraries_of(alloc: Global, libraries: &[LibraryRecord]) -> Result<Vec<LibIni
     Ok(inits)
 }
 
-/// The memory of a file: nothing is allocated, and no library is loaded.
+/// The memory of a file: nothing is allocated, and no library is loaded; libraries are asked to give way where the file is of version 2.
 fn heap_of<S: ListSpace>(alloc: Global, file: &MachineFile) -> Result<Heap<S>, AllocError>
     ensures { IfOk result (λ heap. heap ≡ record {
       regions = file.now.regions;
       libraries = file.now.libraries;
+      asks = nat_eq file.now.version 2;
       pool = file.now.pool;
       heap = [];
       public = [];
@@ -181,6 +182,7 @@ fn heap_of<S: ListSpace>(alloc: Global, file: &MachineFile) -> Result<Heap<S>, A
         file.regions(),
         file.pool(),
         &inits,
+        file.version() == 2,
         file.tick_micros(),
     )
 }

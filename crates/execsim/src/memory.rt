@@ -2,6 +2,7 @@
 ghost use Rattle.std.specs.Prelude.{◌≡◌, ◌<◌, length, true, false};
 ghost use Rattle.memlist.specs.Fit.{avail};
 ghost use Rattle.execmodel.specs.State.{Plain};
+ghost use Rattle.execmodel.specs.GivingWay.{after_asking};
 ghost use Rattle.execmodel.specs.Memory.{block_at, can_be_asked, does_alloc_mem, does_avail_mem, does_free_mem, extents, freed, has_only, is_named, place_for, placed, does_memory};
 ghost use Rattle.execsim.specs.Agreement.{Follows};
 ghost use Rattle.execsim.specs.Views.{call_view};
@@ -39,10 +40,10 @@ fn can_be_asked(reqs: u32) -> bool
 }
 
 impl<S: ListSpace> Kernel<S> {
-    /// A plain block of so many bytes, if one fits.
+    /// A plain block of so many bytes, if one fits once libraries were asked to give way to it.
     fn allocate(&mut self, size: u32, reqs: u32) -> Option<u32>
-        ensures answer { result ≡ place_for size reqs self.old.memory }
-        ensures next { self.new ≡ record self.old { memory = placed size Plain result self.old.memory } }
+        ensures answer { result ≡ place_for size reqs (after_asking size reqs self.old.memory) }
+        ensures next { self.new ≡ record self.old { memory = placed size Plain result (after_asking size reqs self.old.memory) } }
     {
         self.memory.alloc_mem(size, reqs)
     }
@@ -64,7 +65,9 @@ impl<S: ListSpace> Kernel<S> {
         self.memory.avail(reqs)
     }
 
-    /// AllocMem size reqs (autodoc exec.library/AllocMem).
+    /// AllocMem size reqs: answers the address of a plain block, or 0 where none fits once libraries were asked to give way, or the size is
+    /// 0. VALUE where the requirements have other bits than MEMF_PUBLIC, MEMF_CHIP, MEMF_FAST and MEMF_CLEAR (autodoc
+    /// exec.library/AllocMem; size 0, and the alert: own choice).
     fn alloc_mem<W: Sink>(&mut self, t: TaskId, call: &Call, out: &mut W)
         requires { t < length self.old.scripts.programs }
         ensures { Follows (does_alloc_mem t (call_view call.now)) self.old self.new (W.tape out.old) (W.tape out.new) }

@@ -9,6 +9,7 @@ ghost use Rattle.signals.specs.Signals.{grant, is_own_signal};
 ghost use Rattle.msgport.specs.Port.{new_port};
 ghost use Rattle.execmodel.specs.State.{MsgPort};
 ghost use Rattle.execmodel.specs.Memory.{placed};
+ghost use Rattle.execmodel.specs.GivingWay.{after_asking_for_object};
 ghost use Rattle.execmodel.specs.Objects.{place_for_object};
 ghost use Rattle.execmodel.specs.Tasks.{is_priority};
 ghost use Rattle.execmodel.specs.Ports.{add_port_alert, content_of, is_called, is_port, looked, loses, message_alert, port_or_none, port_size, does_ports};
@@ -56,18 +57,22 @@ impl<S: ListSpace> Kernel<S> {
         self.sched.next_signal()
     }
 
-    /// A new port of task t, which signals it by the signal of that number, if there is room for one.
+    /// A new port of task t, which signals it by the signal of that number, if there is room for one once libraries were asked to give way
+    /// to it.
     fn make_port(&mut self, t: TaskId, bit: u32) -> Option<u32>
         requires own { 16 ≤ bit }
         requires signal { bit < 32 }
-        ensures address { result ≡ place_for_object is_port port_size self.old.memory }
-        ensures next { self.new ≡ record self.old { memory = placed port_size (MsgPort (new_port t bit) []) result self.old.memory } }
+        ensures address { result ≡ place_for_object is_port port_size (after_asking_for_object is_port port_size self.old.memory) }
+        ensures next { self.new ≡ record self.old {
+          memory = placed port_size (MsgPort (new_port t bit) []) result (after_asking_for_object is_port port_size self.old.memory);
+        } }
     {
         self.memory.new_port(t, bit)
     }
 
-    /// CreateMsgPort: answers the address of a new port, which signals the caller by a newly allocated signal; or 0
-    /// (autodoc exec.library/CreateMsgPort).
+    /// CreateMsgPort: answers the address of a new port, which signals the caller by a newly allocated signal; or 0 where the caller has no
+    /// signal left, and then no library is asked to give way, or there is no room for the port (autodoc exec.library/CreateMsgPort; when
+    /// libraries are asked: own choice).
     fn create_msg_port<W: Sink>(&mut self, t: TaskId, call: &Call, out: &mut W)
         requires known { t < length self.old.scripts.programs }
         requires runs { self.old.schedule.running ≡ Some t }

@@ -6,6 +6,7 @@ ghost use Rattle.sigsem.specs.Semaphores.{free_sem};
 ghost use Rattle.execmodel.specs.State.{Semaphore};
 ghost use Rattle.execmodel.specs.Calls.{argument};
 ghost use Rattle.execmodel.specs.Memory.{placed};
+ghost use Rattle.execmodel.specs.GivingWay.{after_asking_for_object};
 ghost use Rattle.execmodel.specs.Objects.{place_for_object};
 ghost use Rattle.execmodel.specs.Semaphores.{is_semaphore, is_tried_again, semaphore_size, does_semaphores};
 ghost use Rattle.execmodel.specs.Semaphores.{does_new_sem, does_free_sem, does_obtain_semaphore, does_attempt_semaphore, does_release_semaphore};
@@ -32,10 +33,12 @@ fn attempted(has: bool) -> u32
 impl<S: ListSpace> Kernel<S> {
     // ---- made and freed
 
-    /// A new semaphore, which no task owns, if there is room for one.
+    /// A new semaphore, which no task owns, if there is room for one once libraries were asked to give way to it.
     fn make_semaphore(&mut self) -> Option<u32>
-        ensures address { result ≡ place_for_object is_semaphore semaphore_size self.old.memory }
-        ensures next { self.new ≡ record self.old { memory = placed semaphore_size (Semaphore free_sem []) result self.old.memory } }
+        ensures address { result ≡ place_for_object is_semaphore semaphore_size (after_asking_for_object is_semaphore semaphore_size self.old.memory) }
+        ensures next { self.new ≡ record self.old {
+          memory = placed semaphore_size (Semaphore free_sem []) result (after_asking_for_object is_semaphore semaphore_size self.old.memory);
+        } }
     {
         self.memory.new_semaphore()
     }

@@ -127,7 +127,7 @@ fn make_service(alloc: Global, part: Part) -> Result<(), Unmade> {
         Part::Schedule => drop(Sched::<LinkSpace>::new(alloc, &tasks(), 4)?),
         Part::Ports => drop(Ports::<LinkSpace>::new(alloc, 8, 16)?),
         Part::Semaphores => drop(Sems::<LinkSpace>::new(alloc, 8, 2)?),
-        Part::Libraries => drop(Libs::<LinkSpace>::new(alloc, &libraries())?),
+        Part::Libraries => drop(Libs::<LinkSpace>::new(alloc, &libraries(), true)?),
         Part::Timer => drop(Timer::<LinkSpace>::new(alloc, 8, 20_000)?),
         Part::Interrupts => {
             let softs = [Soft { pri: 16 }, Soft { pri: -32 }];
@@ -149,8 +149,15 @@ pub(crate) fn make(alloc: Global, part: Part) -> Result<(), Unmade> {
         Part::LinkSpace => make_space::<LinkSpace>(alloc),
         Part::Pool => Ok(drop(Pool::<u32>::new(alloc, 8)?)),
         Part::Requests => Ok(drop(Requests::new(alloc, 8)?)),
-        Part::Memory => Ok(drop(MemList::new(alloc, &REGIONS)?)),
-        Part::Heap => Ok(drop(Heap::<LinkSpace>::new(alloc, &REGIONS, 8, &libraries(), 20_000)?)),
+        Part::Memory => Ok(drop(MemList::new(alloc, &REGIONS, 192)?)),
+        Part::Heap => Ok(drop(Heap::<LinkSpace>::new(
+            alloc,
+            &REGIONS,
+            8,
+            &libraries(),
+            true,
+            20_000,
+        )?)),
         Part::MachineFile => Ok(drop(read_machine(alloc, MACHINE_FILE.as_bytes())?)),
         Part::EventText => Ok(drop(read_events(alloc, EVENT_TEXT.as_bytes())?)),
         Part::Text => {

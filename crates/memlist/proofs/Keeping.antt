@@ -10,11 +10,10 @@ use Rattle.std.specs.FinMap.Entries.{below_all, where_key}
 use Rattle.std.proofs.lemmas.List.Elements.{recursion_from_All}
 use Rattle.std.proofs.lemmas.Option.{slice_get-get_or, slice_get-map}
 use Rattle.memlist.specs.declared.region.Region.{Region}
-use Rattle.memlist.specs.declared.region.TheConstants.{TOTAL_LIMIT}
 use Rattle.memlist.specs.Regions.{are_apart, overlaps, region_end, regions_fault}
 use Rattle.memlist.specs.Blocks.{Blocks, blocks_in, freed, is_in}
 use Rattle.memlist.specs.Memory.{AreLaid, IsLaid, IsWellFormed}
-use Rattle.memlist.specs.Areas.{Area, AreMemory, IsLaidArea, merged, put_all, regions_of}
+use Rattle.memlist.specs.Areas.{Area, AreMemory, IsLaidArea, greatest_total, merged, put_all, regions_of}
 use Rattle.memlist.proofs.Answered.{cmp_greater, cmp_less, cmp_same, put_after, put_before}
 use Rattle.memlist.proofs.Gaps.{laid_lower}
 use Rattle.memlist.proofs.Slots.{AllFrom}
@@ -134,10 +133,10 @@ laid_of all (area ∷ rest) shown laid = (subst (λ bs. IsLaid area.region.base 
 
 pub well_formed : (areas : List Area) → AreMemory areas → IsWellFormed (regions_of areas) (merged areas)
 well_formed areas m =
-    let sound = sound_regions TOTAL_LIMIT (regions_of areas) m.sound in
+    let sound = sound_regions greatest_total (regions_of areas) m.sound in
     record {
       aligned = sound.aligned;
-      in_reach = small_reach TOTAL_LIMIT (regions_of areas) sound.small;
+      in_reach = small_reach greatest_total (regions_of areas) sound.small;
       apart = sound.apart;
       in_order = sorted_rising (merged areas) (rising_merged areas);
       at_home = to_home (regions_of areas) (merged areas) (homes_merged (regions_of areas) areas (homes_of areas) m.laid);

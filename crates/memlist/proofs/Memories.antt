@@ -13,19 +13,18 @@ use Rattle.memlist.specs.declared.memory.Offer.{Offer}
 use Rattle.memlist.specs.declared.region.MemFault.{MemFault}
 use Rattle.memlist.specs.declared.region.MemFault.TheVariants.{Misaligned, Overlap, TooLarge}
 use Rattle.memlist.specs.declared.region.Region.{Region}
-use Rattle.memlist.specs.declared.region.TheConstants.{TOTAL_LIMIT}
 use Rattle.memlist.specs.Regions.{are_apart, are_small, is_aligned, is_in_reach, region_end, regions_fault, total_size}
 use Rattle.memlist.specs.Blocks.{Blocks, block_at, freed, gaps, is_in}
 use Rattle.memlist.specs.Fit.{asks, avail, chosen, fit, free_sizes, front, greatest, has_room, is_suitable, lowest_gap, round}
 use Rattle.memlist.specs.Memory.{Memory, without_block}
 use Rattle.memlist.specs.Chain.{IsLinked, first_or}
-use Rattle.memlist.specs.Areas.{Area, AreMemory, IsFreeChain, IsLaidArea, area_gaps, empty_area, memory_of, merged, regions_of}
+use Rattle.memlist.specs.Areas.{Area, AreMemory, IsFreeChain, IsLaidArea, area_gaps, empty_area, greatest_total, memory_of, merged, regions_of}
 use Rattle.memlist.specs.Choice.{IsHome, IsLowest, IsOffer, chosen_of, free_of, installed_of, largest_of, offers, sizes_of, suitable_of}
 use Rattle.memlist.proofs.Answered.{nat_eq-other}
 use Rattle.memlist.proofs.Headers.{IsAligned, IsGapWithin, aligned_region, among, and_left, and_right, end_aligned, from_le, gaps_within, sizes_fill}
 use Rattle.memlist.proofs.Chains.{apart_count, gaps_apart, read_chain}
 use Rattle.memlist.proofs.Choices.{free-cons}
-use Rattle.memlist.proofs.Together.{AreApart, apart_areas, at_place, found_in_none, found_of_area, gaps_of_area, is_in-true, merged-freed, merged-put}
+use Rattle.memlist.proofs.Together.{AreApart, apart_areas, at_place, found_in_none, found_of_area, gaps_of_area, is_in-true, merged-freed, merged-put, nat_le-true}
 
 -- Sound regions
 
@@ -58,8 +57,26 @@ small_total total regions e =
 pub small_reach : (total : ℕ) (regions : List Region) → are_small total regions ≡ true → list_all is_in_reach regions ≡ true
 small_reach total regions e = and_right (nat_le (length regions) 8 && nat_le (total_size regions) total) (list_all is_in_reach regions) e
 
+small_within : (total greater : ℕ) (regions : List Region) → total ≤ greater → are_small total regions ≡ true → are_small greater regions ≡ true
+small_within total greater regions within e =
+    let few = and_left (nat_le (length regions) 8) (nat_le (total_size regions) total)
+    (and_left (nat_le (length regions) 8 && nat_le (total_size regions) total) (list_all is_in_reach regions) e) in
+    let room = nat_le-true (total_size regions) greater (omega (arith, within, small_total total regions e)) in
+    ap (λ b. b && nat_le (total_size regions) greater && list_all is_in_reach regions) few
+    ∙ ap (λ b. b && list_all is_in_reach regions) room
+    ∙ small_reach total regions e
+
+-- regions that are sound in a total are sound in a greater one
+pub sound_within : (total greater : ℕ) (regions : List Region) → total ≤ greater → regions_fault total regions ≡ None → regions_fault greater regions ≡ None
+unfolding regions_fault first_fault
+sound_within total greater regions within e =
+    let sound = sound_regions total regions e in
+    ap (λ b. first_fault b (are_small greater regions) (are_apart regions)) sound.aligned
+    ∙ ap (λ b. first_fault true b (are_apart regions)) (small_within total greater regions within sound.small)
+    ∙ ap (λ b. first_fault true true b) sound.apart
+
 pub apart_memory : (areas : List Area) → AreMemory areas → AreApart areas
-apart_memory areas m = apart_areas areas (sound_regions TOTAL_LIMIT (regions_of areas) m.sound).apart
+apart_memory areas m = apart_areas areas (sound_regions greatest_total (regions_of areas) m.sound).apart
 
 -- Elements
 
@@ -74,7 +91,7 @@ list_all_at (x ∷ rest) zero area at e = let here : x ≡ area = cc in subst (�
 list_all_at (x ∷ rest) (suc place) area at e = list_all_at rest place area at (and_right (is_aligned x.region) (list_all is_aligned (regions_of rest)) e)
 
 pub aligned_at : (areas : List Area) (place : ℕ) (area : Area) → AreMemory areas → slice_get areas place ≡ Some area → IsAligned area.region
-aligned_at areas place area m at = aligned_region area.region (list_all_at areas place area at (sound_regions TOTAL_LIMIT (regions_of areas) m.sound).aligned)
+aligned_at areas place area m at = aligned_region area.region (list_all_at areas place area at (sound_regions greatest_total (regions_of areas) m.sound).aligned)
 
 -- a gap of an area lies in its region
 pub gap_inside : (areas : List Area) (place : ℕ) (area : Area) (xs : List Gap) (gap : Gap) (ys : List Gap) → AreMemory areas → slice_get areas place ≡ Some area → area_gaps area ≡ xs ++ gap ∷ ys → is_in area.region gap.address ≡ true
@@ -109,6 +126,16 @@ some_within P [] place h = absurd h
 some_within P (x ∷ xs) zero h = omega arith
 some_within P (x ∷ xs) (suc place) h = let later = some_within P xs place h in omega (arith, later)
 
+record IsRead {X : Type 0} (P : X → Type 0) (xs : List X) (place : ℕ) : Type 0 where
+  pub item : X
+  pub at : slice_get xs place ≡ Some item
+  pub holds : P item
+
+some_read : {X : Type 0} (P : X → Type 0) (xs : List X) (place : ℕ) → IsSomeAnd (slice_get xs place) P → IsRead P xs place
+some_read P [] place h = absurd h
+some_read P (x ∷ xs) zero h = record { item = x; at = refl; holds = h }
+some_read P (x ∷ xs) (suc place) h = let later = some_read P xs place h in record { item = later.item; at = later.at; holds = later.holds }
+
 pub offer_within : (areas : List Area) (size reqs : ℕ) (some : List Area) (offer : Offer) → IsOffer areas size reqs some (Some offer) → offer.header < length areas
 offer_within areas size reqs some offer h = some_within (λ (area : Area). (chosen_of size reqs some ≡ Some area.region) × IsLowest size (area_gaps area) (Some offer.before)) areas offer.header h
 
@@ -130,7 +157,7 @@ laid_set (x ∷ rest) (suc place) new all laid = (all.0, laid_set rest place new
 
 pub kept_memory : (areas : List Area) (place : ℕ) (area new : Area) → AreMemory areas → slice_get areas place ≡ Some area → new.region ≡ area.region → IsLaidArea new → AreMemory (set areas place new)
 kept_memory areas place area new m at same laid = record {
-  sound = ap (regions_fault TOTAL_LIMIT) (regions_set areas place area new at same) ∙ m.sound;
+  sound = ap (regions_fault greatest_total) (regions_set areas place area new at same) ∙ m.sound;
   laid = laid_set areas place new m.laid laid;
 }
 
@@ -210,6 +237,14 @@ fit_some areas size reqs place area gap m some at choice lowest =
     ∙ ap (λ (free : List Gap). option_map (λ (gap : Gap). gap.address) (lowest_gap (round size) free)) shown
     ∙ ap (option_map (λ (gap : Gap). gap.address)) lowest
 
+-- a block fits just where there is an offer for it
+pub fit_offered : (areas : List Area) (size reqs : ℕ) (offer : Option Offer) → AreMemory areas → size ≢ 0 → IsOffer areas (round size) reqs areas offer
+    → is_some offer ≡ is_some (fit (regions_of areas) (merged areas) size reqs)
+fit_offered areas size reqs None m some none = ap is_some (sym (fit_none areas size reqs m some none))
+fit_offered areas size reqs (Some offer) m some h =
+    let read = some_read (λ (area : Area). (chosen_of (round size) reqs areas ≡ Some area.region) × IsLowest (round size) (area_gaps area) (Some offer.before)) areas offer.header h in
+    ap is_some (sym (fit_some areas size reqs offer.header read.item read.holds.1.gap m some read.at read.holds.0 read.holds.1.lowest))
+
 -- A new memory
 
 regions_empty : (regions : List Region) → regions_of (map empty_area regions) ≡ regions
@@ -224,9 +259,10 @@ laid_empty : (regions : List Region) → AllByRecursion IsLaidArea (map empty_ar
 laid_empty [] = tt
 laid_empty (region ∷ rest) = (omega arith, laid_empty rest)
 
-pub new_memory : (areas : List Area) (regions : List Region) → areas ≡ map empty_area regions → regions_fault TOTAL_LIMIT regions ≡ None → AreMemory areas
-new_memory areas regions is sound =
-    subst AreMemory (sym is) record { sound = ap (regions_fault TOTAL_LIMIT) (regions_empty regions) ∙ sound; laid = laid_empty regions }
+pub new_memory : (areas : List Area) (regions : List Region) (total : ℕ) → total ≤ greatest_total → areas ≡ map empty_area regions → regions_fault total regions ≡ None → AreMemory areas
+new_memory areas regions total within is sound =
+    subst AreMemory (sym is)
+    record { sound = ap (regions_fault greatest_total) (regions_empty regions) ∙ sound_within total greatest_total regions within sound; laid = laid_empty regions }
 
 pub new_shown : (areas : List Area) (regions : List Region) → areas ≡ map empty_area regions → memory_of areas ≡ record { regions = regions; blocks = [] }
 new_shown areas regions is = ap memory_of is ∙ shown_memory (map empty_area regions) regions [] (regions_empty regions) (merged_empty regions)
@@ -261,8 +297,8 @@ installed_bound_of reqs (area ∷ rest) =
       | false ↦ omega (arith, later, total)
     ]
 
-pub limit_memory : (areas : List Area) → AreMemory areas → total_size (regions_of areas) ≤ TOTAL_LIMIT
-limit_memory areas m = small_total TOTAL_LIMIT (regions_of areas) (sound_regions TOTAL_LIMIT (regions_of areas) m.sound).small
+pub limit_memory : (areas : List Area) → AreMemory areas → total_size (regions_of areas) ≤ greatest_total
+limit_memory areas m = small_total greatest_total (regions_of areas) (sound_regions greatest_total (regions_of areas) m.sound).small
 
 suitable_regions : (reqs : ℕ) (areas : List Area) → filter (is_suitable reqs) (regions_of areas) ≡ regions_of (suitable_of reqs areas)
 suitable_regions reqs [] = refl

@@ -18,7 +18,7 @@ use Rattle.memlist.proofs.Merged.{AllAnswer, IsRising, found_nowhere, found_outs
 
 -- Keys of an area
 
-nat_le-true : (a b : ℕ) → a ≤ b → nat_le a b ≡ true
+pub nat_le-true : (a b : ℕ) → a ≤ b → nat_le a b ≡ true
 nat_le-true a b h = grind (arith, nat_tests)
 
 pub is_in-true : (region : Region) (address : ℕ) → region.base ≤ address → address < region_end region → is_in region address ≡ true

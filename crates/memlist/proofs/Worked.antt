@@ -2,7 +2,6 @@
 use Rattle.std.specs.Prelude.{◌≡◌, ℕ, pos, [], ◌∷◌, Option, None, Some, refl}
 use Rattle.memlist.specs.declared.region.MemFault.TheVariants.{Misaligned, Overlap, TooLarge}
 use Rattle.memlist.specs.declared.region.Region.{Region}
-use Rattle.memlist.specs.declared.region.TheConstants.{TOTAL_LIMIT}
 use Rattle.memlist.specs.Regions.{regions_fault}
 use Rattle.memlist.specs.Blocks.{gaps}
 use Rattle.memlist.specs.Fit.{avail, fit}
@@ -66,14 +65,14 @@ unfolding avail gaps
 installed = refl
 
 -- faults of regions, in their order
-pub overlapping : regions_fault TOTAL_LIMIT (plain 16 ∷ plain 8 ∷ []) ≡ Some Overlap
+pub overlapping : regions_fault 1048576 (plain 16 ∷ plain 8 ∷ []) ≡ Some Overlap
 unfolding regions_fault
 overlapping = refl
 
-pub too_large : regions_fault TOTAL_LIMIT (plain 2000000 ∷ plain 8 ∷ []) ≡ Some TooLarge
+pub too_large : regions_fault 1048576 (plain 2000000 ∷ plain 8 ∷ []) ≡ Some TooLarge
 unfolding regions_fault
 too_large = refl
 
-pub misaligned : regions_fault TOTAL_LIMIT (plain 2000000 ∷ plain 7 ∷ []) ≡ Some Misaligned
+pub misaligned : regions_fault 1048576 (plain 2000000 ∷ plain 7 ∷ []) ≡ Some Misaligned
 unfolding regions_fault
 misaligned = refl

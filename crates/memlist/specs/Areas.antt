@@ -6,7 +6,6 @@ use Rattle.std.specs.FinMap.{put}
 use Rattle.memlist.specs.declared.gap.Gap.{Gap}
 use Rattle.memlist.specs.declared.slot.Slot.{Slot}
 use Rattle.memlist.specs.declared.region.Region.{Region}
-use Rattle.memlist.specs.declared.region.TheConstants.{TOTAL_LIMIT}
 use Rattle.memlist.specs.Regions.{region_end, is_aligned, is_in_reach, regions_fault}
 use Rattle.memlist.specs.Blocks.{Blocks, gaps_between}
 use Rattle.memlist.specs.Memory.{IsLaid, Memory}
@@ -71,7 +70,11 @@ regions_of areas = map (λ (area : Area). area.region) areas
 abbrev pub memory_of : List Area → Memory
 memory_of areas = record { regions = regions_of areas; blocks = merged areas }
 
+-- the most bytes that the regions of any memory may have in all: the greatest total that can be asked for
+abbrev pub greatest_total : ℕ
+greatest_total = 4294967295
+
 -- what a `MemList` keeps true of its headers: its regions are sound, and in each of them blocks lie beside one another
 pub record AreMemory (areas : List Area) : Type 0 where
-  pub sound : regions_fault TOTAL_LIMIT (regions_of areas) ≡ None
+  pub sound : regions_fault greatest_total (regions_of areas) ≡ None
   pub laid : AllByRecursion IsLaidArea areas

@@ -5,7 +5,7 @@
 #![tactic(auto)]
 
 pub use memory::{MEMB_LARGEST, MEMB_TOTAL, MemList, NotABlock};
-pub use region::{MEM_BLOCKSIZE, MemFault, Region, TOTAL_LIMIT, check_regions};
+pub use region::{MEM_BLOCKSIZE, MemFault, Region, check_regions};
 
 mod chunk;
 mod descent;

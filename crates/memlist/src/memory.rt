@@ -1,5 +1,5 @@
 //! The memory list: what Exec's MemList is for AllocMem, FreeMem and AvailMem.
-ghost use Rattle.std.specs.Prelude.{◌≡◌, ◌+◌, ◌*◌, ◌^◌, ◌<◌, ◌≤◌, not, ◌&&◌, IsTrue, IsSome, IsSomeAnd, IfOk, IfErr, IfSome, OnOk, OnErr, None, Some, is_ok, int_lt, unwrap_or, length, drop, map, slice_get};
+ghost use Rattle.std.specs.Prelude.{◌≡◌, ◌+◌, ◌*◌, ◌^◌, ◌<◌, ◌≤◌, not, ◌&&◌, IsTrue, IsSome, IsSomeAnd, IfOk, IfErr, IfSome, OnOk, OnErr, None, Some, is_ok, is_some, int_lt, unwrap_or, length, drop, map, slice_get};
 ghost use Rattle.std.specs.List.{list_all};
 ghost use Rattle.memlist.specs.Regions.{is_aligned, is_in_reach, regions_fault};
 ghost use Rattle.memlist.specs.Blocks.{block_at, gaps};
@@ -10,7 +10,7 @@ ghost use Rattle.memlist.specs.Areas.{Area, IsFreeChain, empty_area};
 ghost use Rattle.memlist.specs.Choice.{IsHome, IsOffer, free_of, installed_of, is_outranked, largest_of};
 
 use crate::header::MemHeader;
-use crate::region::{MemFault, Region, TOTAL_LIMIT, check_regions};
+use crate::region::{MemFault, Region, check_regions};
 use std::alloc::{AllocError, Global};
 use std::marker::Model;
 use thiserror::Error;
@@ -59,16 +59,17 @@ pub struct Offer {
 }
 
 impl MemList {
-    /// The memory of a machine with these regions, in the order of its file, with nothing allocated.
+    /// The memory of a machine with these regions, in the order of its file, which may have `total` bytes in all, with nothing
+    /// allocated.
     ///
     /// The fault is that of `check_regions`; where that has none, OutOfMemory is answered if there is no memory for the
     /// list itself.
-    pub fn new(alloc: Global, regions: &[Region]) -> Result<MemList, MemFault>
+    pub fn new(alloc: Global, regions: &[Region], total: u32) -> Result<MemList, MemFault>
         ensures value { IfOk result (λ memory. memory ≡ untouched regions.now) }
-        ensures sound { OnOk result (regions_fault TOTAL_LIMIT regions.now ≡ None) }
-        ensures fault { IfErr result (λ fault. fault ≡ unwrap_or (regions_fault TOTAL_LIMIT regions.now) MemFault.OutOfMemory) }
+        ensures sound { OnOk result (regions_fault total regions.now ≡ None) }
+        ensures fault { IfErr result (λ fault. fault ≡ unwrap_or (regions_fault total regions.now) MemFault.OutOfMemory) }
     {
-        check_regions(regions)?;
+        check_regions(regions, total)?;
         match headers(alloc, regions) {
             Ok(headers) => Ok(MemList { headers }),
             Err(_) => Err(MemFault::OutOfMemory),
@@ -102,6 +103,18 @@ impl MemList {
             Some(offer) => Some(self.headers[offer.header].take(offer.before, size, tag)),
             None => None,
         }
+    }
+
+    /// Whether `alloc_mem` would find a gap for a block of that size, and changes nothing. Never for size 0.
+    ///
+    /// Source: own choice.
+    pub fn fits(&self, size: u32, reqs: u32) -> bool
+        ensures { result ≡ is_some (fit self.now.regions self.now.blocks size reqs) }
+    {
+        if size == 0 {
+            return false;
+        }
+        choose(&self.headers, round(size), reqs).is_some()
     }
 
     /// Frees a plain block: its tag is 0, and the size is not 0 and rounds up to the block's size. For anything else the

@@ -5,9 +5,6 @@ ghost use Rattle.memlist.specs.Regions.{are_apart, are_small, fault_number, is_a
 
 use thiserror::Error;
 
-/// Bytes that all regions of a machine may have together.
-pub const TOTAL_LIMIT: u64 = 1_048_576;
-
 /// Regions that a machine may have.
 const REGION_LIMIT: usize = 8;
 
@@ -42,7 +39,7 @@ pub enum MemFault {
     /// Two regions have a byte in common.
     #[error("two regions overlap")]
     Overlap = 2,
-    /// There are more than 8 regions, more bytes than `TOTAL_LIMIT` in all, or a region that ends past 2,147,483,648.
+    /// There are more than 8 regions, more bytes than the total in all, or a region that ends past 2,147,483,648.
     #[error("the regions are too large")]
     TooLarge = 3,
     /// There was no memory for the list itself. Only `MemList::new` answers it.
@@ -59,18 +56,18 @@ impl MemFault {
     }
 }
 
-/// Checks the regions of a machine: the first of Misaligned, TooLarge and Overlap that holds of them is the fault.
-/// No regions at all are accepted, and so are regions that touch.
+/// Checks the regions of a machine, which may have `total` bytes in all: the first of Misaligned, TooLarge and Overlap that
+/// holds of them is the fault. No regions at all are accepted, and so are regions that touch.
 ///
 /// Source: own choice; the attributes and priorities are those of RKM Libraries, Exec Memory Allocation.
 #[tactic(auto, unfolding(crate::specs::Regions::regions_fault))]
-pub fn check_regions(regions: &[Region]) -> Result<(), MemFault>
-    ensures { MatchResult result (λ _. regions_fault TOTAL_LIMIT regions.now ≡ None) (λ fault. regions_fault TOTAL_LIMIT regions.now ≡ Some fault) }
+pub fn check_regions(regions: &[Region], total: u32) -> Result<(), MemFault>
+    ensures { MatchResult result (λ _. regions_fault total regions.now ≡ None) (λ fault. regions_fault total regions.now ≡ Some fault) }
 {
     if !are_aligned(regions) {
         return Err(MemFault::Misaligned);
     }
-    if !are_small(regions) {
+    if !are_small(regions, total) {
         return Err(MemFault::TooLarge);
     }
     if !are_apart(regions) {
@@ -100,10 +97,12 @@ fn is_in_reach(region: &Region) -> bool
     u64::from(region.base) + u64::from(region.size) <= REACH
 }
 
-fn are_small(regions: &[Region]) -> bool
-    ensures { result ≡ are_small TOTAL_LIMIT regions.now }
+fn are_small(regions: &[Region], total: u32) -> bool
+    ensures { result ≡ are_small total regions.now }
 {
-    regions.len() <= REGION_LIMIT && total_size(regions) <= TOTAL_LIMIT && are_in_reach(regions)
+    regions.len() <= REGION_LIMIT
+        && total_size(regions) <= u64::from(total)
+        && are_in_reach(regions)
 }
 
 fn are_in_reach(regions: &[Region]) -> bool

@@ -1,4 +1,4 @@
--- What holds of the machine of a tree without faults: a quantum, ticks and a pool within their ranges, few libraries with versions and sizes within
+-- What holds of the machine of a tree without faults: a version, a quantum, ticks and a pool within their ranges, few libraries with versions and sizes within
 -- theirs, few software interrupts, servers and tasks, names that differ, short bodies, variables within the limits, and in the body of an interrupt what it may have.
 use Rattle.std.proofs.Common.{is_none, ◌≡◌, ◌≢◌, ◌⊎◌, ℕ, ◌≤◌, Bool, true, false, not, if◌then◌else◌, nat_le, List, [], ◌∷◌, ◌++◌, length, map, All, bytes_eq, codes, ℤ, pos, negsuc, inl, inr, lit≤, ◌&&◌, ◌||◌, Option, Some, None, refl, sym, ap, subst, ◌∙◌, append_assoc, arith}
 use Rattle.std.specs.List.{AllPairs, list_any}
@@ -17,7 +17,7 @@ use Rattle.taskscript.specs.declared.fault.FileFault.{FileFault}
 use Rattle.taskscript.specs.declared.fault.FileFault.TheVariants.{UnknownKey, BadValue, NameTwice, BadRegions, TooMany}
 use Rattle.taskscript.specs.Code.{lines_in, body_faults, code_of, shared_after}
 use Rattle.taskscript.specs.Faults.{first, check}
-use Rattle.taskscript.specs.File.{LibraryData, SoftintData, ServerData, TaskData, top_keys, library_keys, softint_keys, server_keys, task_keys, name_of, library_faults, softint_faults, server_faults, task_faults, named_faults, item_names, libraries_in, libraries_faults, library_of, softints_in, servers_in, tasks_in, code_lines, setting_of, bodies_faults, with_bodies, shared_after_softints, shared_after_servers, names_before_servers, names_before_tasks, both_passes_faults, faults, region_faults, regions_faults, regions_in, quantum_of, tick_micros_of, pool_of, settings_faults, softint_of, softints_of, server_of, servers_of, task_of, tasks_of, MachineData, machine_of}
+use Rattle.taskscript.specs.File.{LibraryData, SoftintData, ServerData, TaskData, top_keys, library_keys, softint_keys, server_keys, task_keys, name_of, library_faults, softint_faults, server_faults, task_faults, named_faults, item_names, libraries_in, libraries_faults, library_of, softints_in, servers_in, tasks_in, code_lines, setting_of, bodies_faults, with_bodies, shared_after_softints, shared_after_servers, names_before_servers, names_before_tasks, both_passes_faults, faults, region_faults, regions_faults, regions_in, total_of, version_of, quantum_of, tick_micros_of, pool_of, settings_faults, softint_of, softints_of, server_of, servers_of, task_of, tasks_of, MachineData, machine_of}
 use Rattle.taskscript.specs.Interrupting.{Setting}
 use Rattle.taskscript.specs.Machines.{IsCode, IsSoftintPri, IsLibrary, IsSoftint, IsServer, IsTask, IsMachine, library_names, softint_names, server_names, task_names}
 use Rattle.taskscript.specs.Names.{is_name}
@@ -348,26 +348,32 @@ no_fault : {X : Type 0} (fault : Option X) → first (check (is_none fault) BadR
 no_fault None h = refl
 no_fault (Some f) h = absurd cc
 
-regions_hold : (ms : Members) → first (regions_faults ms) ≡ None → regions_fault 1048576 (regions_in ms) ≡ None
-regions_hold ms h = no_fault (regions_fault 1048576 (regions_in ms)) (first_right (optional (array_faults 8 (items_faults (table_faults region_faults))) (get_member (codes "region") ms)) _ h)
+regions_hold : (total : ℕ) (ms : Members) → first (regions_faults total ms) ≡ None → regions_fault total (regions_in ms) ≡ None
+regions_hold total ms h = no_fault (regions_fault total (regions_in ms)) (first_right (optional (array_faults 8 (items_faults (table_faults region_faults))) (get_member (codes "region") ms)) _ h)
+
+-- what the regions were judged to be by a total that is that of the version that was read
+pub in_version : (ms : Members) (version total : ℕ) (fault : Option FileFault) → version ≡ version_of ms → total ≡ total_of version
+    → first (regions_faults total ms) ≡ fault → first (regions_faults (total_of (version_of ms)) ms) ≡ fault
+in_version ms version total fault v t h = subst (λ (n : ℕ). first (regions_faults n ms) ≡ fault) (t ∙ ap total_of v) h
 
 -- the faults of a whole tree, part by part
 pub record HasNoFaults (tree : Members) : Type 0 where
   pub settings : first (settings_faults tree) ≡ None
-  pub regions : first (regions_faults tree) ≡ None
+  pub regions : first (regions_faults (total_of (version_of tree)) tree) ≡ None
   pub libraries : first (libraries_faults tree) ≡ None
   pub passes : first (both_passes_faults tree) ≡ None
 
 has_none : (ms : Members) → first (faults ms) ≡ None → HasNoFaults ms
 has_none ms h =
     let keys = check (keys_are_among top_keys ms) UnknownKey in
+    let regions = regions_faults (total_of (version_of ms)) ms in
     let later = libraries_faults ms ++ both_passes_faults ms in
-    let values : first (settings_faults ms ++ (regions_faults ms ++ later)) ≡ None = first_right keys (settings_faults ms ++ (regions_faults ms ++ later)) h in
-    let arrays : first (regions_faults ms ++ later) ≡ None = first_right (settings_faults ms) (regions_faults ms ++ later) values in
-    let last : first later ≡ None = first_right (regions_faults ms) later arrays in
+    let values : first (settings_faults ms ++ (regions ++ later)) ≡ None = first_right keys (settings_faults ms ++ (regions ++ later)) h in
+    let arrays : first (regions ++ later) ≡ None = first_right (settings_faults ms) (regions ++ later) values in
+    let last : first later ≡ None = first_right regions later arrays in
     record {
-      settings = first_left (settings_faults ms) (regions_faults ms ++ later) values;
-      regions = first_left (regions_faults ms) later arrays;
+      settings = first_left (settings_faults ms) (regions ++ later) values;
+      regions = first_left regions later arrays;
       libraries = first_left (libraries_faults ms) (both_passes_faults ms) last;
       passes = first_right (libraries_faults ms) (both_passes_faults ms) last;
     }
@@ -421,11 +427,14 @@ machine_of_parts ms h =
     let softints = array_passes 32 (named_faults softint_faults []) (get_member (codes "softint") ms) refl good.softints in
     let servers = array_passes 32 (named_faults server_faults (names_before_servers ms)) (get_member (codes "server") ms) refl good.servers in
     let tasks = array_passes 64 (named_faults task_faults (names_before_tasks ms)) (get_member (codes "task") ms) refl good.tasks in
+    let version_faults = optional (integer_faults (pos 1) (pos 2)) (get_member (codes "version") ms) in
     let quantum_faults = optional (integer_faults (pos 1) (pos 255)) (get_member (codes "quantum") ms) in
     let tick_faults = optional (integer_faults (pos 1) (pos 1000000)) (get_member (codes "tick_micros") ms) in
     let pool_faults = optional (integer_faults (pos 1) (pos 1024)) (get_member (codes "pool") ms) in
-    let later = first_right quantum_faults (tick_faults ++ pool_faults) h.settings in
-    let quantum = number_passes 1 255 4 (get_member (codes "quantum") ms) (lit≤ tt) (lit≤ tt) (first_left quantum_faults (tick_faults ++ pool_faults) h.settings) in
+    let numbers = first_right version_faults (quantum_faults ++ (tick_faults ++ pool_faults)) h.settings in
+    let later = first_right quantum_faults (tick_faults ++ pool_faults) numbers in
+    let version = number_passes 1 2 1 (get_member (codes "version") ms) (lit≤ tt) (lit≤ tt) (first_left version_faults (quantum_faults ++ (tick_faults ++ pool_faults)) h.settings) in
+    let quantum = number_passes 1 255 4 (get_member (codes "quantum") ms) (lit≤ tt) (lit≤ tt) (first_left quantum_faults (tick_faults ++ pool_faults) numbers) in
     let tick = number_passes 1 1000000 20000 (get_member (codes "tick_micros") ms) (lit≤ tt) (lit≤ tt) (first_left tick_faults pool_faults later) in
     let pool = number_passes 1 1024 64 (get_member (codes "pool") ms) (lit≤ tt) (lit≤ tt) (first_right tick_faults pool_faults later) in
     let firsts = item_names (softints_in ms) in
@@ -434,13 +443,15 @@ machine_of_parts ms h =
     let new : AreNew [] (firsts ++ (seconds ++ thirds)) = new-append [] firsts (seconds ++ thirds) (names_new softint_faults softint_judged.named [] (softints_in ms) softints.1)
     (new-append firsts seconds thirds (names_new server_faults server_judged.named firsts (servers_in ms) servers.1) (names_new task_faults task_judged.named (firsts ++ seconds) (tasks_in ms) tasks.1)) in
     record {
+      some_version = version.0;
+      known_version = version.1;
       some_quantum = quantum.0;
       short_quantum = quantum.1;
       some_tick = tick.0;
       short_tick = tick.1;
       some_pool = pool.0;
       small_pool = pool.1;
-      regions = regions_hold ms h.regions;
+      regions = regions_hold (total_of (version_of ms)) ms h.regions;
       few_libraries = omega (arith, length-of_items library_of (libraries_in ms), libraries.0);
       libraries = each_holds IsLibrary library_faults library_of library_holds [] (libraries_in ms) libraries.1;
       library_names = rw (library_names-are ms) (all_differ [] (item_names (libraries_in ms)) (names_new library_faults library_named [] (libraries_in ms) libraries.1));
@@ -457,18 +468,18 @@ pub machine_holds : (ms : Members) → first (faults ms) ≡ None → IsMachine 
 machine_holds ms h = machine_of_parts ms (has_none ms h)
 
 -- the same of parts that were read from the tree
-pub read_holds : (ms : Members) (quantum tick_micros pool : ℕ) (regions : List Region) (libraries : List LibraryData) (softints : List SoftintData) (servers : List ServerData) (tasks : List TaskData) → HasNoFaults ms
-    → quantum ≡ quantum_of ms → tick_micros ≡ tick_micros_of ms → pool ≡ pool_of ms → regions ≡ regions_in ms → libraries ≡ of_items library_of (libraries_in ms)
+pub read_holds : (ms : Members) (version quantum tick_micros pool : ℕ) (regions : List Region) (libraries : List LibraryData) (softints : List SoftintData) (servers : List ServerData) (tasks : List TaskData) → HasNoFaults ms
+    → version ≡ version_of ms → quantum ≡ quantum_of ms → tick_micros ≡ tick_micros_of ms → pool ≡ pool_of ms → regions ≡ regions_in ms → libraries ≡ of_items library_of (libraries_in ms)
     → softints ≡ softints_of [] (softints_in ms) → servers ≡ servers_of (shared_after_softints ms) (servers_in ms) → tasks ≡ tasks_of (shared_after_servers ms) (tasks_in ms)
-    → IsMachine (record { quantum = quantum; tick_micros = tick_micros; pool = pool; regions = regions; libraries = libraries; softints = softints; servers = servers; tasks = tasks })
-read_holds ms quantum tick_micros pool regions libraries softints servers tasks none p k q r l s t u = rw (p, k, q, r, l, s, t, u) (machine_of_parts ms none)
+    → IsMachine (record { version = version; quantum = quantum; tick_micros = tick_micros; pool = pool; regions = regions; libraries = libraries; softints = softints; servers = servers; tasks = tasks })
+read_holds ms version quantum tick_micros pool regions libraries softints servers tasks none v p k q r l s t u = rw (v, p, k, q, r, l, s, t, u) (machine_of_parts ms none)
 
-abbrev made : ℕ → ℕ → ℕ → List Region → List LibraryData → List SoftintData → List ServerData → List TaskData → MachineData
-made quantum tick_micros pool regions libraries softints servers tasks = record { quantum = quantum; tick_micros = tick_micros; pool = pool; regions = regions; libraries = libraries; softints = softints; servers = servers; tasks = tasks }
+abbrev made : ℕ → ℕ → ℕ → ℕ → List Region → List LibraryData → List SoftintData → List ServerData → List TaskData → MachineData
+made version quantum tick_micros pool regions libraries softints servers tasks = record { version = version; quantum = quantum; tick_micros = tick_micros; pool = pool; regions = regions; libraries = libraries; softints = softints; servers = servers; tasks = tasks }
 
 -- and they are its machine
-pub read_is : (ms : Members) (quantum tick_micros pool : ℕ) (regions : List Region) (libraries : List LibraryData) (softints : List SoftintData) (servers : List ServerData) (tasks : List TaskData)
-    → quantum ≡ quantum_of ms → tick_micros ≡ tick_micros_of ms → pool ≡ pool_of ms → regions ≡ regions_in ms → libraries ≡ of_items library_of (libraries_in ms)
+pub read_is : (ms : Members) (version quantum tick_micros pool : ℕ) (regions : List Region) (libraries : List LibraryData) (softints : List SoftintData) (servers : List ServerData) (tasks : List TaskData)
+    → version ≡ version_of ms → quantum ≡ quantum_of ms → tick_micros ≡ tick_micros_of ms → pool ≡ pool_of ms → regions ≡ regions_in ms → libraries ≡ of_items library_of (libraries_in ms)
     → softints ≡ softints_of [] (softints_in ms) → servers ≡ servers_of (shared_after_softints ms) (servers_in ms) → tasks ≡ tasks_of (shared_after_servers ms) (tasks_in ms)
-    → made quantum tick_micros pool regions libraries softints servers tasks ≡ machine_of ms
-read_is ms quantum tick_micros pool regions libraries softints servers tasks p k q r l s t u = rw (p, k, q, r, l, s, t, u) refl
+    → made version quantum tick_micros pool regions libraries softints servers tasks ≡ machine_of ms
+read_is ms version quantum tick_micros pool regions libraries softints servers tasks v p k q r l s t u = rw (v, p, k, q, r, l, s, t, u) refl

@@ -1,5 +1,5 @@
 -- The machine that a file states, or its first fault.
-use Rattle.std.specs.Prelude.{is_none, ℕ, ℤ, pos, Bool, true, false, codes, List, [], ◌∷◌, ◌++◌, Option, Some, None, Result, Err}
+use Rattle.std.specs.Prelude.{is_none, nat_eq, if◌then◌else◌, ℕ, ℤ, pos, Bool, true, false, codes, List, [], ◌∷◌, ◌++◌, Option, Some, None, Result, Err}
 use Rattle.memlist.specs.declared.region.Region.{Region}
 use Rattle.memlist.specs.Regions.{regions_fault}
 use Rattle.toml.specs.Data.{Data, Items, no_items, item, Members, get_member}
@@ -42,9 +42,10 @@ pub record ServerData : Type 0 where
   pub claim : Bool
   pub code : List CommandData
 
--- a machine: the quantum in servings of VERTB (1 to 255), the microseconds of a tick (1 to 1,000,000), the number of objects of each kind that may live (1 to 1,024), and its regions of
+-- a machine: the version of its rules (1 or 2), the quantum in servings of VERTB (1 to 255), the microseconds of a tick (1 to 1,000,000), the number of objects of each kind that may live (1 to 1,024), and its regions of
 -- memory, its libraries, its software interrupts, its servers and its tasks, each in the order of the file; the first task is task 1
 pub record MachineData : Type 0 where
+  pub version : ℕ
   pub quantum : ℕ
   pub tick_micros : ℕ
   pub pool : ℕ
@@ -58,7 +59,8 @@ pub record MachineData : Type 0 where
 
 abbrev pub top_keys : List (List ℕ)
 top_keys =
-    codes "quantum" ∷ codes "tick_micros" ∷ codes "pool" ∷ codes "region" ∷ codes "library" ∷ codes "softint" ∷ codes "server" ∷ codes "task" ∷ []
+    codes "version" ∷ codes "quantum" ∷ codes "tick_micros" ∷ codes "pool" ∷ codes "region" ∷ codes "library" ∷ codes "softint" ∷ codes "server"
+    ∷ codes "task" ∷ []
 
 abbrev pub task_keys : List (List ℕ)
 task_keys = codes "name" ∷ codes "pri" ∷ codes "start" ∷ codes "code" ∷ []
@@ -90,11 +92,19 @@ regions_of regions = of_items region_of regions
 abbrev pub regions_in : Members → List Region
 regions_in tree = regions_of (items_or_none (get_member (codes "region") tree))
 
--- the regions in their order, and after the last of them all together: 1,048,576 bytes is the most that they may have
-abbrev pub regions_faults : Members → List FileFault
-regions_faults tree =
+-- the version of the rules, 1 where the file does not say it (own choice)
+abbrev pub version_of : Members → ℕ
+version_of tree = number_or 1 (get_member (codes "version") tree)
+
+-- the bytes that all regions may have together: 1,048,576 in version 1, and 4,194,304 in version 2 (own choice)
+abbrev pub total_of : ℕ → ℕ
+total_of version = if nat_eq version 1 then 1048576 else 4194304
+
+-- the regions in their order, and after the last of them all together, which may have so many bytes in all
+abbrev pub regions_faults : ℕ → Members → List FileFault
+regions_faults total tree =
     optional (array_faults 8 (items_faults (table_faults region_faults))) (get_member (codes "region") tree)
-    ++ check (is_none (regions_fault 1048576 (regions_in tree))) BadRegions
+    ++ check (is_none (regions_fault total (regions_in tree))) BadRegions
 
 -- ---- software interrupts, servers and tasks: what has a name and a code
 
@@ -236,9 +246,10 @@ with_bodies of shared (item owner rest) = of shared owner ∷ with_bodies of (sh
 -- the values of the keys that hold a number
 abbrev pub settings_faults : Members → List FileFault
 settings_faults tree =
-    optional (integer_faults (pos 1) (pos 255)) (get_member (codes "quantum") tree)
+    optional (integer_faults (pos 1) (pos 2)) (get_member (codes "version") tree)
+    ++ (optional (integer_faults (pos 1) (pos 255)) (get_member (codes "quantum") tree)
     ++ (optional (integer_faults (pos 1) (pos 1000000)) (get_member (codes "tick_micros") tree)
-    ++ optional (integer_faults (pos 1) (pos 1024)) (get_member (codes "pool") tree))
+    ++ optional (integer_faults (pos 1) (pos 1024)) (get_member (codes "pool") tree)))
 
 -- the shared variables after the bodies of the software interrupts, and after those of the servers too
 abbrev pub shared_after_softints : Members → List (List ℕ)
@@ -277,7 +288,7 @@ abbrev pub faults : Members → List FileFault
 faults tree =
     check (keys_are_among top_keys tree) UnknownKey
     ++ (settings_faults tree
-    ++ (regions_faults tree
+    ++ (regions_faults (total_of (version_of tree)) tree
     ++ (libraries_faults tree
     ++ both_passes_faults tree)))
 
@@ -313,6 +324,7 @@ servers_of shared servers = with_bodies server_of shared servers
 
 abbrev pub machine_of : Members → MachineData
 machine_of tree = record {
+  version = version_of tree;
   quantum = quantum_of tree;
   tick_micros = tick_micros_of tree;
   pool = pool_of tree;

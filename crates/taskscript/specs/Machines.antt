@@ -7,7 +7,7 @@ use Rattle.taskscript.specs.declared.word.row.Kind.TheVariants.{Value, Label, Na
 use Rattle.taskscript.specs.Commands.{ArgumentData, number, variable, quoted, place, CommandData, CommandFits}
 use Rattle.taskscript.specs.declared.variable.Variable.{Variable}
 use Rattle.taskscript.specs.declared.variable.Variable.TheVariants.{Private, Shared}
-use Rattle.taskscript.specs.File.{LibraryData, SoftintData, ServerData, TaskData, MachineData}
+use Rattle.taskscript.specs.File.{LibraryData, SoftintData, ServerData, TaskData, MachineData, total_of}
 use Rattle.taskscript.specs.Interrupting.{is_word_of_interrupt}
 use Rattle.taskscript.specs.Names.{is_name}
 use Rattle.taskscript.specs.Words.{kinds}
@@ -134,16 +134,18 @@ task_names tasks = map (λ (t : TaskData). t.name) tasks
 abbrev pub body_names : MachineData → List (List ℕ)
 body_names machine = softint_names machine.softints ++ (server_names machine.servers ++ task_names machine.tasks)
 
--- a machine of a file: a quantum of 1 to 255, ticks of 1 to 1,000,000 microseconds, a pool of 1 to 1,024, regions that memory may have, at most 32 libraries, whose names differ,
+-- a machine of a file: a version of 1 or 2, a quantum of 1 to 255, ticks of 1 to 1,000,000 microseconds, a pool of 1 to 1,024, regions that memory may have, at most 32 libraries, whose names differ,
 -- and at most 32 software interrupts, 32 servers and 64 tasks, whose names differ together
 pub record IsMachine (machine : MachineData) : Type 0 where
+  pub some_version : 1 ≤ machine.version
+  pub known_version : machine.version ≤ 2
   pub some_quantum : 1 ≤ machine.quantum
   pub short_quantum : machine.quantum ≤ 255
   pub some_tick : 1 ≤ machine.tick_micros
   pub short_tick : machine.tick_micros ≤ 1000000
   pub some_pool : 1 ≤ machine.pool
   pub small_pool : machine.pool ≤ 1024
-  pub regions : regions_fault 1048576 machine.regions ≡ None
+  pub regions : regions_fault (total_of machine.version) machine.regions ≡ None
   pub few_libraries : length machine.libraries ≤ 32
   pub libraries : All IsLibrary machine.libraries
   pub library_names : AllPairs (λ s t. s ≢ t) (library_names machine.libraries)

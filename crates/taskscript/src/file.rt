@@ -64,6 +64,7 @@ pub struct ServerRecord {
 /// `read_machine` alone makes one.
 #[derive(Drop)]
 pub struct MachineFile {
+    pub(crate) version: u8,
     pub(crate) quantum: u8,
     pub(crate) tick_micros: u32,
     pub(crate) pool: u32,
@@ -83,6 +84,7 @@ impl Model for MachineFile {
     ghost Value = { MachineData };
 
     ghost view = { λ m. record {
+      version = m.version;
       quantum = m.quantum;
       tick_micros = m.tick_micros;
       pool = m.pool;
@@ -94,6 +96,7 @@ impl Model for MachineFile {
     } };
 
     ghost invariant = { λ m. IsMachine (record {
+      version = m.version;
       quantum = m.quantum;
       tick_micros = m.tick_micros;
       pool = m.pool;
@@ -106,6 +109,15 @@ impl Model for MachineFile {
 }
 
 impl MachineFile {
+    /// The version of the rules that the machine goes by: 1, or 2, in which libraries give way where memory is lacking and regions may have
+    /// 4,194,304 bytes in all; 1 where `version` does not stand in the file (own choice).
+    pub fn version(&self) -> u8
+        ensures version { result ≡ self.now.version }
+        ensures machine { IsMachine self.now }
+    {
+        self.version
+    }
+
     /// The quantum: how many servings of VERTB a task runs before it lets an equal one run, 1 to 255 (RKM Libraries, Exec Tasks: scheduling).
     pub fn quantum(&self) -> u8
         ensures quantum { result ≡ self.now.quantum }

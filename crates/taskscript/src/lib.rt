@@ -41,6 +41,7 @@ pub use laws::{
 };
 pub use name::Name;
 pub use reading::read_machine;
+pub use regions::{regions_at, total_of};
 pub use source::Source;
 pub use variable::{Variable, VariableName};
 pub use word::{

@@ -4,13 +4,13 @@ ghost use Rattle.toml.specs.View.{table_view};
 ghost use Rattle.taskscript.specs.Faults.{Judges};
 ghost use Rattle.taskscript.specs.Records.{library_view};
 ghost use Rattle.taskscript.specs.Tree.{of_items};
-ghost use Rattle.taskscript.specs.File.{libraries_faults, libraries_in, library_of, settings_faults, quantum_of, tick_micros_of, pool_of, faults, machine_of, file_of};
+ghost use Rattle.taskscript.specs.File.{libraries_faults, libraries_in, library_of, settings_faults, version_of, quantum_of, tick_micros_of, pool_of, faults, machine_of, file_of};
 
 use crate::fault::FileFault;
 use crate::file::{LibraryRecord, MachineFile};
 use crate::heads::heads_at;
 use crate::owners::owners_at;
-use crate::regions::regions_at;
+use crate::regions::{regions_at, total_of};
 use crate::tree::{document, has_only, optional_number};
 use std::alloc::Global;
 use toml::Table;
@@ -18,18 +18,21 @@ use toml::Table;
 /// The values of the keys that hold a number.
 #[derive(Clone, Copy)]
 struct Settings {
+    version: u8,
     quantum: u8,
     tick_micros: u32,
     pool: u32,
 }
 
 fn settings_of(table: &Table) -> Result<Settings, FileFault>
-    ensures { Judges result (settings_faults (table_view table.now)) (λ s. (s.quantum ≡ quantum_of (table_view table.now)) × (s.tick_micros ≡ tick_micros_of (table_view table.now)) × (s.pool ≡ pool_of (table_view table.now))) }
+    ensures { Judges result (settings_faults (table_view table.now)) (λ s. (s.version ≡ version_of (table_view table.now)) × (s.quantum ≡ quantum_of (table_view table.now)) × (s.tick_micros ≡ tick_micros_of (table_view table.now)) × (s.pool ≡ pool_of (table_view table.now))) }
 {
+    let version = optional_number(table, "version", 1, 2, 1)?;
     let quantum = optional_number(table, "quantum", 1, 255, 4)?;
     let tick_micros = optional_number(table, "tick_micros", 1, 1_000_000, 20_000)?;
     let pool = optional_number(table, "pool", 1, 1024, 64)?;
     Ok(Settings {
+        version: version as u8,
         quantum: quantum as u8,
         tick_micros,
         pool,
@@ -50,6 +53,7 @@ fn machine_of(alloc: Global, table: &Table) -> Result<MachineFile, FileFault>
     if !has_only(
         table,
         &[
+            "version",
             "quantum",
             "tick_micros",
             "pool",
@@ -63,10 +67,11 @@ fn machine_of(alloc: Global, table: &Table) -> Result<MachineFile, FileFault>
         return Err(FileFault::UnknownKey);
     }
     let settings = settings_of(table)?;
-    let regions = regions_at(alloc, table)?;
+    let regions = regions_at(alloc, table, total_of(settings.version))?;
     let libraries = libraries_at(alloc, table)?;
     let owners = owners_at(alloc, table)?;
     Ok(MachineFile {
+        version: settings.version,
         quantum: settings.quantum,
         tick_micros: settings.tick_micros,
         pool: settings.pool,
@@ -80,9 +85,10 @@ fn machine_of(alloc: Global, table: &Table) -> Result<MachineFile, FileFault>
 
 /// Reads a machine file, a TOML document.
 ///
-/// It may have `quantum`, 1 to 255, which is 4 where it is absent, `tick_micros`, 1 to 1000000, which is 20000 where it is absent, `pool`, 1 to 1024, which is 64 where it is absent, `region`, an array of
-/// at most 8 tables, `library`, `softint` and `server`, arrays of at most 32 tables each, and `task`, an array of at most 64 tables. A region
-/// has `base` and `size`, 0 to 4294967295, and may have `attrs`, 0 to 7, which is 1 where it is absent, and a `pri` as a task.
+/// It may have `version`, 1 or 2, which is 1 where it is absent, `quantum`, 1 to 255, which is 4 where it is absent, `tick_micros`, 1 to
+/// 1000000, which is 20000 where it is absent, `pool`, 1 to 1024, which is 64 where it is absent, `region`, an array of at most 8 tables,
+/// `library`, `softint` and `server`, arrays of at most 32 tables each, and `task`, an array of at most 64 tables. A region has `base` and
+/// `size`, 0 to 4294967295, and may have `attrs`, 0 to 7, which is 1 where it is absent, and a `pri` as a task.
 ///
 /// A library has a `name` as below, which no other library has, a `version` from 0 to 65535, and a `size` in bytes, 8 to 65536. What is no
 /// library may have a library's name.
@@ -98,15 +104,16 @@ fn machine_of(alloc: Global, table: &Table) -> Result<MachineFile, FileFault>
 ///
 /// # Errors
 ///
-/// The first faulty place decides. First the whole tree is judged: the keys of the file, then `quantum`, `tick_micros` and `pool`, then `region`, `library`,
-/// `softint`, `server` and `task` (`BadValue` where it is no array, `TooMany` where it is too long), then item by item: `BadValue` where it is
-/// no table, `UnknownKey`, then its keys in the order `base`, `size`, `attrs`, `pri`, or `name`, `version`, `size`, or `name`, `pri`, `code`,
-/// or `name`, `source`, `pri`, `claim`, `code`, or `name`, `pri`, `start`, `code`, each `MissingKey` or `BadValue`, with `NameTwice` right
-/// after the name and `TooMany` after a `code` of strings. `BadRegions` comes after the last region, where `memlist::check_regions` refuses them. Then the bodies of all software
-/// interrupts, of all servers and of all tasks are judged: in each, line by line, `BadCommand`, `NotInInterrupt` for what is right in a task
-/// and may not stand in the body of an interrupt, `BadLabel` for a label that stands twice and `TooMany` for a variable past its limit, and
-/// after its last line `BadLabel` for a jump whose label the body lacks. `NotToml` comes before all else, and `OutOfMemory` may come wherever
-/// memory is refused.
+/// The first faulty place decides. First the whole tree is judged: the keys of the file, then `version`, `quantum`, `tick_micros` and
+/// `pool`, then `region`, `library`, `softint`, `server` and `task` (`BadValue` where it is no array, `TooMany` where it is too long), then
+/// item by item: `BadValue` where it is no table, `UnknownKey`, then its keys in the order `base`, `size`, `attrs`, `pri`, or `name`,
+/// `version`, `size`, or `name`, `pri`, `code`, or `name`, `source`, `pri`, `claim`, `code`, or `name`, `pri`, `start`, `code`, each
+/// `MissingKey` or `BadValue`, with `NameTwice` right after the name and `TooMany` after a `code` of strings. `BadRegions` comes after the
+/// last region, where `memlist::check_regions` refuses them, which in version 1 may have 1,048,576 bytes in all, and in version 2 may have
+/// 4,194,304. Then the bodies of all software interrupts, of all servers and of all tasks are judged: in each, line by line, `BadCommand`,
+/// `NotInInterrupt` for what is right in a task and may not stand in the body of an interrupt, `BadLabel` for a label that stands twice and
+/// `TooMany` for a variable past its limit, and after its last line `BadLabel` for a jump whose label the body lacks. `NotToml` comes
+/// before all else, and `OutOfMemory` may come wherever memory is refused.
 ///
 /// The format is this project's own choice.
 pub fn read_machine(alloc: Global, bytes: &[u8]) -> Result<MachineFile, FileFault>

@@ -4,7 +4,7 @@ ghost use Rattle.memlist.specs.Regions.{regions_fault};
 ghost use Rattle.toml.specs.Data.{table as a_table, get_member};
 ghost use Rattle.toml.specs.View.{table_view, view, items_view};
 ghost use Rattle.taskscript.specs.Faults.{Judges};
-ghost use Rattle.taskscript.specs.File.{region_faults, region_of, regions_of, regions_faults, regions_in};
+ghost use Rattle.taskscript.specs.File.{region_faults, region_of, regions_of, regions_faults, regions_in, total_of};
 ghost use Rattle.taskscript.specs.Tree.{optional, table_faults, array_faults, items_faults};
 
 use crate::fault::FileFault;
@@ -71,12 +71,22 @@ fn listed_regions(alloc: Global, table: &Table) -> Result<Vec<Region>, FileFault
     regions_of(alloc, items)
 }
 
-/// The regions of a file, which are judged together after the last of them.
-pub fn regions_at(alloc: Global, table: &Table) -> Result<Vec<Region>, FileFault>
-    ensures { Judges result (regions_faults (table_view table.now)) (λ rs. rs.items ≡ regions_in (table_view table.now)) }
+/// The bytes that all regions of a machine file of a version may have together: 1,048,576 in version 1, and 4,194,304 in any other (own choice).
+pub fn total_of(version: u8) -> u32
+    ensures { result ≡ total_of version }
+{
+    if version == 1 { 1_048_576 } else { 4_194_304 }
+}
+
+/// The regions of a file's top table, in their order, which are judged together after the last of them: they may have `total` bytes in all.
+///
+/// The first fault of the array `region` is answered: of the array itself, of an item, or `BadRegions` of all together; `OutOfMemory` may come
+/// wherever memory is refused. The format is this project's own choice.
+pub fn regions_at(alloc: Global, table: &Table, total: u32) -> Result<Vec<Region>, FileFault>
+    ensures { Judges result (regions_faults total (table_view table.now)) (λ rs. rs.items ≡ regions_in (table_view table.now)) }
 {
     let regions = listed_regions(alloc, table)?;
-    if check_regions(&regions).is_err() {
+    if check_regions(&regions, total).is_err() {
         return Err(FileFault::BadRegions);
     }
     Ok(regions)

@@ -9,9 +9,10 @@ use execlist::space::ListSpace;
 
 impl<S: ListSpace> Heap<S> {
     /// Opens the library of a name that has at least a version, and answers its base. One that is absent is loaded first: it takes a block
-    /// of its size, of public memory. It is open once more, and is not to be expunged any more. None where there is none of the name, its
-    /// version is lower, it is open 65,535 times, or its block fits nowhere; then nothing changes. Autodoc exec.library/OpenLibrary; the
-    /// count, and that a library takes public memory: own choice.
+    /// of its size, of public memory, and others are asked to give way to it as in `alloc_mem`. It is open once more, and is not to be
+    /// expunged any more. None where there is none of the name, its version is lower, it is open 65,535 times, or its block fits nowhere;
+    /// then nothing changes but what gave way. Autodoc exec.library/OpenLibrary; the count, and that a library takes public memory: own
+    /// choice.
     pub fn open_library(&mut self, name: &str, version: u32) -> Option<u32>
         ensures answer { result ≡ opening name.now version self.old }
         ensures next { self.new ≡ opened name.now version self.old }

@@ -4,6 +4,7 @@ ghost use Rattle.execlist.specs.Order.{first};
 ghost use Rattle.execmodel.specs.State.{Message, MsgPort, on_heap};
 ghost use Rattle.execmodel.specs.Lists.{or_none};
 ghost use Rattle.execmodel.specs.Memory.{freed, placed};
+ghost use Rattle.execmodel.specs.GivingWay.{after_asking_for_object};
 ghost use Rattle.execmodel.specs.Objects.{place_for_object};
 ghost use Rattle.execmodel.specs.Ports.{add_port_alert, content_of, delete_alert, is_called, is_message, is_port, is_port_at, loose_alert, made_private, message_alert, messages_of, port_alert, port_of, port_or_none, posted, put_alert, rem_port_alert, reply_alert, reply_port_alert, taken_off, typed, wait_alert, with_action, with_word};
 ghost use Rattle.msgport.specs.Port.{acting, new_port};
@@ -22,12 +23,13 @@ impl<S: ListSpace> Heap<S> {
     // ---- ports made and freed
 
     /// Makes a port of a task, which signals it by the signal of that number (16 to 31), and answers its address; none where the pool has
-    /// no port left or its block fits nowhere. It has no message and is not public (autodoc exec.library/CreateMsgPort).
+    /// no port left, which asks nothing, or its block fits nowhere once libraries were asked to give way. It has no message and is not public
+    /// (autodoc exec.library/CreateMsgPort).
     pub fn new_port(&mut self, task: TaskId, bit: u32) -> Option<u32>
         requires own { 16 ≤ bit }
         requires signal { bit < 32 }
-        ensures address { result ≡ place_for_object is_port 34 self.old }
-        ensures next { self.new ≡ placed 34 (MsgPort (new_port task bit) []) result self.old }
+        ensures address { result ≡ place_for_object is_port 34 (after_asking_for_object is_port 34 self.old) }
+        ensures next { self.new ≡ placed 34 (MsgPort (new_port task bit) []) result (after_asking_for_object is_port 34 self.old) }
     {
         self.objects.make_port(task, bit)
     }
@@ -118,12 +120,12 @@ impl<S: ListSpace> Heap<S> {
     // ---- messages made and freed
 
     /// Makes a message of type 0 with a reply port, 0 for none, and a word, which is in no port, and answers its address; none where the
-    /// pool has no message left or its block fits nowhere. It is refused where the reply port is not 0 and no port begins there (Handle).
-    /// Own choice.
+    /// pool has no message left, which asks nothing, or its block fits nowhere once libraries were asked to give way. It is refused where the
+    /// reply port is not 0 and no port begins there (Handle). Own choice.
     pub fn new_message(&mut self, reply: u32, word: u32) -> Result<Option<u32>, Refusal>
         ensures alert { alert_of result ≡ reply_port_alert reply self.old.heap }
-        ensures address { IfOk result (λ place. place ≡ place_for_object is_message 24 self.old) }
-        ensures next { IfOk result (λ place. self.new ≡ placed 24 (Message (new_message reply word)) place self.old) }
+        ensures address { IfOk result (λ place. place ≡ place_for_object is_message 24 (after_asking_for_object is_message 24 self.old)) }
+        ensures next { IfOk result (λ place. self.new ≡ placed 24 (Message (new_message reply word)) place (after_asking_for_object is_message 24 self.old)) }
         ensures kept { OnErr result (self.new ≡ self.old) }
     {
         match self.objects.reply_port_at(reply) {

@@ -5,6 +5,7 @@ ghost use Rattle.iorequest.specs.Request.{idle_request, is_under_way};
 ghost use Rattle.iorequest.specs.Requests.{unit_error};
 ghost use Rattle.execmodel.specs.State.{Request, on_heap, on_timer};
 ghost use Rattle.execmodel.specs.Memory.{freed, placed};
+ghost use Rattle.execmodel.specs.GivingWay.{after_asking_for_object};
 ghost use Rattle.execmodel.specs.Objects.{place_for_object};
 ghost use Rattle.execmodel.specs.Ports.{port_alert};
 ghost use Rattle.execmodel.specs.Requests as model;
@@ -22,13 +23,13 @@ use msgport::action::{Action, TaskId};
 impl<S: ListSpace> Heap<S> {
     // ---- made and freed
 
-    /// Makes a request with a reply port, which is idle and not open, and answers its address; none where the pool has no request left or its
-    /// block fits nowhere. It is refused where no port begins at the reply port (Handle). Autodoc exec.library/CreateIORequest; the refusal:
-    /// own choice.
+    /// Makes a request with a reply port, which is idle and not open, and answers its address; none where the pool has no request left, which
+    /// asks nothing, or its block fits nowhere once libraries were asked to give way. It is refused where no port begins at the reply port
+    /// (Handle). Autodoc exec.library/CreateIORequest; the refusal: own choice.
     pub fn new_request(&mut self, port: u32) -> Result<Option<u32>, Refusal>
         ensures alert { alert_of result ≡ port_alert port self.old.heap }
-        ensures address { IfOk result (λ place. place ≡ place_for_object model.is_request 40 self.old) }
-        ensures next { IfOk result (λ place. self.new ≡ placed 40 (Request (idle_request port)) place self.old) }
+        ensures address { IfOk result (λ place. place ≡ place_for_object model.is_request 40 (after_asking_for_object model.is_request 40 self.old)) }
+        ensures next { IfOk result (λ place. self.new ≡ placed 40 (Request (idle_request port)) place (after_asking_for_object model.is_request 40 self.old)) }
         ensures kept { OnErr result (self.new ≡ self.old) }
     {
         match self.objects.port_at(port) {

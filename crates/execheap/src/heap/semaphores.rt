@@ -2,6 +2,7 @@
 ghost use Rattle.std.specs.Prelude.{◌≡◌, ◌<◌, IfOk, OnErr, OnOk, []};
 ghost use Rattle.execmodel.specs.State.{Semaphore, on_heap};
 ghost use Rattle.execmodel.specs.Memory.{freed, placed};
+ghost use Rattle.execmodel.specs.GivingWay.{after_asking_for_object};
 ghost use Rattle.execmodel.specs.Objects.{place_for_object};
 ghost use Rattle.execmodel.specs.Semaphores.{attempted, dropped, free_sem_alert, heir, is_open, is_semaphore, obtain_alert, obtained, outcome_for, release_alert, released, sem_of};
 ghost use Rattle.sigsem.specs.Semaphores.{free_sem};
@@ -15,11 +16,11 @@ use sigsem::semaphore::{Obtained, TaskId};
 impl<S: ListSpace> Heap<S> {
     // ---- semaphores made and freed
 
-    /// Makes a semaphore, which no task owns, and answers its address; none where the pool has no semaphore left or its block fits nowhere
-    /// (autodoc exec.library/InitSemaphore; that it takes the memory: own choice).
+    /// Makes a semaphore, which no task owns, and answers its address; none where the pool has no semaphore left, which asks nothing, or its
+    /// block fits nowhere once libraries were asked to give way (autodoc exec.library/InitSemaphore; that it takes the memory: own choice).
     pub fn new_semaphore(&mut self) -> Option<u32>
-        ensures address { result ≡ place_for_object is_semaphore 46 self.old }
-        ensures next { self.new ≡ placed 46 (Semaphore free_sem []) result self.old }
+        ensures address { result ≡ place_for_object is_semaphore 46 (after_asking_for_object is_semaphore 46 self.old) }
+        ensures next { self.new ≡ placed 46 (Semaphore free_sem []) result (after_asking_for_object is_semaphore 46 self.old) }
     {
         self.objects.make_semaphore()
     }

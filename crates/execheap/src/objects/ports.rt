@@ -8,6 +8,7 @@ ghost use Rattle.msgport.specs.Ports.{has_messages, is_message, is_port, is_publ
 ghost use Rattle.msgport.specs.Ports.{made_private, made_public, nt_freemsg, nt_message, nt_replymsg, posted, taken_off, typed, with_message, with_port};
 ghost use Rattle.execmodel.specs.State.{Message, MsgPort};
 ghost use Rattle.execmodel.specs.Memory.{freed, placed};
+ghost use Rattle.execmodel.specs.GivingWay.{after_asking_for_object};
 ghost use Rattle.execmodel.specs.Objects.{place_for_object};
 ghost use Rattle.execmodel.specs.Ports as model;
 ghost use Rattle.execheap.specs.declared.kind.Kind.TheVariants as variant;
@@ -56,12 +57,12 @@ impl<S: ListSpace> Objects<S> {
 
     // ---- made and freed
 
-    /// A new port of a task, which signals it by the signal of that number, if the pool has one left and its block fits: its address.
+    /// A new port of a task, which signals it by the signal of that number, if the pool has one left and its block fits once libraries gave way: its address.
     pub fn make_port(&mut self, task: TaskId, bit: u32) -> Option<u32>
         requires own { 16 ≤ bit }
         requires signal { bit < 32 }
-        ensures address { result ≡ place_for_object model.is_port 34 (shown_memory self.old) }
-        ensures next { shown_memory self.new ≡ placed 34 (MsgPort (new_port task bit) []) result (shown_memory self.old) }
+        ensures address { result ≡ place_for_object model.is_port 34 (after_asking_for_object model.is_port 34 (shown_memory self.old)) }
+        ensures next { shown_memory self.new ≡ placed 34 (MsgPort (new_port task bit) []) result (after_asking_for_object model.is_port 34 (shown_memory self.old)) }
     {
         self.ports.facts();
         let (_, port) = self.table.make(Kind::Port)?;
@@ -69,10 +70,10 @@ impl<S: ListSpace> Objects<S> {
         Some(port)
     }
 
-    /// A new message with a reply port, or 0, and a word, if the pool has one left and its block fits: its address.
+    /// A new message with a reply port, or 0, and a word, if the pool has one left and its block fits once libraries gave way: its address.
     pub fn make_message(&mut self, reply: u32, word: u32) -> Option<u32>
-        ensures address { result ≡ place_for_object model.is_message 24 (shown_memory self.old) }
-        ensures next { shown_memory self.new ≡ placed 24 (Message (new_message reply word)) result (shown_memory self.old) }
+        ensures address { result ≡ place_for_object model.is_message 24 (after_asking_for_object model.is_message 24 (shown_memory self.old)) }
+        ensures next { shown_memory self.new ≡ placed 24 (Message (new_message reply word)) result (after_asking_for_object model.is_message 24 (shown_memory self.old)) }
     {
         self.ports.facts();
         let (_, message) = self.table.make(Kind::Message)?;

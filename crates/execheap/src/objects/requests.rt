@@ -10,6 +10,7 @@ ghost use Rattle.msgport.specs.Ports.{is_message, is_port};
 ghost use Rattle.timerdev.specs.Timing.{due_next, looked_at, ticked, until_next};
 ghost use Rattle.execmodel.specs.State.{Request};
 ghost use Rattle.execmodel.specs.Memory.{freed, placed};
+ghost use Rattle.execmodel.specs.GivingWay.{after_asking_for_object};
 ghost use Rattle.execmodel.specs.Objects.{place_for_object};
 ghost use Rattle.execmodel.specs.Requests as model;
 ghost use Rattle.execheap.specs.declared.kind.Kind.TheVariants as variant;
@@ -62,10 +63,10 @@ impl<S: ListSpace> Objects<S> {
 
     // ---- made and freed
 
-    /// A new request with that reply port, which is idle and not open, if the pool has one left and its block fits: its address.
+    /// A new request with that reply port, which is idle and not open, if the pool has one left and its block fits once libraries gave way: its address.
     pub fn make_request(&mut self, port: u32) -> Option<u32>
-        ensures address { result ≡ place_for_object model.is_request 40 (shown_memory self.old) }
-        ensures next { shown_memory self.new ≡ placed 40 (Request (idle_request port)) result (shown_memory self.old) }
+        ensures address { result ≡ place_for_object model.is_request 40 (after_asking_for_object model.is_request 40 (shown_memory self.old)) }
+        ensures next { shown_memory self.new ≡ placed 40 (Request (idle_request port)) result (after_asking_for_object model.is_request 40 (shown_memory self.old)) }
     {
         self.facts();
         let (_, request) = self.table.make(Kind::Request)?;

@@ -5,6 +5,7 @@ ghost use Rattle.sigsem.specs.Faults.{fault_or, kept_or};
 ghost use Rattle.sigsem.specs.Semaphores.{attempted, deep_fault, dropped, free_sem, heir, is_open, is_owned, is_sem, let_go, outcome, release_fault};
 ghost use Rattle.execmodel.specs.State.{Semaphore};
 ghost use Rattle.execmodel.specs.Memory.{freed, placed};
+ghost use Rattle.execmodel.specs.GivingWay.{after_asking_for_object};
 ghost use Rattle.execmodel.specs.Objects.{place_for_object};
 ghost use Rattle.execmodel.specs.Semaphores.{is_semaphore};
 ghost use Rattle.execheap.specs.declared.kind.Kind.TheVariants as variant;
@@ -28,10 +29,10 @@ impl<S: ListSpace> Objects<S> {
 
     // ---- made and freed
 
-    /// A new semaphore, which no task owns, if the pool has one left and its block fits: its address.
+    /// A new semaphore, which no task owns, if the pool has one left and its block fits once libraries gave way: its address.
     pub fn make_semaphore(&mut self) -> Option<u32>
-        ensures address { result ≡ place_for_object is_semaphore 46 (shown_memory self.old) }
-        ensures next { shown_memory self.new ≡ placed 46 (Semaphore free_sem []) result (shown_memory self.old) }
+        ensures address { result ≡ place_for_object is_semaphore 46 (after_asking_for_object is_semaphore 46 (shown_memory self.old)) }
+        ensures next { shown_memory self.new ≡ placed 46 (Semaphore free_sem []) result (after_asking_for_object is_semaphore 46 (shown_memory self.old)) }
     {
         self.sems.facts();
         let (_, semaphore) = self.table.make(Kind::Semaphore)?;

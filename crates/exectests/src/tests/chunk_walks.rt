@@ -66,7 +66,7 @@ fn frees(rt: &impl Abort, memory: &mut MemList, number: u8, chunks: &[(u32, u32)
 
 #[test]
 fn a_block_is_linked_behind_the_chunk_below_it(rt: HostRuntime) -> Result<(), Fail> {
-    let mut memory = MemList::new(rt.alloc(), &[REGION])?;
+    let mut memory = MemList::new(rt.alloc(), &[REGION], REGION.size)?;
     takes(&rt, &mut memory, 0);
     takes(&rt, &mut memory, 1);
     takes(&rt, &mut memory, 2);

@@ -56,7 +56,7 @@ fn shows(
 
 #[test]
 fn blocks_that_are_freed_join_the_chunks_that_touch_them(rt: HostRuntime) -> Result<(), Fail> {
-    let mut memory = MemList::new(rt.alloc(), &[region(4096, 32)])?;
+    let mut memory = MemList::new(rt.alloc(), &[region(4096, 32)], 32)?;
     shows(&rt, &memory, 0, 1, 4096, &[(0, 0), (1, 32)]);
     same(&rt, "x", 2, allocate(&mut memory, 8), Some(4096));
     same(&rt, "y", 3, allocate(&mut memory, 8), Some(4104));
@@ -81,20 +81,20 @@ fn blocks_that_are_freed_join_the_chunks_that_touch_them(rt: HostRuntime) -> Res
 
 #[test]
 fn a_region_may_be_one_unit_or_the_greatest(rt: HostRuntime) -> Result<(), Fail> {
-    let mut small = MemList::new(rt.alloc(), &[region(4096, 8)])?;
+    let mut small = MemList::new(rt.alloc(), &[region(4096, 8)], 8)?;
     shows(&rt, &small, 0, 1, 4096, &[(0, 0), (1, 8)]);
     same(&rt, "the unit", 2, allocate(&mut small, 1), Some(4096));
     shows(&rt, &small, 0, 3, 0, &[]);
-    let mut large = MemList::new(rt.alloc(), &[region(4096, 1_048_576)])?;
-    shows(&rt, &large, 0, 4, 4096, &[(0, 0), (1, 1_048_576)]);
+    let mut large = MemList::new(rt.alloc(), &[region(4096, 4_194_304)], 4_194_304)?;
+    shows(&rt, &large, 0, 4, 4096, &[(0, 0), (1, 4_194_304)]);
     same(&rt, "a unit", 5, allocate(&mut large, 8), Some(4096));
-    shows(&rt, &large, 0, 6, 4104, &[(2, 0), (3, 1_048_568)]);
+    shows(&rt, &large, 0, 6, 4104, &[(2, 0), (3, 4_194_296)]);
     Ok(())
 }
 
 #[test]
 fn chunks_of_regions_that_touch_stay_apart(rt: HostRuntime) -> Result<(), Fail> {
-    let mut memory = MemList::new(rt.alloc(), &[region(4096, 8), region(4104, 8)])?;
+    let mut memory = MemList::new(rt.alloc(), &[region(4096, 8), region(4104, 8)], 16)?;
     shows(&rt, &memory, 0, 1, 4096, &[(0, 0), (1, 8)]);
     shows(&rt, &memory, 1, 2, 4104, &[(0, 0), (1, 8)]);
     same(
@@ -139,8 +139,8 @@ fn free_each_second(memory: &mut MemList, address: u32) -> bool
 }
 
 #[test]
-fn the_greatest_memory_comes_back_from_single_units(rt: HostRuntime) -> Result<(), Fail> {
-    let mut memory = MemList::new(rt.alloc(), &[region(4096, 1_048_576)])?;
+fn a_megabyte_comes_back_from_single_units(rt: HostRuntime) -> Result<(), Fail> {
+    let mut memory = MemList::new(rt.alloc(), &[region(4096, 1_048_576)], 1_048_576)?;
     same(&rt, "blocks", 1, fill(&mut memory), 131_072);
     same(
         &rt,

@@ -1,8 +1,8 @@
 //! Libraries over a list space in vectors, in a memory of 4,096 bytes from $1000 on. Each case is a table of steps: calls, each with what it
 //! must answer. What a call asks is tested first, and a call that may not be made answers none.
-ghost use Rattle.std.specs.Prelude.{◌≡◌, true, IsTrue, IsSome};
+ghost use Rattle.std.specs.Prelude.{◌≡◌, ◌<◌, ◌≤◌, ℕ, Some, true, length, IsTrue, IsSome};
 ghost use Rattle.memlist.specs.Blocks.{block_at};
-ghost use Rattle.execlib.specs.Libraries.{is_loaded, base_of};
+ghost use Rattle.execlib.specs.Libraries.{Lent, LieIn, base_at, base_of, is_loaded, lent, library_tag, tag_at};
 
 use super::comparing::same;
 use execlib::fault::LibFault;
@@ -11,14 +11,24 @@ use execlib::libs::{LibId, Libs};
 use execlist::key::Name;
 use execlist::plain::PlainSpace;
 use memlist::{MemList, Region};
+use std::alloc::Global;
+use std::marker::Model;
 use std::process::Abort;
 use std::test::*;
 
-/// Libraries and their memory.
+/// At most three libraries, and their memory.
 #[derive(Drop)]
 struct Driver {
     libraries: Libs<PlainSpace>,
     memory: MemList,
+}
+
+impl Model for Driver {
+    ghost Value = { Lent };
+
+    ghost view = { λ d. lent d.libraries d.memory };
+
+    ghost invariant = { λ d. length d.libraries.loaded ≤ 3 };
 }
 
 /// A call, and what it must answer.
@@ -40,8 +50,10 @@ enum Step {
     HasFree(u32),
     /// The size and the tag of the block at an address.
     HasBlock(u32, Option<(u32, u32)>),
-    /// A plain block of that size is taken.
+    /// A plain block of that size is taken, and nobody is asked.
     Takes(u32, Option<u32>),
+    /// A plain block of that size is taken of public memory, and libraries may give way.
+    Allocs(u32, Option<u32>),
 }
 
 use Step::*;
@@ -57,7 +69,7 @@ const CLOSED: Option<Result<(), LibFault>> = Some(Ok(()));
 const NOT_OPEN: Option<Result<(), LibFault>> = Some(Err(LibFault::NotOpen));
 
 /// Library 0 is x.library, version 37, of 100 bytes; library 1 is y.library, version 1, of 24; library 2 has the name of library 0.
-static CASES: [Case; 7] = [
+static CASES: [Case; 8] = [
     Case {
         name: "a library that is removed leaves when it is closed for the last time",
         steps: &[
@@ -142,6 +154,19 @@ static CASES: [Case; 7] = [
         ],
     },
     Case {
+        name: "nobody is asked to give way",
+        steps: &[
+            Opens("x.library", 0, Some(0x1000)),
+            Opens("y.library", 0, Some(0x1068)),
+            Closes(1, CLOSED),
+            Allocs(3992, None),
+            Closes(0, CLOSED),
+            HasFree(0xf80),
+            Allocs(3968, Some(0x1080)),
+            Opens("x.library", 0, Some(0x1000)),
+        ],
+    },
+    Case {
         name: "a library is open 65,535 times at most",
         steps: &[
             OpensOften("y.library", 65535),
@@ -153,7 +178,126 @@ static CASES: [Case; 7] = [
     },
 ];
 
+/// The same libraries where they are asked to give way.
+static ASKING: [Case; 5] = [
+    Case {
+        name: "a library that is not open gives way, and the first gap ends the asking",
+        steps: &[
+            Opens("x.library", 0, Some(0x1000)),
+            Opens("y.library", 0, Some(0x1068)),
+            Closes(0, CLOSED),
+            Closes(1, CLOSED),
+            Allocs(3968, Some(0x1080)),
+            IsOpen(0, Some(0)),
+            Allocs(32, Some(0x1000)),
+            IsOpen(0, None),
+            IsOpen(1, Some(0)),
+        ],
+    },
+    Case {
+        name: "an open library stays, and leaves when it is closed for the last time",
+        steps: &[
+            Opens("x.library", 0, Some(0x1000)),
+            Opens("y.library", 0, Some(0x1068)),
+            Closes(1, CLOSED),
+            Allocs(3992, Some(0x1068)),
+            IsOpen(0, Some(1)),
+            IsOpen(1, None),
+            Closes(0, CLOSED),
+            IsOpen(0, None),
+            HasFree(104),
+        ],
+    },
+    Case {
+        name: "what gave way stays so where no gap comes",
+        steps: &[
+            Opens("y.library", 0, Some(0x1000)),
+            Opens("x.library", 0, Some(0x1018)),
+            Closes(1, CLOSED),
+            Allocs(4096, None),
+            HasFree(0xf98),
+            Closes(0, CLOSED),
+            HasFree(0x1000),
+            Allocs(4096, Some(0x1000)),
+        ],
+    },
+    Case {
+        name: "a library is loaded where another gave way, and nobody gives way to one that is loaded",
+        steps: &[
+            Allocs(3992, Some(0x1000)),
+            Opens("x.library", 0, Some(0x1f98)),
+            Closes(0, CLOSED),
+            Opens("y.library", 0, Some(0x1f98)),
+            IsOpen(0, None),
+            Opens("y.library", 0, Some(0x1f98)),
+            Opens("x.library", 0, None),
+            Closes(1, CLOSED),
+            IsOpen(1, Some(1)),
+            Closes(1, CLOSED),
+            Lies(1, None),
+        ],
+    },
+    Case {
+        name: "nobody is asked for size 0, for another version, or by the memory itself",
+        steps: &[
+            Opens("x.library", 0, Some(0x1000)),
+            Closes(0, CLOSED),
+            Allocs(0, None),
+            Opens("y.library", 2, None),
+            Takes(4000, None),
+            IsOpen(0, Some(0)),
+        ],
+    },
+];
+
 impl Driver {
+    /// Whether a library is absent, or lies in a block with its tag.
+    fn is_placed(&self, i: LibId) -> bool
+        ensures { result ≡ true → (base : ℕ) → base_at i self.now.libraries ≡ Some base → tag_at base self.now.memory.blocks ≡ Some (library_tag i) }
+    {
+        if !self.libraries.is_loaded(i) {
+            return true;
+        }
+        match self.memory.block_at(self.libraries.base(i)) {
+            None => false,
+            Some((_, tag)) => tag == 0x8000_0000 + i as u32,
+        }
+    }
+
+    /// Whether each library that is loaded lies in the memory.
+    fn are_placed(&self) -> bool
+        ensures { result ≡ true → LieIn self.now.libraries self.now.memory }
+    {
+        let _ = &self.libraries;
+        if !self.is_placed(0) || !self.is_placed(1) {
+            return false;
+        }
+        self.is_placed(2)
+    }
+
+    /// Opens a library, and answers its base, if it answered one.
+    fn open(&mut self, name: &str, version: u32) -> Option<Option<u32>> {
+        if self.are_placed() {
+            Some(self.libraries.open(name, version, &mut self.memory))
+        } else {
+            None
+        }
+    }
+
+    /// Takes a plain block of public memory, to which libraries may give way, and answers its address, if it answered one.
+    fn alloc(&mut self, size: u32) -> Option<Option<u32>> {
+        if self.are_placed() {
+            Some(self.libraries.alloc_mem(size, 1, 0, &mut self.memory))
+        } else {
+            None
+        }
+    }
+
+    /// Takes a plain block of the memory itself.
+    fn take_block(&mut self, size: u32) -> Option<u32> {
+        self.memory.alloc_mem(size, 1, 0)
+    }
+
     /// Whether a library is loaded, and its block is in the memory.
     fn is_in_memory(&self, i: LibId) -> bool
         ensures loaded { result ≡ true → IsTrue (is_loaded i self.now.libraries) }
@@ -184,8 +328,9 @@ impl Driver {
     /// Opens a library so often, and answers whether each opening answered a base.
     fn open_often(&mut self, name: &str, times: u32) -> bool {
         for _ in 0..times {
-            if self.libraries.open(name, 0, &mut self.memory).is_none() {
-                return false;
+            match self.open(name, 0) {
+                Some(Some(_)) => {}
+                _ => return false,
             }
         }
         true
@@ -214,8 +359,8 @@ impl Driver {
 fn take(rt: &impl Abort, d: &mut Driver, case: &str, number: usize, step: Step) {
     match step {
         Opens(name, version, wanted) => {
-            let base = d.libraries.open(name, version, &mut d.memory);
-            same(rt, case, number, base, wanted);
+            let base = d.open(name, version);
+            same(rt, case, number, base, Some(wanted));
         }
         OpensOften(name, times) => same(rt, case, number, d.open_often(name, times), true),
         Closes(i, wanted) => same(rt, case, number, d.close(i), wanted),
@@ -224,7 +369,8 @@ fn take(rt: &impl Abort, d: &mut Driver, case: &str, number: usize, step: Step) 
         Lies(i, wanted) => same(rt, case, number, d.base(i), wanted),
         HasFree(wanted) => same(rt, case, number, d.memory.avail(0), wanted),
         HasBlock(address, wanted) => same(rt, case, number, d.memory.block_at(address), wanted),
-        Takes(size, wanted) => same(rt, case, number, d.memory.alloc_mem(size, 1, 0), wanted),
+        Takes(size, wanted) => same(rt, case, number, d.take_block(size), wanted),
+        Allocs(size, wanted) => same(rt, case, number, d.alloc(size), Some(wanted)),
     }
 }
 
@@ -244,8 +390,8 @@ fn library(name: &str, version: u16, size: u32) -> LibInit {
     }
 }
 
-#[test]
-fn each_call_answers_as_its_case_says(rt: HostRuntime) -> Result<(), Fail> {
+/// The libraries of each case, none of them loaded, in a memory of 4,096 bytes. They are asked to give way or are not.
+fn lent(alloc: Global, asks: bool) -> Result<Driver, Fail> {
     let known = [
         library("x.library", 37, 100),
         library("y.library", 1, 24),
@@ -257,10 +403,24 @@ fn each_call_answers_as_its_case_says(rt: HostRuntime) -> Result<(), Fail> {
         attrs: 1,
         pri: 0,
     };
+    let libraries = Libs::new(alloc, &known, asks)?;
+    let memory = MemList::new(alloc, &[region], 4096)?;
+    Ok(Driver { libraries, memory })
+}
+
+#[test]
+fn each_call_answers_as_its_case_says(rt: HostRuntime) -> Result<(), Fail> {
     for case in &CASES {
-        let libraries = Libs::new(rt.alloc(), &known)?;
-        let memory = MemList::new(rt.alloc(), &[region])?;
-        let mut d = Driver { libraries, memory };
+        let mut d = lent(rt.alloc(), false)?;
+        take_all(&rt, &mut d, case.name, case.steps);
+    }
+    Ok(())
+}
+
+#[test]
+fn libraries_give_way_where_they_are_asked(rt: HostRuntime) -> Result<(), Fail> {
+    for case in &ASKING {
+        let mut d = lent(rt.alloc(), true)?;
         take_all(&rt, &mut d, case.name, case.steps);
     }
     Ok(())

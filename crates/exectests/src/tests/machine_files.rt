@@ -26,6 +26,7 @@ type Server = (&'static str, Source, i8, bool, &'static [Word]);
 struct Machine {
     name: &'static str,
     file: &'static str,
+    version: u8,
     quantum: u8,
     tick_micros: u32,
     pool: u32,
@@ -39,10 +40,11 @@ struct Machine {
 static MACHINES: [Machine; 4] = [
     Machine {
         name: "a machine file gives its parts in order",
-        file: "quantum = 255\ntick_micros = 1000000\npool = 1024\n\
+        file: "version = 2\nquantum = 255\ntick_micros = 1000000\npool = 1024\n\
             region = [{ size = 8, base = 8192, pri = -1, attrs = 7 }, { base = 4096, size = 16 }]\n\
             [[task]]\nname = \"A.b_c-9\"\npri = -128\nstart = false\ncode = []\n\
             [[task]]\ncode = [\"Print 1\", \"Wait $1000\"]\nname = \"b\"",
+        version: 2,
         quantum: 255,
         tick_micros: 1_000_000,
         pool: 1024,
@@ -79,6 +81,7 @@ static MACHINES: [Machine; 4] = [
     Machine {
         name: "an empty machine file has the values of absent keys",
         file: "",
+        version: 1,
         quantum: 4,
         tick_micros: 20_000,
         pool: 64,
@@ -95,6 +98,7 @@ static MACHINES: [Machine; 4] = [
             [[server]]\nname = \"disk\"\nsource = \"EXTER\"\npri = -128\nclaim = true\ncode = []\n\
             [[softint]]\nname = \"low\"\npri = -32\ncode = []\n\
             [[task]]\nname = \"t\"\ncode = ['PortCause 0 \"low\"', 'Cause \"high\"']",
+        version: 1,
         quantum: 4,
         tick_micros: 20_000,
         pool: 64,
@@ -129,6 +133,7 @@ static MACHINES: [Machine; 4] = [
         file: "tick_micros = 1\n[[task]]\nname = \"b\"\ncode = []\n\
             [[library]]\nsize = 65536\nname = \"b\"\nversion = 0\n\
             [[library]]\nname = \"a.library\"\nversion = 65535\nsize = 8\n",
+        version: 1,
         quantum: 4,
         tick_micros: 1,
         pool: 64,
@@ -177,6 +182,31 @@ static TICKS: [(&str, Option<FileFault>); 15] = [
     (
         "task = [{ name = \"a\", code = [], tick_micros = 20000 }]",
         Some(FileFault::UnknownKey),
+    ),
+];
+
+/// Files with the version of the rules, each with its fault, if it is refused.
+static VERSIONS: [(&str, Option<FileFault>); 12] = [
+    ("version = 1", None),
+    ("version = 2", None),
+    ("version = 0", Some(FileFault::BadValue)),
+    ("version = 3", Some(FileFault::BadValue)),
+    ("version = 4294967298", Some(FileFault::BadValue)),
+    ("version = \"2\"", Some(FileFault::BadValue)),
+    ("version = 3\nspeed = 1", Some(FileFault::UnknownKey)),
+    ("version = 3\nregion = [{}]", Some(FileFault::BadValue)),
+    ("region = [{ base = 4096, size = 1048576 }]", None),
+    (
+        "region = [{ base = 4096, size = 1048584 }]",
+        Some(FileFault::BadRegions),
+    ),
+    (
+        "region = [{ base = 4096, size = 4194304 }]\nversion = 2",
+        None,
+    ),
+    (
+        "region = [{ base = 4096, size = 4194312 }]\nversion = 2",
+        Some(FileFault::BadRegions),
     ),
 ];
 
@@ -310,6 +340,13 @@ fn holds(rt: &impl Abort, alloc: Global, wanted: &Machine) {
     same_at(
         rt,
         wanted.name,
+        "version",
+        machine.version(),
+        wanted.version,
+    );
+    same_at(
+        rt,
+        wanted.name,
         "quantum",
         machine.quantum(),
         wanted.quantum,
@@ -372,6 +409,14 @@ fn a_tick_has_1_to_1000000_microseconds(rt: HostRuntime) {
     for (file, fault) in &TICKS {
         let found = fault_of(rt.alloc(), file.as_bytes());
         same_at(&rt, "files with a tick", file, found, *fault);
+    }
+}
+
+#[test]
+fn the_version_is_1_or_2_and_bounds_the_regions(rt: HostRuntime) {
+    for (file, fault) in &VERSIONS {
+        let found = fault_of(rt.alloc(), file.as_bytes());
+        same_at(&rt, "files with a version", file, found, *fault);
     }
 }
 

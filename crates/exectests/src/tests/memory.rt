@@ -27,6 +27,8 @@ enum Step {
     BlockAt(u32, Option<(u32, u32)>),
     /// What AvailMem answers to requirements.
     Avail(u32, u32),
+    /// Whether a block of a size and requirements would be allocated.
+    Fits(u32, u32, bool),
 }
 
 use Place::*;
@@ -66,13 +68,16 @@ const LARGE: Place = Plain(4096, 2_000_000);
 
 const SAME: Place = Plain(4096, 8);
 
-/// The base of the first of eight regions that fill the greatest memory, up to the last address.
+/// The bytes that the regions of a test may have in all.
+const TOTAL: u32 = 1_048_576;
+
+/// The base of the first of eight regions that have that many, up to the last address.
 const TOP: u32 = 2_146_435_072;
 
 /// The size of each of them.
 const PART: u32 = 131_072;
 
-static CASES: [Case; 7] = [
+static CASES: [Case; 8] = [
     Case {
         name: "sizes round up and gaps are filled from the front",
         places: &[Plain(4096, 32)],
@@ -147,6 +152,28 @@ static CASES: [Case; 7] = [
             Allocs(16, 0, 0, None),
             Allocs(8, 0, 0, Some(4104)),
             Allocs(8, 0, 0, Some(4096)),
+        ],
+    },
+    Case {
+        name: "a block fits where it would be allocated, and nothing changes",
+        places: &[Plain(4096, 16), Fast(8192, 24)],
+        steps: &[
+            Fits(24, 1, true),
+            Fits(17, 1, true),
+            Fits(25, 1, false),
+            Fits(0, 1, false),
+            Fits(0xFFFF_FFFF, 1, false),
+            Fits(8, 4, false),
+            Fits(8, 0x1_0003, true),
+            Avail(1, 40),
+            Allocs(16, 2, 0, Some(0x2000)),
+            Fits(16, 2, false),
+            Fits(8, 2, true),
+            Fits(16, 0, true),
+            Allocs(16, 0, 7, Some(0x1000)),
+            Fits(9, 0, false),
+            FreesBlock(0x1000),
+            Fits(9, 0, true),
         ],
     },
     Case {
@@ -258,6 +285,20 @@ static CHECKS: [Check; 18] = [
     },
 ];
 
+/// So many bytes that the regions may have in all, the size of a region, and what the check of it alone answers.
+static TOTALS: [(u32, u32, Result<(), MemFault>); 10] = [
+    (1_048_576, 1_048_576, Ok(())),
+    (1_048_576, 1_048_584, TOO_LARGE),
+    (4_194_304, 1_048_584, Ok(())),
+    (4_194_304, 4_194_304, Ok(())),
+    (4_194_304, 4_194_312, TOO_LARGE),
+    (8, 8, Ok(())),
+    (8, 16, TOO_LARGE),
+    (0, 8, TOO_LARGE),
+    (0xFFFF_FFFF, 0x7FFF_F000, Ok(())),
+    (0xFFFF_FFFF, 0x7FFF_F008, TOO_LARGE),
+];
+
 /// The region that a place names.
 fn region(place: Place) -> Region {
     match place {
@@ -323,6 +364,7 @@ fn take(rt: &impl Abort, memory: &mut MemList, case: &str, number: usize, step: 
         FreesBlock(address) => same(rt, case, number, free_block(memory, address), true),
         BlockAt(address, wanted) => same(rt, case, number, memory.block_at(address), wanted),
         Avail(reqs, wanted) => same(rt, case, number, avail(memory, reqs), Some(wanted)),
+        Fits(size, reqs, wanted) => same(rt, case, number, memory.fits(size, reqs), wanted),
     }
 }
 
@@ -338,7 +380,7 @@ fn take_all(rt: &impl Abort, memory: &mut MemList, case: &str, steps: &[Step]) {
 fn each_call_answers_as_its_case_says(rt: HostRuntime) -> Result<(), Fail> {
     for case in &CASES {
         let regions = regions(rt.alloc(), case.places)?;
-        let mut memory = MemList::new(rt.alloc(), &regions)?;
+        let mut memory = MemList::new(rt.alloc(), &regions, TOTAL)?;
         take_all(&rt, &mut memory, case.name, case.steps);
     }
     Ok(())
@@ -352,11 +394,39 @@ fn regions_are_accepted_or_have_the_first_of_their_faults(rt: HostRuntime) -> Re
             &rt,
             check.name,
             number,
-            check_regions(&regions),
+            check_regions(&regions, TOTAL),
             check.wanted,
         );
     }
     Ok(())
+}
+
+#[test]
+fn regions_have_the_total_that_they_may_have(rt: HostRuntime) {
+    for (number, (total, size, wanted)) in TOTALS.iter().enumerate() {
+        let regions = [region(Plain(4096, *size))];
+        same(
+            &rt,
+            "totals",
+            number,
+            check_regions(&regions, *total),
+            *wanted,
+        );
+    }
+}
+
+#[test]
+fn a_memory_is_made_of_regions_that_have_no_fault(rt: HostRuntime) {
+    for (number, (total, wanted)) in [(15, TOO_LARGE), (16, Ok(())), (17, Ok(()))]
+        .iter()
+        .enumerate()
+    {
+        let made = match MemList::new(rt.alloc(), &[region(Plain(4096, 16))], *total) {
+            Ok(_) => Ok(()),
+            Err(fault) => Err(fault),
+        };
+        same(&rt, "a memory", number, made, *wanted);
+    }
 }
 
 #[test]

@@ -7,6 +7,7 @@ use std::test::*;
 
 /// A machine file with each kind of table, key and argument.
 const MACHINE: &str = r#"# A device, its handler and a client.
+version = 2
 quantum = 4
 pool = 32
 

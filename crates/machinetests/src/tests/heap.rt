@@ -1,8 +1,12 @@
-//! The memory of a machine: semaphores, where a call comes for a task that waits, which makes none itself; and requests by address.
+//! The memory of a machine: semaphores, where a call comes for a task that waits, which makes none itself; requests by address; and a
+//! library that gives way.
 use execheap::{Action, Awaited, Heap};
+use execlib::library::LibInit;
+use execlist::key::Name;
 use execlist::plain::PlainSpace;
 use memlist::Region;
 use sigsem::semaphore::Obtained;
+use std::alloc::{AllocError, Global};
 use std::test::*;
 
 /// The two semaphores: each takes 48 bytes.
@@ -18,7 +22,7 @@ fn a_task_waits_for_one_semaphore_at_a_time(rt: HostRuntime) -> Result<(), Fail>
         attrs: 1,
         pri: 0,
     };
-    let mut heap: Heap<PlainSpace> = Heap::new(rt.alloc(), &[region], 2, &[], 20_000)?;
+    let mut heap: Heap<PlainSpace> = Heap::new(rt.alloc(), &[region], 2, &[], false, 20_000)?;
     let made = [heap.new_semaphore(), heap.new_semaphore()];
     assert_eq!(&rt; made, [Some(A), Some(B)]);
     let asked = [
@@ -53,7 +57,7 @@ fn a_request_waits_until_system_time_is_set(rt: HostRuntime) -> Result<(), Fail>
         attrs: 1,
         pri: 0,
     };
-    let mut heap: Heap<PlainSpace> = Heap::new(rt.alloc(), &[region], 2, &[], 20_000)?;
+    let mut heap: Heap<PlainSpace> = Heap::new(rt.alloc(), &[region], 2, &[], false, 20_000)?;
     assert_eq!(&rt; heap.new_port(7, 16), Some(PORT));
     let made = [heap.new_request(PORT), heap.new_request(PORT)];
     assert_eq!(&rt; made, [Ok(Some(WAITS)), Ok(Some(SETS))]);
@@ -75,5 +79,47 @@ fn a_request_waits_until_system_time_is_set(rt: HostRuntime) -> Result<(), Fail>
     assert_eq!(&rt; heap.finish_until(), Some((WAITS, signals)));
     assert_eq!(&rt; (heap.finish_until(), heap.finish_due()), (None, None));
     assert_eq!(&rt; heap.wait_for_request(7, WAITS), Ok(Awaited::Done(0)));
+    Ok(())
+}
+
+/// A library of all the memory that there is, in a heap whose libraries are asked to give way or are not.
+fn full_heap(alloc: Global, asks: bool) -> Result<Heap<PlainSpace>, AllocError> {
+    let region = Region {
+        base: 0x1000,
+        size: 40,
+        attrs: 1,
+        pri: 0,
+    };
+    let library = LibInit {
+        name: Name::from("x.library").unwrap_or_default(),
+        version: 1,
+        size: 40,
+    };
+    Heap::new(alloc, &[region], 2, &[library], asks, 20_000)
+}
+
+#[test]
+fn a_library_that_is_not_open_gives_way_where_it_is_asked(rt: HostRuntime) -> Result<(), Fail> {
+    for (asks, wanted) in [(false, None), (true, Some(PORT))] {
+        let mut heap = full_heap(rt.alloc(), asks)?;
+        assert_eq!(&rt; heap.open_library("x.library", 1), Some(PORT));
+        assert_eq!(&rt; heap.close_library(PORT), Ok(()));
+        assert_eq!(&rt; heap.alloc_mem(0, 1), None);
+        assert_eq!(&rt; heap.library_count(PORT), Ok(0));
+        assert_eq!(&rt; heap.new_port(7, 16), wanted);
+    }
+    Ok(())
+}
+
+#[test]
+fn a_library_that_is_open_gives_way_once_it_is_closed(rt: HostRuntime) -> Result<(), Fail> {
+    for (asks, wanted) in [(false, 0), (true, 40)] {
+        let mut heap = full_heap(rt.alloc(), asks)?;
+        assert_eq!(&rt; heap.open_library("x.library", 1), Some(PORT));
+        assert_eq!(&rt; heap.alloc_mem(8, 1), None);
+        assert_eq!(&rt; heap.library_count(PORT), Ok(1));
+        assert_eq!(&rt; heap.close_library(PORT), Ok(()));
+        assert_eq!(&rt; heap.avail(1), wanted);
+    }
     Ok(())
 }

@@ -6,6 +6,7 @@ returns g c = rw (
   c.in_ok-inits.ensures.libraries,
   c.libraries.ensures.libraries,
   c.regions.ensures.regions,
+  c.version.ensures.version,
   c.pool.ensures.pool,
   c.tick_micros.ensures.tick_micros,
 ) at c.new.ensures

@@ -1,22 +1,22 @@
-use Rattle.std.proofs.Common.{sym, ◌∙◌, ◌++◌, ap, map, Bool}
+use Rattle.std.proofs.Common.{sym, ◌∙◌, ◌++◌, ap, map, Bool, None, Some}
 use Rattle.std.proofs.lemmas.Result.{err_from_is_err_and}
 use Rattle.toml.specs.View.{table_view}
 use Rattle.taskscript.specs.declared.fault.FileFault.TheVariants.{UnknownKey}
 use Rattle.taskscript.specs.Faults.{first, check}
-use Rattle.taskscript.specs.File.{top_keys, settings_faults, regions_faults, libraries_faults, both_passes_faults}
+use Rattle.taskscript.specs.File.{top_keys, total_of, version_of, settings_faults, regions_faults, libraries_faults, both_passes_faults}
 use Rattle.taskscript.specs.Records.{library_view, softint_view, server_view, task_view}
 use Rattle.taskscript.specs.Tree.{keys_are_among}
 use Rattle.taskscript.proofs.Firsts.{first_some, skip, both}
-use Rattle.taskscript.proofs.Machines.{read_holds, read_is}
+use Rattle.taskscript.proofs.Machines.{in_version, read_holds, read_is}
 use Rattle.taskscript.proofs.reading.machine_of.Goals as goal
 
 pub invariant_of-result : goal.invariant_of-result
 invariant_of-result c =
     let owners = c.in_ok-owners.owners in
-    read_holds (table_view c.args.table.now) c.in_ok-settings.settings.quantum c.in_ok-settings.settings.tick_micros c.in_ok-settings.settings.pool c.in_ok-regions.regions.items
+    read_holds (table_view c.args.table.now) c.in_ok-settings.settings.version c.in_ok-settings.settings.quantum c.in_ok-settings.settings.tick_micros c.in_ok-settings.settings.pool c.in_ok-regions.regions.items
     (map library_view c.in_ok-libraries.libraries.items) (map softint_view owners.softints.items) (map server_view owners.servers.items) (map task_view owners.tasks.items)
-    (record { settings = c.in_ok-settings.ensures.0; regions = c.in_ok-regions.ensures.0; libraries = c.in_ok-libraries.ensures.0; passes = c.in_ok-owners.ensures.0 })
-    c.in_ok-settings.ensures.1.0 c.in_ok-settings.ensures.1.1 c.in_ok-settings.ensures.1.2 c.in_ok-regions.ensures.1 c.in_ok-libraries.ensures.1 c.in_ok-owners.ensures.1.softints c.in_ok-owners.ensures.1.servers c.in_ok-owners.ensures.1.tasks
+    (record { settings = c.in_ok-settings.ensures.0; regions = in_version (table_view c.args.table.now) c.in_ok-settings.settings.version c.total_of.result None c.in_ok-settings.ensures.1.0 c.total_of.ensures c.in_ok-regions.ensures.0; libraries = c.in_ok-libraries.ensures.0; passes = c.in_ok-owners.ensures.0 })
+    c.in_ok-settings.ensures.1.0 c.in_ok-settings.ensures.1.1 c.in_ok-settings.ensures.1.2 c.in_ok-settings.ensures.1.3 c.in_ok-regions.ensures.1 c.in_ok-libraries.ensures.1 c.in_ok-owners.ensures.1.softints c.in_ok-owners.ensures.1.servers c.in_ok-owners.ensures.1.tasks
 
 pub returns-in_err-settings : goal.returns-in_err-settings
 returns-in_err-settings c =
@@ -25,7 +25,7 @@ returns-in_err-settings c =
     let t = table_view c.args.table.now in
     let keys = ap (λ (b : Bool). first (check b UnknownKey)) (sym c.has_only.ensures ∙ c.if-not-has_only.false) in
     rw (p.1, p.2) (skip (check (keys_are_among top_keys t) UnknownKey) _ f keys
-    (λ ne. first_some (settings_faults t) (regions_faults t ++ (libraries_faults t ++ both_passes_faults t)) f (c.in_err-settings.ensures ne)))
+    (λ ne. first_some (settings_faults t) (regions_faults (total_of (version_of t)) t ++ (libraries_faults t ++ both_passes_faults t)) f (c.in_err-settings.ensures ne)))
 
 pub returns-in_err-regions : goal.returns-in_err-regions
 returns-in_err-regions c =
@@ -34,39 +34,42 @@ returns-in_err-regions c =
     let t = table_view c.args.table.now in
     let keys = ap (λ (b : Bool). first (check b UnknownKey)) (sym c.has_only.ensures ∙ c.if-not-has_only.false) in
     rw (p.1, p.2) (skip (check (keys_are_among top_keys t) UnknownKey) _ f keys
-    (skip (settings_faults t) _ f c.in_ok-settings.ensures.0 (λ ne. first_some (regions_faults t) (libraries_faults t ++ both_passes_faults t) f (c.in_err-regions.ensures ne))))
+    (skip (settings_faults t) _ f c.in_ok-settings.ensures.0 (λ ne. first_some (regions_faults (total_of (version_of t)) t) (libraries_faults t ++ both_passes_faults t) f (in_version t c.in_ok-settings.settings.version c.total_of.result (Some f) c.in_ok-settings.ensures.1.0 c.total_of.ensures (c.in_err-regions.ensures ne)))))
 
 pub returns-in_err-libraries : goal.returns-in_err-libraries
 returns-in_err-libraries c =
     let p = err_from_is_err_and c.from_residual-in_err-libraries.result c.from_residual-in_err-libraries.ensures.1 in
     let f = c.in_err-libraries.field-0.0 in
     let t = table_view c.args.table.now in
+    let regions = in_version t c.in_ok-settings.settings.version c.total_of.result None c.in_ok-settings.ensures.1.0 c.total_of.ensures c.in_ok-regions.ensures.0 in
     let keys = ap (λ (b : Bool). first (check b UnknownKey)) (sym c.has_only.ensures ∙ c.if-not-has_only.false) in
     rw (p.1, p.2) (skip (check (keys_are_among top_keys t) UnknownKey) _ f keys
     (skip (settings_faults t) _ f c.in_ok-settings.ensures.0
-    (skip (regions_faults t) _ f c.in_ok-regions.ensures.0 (λ ne. first_some (libraries_faults t) (both_passes_faults t) f (c.in_err-libraries.ensures ne)))))
+    (skip (regions_faults (total_of (version_of t)) t) _ f regions (λ ne. first_some (libraries_faults t) (both_passes_faults t) f (c.in_err-libraries.ensures ne)))))
 
 pub returns-in_err-owners : goal.returns-in_err-owners
 returns-in_err-owners c =
     let p = err_from_is_err_and c.from_residual-in_err-owners.result c.from_residual-in_err-owners.ensures.1 in
     let f = c.in_err-owners.field-0.0 in
     let t = table_view c.args.table.now in
+    let regions = in_version t c.in_ok-settings.settings.version c.total_of.result None c.in_ok-settings.ensures.1.0 c.total_of.ensures c.in_ok-regions.ensures.0 in
     let keys = ap (λ (b : Bool). first (check b UnknownKey)) (sym c.has_only.ensures ∙ c.if-not-has_only.false) in
     rw (p.1, p.2) (skip (check (keys_are_among top_keys t) UnknownKey) _ f keys
     (skip (settings_faults t) _ f c.in_ok-settings.ensures.0
-    (skip (regions_faults t) _ f c.in_ok-regions.ensures.0
+    (skip (regions_faults (total_of (version_of t)) t) _ f regions
     (skip (libraries_faults t) (both_passes_faults t) f c.in_ok-libraries.ensures.0 c.in_err-owners.ensures))))
 
 pub returns : goal.returns
 returns c =
     let t = table_view c.args.table.now in
     let owners = c.in_ok-owners.owners in
+    let regions = in_version t c.in_ok-settings.settings.version c.total_of.result None c.in_ok-settings.ensures.1.0 c.total_of.ensures c.in_ok-regions.ensures.0 in
     let keys = ap (λ (b : Bool). first (check b UnknownKey)) (sym c.has_only.ensures ∙ c.if-not-has_only.false) in (
       both (check (keys_are_among top_keys t) UnknownKey) _ keys
           (both (settings_faults t) _ c.in_ok-settings.ensures.0
-          (both (regions_faults t) _ c.in_ok-regions.ensures.0
+          (both (regions_faults (total_of (version_of t)) t) _ regions
           (both (libraries_faults t) (both_passes_faults t) c.in_ok-libraries.ensures.0 c.in_ok-owners.ensures.0))),
-      read_is t c.in_ok-settings.settings.quantum c.in_ok-settings.settings.tick_micros c.in_ok-settings.settings.pool c.in_ok-regions.regions.items
+      read_is t c.in_ok-settings.settings.version c.in_ok-settings.settings.quantum c.in_ok-settings.settings.tick_micros c.in_ok-settings.settings.pool c.in_ok-regions.regions.items
           (map library_view c.in_ok-libraries.libraries.items) (map softint_view owners.softints.items) (map server_view owners.servers.items) (map task_view owners.tasks.items)
-          c.in_ok-settings.ensures.1.0 c.in_ok-settings.ensures.1.1 c.in_ok-settings.ensures.1.2 c.in_ok-regions.ensures.1 c.in_ok-libraries.ensures.1 c.in_ok-owners.ensures.1.softints c.in_ok-owners.ensures.1.servers c.in_ok-owners.ensures.1.tasks,
+          c.in_ok-settings.ensures.1.0 c.in_ok-settings.ensures.1.1 c.in_ok-settings.ensures.1.2 c.in_ok-settings.ensures.1.3 c.in_ok-regions.ensures.1 c.in_ok-libraries.ensures.1 c.in_ok-owners.ensures.1.softints c.in_ok-owners.ensures.1.servers c.in_ok-owners.ensures.1.tasks,
     )

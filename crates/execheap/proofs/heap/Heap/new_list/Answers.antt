@@ -3,11 +3,12 @@ use Rattle.std.proofs.Common.{[], ap, ◌∙◌}
 use Rattle.execmodel.specs.State.{ListHead}
 use Rattle.execmodel.specs.Lists.{is_list}
 use Rattle.execmodel.specs.Memory.{placed}
+use Rattle.execmodel.specs.GivingWay.{after_asking_for_object}
 use Rattle.execmodel.specs.Objects.{place_for_object}
 use Rattle.execheap.proofs.heap.Heap.new_list.Goals as goal
 
 pub returns-clause-address : goal.returns-clause-address
-returns-clause-address g c = c.make_list.ensures.address ∙ ap (place_for_object is_list 14) c.self.view_is
+returns-clause-address g c = c.make_list.ensures.address ∙ ap (λ m. place_for_object is_list 14 (after_asking_for_object is_list 14 m)) c.self.view_is
 
 pub returns-clause-next : goal.returns-clause-next
-returns-clause-next g c = c.make_list.ensures.next ∙ ap (placed 14 (ListHead []) c.make_list.result) c.self.view_is
+returns-clause-next g c = c.make_list.ensures.next ∙ ap (λ m. placed 14 (ListHead []) c.make_list.result (after_asking_for_object is_list 14 m)) c.self.view_is

@@ -4,11 +4,12 @@ use Rattle.iorequest.specs.Request.{idle_request}
 use Rattle.execmodel.specs.State.{Request}
 use Rattle.execmodel.specs.Requests.{is_request}
 use Rattle.execmodel.specs.Memory.{placed}
+use Rattle.execmodel.specs.GivingWay.{after_asking_for_object}
 use Rattle.execmodel.specs.Objects.{place_for_object}
 use Rattle.execheap.proofs.heap.Heap.new_request.Goals as goal
 
 pub returns-in-Ok-clause-address : goal.returns-in-Ok-clause-address
-returns-in-Ok-clause-address g c = c.make_request.ensures.address ∙ ap (place_for_object is_request 40) c.self.view_is
+returns-in-Ok-clause-address g c = c.make_request.ensures.address ∙ ap (λ m. place_for_object is_request 40 (after_asking_for_object is_request 40 m)) c.self.view_is
 
 pub returns-in-Ok-clause-next : goal.returns-in-Ok-clause-next
-returns-in-Ok-clause-next g c = c.make_request.ensures.next ∙ ap (placed 40 (Request (idle_request c.args.port)) c.make_request.result) c.self.view_is
+returns-in-Ok-clause-next g c = c.make_request.ensures.next ∙ ap (λ m. placed 40 (Request (idle_request c.args.port)) c.make_request.result (after_asking_for_object is_request 40 m)) c.self.view_is

@@ -4,11 +4,12 @@ use Rattle.sigsem.specs.Semaphores.{free_sem}
 use Rattle.execmodel.specs.State.{Semaphore}
 use Rattle.execmodel.specs.Semaphores.{is_semaphore}
 use Rattle.execmodel.specs.Memory.{placed}
+use Rattle.execmodel.specs.GivingWay.{after_asking_for_object}
 use Rattle.execmodel.specs.Objects.{place_for_object}
 use Rattle.execheap.proofs.heap.Heap.new_semaphore.Goals as goal
 
 pub returns-clause-address : goal.returns-clause-address
-returns-clause-address g c = c.make_semaphore.ensures.address ∙ ap (place_for_object is_semaphore 46) c.self.view_is
+returns-clause-address g c = c.make_semaphore.ensures.address ∙ ap (λ m. place_for_object is_semaphore 46 (after_asking_for_object is_semaphore 46 m)) c.self.view_is
 
 pub returns-clause-next : goal.returns-clause-next
-returns-clause-next g c = c.make_semaphore.ensures.next ∙ ap (placed 46 (Semaphore free_sem []) c.make_semaphore.result) c.self.view_is
+returns-clause-next g c = c.make_semaphore.ensures.next ∙ ap (λ m. placed 46 (Semaphore free_sem []) c.make_semaphore.result (after_asking_for_object is_semaphore 46 m)) c.self.view_is

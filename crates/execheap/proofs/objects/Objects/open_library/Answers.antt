@@ -2,7 +2,7 @@
 use Rattle.std.proofs.Common.{ap, ◌∙◌}
 use Rattle.execmodel.specs.Libraries.{opened, opening}
 use Rattle.execheap.specs.Numbered.{shown_memory}
-use Rattle.execheap.proofs.LibraryCalls.{opened_shown, opening_shown}
+use Rattle.execheap.proofs.Opening.{opened_shown, opening_shown}
 use Rattle.execheap.proofs.objects.Objects.open_library.Goals as goal
 
 pub returns-clause-answer : goal.returns-clause-answer

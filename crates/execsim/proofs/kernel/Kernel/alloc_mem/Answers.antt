@@ -7,4 +7,4 @@ returns-then-not-has_only g c = alloc_refused _ _ (rw (c.has_only.ensures, c.num
 pub returns-else-not-has_only : goal.returns-else-not-has_only
 returns-else-not-has_only g c = alloc_tried _ _ _ (rw (c.has_only.ensures, c.number-reqs.ensures) at c.if-not-has_only.false)
     (rw (c.number-size.ensures, c.number-reqs.ensures) at c.allocate-place.ensures.answer)
-    (rw (c.number-size.ensures) at c.allocate-place.ensures.next) (rw (c.unwrap_or.ensures) at c.answered.ensures)
+    (rw (c.number-size.ensures, c.number-reqs.ensures) at c.allocate-place.ensures.next) (rw (c.unwrap_or.ensures) at c.answered.ensures)

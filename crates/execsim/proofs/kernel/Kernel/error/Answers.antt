@@ -1,5 +1,5 @@
 -- The word of what the memory answers, which is a byte.
-use Rattle.std.proofs.Common.{rules, ap, arith, ◌∙◌, ℤ}
+use Rattle.std.proofs.Common.{rules, ap, ◌∙◌, ℤ}
 use Rattle.std.specs.Int.{cast_unsigned, w32}
 use Rattle.std.proofs.lemmas.Int.{to_z-of_z}
 use Rattle.execmodel.specs.Requests.{request_of}

@@ -1,5 +1,5 @@
 use Rattle.execmodel.specs.Libraries.{does_rem_library, library_alert, removed}
-use Rattle.execsim.proofs.Opening.{removed-in_order}
+use Rattle.execsim.proofs.GivingWay.{removed-in_order}
 use Rattle.execsim.proofs.Listing.{heap_changed}
 use Rattle.execsim.proofs.kernel.Kernel.rem_library.Goals as goal
 

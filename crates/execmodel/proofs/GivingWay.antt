@@ -1,0 +1,63 @@
+-- Asking libraries to give way changes the blocks alone.
+use Rattle.std.proofs.Common.{◌≡◌, ℕ, Bool, true, false, List, [], ◌∷◌, Option, None, Some, refl, ◌∙◌}
+use Rattle.std.specs.Prelude.{not, ◌&&◌, if◌then◌else◌, nat_eq, is_some, length}
+use Rattle.std.specs.List.{range_with_len}
+use Rattle.execmodel.specs.Blocks.{Object, Memory}
+use Rattle.execmodel.specs.Places.{place_for}
+use Rattle.execmodel.specs.Objects.{is_allowed, public_memory}
+use Rattle.execmodel.specs.Loaded.{base_of, count_of, removed}
+use Rattle.execmodel.specs.GivingWay.{gives_way_at, gives_way, asked_one, asked_each, after_asking, after_asking_for_object}
+use Rattle.execmodel.specs.Ports.{is_port, port_size, after_asking_for_port}
+use Rattle.execmodel.specs.Libraries.{library_at, ready_to_load, ready_to_open}
+use Rattle.execmodel.specs.Keeping.{without_blocks}
+
+-- the blocks change alone, whichever of two things is done
+pub either_memory : (test : Bool) (m n memory : Memory) → without_blocks m ≡ without_blocks memory → without_blocks n ≡ without_blocks memory
+    → without_blocks (if test then m else n) ≡ without_blocks memory
+either_memory true m n memory first second = first
+either_memory false m n memory first second = second
+
+pub removed_keeps : (base : ℕ) (memory : Memory) → without_blocks (removed base memory) ≡ without_blocks memory
+unfolding removed
+removed_keeps base memory = either_memory (nat_eq (count_of base memory.heap) 0) _ _ memory refl refl
+
+given_way_keeps : (found : Option ℕ) (memory : Memory) → without_blocks (gives_way_at found memory) ≡ without_blocks memory
+given_way_keeps None memory = refl
+given_way_keeps (Some base) memory = removed_keeps base memory
+
+gives_way_keeps : (i : ℕ) (memory : Memory) → without_blocks (gives_way i memory) ≡ without_blocks memory
+unfolding gives_way
+gives_way_keeps i memory = given_way_keeps (base_of i memory.heap) memory
+
+one_keeps : (size reqs i : ℕ) (memory : Memory) → without_blocks (asked_one size reqs i memory) ≡ without_blocks memory
+one_keeps size reqs i memory = either_memory (is_some (place_for size reqs memory)) _ _ memory refl (gives_way_keeps i memory)
+
+each_keeps : (size reqs : ℕ) (list : List ℕ) (memory : Memory) → without_blocks (asked_each size reqs list memory) ≡ without_blocks memory
+each_keeps size reqs [] memory = refl
+each_keeps size reqs (i ∷ others) memory =
+    each_keeps size reqs others (asked_one size reqs i memory) ∙ one_keeps size reqs i memory
+
+pub asking_keeps : (size reqs : ℕ) (memory : Memory) → without_blocks (after_asking size reqs memory) ≡ without_blocks memory
+unfolding after_asking
+asking_keeps size reqs memory =
+    either_memory (memory.asks && not (nat_eq size 0)) _ _ memory
+    (each_keeps size reqs (range_with_len 0 (length memory.libraries)) memory) refl
+
+pub asking_for_object_keeps : (kind : Object → Bool) (size : ℕ) (memory : Memory)
+    → without_blocks (after_asking_for_object kind size memory) ≡ without_blocks memory
+unfolding after_asking_for_object
+asking_for_object_keeps kind size memory =
+    either_memory (is_allowed kind memory) _ _ memory (asking_keeps size public_memory memory) refl
+
+pub asking_for_port_keeps : (bit : Option ℕ) (memory : Memory) → without_blocks (after_asking_for_port bit memory) ≡ without_blocks memory
+asking_for_port_keeps None memory = refl
+asking_for_port_keeps (Some bit) memory = asking_for_object_keeps is_port port_size memory
+
+ready_to_load_keeps : (found : Option ℕ) (i : ℕ) (memory : Memory) → without_blocks (ready_to_load found i memory) ≡ without_blocks memory
+ready_to_load_keeps None i memory = asking_keeps (library_at i memory).size public_memory memory
+ready_to_load_keeps (Some base) i memory = refl
+
+pub ready_keeps : (found : Option ℕ) (memory : Memory) → without_blocks (ready_to_open found memory) ≡ without_blocks memory
+unfolding ready_to_open
+ready_keeps None memory = refl
+ready_keeps (Some i) memory = ready_to_load_keeps (base_of i memory.heap) i memory

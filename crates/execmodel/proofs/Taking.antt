@@ -1,0 +1,150 @@
+-- What a call that takes memory makes of the blocks: libraries give way, one after another, and then an object is placed, or an opening of a
+-- library is counted, or nothing.
+use Rattle.std.proofs.Common.{◌≡◌, ℕ, ◌≤◌, Bool, true, false, List, [], ◌∷◌, Option, None, Some, refl, sym, ap, ◌∙◌, subst, arith}
+use Rattle.std.specs.Prelude.{not, ◌&&◌, if◌then◌else◌, nat_eq, is_some, length}
+use Rattle.std.specs.List.{range_with_len}
+use Rattle.std.specs.Ordering.{nat_cmp}
+use Rattle.std.specs.FinMap.{put as put_entry}
+use Rattle.memlist.specs.declared.region.Region.{Region}
+use Rattle.memlist.specs.Fit.{fit, round}
+use Rattle.memlist.specs.Memory.{IsWellFormed}
+use Rattle.memlist.proofs.Answered.{nat_eq-other, cases_eq}
+use Rattle.sigsem.specs.Semaphores.{free_sem}
+use Rattle.iorequest.specs.Request.{is_under_way}
+use Rattle.execmodel.specs.State.{Object, Plain, ListHead, Node, MsgPort, Message, Semaphore, Library, Request, Heap, Memory, State, Outcome, on_memory}
+use Rattle.execmodel.specs.Places.{extents, place_for, freed}
+use Rattle.execmodel.specs.Objects.{is_allowed, public_memory}
+use Rattle.execmodel.specs.Loaded.{is_library_at, count_of, with_library, base_of, removed}
+use Rattle.execmodel.specs.GivingWay.{gives_way_at, gives_way, asked_one, asked_each, after_asking, after_asking_for_object}
+use Rattle.execmodel.specs.Ports.{is_port, port_size, after_asking_for_port}
+use Rattle.execmodel.specs.Libraries.{library_at, ready_to_load, ready_to_open}
+use Rattle.execmodel.specs.Keeping.{without_blocks}
+use Rattle.execmodel.proofs.Heaps.{rid, true_is_not_false}
+use Rattle.execmodel.proofs.Loaded.{base_is_loaded}
+use Rattle.execmodel.proofs.GivingWay.{asking_keeps, asking_for_object_keeps}
+
+-- a new object: an empty list or port, a semaphore that no task owns and none waits for, a request that is not under way, or what has no queue
+abbrev pub IsNew : Object → Type 0
+IsNew Plain = Unit {0}
+IsNew (ListHead nodes) = nodes ≡ []
+IsNew (Node key) = Unit {0}
+IsNew (MsgPort port messages) = messages ≡ []
+IsNew (Message content) = Unit {0}
+IsNew (Semaphore sem waiters) = (sem ≡ free_sem) × (waiters ≡ [])
+IsNew (Library number count delayed) = Unit {0}
+IsNew (Request content) = is_under_way content ≡ false
+
+-- Taking memory ends where nothing changes or an object is placed; before that a library is marked or open once more, or one that is not open
+-- is freed. A library begins at its base where the blocks are well formed.
+pub data Takes (regions : List Region) : Heap → Heap → Type 0 where
+  nothing : {heap : Heap} → Takes regions heap heap
+  places : {heap : Heap} (size reqs address : ℕ) (object : Object) → IsNew object → fit regions (extents heap) size reqs ≡ Some address
+      → Takes regions heap (put_entry nat_cmp address (record { size = round size; object = object }) heap)
+  recounts : {old new : Heap} (base count : ℕ) (delayed : Bool) → (IsWellFormed regions (extents old) → is_library_at base old ≡ true)
+      → count_of base old ≤ count → Takes regions (with_library base count delayed old) new → Takes regions old new
+  yields : {old new : Heap} (base : ℕ) → (IsWellFormed regions (extents old) → is_library_at base old ≡ true) → count_of base old ≡ 0
+      → Takes regions (rid base old) new → Takes regions old new
+
+-- an outcome takes memory so, leaves no mark, and leaves the regions as they are
+pub record IsTaking (s : State) (o : Outcome) : Type 0 where
+  pub regions : o.state.memory.regions ≡ s.memory.regions
+  pub silent : o.marks ≡ []
+  pub blocks : Takes s.memory.regions s.memory.heap o.state.memory.heap
+
+-- ---- libraries give way
+
+pub number_is : (n k : ℕ) → nat_eq n k ≡ true → n ≡ k
+number_is n k e = cases_eq n k (λ same. same) (λ apart. true_is_not_false (sym e ∙ nat_eq-other n k apart))
+
+-- Something holds of blocks before libraries are asked, if it does after: it holds before a library is marked that is open, and before one is
+-- freed that is not, where it holds then.
+pub record HoldsBefore (regions : List Region) (Holds : Heap → Type 0) : Type 0 where
+  pub marking : (base : ℕ) (heap : Heap) → (IsWellFormed regions (extents heap) → is_library_at base heap ≡ true)
+      → Holds (with_library base (count_of base heap) true heap) → Holds heap
+  pub freeing : (base : ℕ) (heap : Heap) → (IsWellFormed regions (extents heap) → is_library_at base heap ≡ true) → count_of base heap ≡ 0
+      → Holds (rid base heap) → Holds heap
+
+either_before : (Holds : Heap → Type 0) (test : Bool) (m n memory : Memory) → (test ≡ true → Holds m.heap → Holds memory.heap)
+    → (test ≡ false → Holds n.heap → Holds memory.heap) → Holds (if test then m else n).heap → Holds memory.heap
+either_before Holds true m n memory one other holds = one refl holds
+either_before Holds false m n memory one other holds = other refl holds
+
+module _ (regions : List Region) (Holds : Heap → Type 0) (before : HoldsBefore regions Holds) where
+  removed_before : (base : ℕ) (memory : Memory) → (IsWellFormed regions (extents memory.heap) → is_library_at base memory.heap ≡ true)
+      → Holds (removed base memory).heap → Holds memory.heap
+  unfolding removed
+  removed_before base memory there =
+      either_before Holds (nat_eq (count_of base memory.heap) 0) (freed base memory) _ memory
+      (λ e. before.freeing base memory.heap there (number_is (count_of base memory.heap) 0 e)) (λ e. before.marking base memory.heap there)
+
+  gave_way_before : (found : Option ℕ) (i : ℕ) (memory : Memory) → base_of i memory.heap ≡ found
+      → Holds (gives_way_at found memory).heap → Holds memory.heap
+  gave_way_before None i memory e holds = holds
+  gave_way_before (Some base) i memory e holds =
+      removed_before base memory (λ formed. base_is_loaded regions i base memory.heap formed e) holds
+
+  gives_way_before : (i : ℕ) (memory : Memory) → Holds (gives_way i memory).heap → Holds memory.heap
+  unfolding gives_way
+  gives_way_before i memory = gave_way_before (base_of i memory.heap) i memory refl
+
+  each_before : (size reqs : ℕ) (numbers : List ℕ) (memory : Memory) → Holds (asked_each size reqs numbers memory).heap → Holds memory.heap
+  each_before size reqs [] memory holds = holds
+  each_before size reqs (i ∷ others) memory holds =
+      either_before Holds (is_some (place_for size reqs memory)) memory (gives_way i memory) memory (λ e asked. asked) (λ e. gives_way_before i memory)
+      (each_before size reqs others (asked_one size reqs i memory) holds)
+
+  pub asking_before : (size reqs : ℕ) (memory : Memory) → Holds (after_asking size reqs memory).heap → Holds memory.heap
+  unfolding after_asking
+  asking_before size reqs memory =
+      either_before Holds (memory.asks && not (nat_eq size 0)) _ memory memory
+      (λ e. each_before size reqs (range_with_len 0 (length memory.libraries)) memory) (λ e same. same)
+
+  pub asking_for_object_before : (kind : Object → Bool) (size : ℕ) (memory : Memory) → Holds (after_asking_for_object kind size memory).heap
+      → Holds memory.heap
+  unfolding after_asking_for_object
+  asking_for_object_before kind size memory =
+      either_before Holds (is_allowed kind memory) _ memory memory (λ e. asking_before size public_memory memory) (λ e same. same)
+
+-- blocks of which a call takes memory
+takes_before : (regions : List Region) (new : Heap) → HoldsBefore regions (λ heap. Takes regions heap new)
+takes_before regions new = record {
+  marking = λ base heap there rest. recounts base (count_of base heap) true there (omega arith) rest;
+  freeing = λ base heap there none rest. yields base there none rest;
+}
+
+-- ---- what a call takes once libraries were asked, it takes
+
+once_asked : (asked : Memory) (s : State) (o : Outcome) → without_blocks asked ≡ without_blocks s.memory
+    → (Takes s.memory.regions asked.heap o.state.memory.heap → Takes s.memory.regions s.memory.heap o.state.memory.heap)
+    → IsTaking (on_memory (λ memory. asked) s) o → IsTaking s o
+once_asked asked s o same all taking =
+    let regions : asked.regions ≡ s.memory.regions = ap (λ (memory : Memory). memory.regions) same in
+    record {
+      regions = taking.regions ∙ regions;
+      silent = taking.silent;
+      blocks = all (subst (λ r. Takes r asked.heap o.state.memory.heap) regions taking.blocks);
+    }
+
+pub after_asking_taking : (size reqs : ℕ) (s : State) (o : Outcome) → IsTaking (on_memory (after_asking size reqs) s) o → IsTaking s o
+after_asking_taking size reqs s o taking =
+    once_asked (after_asking size reqs s.memory) s o (asking_keeps size reqs s.memory)
+    (asking_before s.memory.regions _ (takes_before s.memory.regions o.state.memory.heap) size reqs s.memory) taking
+
+pub after_asking_for_object_taking : (kind : Object → Bool) (size : ℕ) (s : State) (o : Outcome)
+    → IsTaking (on_memory (after_asking_for_object kind size) s) o → IsTaking s o
+after_asking_for_object_taking kind size s o taking =
+    once_asked (after_asking_for_object kind size s.memory) s o (asking_for_object_keeps kind size s.memory)
+    (asking_for_object_before s.memory.regions _ (takes_before s.memory.regions o.state.memory.heap) kind size s.memory) taking
+
+pub after_asking_for_port_taking : (bit : Option ℕ) (s : State) (o : Outcome) → IsTaking (on_memory (after_asking_for_port bit) s) o → IsTaking s o
+after_asking_for_port_taking None s o taking = taking
+after_asking_for_port_taking (Some bit) s o taking = after_asking_for_object_taking is_port port_size s o taking
+
+ready_to_load_taking : (found : Option ℕ) (i : ℕ) (s : State) (o : Outcome) → IsTaking (on_memory (ready_to_load found i) s) o → IsTaking s o
+ready_to_load_taking None i s o taking = after_asking_taking (library_at i s.memory).size public_memory s o taking
+ready_to_load_taking (Some base) i s o taking = taking
+
+pub ready_to_open_taking : (found : Option ℕ) (s : State) (o : Outcome) → IsTaking (on_memory (ready_to_open found) s) o → IsTaking s o
+unfolding ready_to_open
+ready_to_open_taking None s o taking = taking
+ready_to_open_taking (Some i) s o taking = ready_to_load_taking (base_of i s.memory.heap) i s o taking

@@ -1,0 +1,57 @@
+-- Libraries that are loaded (RKM Libraries, Exec Libraries): each begins at an address, its base, and is removed there.
+use Rattle.std.specs.Prelude.{ℕ, Bool, true, false, if◌then◌else◌, nat_eq, find, map, Option}
+use Rattle.std.specs.Option.{option_map, option_map_or}
+use Rattle.execmodel.specs.Blocks.{Object, Library, Block, Heap, Memory, on_heap}
+use Rattle.execmodel.specs.Places.{freed}
+use Rattle.execmodel.specs.Objects.{object_at, is_kind, replaced}
+
+abbrev pub is_library : Object → Bool
+is_library (Library number count delayed) = true
+is_library _ = false
+
+-- a loaded library begins at an address
+unfoldable pub is_library_at : ℕ → Heap → Bool
+is_library_at base heap = is_kind is_library (object_at base heap)
+
+-- the number of a library in the order of the file, how often it is open, and whether it is to be expunged
+abbrev pub number_in : Object → ℕ
+number_in (Library number count delayed) = number
+number_in _ = 0
+
+abbrev pub count_in : Object → ℕ
+count_in (Library number count delayed) = count
+count_in _ = 0
+
+abbrev pub delayed_in : Object → Bool
+delayed_in (Library number count delayed) = delayed
+delayed_in _ = false
+
+-- the same of the library that begins at an address
+unfoldable pub number_of : ℕ → Heap → ℕ
+number_of base heap = option_map_or number_in (object_at base heap) 0
+
+unfoldable pub count_of : ℕ → Heap → ℕ
+count_of base heap = option_map_or count_in (object_at base heap) 0
+
+unfoldable pub is_delayed : ℕ → Heap → Bool
+is_delayed base heap = option_map_or delayed_in (object_at base heap) false
+
+-- the library at a base is open so often, and is to be expunged or not
+unfoldable pub with_library : ℕ → ℕ → Bool → Heap → Heap
+with_library base count delayed heap = map (replaced base (Library (number_of base heap) count delayed)) heap
+
+-- an object is library i
+abbrev pub is_numbered : ℕ → Object → Bool
+is_numbered i (Library number count delayed) = nat_eq number i
+is_numbered i _ = false
+
+-- the base of library i, if it is loaded
+unfoldable pub base_of : ℕ → Heap → Option ℕ
+base_of i heap =
+    option_map (λ (entry : ℕ × Block). entry.0) (find (λ (entry : ℕ × Block). is_numbered i entry.1.object) heap)
+
+-- a library that is not open is freed; an open one is to be expunged when it is closed for the last time
+unfoldable pub removed : ℕ → Memory → Memory
+removed base memory =
+    if nat_eq (count_of base memory.heap) 0 then freed base memory
+    else on_heap (with_library base (count_of base memory.heap) true) memory
