@@ -1,0 +1,298 @@
+//! Why a line says no command, in one sentence, with a proposal where one is near.
+use crate::near::{nearest, proposal};
+use crate::show::{Advice, field_span};
+use crate::spacing::spacing_advice;
+use crate::words::WORDS;
+use execcheck::{
+    Mistake, fields_of, is_identifier, is_name, is_variable, mistake_in, name_of, number_of,
+    quoted_in,
+};
+use std::alloc::{AllocError, Global};
+use taskscript::{Kind, Word, word_of};
+use toml::Value;
+
+/// Whether a part is a word, with a target and `=` that no spaces separate.
+fn is_assignment(field: &str) -> bool {
+    match field.split_once("=") {
+        None => false,
+        Some((target, _)) => is_variable(target.as_bytes()),
+    }
+}
+
+fn label_reason(alloc: Global, field: &str) -> Result<String, AllocError> {
+    let name = field.trim_end_matches(':');
+    let lower = lower_case(alloc, name)?;
+    if is_identifier(lower.as_str().as_bytes()) {
+        return format!(in alloc; "a label has no capital letter; did you mean {lower}:?");
+    }
+    format!(in alloc;
+        "no label: it is a letter a to z, then letters, digits and _, 1 to 16 together, and a colon"
+    )
+}
+
+/// The text with small letters for capital ones.
+pub fn lower_case(alloc: Global, text: &str) -> Result<String, AllocError> {
+    let mut lower = String::new(alloc);
+    for c in text.chars() {
+        lower.push(c.to_ascii_lowercase())?;
+    }
+    Ok(lower)
+}
+
+/// Why a text is no word.
+fn word_reason(alloc: Global, fields: &[&str], at: usize) -> Result<String, AllocError> {
+    let Some(text) = fields.get(at).copied() else {
+        return format!(in alloc; "a word is wanted here");
+    };
+    if at == 0 && fields.len() == 1 && text.ends_with(":") {
+        return label_reason(alloc, text);
+    }
+    if at == 0 && is_assignment(text) {
+        return format!(in alloc; "one space stands before and one behind the =");
+    }
+    if at == 0 && is_variable(text.as_bytes()) {
+        if let Some(word) = fields.get(1).copied() {
+            if word.starts_with("=") {
+                return format!(in alloc; "one space stands before and one behind the =");
+            }
+            if word_of(word).is_some() {
+                return format!(in alloc; "no word of this name; did you mean {text} = {word}?");
+            }
+        }
+    }
+    if text.ends_with(":") {
+        return format!(in alloc; "a label stands on a line of its own");
+    }
+    let near = nearest(alloc, text, &WORDS)?;
+    let question = proposal(alloc, "", near, "")?;
+    match near {
+        Some(word) if text.eq_ignore_ascii_case(word) => {
+            format!(in alloc; "no word of this name, for upper and lower case count{question}")
+        }
+        _ => format!(in alloc; "no word of this name{question}"),
+    }
+}
+
+fn target_reason(alloc: Global, field: &str) -> Result<String, AllocError> {
+    let lower = lower_case(alloc, field)?;
+    if is_variable(lower.as_str().as_bytes()) {
+        return format!(in alloc; "a variable has no capital letter; did you mean {lower}?");
+    }
+    format!(in alloc;
+        "no variable: a letter a to z, then letters, digits and _, 1 to 16 together, with @ before it where it is shared"
+    )
+}
+
+/// A part without the zeros before it, or none where that is no number.
+fn without_zeros(field: &str) -> Option<&str> {
+    let short = field.trim_start_matches('0');
+    if short.len() < field.len() && number_of(short.as_bytes()).is_some() {
+        Some(short)
+    } else {
+        None
+    }
+}
+
+/// The digits behind `0x`, `0X` or `$`.
+fn base_sixteen(field: &str) -> Option<&str> {
+    if let Some(digits) = field.strip_prefix("0x") {
+        return Some(digits);
+    }
+    if let Some(digits) = field.strip_prefix("0X") {
+        return Some(digits);
+    }
+    field.strip_prefix("$")
+}
+
+fn base_sixteen_reason(alloc: Global, digits: &str) -> Result<String, AllocError> {
+    let mut number = format!(in alloc; "$")?;
+    for c in digits.chars() {
+        number.push(c.to_ascii_uppercase())?;
+    }
+    if number_of(number.as_str().as_bytes()).is_some() {
+        return format!(in alloc;
+            "a number in base 16 is $ with digits 0 to 9 and A to F; did you mean {number}?"
+        );
+    }
+    format!(in alloc; "a number in base 16 is $ with 1 to 8 digits, 0 to 9 and A to F")
+}
+
+/// Why a part is no number and no variable.
+fn value_reason(alloc: Global, field: &str) -> Result<String, AllocError> {
+    if let Some(digits) = base_sixteen(field) {
+        return base_sixteen_reason(alloc, digits);
+    }
+    if let Some(short) = without_zeros(field) {
+        return format!(in alloc; "a number has no zero before its digits; did you mean {short}?");
+    }
+    if field == "-0" {
+        return format!(in alloc; "a number has no zero before its digits; did you mean 0?");
+    }
+    if field.starts_with("\"") {
+        return format!(in alloc; "a number or a variable is wanted here, and no name");
+    }
+    let digits = field.trim_start_matches('-');
+    if !digits.is_empty() && digits.as_bytes().iter().all(|b| b.is_ascii_digit()) {
+        return format!(in alloc; "a number is from -2147483648 to 4294967295");
+    }
+    let lower = lower_case(alloc, field)?;
+    if is_variable(lower.as_str().as_bytes()) {
+        return format!(in alloc; "a variable has no capital letter; did you mean {lower}?");
+    }
+    format!(in alloc; "a number or a variable is wanted here")
+}
+
+/// Why a part is no label.
+fn label_argument_reason(alloc: Global, field: &str) -> Result<String, AllocError> {
+    let name = field.trim_end_matches(':');
+    if name.len() < field.len() && is_identifier(name.as_bytes()) {
+        return format!(in alloc;
+            "the colon stands at the label's own line alone; did you mean {name}?"
+        );
+    }
+    let lower = lower_case(alloc, name)?;
+    if is_identifier(lower.as_str().as_bytes()) {
+        return format!(in alloc; "a label has no capital letter; did you mean {lower}?");
+    }
+    format!(in alloc; "the name of a label of this body is wanted here")
+}
+
+/// Why a part is no name between double quotes.
+fn quoted_reason(alloc: Global, field: &str, or_none: &str) -> Result<String, AllocError> {
+    if is_name(field.as_bytes()) {
+        return format!(in alloc;
+            "a name between double quotes{or_none} is wanted here; did you mean \"{field}\"?"
+        );
+    }
+    let inside = field.trim_matches('\'');
+    if inside.len() < field.len() && is_name(inside.as_bytes()) {
+        return format!(in alloc; "a name stands between double quotes; did you mean \"{inside}\"?");
+    }
+    if field.starts_with("\"") && !field.ends_with("\"") {
+        return format!(in alloc;
+            "a name between double quotes has no space, and ends with a double quote"
+        );
+    }
+    if field.starts_with("\"") {
+        return format!(in alloc;
+            "a name has 1 to 31 characters: letters, digits, the dot, _ and -"
+        );
+    }
+    format!(in alloc; "a name between double quotes{or_none} is wanted here")
+}
+
+/// Why a name is none of the file's software interrupts.
+fn softint_reason(alloc: Global, softints: &[Value], field: &str) -> Result<String, AllocError> {
+    if quoted_in(field.as_bytes()).is_none() {
+        return quoted_reason(alloc, field, "");
+    }
+    if softints.is_empty() {
+        return format!(in alloc; "the file has no software interrupt");
+    }
+    let mut names = Vec::new(alloc);
+    for softint in softints {
+        names.push(name_of(softint))?;
+    }
+    let near = nearest(alloc, field.trim_matches('"'), &names)?;
+    let question = proposal(alloc, "\"", near, "\"")?;
+    format!(in alloc; "the file has no software interrupt of this name{question}")
+}
+
+/// `1 argument`, `2 arguments`.
+fn counted(alloc: Global, count: usize) -> Result<String, AllocError> {
+    match count {
+        0 => format!(in alloc; "no argument"),
+        1 => format!(in alloc; "1 argument"),
+        _ => format!(in alloc; "{count} arguments"),
+    }
+}
+
+fn count_reason(alloc: Global, word: Word, given: usize) -> Result<String, AllocError> {
+    let text = word.text();
+    let wanted = counted(alloc, word.kinds().len())?;
+    if given == 0 {
+        return format!(in alloc; "{text} takes {wanted}, and none stands here");
+    }
+    let stands = if given == 1 { "stands" } else { "stand" };
+    format!(in alloc; "{text} takes {wanted}, and {given} {stands} here")
+}
+
+/// Why an argument is not right.
+fn argument_reason(
+    alloc: Global,
+    softints: &[Value],
+    word: Word,
+    after: &[&str],
+    number: usize,
+) -> Result<String, AllocError> {
+    let kinds = word.kinds();
+    let (Some(kind), Some(field)) = (kinds.get(number).copied(), after.get(number).copied()) else {
+        return count_reason(alloc, word, after.len());
+    };
+    match kind {
+        Kind::Value => value_reason(alloc, field),
+        Kind::Label => label_argument_reason(alloc, field),
+        Kind::Name => quoted_reason(alloc, field, ""),
+        Kind::NameOrNone => quoted_reason(alloc, field, ", or 0,"),
+        Kind::Softint => softint_reason(alloc, softints, field),
+    }
+}
+
+/// The number of the field that is the word: the first, or the third where a target and `=` stand before it.
+fn word_place(fields: &[&str]) -> usize {
+    match fields {
+        [_, equals, ..] if *equals == "=" => 2,
+        _ => 0,
+    }
+}
+
+/// The field at which a mistake is shown, and why it is one.
+fn mistake_advice(
+    alloc: Global,
+    softints: &[Value],
+    line: &str,
+    fields: &[&str],
+    mistake: Mistake,
+) -> Result<Advice, AllocError> {
+    let at = word_place(fields);
+    let text = fields.get(at).copied().unwrap_or("");
+    let (place, reason) = match mistake {
+        Mistake::NoWord => (at, format!(in alloc; "a word is wanted behind the =")?),
+        Mistake::UnknownWord => (at, word_reason(alloc, fields, at)?),
+        Mistake::NoAnswer => (
+            0,
+            format!(in alloc; "{text} gives no answer, so no variable stands before it")?,
+        ),
+        Mistake::Target => (
+            0,
+            target_reason(alloc, fields.get(0).copied().unwrap_or(""))?,
+        ),
+        Mistake::Argument(number) => {
+            let place = at.saturating_add(1).saturating_add(number);
+            let after = fields.get(at.saturating_add(1)..).unwrap_or(&[]);
+            match word_of(text) {
+                None => (at, word_reason(alloc, fields, at)?),
+                Some(word) => (
+                    place,
+                    argument_reason(alloc, softints, word, after, number)?,
+                ),
+            }
+        }
+    };
+    Ok(Advice {
+        span: field_span(line, place),
+        reason,
+    })
+}
+
+/// The part of a line for which it says no command, and why. `softints` are the software interrupts of the file.
+pub fn line_advice(alloc: Global, softints: &[Value], line: &str) -> Result<Advice, AllocError> {
+    let fields = fields_of(alloc, line)?;
+    let Some(mistake) = mistake_in(softints, &fields) else {
+        return Advice::new(alloc, field_span(line, 0), "this line says no command");
+    };
+    match spacing_advice(alloc, line)? {
+        Some(advice) => Ok(advice),
+        None => mistake_advice(alloc, softints, line, &fields, mistake),
+    }
+}

@@ -1,0 +1,278 @@
+//! What is found in an event text.
+ghost use Rattle.std.specs.Prelude.{◌≡◌, Some, IfOk};
+ghost use Rattle.taskscript.specs.Events.{script_of};
+ghost use Rattle.execadvice.specs.Findings.{fault_of};
+
+use crate::near::{nearest, proposal};
+use crate::show::{Advice, Span, field_span, push_marked};
+use std::alloc::{AllocError, Global};
+use std::str::from_utf8;
+use taskscript::{EventFault, read_events};
+
+/// Why a number of turns is none.
+fn number_reason(alloc: Global, digits: &str) -> Result<String, AllocError> {
+    if digits.is_empty() {
+        return format!(in alloc; "a number from 1 to 1000000 is wanted here");
+    }
+    if !digits.as_bytes().iter().all(|b| b.is_ascii_digit()) {
+        return format!(in alloc; "a number from 1 to 1000000 is wanted here, in decimal digits");
+    }
+    let short = digits.trim_start_matches('0');
+    if short.is_empty() {
+        return format!(in alloc; "0 asks for nothing: a number is from 1 to 1000000");
+    }
+    if short.len() < digits.len() {
+        return format!(in alloc; "a number has no zero before its digits; did you mean {short}?");
+    }
+    format!(in alloc; "a number is from 1 to 1000000; write several lines")
+}
+
+fn source_reason(alloc: Global, name: &str) -> Result<String, AllocError> {
+    if name.eq_ignore_ascii_case("VERTB") {
+        return format!(in alloc;
+            "VERTB comes with each tick; PORTS and EXTER are asked for by irq"
+        );
+    }
+    let question = proposal(alloc, "", nearest(alloc, name, &["PORTS", "EXTER"])?, "")?;
+    format!(in alloc; "PORTS or EXTER is wanted here{question}")
+}
+
+/// What is wrong with the spaces of a line, or with its end.
+fn spacing_reason(line: &str) -> Option<(usize, &'static str)> {
+    let length = line.chars().count();
+    if line.ends_with("\r") {
+        let end = length.saturating_sub(1);
+        return Some((
+            end,
+            "a carriage return stands at the end: lines end with a line feed alone",
+        ));
+    }
+    if line.ends_with(" ") {
+        let end = length.saturating_sub(1);
+        return Some((end, "a space stands at the end; there is none"));
+    }
+    if line.starts_with(" ") {
+        return Some((0, "a space stands at the beginning; there is none"));
+    }
+    let mut place = 0usize;
+    let mut was_space = false;
+    for c in line.chars() {
+        if c == '\t' {
+            return Some((
+                place,
+                "a tab stands here; one space separates the parts of a line",
+            ));
+        }
+        if c == ' ' && was_space {
+            return Some((
+                place,
+                "two spaces stand in a row; one space separates the parts of a line",
+            ));
+        }
+        was_space = c == ' ';
+        place = place.saturating_add(1);
+    }
+    None
+}
+
+/// Why a line is no event.
+fn event_advice(alloc: Global, line: &str) -> Result<Advice, AllocError> {
+    if let Some((start, reason)) = spacing_reason(line) {
+        return Advice::new(alloc, Span { start, width: 1 }, reason);
+    }
+    let (word, rest) = line.split_once(" ").unwrap_or((line, ""));
+    let argument = field_span(line, 1);
+    if rest.contains("#") {
+        let reason = "a comment stands on a line of its own";
+        return Advice::new(alloc, argument, reason);
+    }
+    if rest.contains(" ") {
+        return Advice::new(
+            alloc,
+            field_span(line, 2),
+            "a line ends with its one argument",
+        );
+    }
+    if word == "run" || word == "tick" {
+        let reason = number_reason(alloc, rest)?;
+        return Ok(Advice {
+            span: argument,
+            reason,
+        });
+    }
+    if word == "irq" {
+        let reason = source_reason(alloc, rest)?;
+        return Ok(Advice {
+            span: argument,
+            reason,
+        });
+    }
+    let question = proposal(
+        alloc,
+        "",
+        nearest(alloc, word, &["run", "tick", "irq"])?,
+        "",
+    )?;
+    let reason = format!(in alloc; "a line is run N, tick N or irq S{question}")?;
+    Ok(Advice {
+        span: field_span(line, 0),
+        reason,
+    })
+}
+
+/// The line of a number, from 1, as text; one that is no text is shown as the empty line.
+fn line_at(bytes: &[u8], number: usize) -> &str {
+    for (i, line) in bytes.split(|b| *b == 10).enumerate() {
+        if i.saturating_add(1) == number {
+            return from_utf8(line).unwrap_or("");
+        }
+    }
+    ""
+}
+
+/// The sums so far, and the first of the limits that they are past.
+#[derive(Clone, Copy)]
+struct Sums {
+    steps: u64,
+    ticks: u64,
+    events: u64,
+}
+
+impl Sums {
+    /// The number that a line gives to an event of that word.
+    fn amount(line: &str, word: &str) -> u64 {
+        match line.strip_prefix(word) {
+            None => 0,
+            Some(digits) => digits.parse::<u64>().unwrap_or(0),
+        }
+    }
+
+    fn with(self, line: &str) -> Sums {
+        if line.is_empty() || line.starts_with("#") {
+            return self;
+        }
+        Sums {
+            steps: self.steps.saturating_add(Sums::amount(line, "run ")),
+            ticks: self.ticks.saturating_add(Sums::amount(line, "tick ")),
+            events: self.events.saturating_add(1),
+        }
+    }
+
+    fn reason(self) -> Option<&'static str> {
+        if self.steps > 1_000_000 {
+            Some("this line takes the steps past 1000000")
+        } else if self.ticks > 1_000_000 {
+            Some("this line takes the ticks past 1000000")
+        } else if self.events > 100_000 {
+            Some("this line takes the events past 100000")
+        } else {
+            None
+        }
+    }
+}
+
+/// The number of the line, from 1, that is past a limit, and which.
+fn past_limit(bytes: &[u8]) -> Option<(usize, &'static str)> {
+    let mut sums = Sums {
+        steps: 0,
+        ticks: 0,
+        events: 0,
+    };
+    for (i, line) in bytes.split(|b| *b == 10).enumerate() {
+        sums = sums.with(from_utf8(line).unwrap_or("#"));
+        if let Some(reason) = sums.reason() {
+            return Some((i.saturating_add(1), reason));
+        }
+    }
+    None
+}
+
+/// Adds a line of an event text with what is wrong with it.
+fn push_line(
+    alloc: Global,
+    out: &mut String,
+    path: &str,
+    bytes: &[u8],
+    number: usize,
+    name: &str,
+    advice: &Advice,
+) -> Result<(), AllocError> {
+    let head = format!(in alloc; "{path}:{number}: {name}\n")?;
+    out.push_str(head.as_str())?;
+    push_marked(out, line_at(bytes, number), advice)
+}
+
+/// Adds why the events are too many.
+fn push_too_many(
+    alloc: Global,
+    out: &mut String,
+    path: &str,
+    bytes: &[u8],
+) -> Result<(), AllocError> {
+    match past_limit(bytes) {
+        None => {
+            let head = format!(in alloc; "{path}: TooMany\n")?;
+            out.push_str(head.as_str())
+        }
+        Some((number, reason)) => {
+            let width = line_at(bytes, number).chars().count();
+            let advice = Advice::new(alloc, Span { start: 0, width }, reason)?;
+            push_line(alloc, out, path, bytes, number, "TooMany", &advice)
+        }
+    }
+}
+
+/// What was found in an event text.
+#[derive(Drop)]
+pub struct EventsFinding {
+    /// The fault for which the text is refused, if it is; that of a line has the line's number.
+    pub fault: Option<EventFault>,
+    /// What there is to say of it; nothing where nothing was found.
+    pub text: String,
+}
+
+/// What there is to say of a refused text.
+fn refusal(
+    alloc: Global,
+    path: &str,
+    bytes: &[u8],
+    fault: EventFault,
+) -> Result<EventsFinding, AllocError>
+    ensures { IfOk result (λ finding. finding.fault ≡ Some fault) }
+{
+    let mut text = String::new(alloc);
+    match fault {
+        EventFault::BadLine(number) => {
+            let advice = event_advice(alloc, line_at(bytes, number))?;
+            push_line(alloc, &mut text, path, bytes, number, "BadLine", &advice)?;
+        }
+        EventFault::TooMany => push_too_many(alloc, &mut text, path, bytes)?,
+        EventFault::OutOfMemory => return Err(AllocError),
+    }
+    Ok(EventsFinding {
+        fault: Some(fault),
+        text,
+    })
+}
+
+/// What the bytes of an event text are refused for, and at which line. `path` stands before each place.
+///
+/// The text is refused just where `execsim` refuses it, with that fault; that of BadLine is the number of the line.
+///
+/// # Errors
+///
+/// Where memory is refused, by the reader too.
+///
+/// Source: own choice.
+pub fn check_events(alloc: Global, path: &str, bytes: &[u8]) -> Result<EventsFinding, AllocError>
+    ensures { IfOk result (λ finding. finding.fault ≡ fault_of (script_of bytes.now)) }
+{
+    match read_events(alloc, bytes) {
+        Ok(_) => Ok(EventsFinding {
+            fault: None,
+            text: String::new(alloc),
+        }),
+        Err(EventFault::OutOfMemory) => Err(AllocError),
+        Err(fault) => refusal(alloc, path, bytes, fault),
+    }
+}

@@ -1,0 +1,21 @@
+//! Says what is wrong with a machine file or an event text: what `execsim` says of the text, where, and what may have been meant.
+#![tactic(auto)]
+
+mod advice;
+mod events;
+mod finding;
+mod labels;
+mod limits;
+mod locate;
+mod near;
+mod reasons;
+mod regions;
+mod said;
+mod show;
+mod spacing;
+mod stands;
+mod warnings;
+mod words;
+
+pub use events::{EventsFinding, check_events};
+pub use finding::{Finding, check_machine};

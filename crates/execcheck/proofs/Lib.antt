@@ -1,0 +1,5 @@
+pub mod LineLaws
+pub mod MistakeLaws
+pub mod TreeLaws
+pub mod TreeTurns
+pub mod Turns

@@ -1,0 +1,11 @@
+use Rattle.std.proofs.Common.{◌≡◌, drop}
+use Rattle.toml.specs.View.{table_view}
+use Rattle.taskscript.specs.Faults.{first}
+use Rattle.execcheck.specs.Names.{names_before}
+use Rattle.execcheck.specs.TreePlaces.{rules_found}
+use Rattle.execcheck.proofs.item.rules_found.Given as goal
+
+abbrev pub invariant-loop-rule : goal.invariant-loop-rule
+invariant-loop-rule l =
+    let before = names_before l.before in
+    first (rules_found l.place before (table_view l.table) (drop l.rule-index l.rules)) ≡ first (rules_found l.place before (table_view l.table) l.rules)

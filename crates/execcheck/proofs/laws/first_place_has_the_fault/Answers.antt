@@ -1,0 +1,5 @@
+use Rattle.execcheck.proofs.TreeLaws.{first_law}
+use Rattle.execcheck.proofs.laws.first_place_has_the_fault.Goals as goal
+
+pub returns : goal.returns
+returns c = first_law

@@ -1,0 +1,41 @@
+//! Where a machine file is faulty: the first faulty place of its tree, the parts of a line that are not right, and the first line of a file
+//! that says no command.
+#![tactic(auto)]
+
+mod argument;
+mod before;
+mod bodies;
+mod body;
+mod fault_place;
+mod field;
+mod file;
+mod item;
+mod laws;
+mod line;
+mod mistake;
+mod number;
+mod place;
+mod placed;
+mod rules;
+mod tree;
+mod value;
+
+pub use argument::{is_right, wrong_argument};
+pub use bodies::{line_without_command, lines_of};
+pub use body::first_without_command;
+pub use fault_place::place_of_fault;
+pub use field::{is_identifier, is_name, is_variable, label_in, quoted_in};
+pub use file::{total_at, tree_fault};
+pub use item::unknown_key;
+pub use laws::{
+    all_places_have_the_faults, first_line_without_command_is_first, first_place_has_the_fault,
+    first_place_of_the_tree_is_first, places_have_the_faults,
+};
+pub use line::{fields_of, says_no_command};
+pub use mistake::{Mistake, mistake_in};
+pub use number::number_of;
+pub use place::{LinePlace, Owner, Place, TablePlace, TreeFault, TreePlace};
+pub use placed::PlacedFault;
+pub use rules::{Array, Key, Rule, Wanted, top_rules};
+pub use tree::{has_named, items_at, line_in, member, name_of, text_at, version_at};
+pub use value::LINE_LIMIT;

@@ -1,0 +1,134 @@
+//! What a key may hold, judged by itself.
+ghost use Rattle.std.specs.Prelude.{◌≡◌};
+ghost use Rattle.toml.specs.View.{view, items_view};
+ghost use Rattle.taskscript.specs.Faults.{first};
+ghost use Rattle.taskscript.specs.Tree.{are_strings, boolean_faults, code_faults, integer_faults, is_softint_pri, name_faults, softint_pri_faults, source_faults};
+ghost use Rattle.execcheck.specs.Names.{names_before};
+ghost use Rattle.execcheck.specs.Rules.{value_faults};
+
+use crate::before::Before;
+use crate::field::is_name;
+use crate::rules::Wanted;
+use taskscript::{FileFault, Source};
+use toml::Value;
+
+fn integer_fault(low: i64, high: i64, value: &Value) -> Option<FileFault>
+    ensures { result ≡ first (integer_faults low high (view value.now)) }
+{
+    match value.as_integer() {
+        None => Some(FileFault::BadValue),
+        Some(z) => {
+            if low <= z && z <= high {
+                None
+            } else {
+                Some(FileFault::BadValue)
+            }
+        }
+    }
+}
+
+fn is_softint_pri(pri: i64) -> bool
+    ensures { result ≡ is_softint_pri pri }
+{
+    pri == -32 || (pri == -16 || (pri == 0 || (pri == 16 || pri == 32)))
+}
+
+fn softint_pri_fault(value: &Value) -> Option<FileFault>
+    ensures { result ≡ first (softint_pri_faults (view value.now)) }
+{
+    match value.as_integer() {
+        None => Some(FileFault::BadValue),
+        Some(z) => {
+            if is_softint_pri(z) {
+                None
+            } else {
+                Some(FileFault::BadValue)
+            }
+        }
+    }
+}
+
+fn source_fault(value: &Value) -> Option<FileFault>
+    ensures { result ≡ first (source_faults (view value.now)) }
+{
+    match value.as_str() {
+        None => Some(FileFault::BadValue),
+        Some(name) => match Source::named(name) {
+            None => Some(FileFault::BadValue),
+            Some(_) => None,
+        },
+    }
+}
+
+fn boolean_fault(value: &Value) -> Option<FileFault>
+    ensures { result ≡ first (boolean_faults (view value.now)) }
+{
+    match value.as_bool() {
+        None => Some(FileFault::BadValue),
+        Some(_) => None,
+    }
+}
+
+fn name_fault(before: Before<'_>, value: &Value) -> Option<FileFault>
+    ensures { result ≡ first (name_faults (names_before before.entry) (view value.now)) }
+{
+    match value.as_str() {
+        None => Some(FileFault::BadValue),
+        Some(name) => {
+            if !is_name(name.as_bytes()) {
+                Some(FileFault::BadValue)
+            } else if before.has(name.as_bytes()) {
+                Some(FileFault::NameTwice)
+            } else {
+                None
+            }
+        }
+    }
+}
+
+/// Whether the items are strings.
+pub fn are_strings(items: &[Value]) -> bool
+    ensures { result ≡ are_strings (items_view items.now) }
+{
+    for item in items {
+        if !item.is_str() {
+            return false;
+        }
+    }
+    true
+}
+
+/// The greatest number of lines of a body.
+pub const LINE_LIMIT: usize = 1024;
+
+#[tactic(auto, using(taskscript::proofs::Keys::count_items_view))]
+fn code_fault(value: &Value) -> Option<FileFault>
+    ensures { result ≡ first (code_faults (view value.now)) }
+{
+    match value.as_array() {
+        None => Some(FileFault::BadValue),
+        Some(items) => {
+            if !are_strings(items) {
+                Some(FileFault::BadValue)
+            } else if items.len() > LINE_LIMIT {
+                Some(FileFault::TooMany)
+            } else {
+                None
+            }
+        }
+    }
+}
+
+/// The fault of what a key holds, if it is not what is wanted. `before` are the items whose names a name may not be.
+pub fn value_fault(wanted: Wanted, before: Before<'_>, value: &Value) -> Option<FileFault>
+    ensures { result ≡ first (value_faults wanted (names_before before.entry) (view value.now)) }
+{
+    match wanted {
+        Wanted::Integer(low, high) => integer_fault(low, high, value),
+        Wanted::SoftintPri => softint_pri_fault(value),
+        Wanted::Source => source_fault(value),
+        Wanted::Boolean => boolean_fault(value),
+        Wanted::Name => name_fault(before, value),
+        Wanted::Code => code_fault(value),
+    }
+}
