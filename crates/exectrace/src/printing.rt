@@ -59,25 +59,35 @@ fn answer_digits(n: u32) -> [u8; 13]
 type Draft = ArrayVec<u8, 160>;
 
 /// Adds a text to the line. What does not fit its room is handed over at once.
+#[inline(always)]
 fn add<W: Sink>(line: &mut Draft, text: &[u8], out: &mut W)
     ensures { Adds (W.tape out.old) (W.tape out.new) line.old.items line.new.items text.now }
 {
     match line.try_extend_from_slice(text) {
         Ok(()) => {}
-        Err(_) => {
-            hand_over(line, out);
-            put(text, out);
-            line.clear();
-        }
+        Err(_) => add_beyond(line, text, out),
     }
 }
 
+/// Hands over the line and a text that does not fit its room, and begins the line anew.
+#[cold]
+#[inline(never)]
+fn add_beyond<W: Sink>(line: &mut Draft, text: &[u8], out: &mut W)
+    ensures { Adds (W.tape out.old) (W.tape out.new) line.old.items line.new.items text.now }
+{
+    hand_over(line, out);
+    put(text, out);
+    line.clear();
+}
+
+#[inline(always)]
 fn add_text<W: Sink>(line: &mut Draft, text: &str, out: &mut W)
     ensures { Adds (W.tape out.old) (W.tape out.new) line.old.items line.new.items text.now }
 {
     add(line, text.as_bytes(), out);
 }
 
+#[inline(always)]
 fn add_name<W: Sink>(line: &mut Draft, name: &Name, out: &mut W)
     ensures { Adds (W.tape out.old) (W.tape out.new) line.old.items line.new.items name.now.bytes }
 {
@@ -103,6 +113,7 @@ fn put_between<W: Sink>(before: &[u8], text: &[u8], after: &[u8], out: &mut W)
 }
 
 /// Adds a space and the word.
+#[inline(always)]
 fn add_value<W: Sink>(line: &mut Draft, n: u32, out: &mut W)
     ensures { Adds (W.tape out.old) (W.tape out.new) line.old.items line.new.items (argument_text (Value n)) }
 {
@@ -138,6 +149,7 @@ fn add_arguments<W: Sink>(line: &mut Draft, arguments: &[Arg], out: &mut W)
 }
 
 /// Adds a space and the argument, which is that name where it is quoted.
+#[inline(always)]
 fn add_short<W: Sink>(line: &mut Draft, argument: &ShortArg, quoted: &Name, out: &mut W)
     ensures { Adds (W.tape out.old) (W.tape out.new) line.old.items line.new.items (argument_text (short_argument quoted.now.bytes argument.now)) }
 {
@@ -161,6 +173,7 @@ fn add_short_arguments<W: Sink>(
     }
 }
 
+#[inline(always)]
 fn add_outcome<W: Sink>(line: &mut Draft, outcome: CallOutcome, out: &mut W)
     ensures { Adds (W.tape out.old) (W.tape out.new) line.old.items line.new.items (outcome_text (shown_outcome outcome)) }
 {
