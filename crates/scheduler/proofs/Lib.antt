@@ -1,1 +1,2 @@
 pub mod ScheduleLemmas
+pub mod Settling

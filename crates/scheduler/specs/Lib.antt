@@ -2,3 +2,4 @@ pub mod Schedule
 pub mod Dispatch
 pub mod Sound
 pub mod Lending
+pub mod Settled

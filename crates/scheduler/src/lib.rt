@@ -14,6 +14,7 @@ ghost use Rattle.scheduler.specs.Schedule.{waits_at_semaphore, is_at_semaphore};
 ghost use Rattle.scheduler.specs.Schedule.{awaits, come_for, after_wait, clears_and_waits, takes, waits_for, allocates, sets_signals, frees, with_signals};
 ghost use Rattle.scheduler.specs.Dispatch.{arrives, displaced, switch_of, after_switch, rescheduled, added, signalled, reprioritized};
 ghost use Rattle.scheduler.specs.Sound.{is_stopped, IsToReady};
+ghost use Rattle.scheduler.specs.Settled.{begins_anew, stays};
 ghost use Rattle.scheduler.specs.Lending.{lends_signals, lends_nesting};
 
 use execlist::key::Name;
@@ -45,11 +46,15 @@ pub struct Sched<S: ListSpace> {
     quantum: u8,
     left: u8,
     idle: bool,
+    // That `reschedule` found nothing to do, and nothing has changed since.
+    settled: bool,
 }
 
 impl<S: ListSpace> Model for Sched<S> {
+    ghost use Rattle.std.specs.Prelude.{◌≡◌, true, if◌then◌else◌};
     ghost use Rattle.scheduler.specs.Schedule.{Schedule};
     ghost use Rattle.scheduler.specs.Sound.{IsSound};
+    ghost use Rattle.scheduler.specs.Settled.{is_settled};
 
     ghost Value = { Schedule };
 
@@ -63,7 +68,16 @@ impl<S: ListSpace> Model for Sched<S> {
       idle = s.idle;
     } };
 
-    ghost invariant = { λ s. IsSound s.queue.states s.running s.signals.items s.nests.items };
+    ghost invariant = { λ s. IsSound s.queue.states s.running s.signals.items s.nests.items
+        × ((if s.settled then is_settled (record {
+          queue = s.queue;
+          running = s.running;
+          signals = s.signals.items;
+          nestings = s.nests.items;
+          quantum = s.quantum;
+          left = s.left;
+          idle = s.idle;
+        }) else true) ≡ true) };
 }
 
 impl<S: ListSpace> Sched<S> {
@@ -90,6 +104,7 @@ impl<S: ListSpace> Sched<S> {
             quantum,
             left: 0,
             idle: false,
+            settled: false,
         })
     }
 
@@ -188,6 +203,7 @@ impl<S: ListSpace> Sched<S> {
         ensures next { self.new ≡ arrives t self.old }
         ensures tasks { task_count self.new ≡ task_count self.old }
     {
+        self.settled = false;
         self.queue.make_ready(t);
     }
 
@@ -209,6 +225,7 @@ impl<S: ListSpace> Sched<S> {
         ensures next { self.new ≡ leaves r self.old }
         ensures tasks { task_count self.new ≡ task_count self.old }
     {
+        self.settled = false;
         self.queue.facts();
         self.queue.remove(r);
         self.running = None;
@@ -223,6 +240,7 @@ impl<S: ListSpace> Sched<S> {
         ensures next { self.new ≡ removed t self.old }
         ensures tasks { task_count self.new ≡ task_count self.old }
     {
+        self.settled = false;
         self.queue.remove(t);
     }
 
@@ -236,6 +254,7 @@ impl<S: ListSpace> Sched<S> {
         ensures next { self.new ≡ reprioritized t pri self.old }
         ensures tasks { task_count self.new ≡ task_count self.old }
     {
+        self.settled = false;
         self.queue.set_pri(t, pri)
     }
 }
@@ -257,9 +276,41 @@ impl<S: ListSpace> Sched<S> {
         ensures known { IsToOneOf result (task_count self.new) }
         ensures tasks { task_count self.new ≡ task_count self.old }
     {
+        if self.settled { None } else { self.decide() }
+    }
+
+    // Does what `reschedule` does where something may have changed, and finds out whether that was nothing.
+    #[inline(never)]
+    fn decide(&mut self) -> Option<Switch>
+        ensures answer { result ≡ switch_of self.old }
+        ensures next { self.new ≡ rescheduled self.old }
+        ensures known { IsToOneOf result (task_count self.new) }
+        ensures tasks { task_count self.new ≡ task_count self.old }
+    {
         let switch = self.due_switch();
-        self.turn(switch);
+        if self.stays(switch) {
+            self.settled = true;
+        } else {
+            self.turn(switch);
+        }
         switch
+    }
+
+    // Whether that switch, where it is due, is none, and no quantum begins anew.
+    fn stays(&self, switch: Option<Switch>) -> bool
+        ensures { result ≡ stays switch self.now }
+    {
+        match switch {
+            None => !self.begins_anew(),
+            Some(_) => false,
+        }
+    }
+
+    // Whether the running task's quantum has ended and switching is allowed.
+    fn begins_anew(&self) -> bool
+        ensures { result ≡ begins_anew self.now.running self.now }
+    {
+        self.running.is_some() && self.may_switch() && self.left == 0
     }
 
     // The switch that is due, if any.
@@ -333,7 +384,10 @@ impl<S: ListSpace> Sched<S> {
         ensures tasks { task_count self.new ≡ task_count self.old }
     {
         match switch {
-            Switch::Idle => self.idle = true,
+            Switch::Idle => {
+                self.settled = false;
+                self.idle = true;
+            }
             Switch::To(t) => {
                 self.displace();
                 self.begin(t);
@@ -347,6 +401,7 @@ impl<S: ListSpace> Sched<S> {
         ensures tasks { task_count self.new ≡ task_count self.old }
     {
         if let Some(r) = self.running {
+            self.settled = false;
             self.queue.make_ready(r);
             self.running = None;
         }
@@ -359,6 +414,7 @@ impl<S: ListSpace> Sched<S> {
         ensures next { self.new ≡ begins t self.old }
         ensures tasks { task_count self.new ≡ task_count self.old }
     {
+        self.settled = false;
         self.queue.run(t);
         self.running = Some(t);
         self.left = self.quantum;
@@ -370,7 +426,8 @@ impl<S: ListSpace> Sched<S> {
         ensures next { self.new ≡ renewed self.old.running self.old }
         ensures tasks { task_count self.new ≡ task_count self.old }
     {
-        if self.running.is_some() && self.may_switch() && self.left == 0 {
+        if self.begins_anew() {
+            self.settled = false;
             self.left = self.quantum;
         }
     }
@@ -385,6 +442,7 @@ impl<S: ListSpace> Sched<S> {
         ensures tasks { task_count self.new ≡ task_count self.old }
     {
         if self.running.is_some() {
+            self.settled = false;
             self.left = self.left.saturating_sub(1);
         }
     }
@@ -445,6 +503,7 @@ impl<S: ListSpace> Sched<S> {
         ensures next { self.new ≡ takes t mask self.old }
         ensures tasks { task_count self.new ≡ task_count self.old }
     {
+        self.settled = false;
         self.signals[t].take(mask)
     }
 
@@ -454,6 +513,7 @@ impl<S: ListSpace> Sched<S> {
         ensures next { self.new ≡ waits_for t mask self.old }
         ensures tasks { task_count self.new ≡ task_count self.old }
     {
+        self.settled = false;
         self.queue.block(t, Why::Signals(mask));
         self.running = None;
     }
@@ -483,6 +543,7 @@ impl<S: ListSpace> Sched<S> {
         ensures next { self.new ≡ with_signals t (after_post mask (signals_of self.old t)) self.old }
         ensures tasks { task_count self.new ≡ task_count self.old }
     {
+        self.settled = false;
         self.signals[t].post(mask);
     }
 
@@ -513,6 +574,7 @@ impl<S: ListSpace> Sched<S> {
         ensures tasks { task_count self.new ≡ task_count self.old }
     {
         let t = self.runner();
+        self.settled = false;
         self.signals[t].alloc_signal(n)
     }
 
@@ -544,6 +606,7 @@ impl<S: ListSpace> Sched<S> {
         ensures tasks { task_count self.new ≡ task_count self.old }
     {
         if self.is_live(t) {
+            self.settled = false;
             self.signals[t].free_signal(n);
         }
     }
@@ -560,6 +623,7 @@ impl<S: ListSpace> Sched<S> {
         ensures tasks { task_count self.new ≡ task_count self.old }
     {
         let t = self.runner();
+        self.settled = false;
         self.signals[t].set_signal(new, mask)
     }
 
@@ -572,6 +636,7 @@ impl<S: ListSpace> Sched<S> {
         ensures* writes_back { sem 𝓛 (lends_signals S.row S.ListSpace self.entry result) }
     {
         let t = self.runner();
+        self.settled = false;
         &mut self.signals[t]
     }
 }
@@ -597,6 +662,7 @@ impl<S: ListSpace> Sched<S> {
         ensures next { self.new ≡ waits_at_semaphore t self.old }
         ensures tasks { task_count self.new ≡ task_count self.old }
     {
+        self.settled = false;
         self.queue.block(t, Why::Sem);
         self.running = None;
     }
@@ -642,6 +708,7 @@ impl<S: ListSpace> Sched<S> {
         ensures tasks { task_count self.new ≡ task_count self.old }
     {
         let t = self.runner();
+        self.settled = false;
         self.nests[t].forbid()
     }
 
@@ -658,6 +725,7 @@ impl<S: ListSpace> Sched<S> {
         ensures tasks { task_count self.new ≡ task_count self.old }
     {
         let t = self.runner();
+        self.settled = false;
         self.nests[t].permit()
     }
 
@@ -675,6 +743,7 @@ impl<S: ListSpace> Sched<S> {
         ensures tasks { task_count self.new ≡ task_count self.old }
     {
         let t = self.runner();
+        self.settled = false;
         self.nests[t].disable()
     }
 
@@ -691,6 +760,7 @@ impl<S: ListSpace> Sched<S> {
         ensures tasks { task_count self.new ≡ task_count self.old }
     {
         let t = self.runner();
+        self.settled = false;
         self.nests[t].enable()
     }
 
@@ -703,6 +773,7 @@ impl<S: ListSpace> Sched<S> {
         ensures* writes_back { sem 𝓛 (lends_nesting S.row S.ListSpace self.entry result) }
     {
         let t = self.runner();
+        self.settled = false;
         &mut self.nests[t]
     }
 

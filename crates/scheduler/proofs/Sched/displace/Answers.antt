@@ -6,7 +6,7 @@ use Rattle.scheduler.proofs.ScheduleLemmas.{runner_known, displaced_is}
 use Rattle.scheduler.proofs.Sched.displace.Goals as goal
 
 pub make_ready-requires-clause-known : goal.make_ready-requires-clause-known
-make_ready-requires-clause-known g c = runner_known _ _ _ _ _ c.self.invariant c.in-Some.is
+make_ready-requires-clause-known g c = runner_known _ _ _ _ _ c.self.invariant.0 c.in-Some.is
 
 pub returns-in-Some-clause-next : goal.returns-in-Some-clause-next
 returns-in-Some-clause-next g c =

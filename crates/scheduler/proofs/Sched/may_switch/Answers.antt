@@ -3,4 +3,4 @@ use Rattle.scheduler.proofs.ScheduleLemmas.{runner_known}
 use Rattle.scheduler.proofs.Sched.may_switch.Goals as goal
 
 pub allows_switch-requires : goal.allows_switch-requires
-allows_switch-requires g c = rw (← c.self.view_is) (runner_known _ _ _ _ _ c.self.invariant c.in-Some.is)
+allows_switch-requires g c = rw (← c.self.view_is) (runner_known _ _ _ _ _ c.self.invariant.0 c.in-Some.is)

@@ -1,11 +1,9 @@
--- What is made of the switch that is due is `rescheduled`; its task was ready, so it is one of the file.
-use Rattle.std.proofs.Common.{◌∙◌}
-use Rattle.scheduler.proofs.ScheduleLemmas.{rescheduled-is, to_known}
+-- A settled schedule is what rescheduling makes of it.
+use Rattle.scheduler.proofs.Settling.{settled_known}
 use Rattle.scheduler.proofs.Sched.reschedule.Goals as goal
 
-pub returns-clause-next : goal.returns-clause-next
-returns-clause-next g c = c.turn.ensures.next ∙ rescheduled-is c.args.self.now _ c.due_switch-switch.ensures.value
+pub returns-then-self-clause-answer : goal.returns-then-self-clause-answer
+returns-then-self-clause-answer g c = (settled_known _ _ _ c.if-self.true c.self.invariant.1 c.self.view_is).0
 
-pub returns-clause-known : goal.returns-clause-known
-returns-clause-known g c =
-    rw c.turn.ensures.tasks (to_known c.due_switch-switch.result c.args.self.now.queue.states c.due_switch-switch.ensures.ready)
+pub returns-then-self-clause-next : goal.returns-then-self-clause-next
+returns-then-self-clause-next g c = (settled_known _ _ _ c.if-self.true c.self.invariant.1 c.self.view_is).1

@@ -3,7 +3,7 @@ use Rattle.scheduler.proofs.ScheduleLemmas.{runner_known, runner_runs}
 use Rattle.scheduler.proofs.Sched.runner.Goals as goal
 
 pub returns-clause-known : goal.returns-clause-known
-returns-clause-known g c = rw (← c.self.view_is) (runner_known _ _ _ _ _ c.self.invariant c.in-Some.is)
+returns-clause-known g c = rw (← c.self.view_is) (runner_known _ _ _ _ _ c.self.invariant.0 c.in-Some.is)
 
 pub returns-clause-runs : goal.returns-clause-runs
-returns-clause-runs g c = rw (← c.self.view_is) (runner_runs _ _ _ _ _ c.self.invariant c.in-Some.is)
+returns-clause-runs g c = rw (← c.self.view_is) (runner_runs _ _ _ _ _ c.self.invariant.0 c.in-Some.is)
