@@ -1,6 +1,6 @@
 -- Laws of every run: of each machine that a file may state, and each list of events.
 use Rattle.std.specs.Prelude.{◌≡◌, ◌≢◌, ◌⊎◌, ℕ, zero, suc, ◌*◌, ◌≤◌, ◌<◌, ◌≤ℤ◌, map, sum_by, length, Bool, true, false, nat_eq, bit_and, count_by, All, List, [], ◌∷◌, ◌++◌, Option, None, Some, is_some, slice_get, codes}
-use Rattle.exectrace.specs.Trace.{Switch, Serve, TraceLine}
+use Rattle.exectrace.specs.Trace.{Switch, Serve, TraceLine, printed_line}
 use Rattle.memlist.specs.declared.region.Region.{Region}
 use Rattle.memlist.specs.Pieces.{AreDisjoint, IsTiled}
 use Rattle.execlist.specs.Order.{chosen}
@@ -106,6 +106,14 @@ pub record IsToCall (t : ℕ) (call : Call) (s : State) : Type 0 where
   pub first : next_softint s ≡ None
   pub runs : s.schedule.running ≡ Some t
   pub calls : next_call t s.scripts ≡ Some call
+
+-- ---- lines
+
+-- Each line of a run, printed with its line feed, has at most 160 bytes.
+abbrev pub LinesAreShort : Type 0
+LinesAreShort =
+    (machine : MachineData) (list : List Event) → IsMachine machine
+    → All (λ line. length (printed_line line) ≤ 160) (run machine list).lines
 
 -- ---- semaphores
 
