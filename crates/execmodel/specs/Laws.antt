@@ -39,7 +39,8 @@ use Rattle.execmodel.specs.Semaphores.{sem_of, waiters_of, does_new_sem}
 use Rattle.execmodel.specs.Pending.{allows_interrupts, next_softint}
 use Rattle.execmodel.specs.Interrupts.{interrupts, runs_softint}
 use Rattle.execmodel.specs.Step.{does, ends, step, tick, request, settle, switches, events, run}
-use Rattle.execmodel.specs.Agreement.{Agrees, once_if, times}
+use Rattle.execmodel.specs.Agreement.{Agrees, once_if}
+use Rattle.execlist.specs.Lists.{times}
 use Rattle.taskscript.specs.Events.{ticks as event_ticks}
 use Rattle.execmodel.specs.Queues.{IsInOrder}
 use Rattle.execmodel.specs.Marks.{turns_at_port, turns_at_semaphore}
