@@ -71,7 +71,10 @@ never_away t (x ∷ q) e =
     cases_eq t x
     (λ same. let more = ap (λ b. if b then suc (times t q) else times t q) (sym (ap (λ k. nat_eq k t) (sym same) ∙ nat_eq-same t)) ∙ e in
     absurd (omega (arith, more)))
-    (λ apart. (apart, never_away t q (ap (λ b. if b then suc (times t q) else times t q) (sym (nat_eq-other x t (λ e. apart (sym e)))) ∙ e)))
+    (λ apart. (
+      apart,
+      never_away t q (ap (λ b. if b then suc (times t q) else times t q) (sym (nat_eq-other x t (λ e. apart (sym e)))) ∙ e),
+    ))
 
 -- ---- the states of tasks
 
@@ -203,7 +206,8 @@ one_time : (t : ℕ) (q : List ℕ) → times t q ≡ 0 → times t (q ++ t ∷ 
 one_time t q e = times_last t t q ∙ ap (λ n. n + once_if (nat_eq t t)) e ∙ ap (λ b. 0 + once_if b) (nat_eq-same t)
 
 no_more : (t k : ℕ) (q : List ℕ) → t ≢ k → times t (q ++ k ∷ []) ≡ times t q
-no_more t k q apart = let last = times_last t k q ∙ ap (λ b. times t q + once_if b) (nat_eq-other k t (λ e. apart (sym e))) in omega (arith, last)
+no_more t k q apart =
+    let last = times_last t k q ∙ ap (λ b. times t q + once_if b) (nat_eq-other k t (λ e. apart (sym e))) in omega (arith, last)
 
 -- a task that neither runs nor is ready, and stands in no queue any more
 pub arrives_agrees : (k : ℕ) (s : Schedule) (q p : ℕ → List ℕ) (x : TaskState) → status_of s k ≡ x → k < length s.queue.states

@@ -1,5 +1,5 @@
 -- Each line of a run is short: proved of each thing that a machine does, from names that are short and commands that are brief.
-use Rattle.std.proofs.Common.{◌≡◌, ℕ, zero, suc, lit≤, Bool, true, false, List, [], ◌∷◌, Option, None, Some, length, map, refl, ◌∙◌}
+use Rattle.std.proofs.Common.{◌≡◌, ℕ, zero, suc, lit≤, Bool, true, false, List, [], ◌∷◌, Option, None, Some, length, map, refl, subst, ◌∙◌}
 use Rattle.std.specs.Prelude.{All, IfSome, if◌then◌else◌, codes, slice_index_or}
 use Rattle.std.proofs.lemmas.List.Elements.{All-nil, All-head, All-tail, All-append, All-map, All-weaker}
 use Rattle.exectrace.specs.Trace.{Value, Done, Switch, Serve, Server, Softint}
@@ -17,19 +17,19 @@ use Rattle.taskscript.specs.declared.event.Event.{Event}
 use Rattle.taskscript.specs.declared.event.Event.TheVariants.{Run, Tick, Irq}
 use Rattle.execmodel.specs.State.{Call, Scripts, State, Timer as Clock, Outcome, quiet, says, andthen, unless_stopped, no_program, on_schedule, on_memory, on_timer, on_pending, begun, booted}
 use Rattle.execmodel.specs.Scheduling.{arrives, added, displaced, after_switch, rescheduled, switch_of}
-use Rattle.execmodel.specs.Calls.{next_call}
+use Rattle.execmodel.specs.Calls.{next_call, call_in_body}
 use Rattle.execmodel.specs.Pending.{source_named, taken_off, with_latch_of, next_softint, next_source}
 use Rattle.execmodel.specs.Bodies.{body_step, runs_body}
 use Rattle.execmodel.specs.Requests.{does_requests, finishes, finishes_each, finishes_all_due, finishes_set}
 use Rattle.execmodel.specs.Interrupts.{no_softint, no_server, softint_at, runs_softint, server_at, chain_of, runs_server, runs_chain, text_of_source, counted, finishes_for, serves, servings, interrupts}
 use Rattle.execmodel.specs.Step.{announced, switches, settle, does, ends, task_step, call_step, softint_or_task_step, acting, acts, step, steps, request, tick, ticks, started, all_added, starts, event, events, run}
-use Rattle.execmodel.specs.Laws.{LinesAreShort}
+use Rattle.execmodel.specs.Laws.{FitsItsWord, CallsFitTheirWords, LinesAreShort}
 use Rattle.execmodel.proofs.BodyActions.{finishes_found}
 use Rattle.execmodel.proofs.Itself.{followed}
-use Rattle.execmodel.proofs.ShortLines.{IsShort, IsShortText, AreShort, switch_short, idle_short, serve_short, server_short, softint_short, call_short}
-use Rattle.execmodel.proofs.ShortCalls.{IsBrief, name_is_short}
+use Rattle.execmodel.proofs.ShortLines.{IsShort, IsShortText, switch_short, idle_short, serve_short, server_short, softint_short, call_short}
+use Rattle.execmodel.proofs.ShortCalls.{IsBrief, HasArguments, name_is_short, body_call_has}
 use Rattle.execmodel.proofs.Telling.{IsBriefProgram}
-use Rattle.execmodel.proofs.ShortTexts.{IsShortBody, HasShortTexts, Says, all_stays, named_alike, quiet_says, line_says, then_says, either_says, going_says, itself_says, next_short, either_names, command_says, finished_says}
+use Rattle.execmodel.proofs.ShortTexts.{IsShortBody, HasShortTexts, Says, all_stays, named_alike, quiet_says, line_says, then_says, either_says, going_says, itself_says, next_has, either_names, command_says, finished_says}
 
 -- ---- interrupts
 
@@ -178,14 +178,14 @@ settle_says s =
 
 -- ---- steps
 
-does_says : (t : ℕ) (call : Call) (s : State) → AreShort call.arguments → Says s (does t call s)
+does_says : (t : ℕ) (call : Call) (s : State) → HasArguments call → Says s (does t call s)
 unfolding does andthen
-does_says t call s short has =
+does_says t call s given has =
     followed (λ (o : Outcome). HasShortTexts o.state × All IsShort o.lines) t call s
     (λ word one.
     let more = set_says (does_requests word t call s).state one.0 in
     (more.0, All-append IsShort (does_requests word t call s).lines (finishes_set (does_requests word t call s).state).lines one.1 more.1))
-    call.word (itself_says t call s short has)
+    call.word (itself_says t call s given has)
 
 ends_says : (t : ℕ) (s : State) → Says s (ends t s)
 unfolding ends leaves
@@ -194,13 +194,13 @@ ends_says t s has =
     (call_short (name_of s.schedule t) (codes "RemTask") (Value 0 ∷ []) Done (has.texts.tasks t) (lit≤ tt) (lit≤ tt))
     (all_stays s (on_schedule (leaves t) s) refl refl has)
 
-call_says : (t : ℕ) (next : Option Call) (s : State) → IfSome next (λ (call : Call). AreShort call.arguments) → Says s (call_step t next s)
-call_says t None s short = ends_says t s
-call_says t (Some call) s short = does_says t call s short
+call_says : (t : ℕ) (next : Option Call) (s : State) → IfSome next HasArguments → Says s (call_step t next s)
+call_says t None s given = ends_says t s
+call_says t (Some call) s given = does_says t call s given
 
 task_says : (running : Option ℕ) (s : State) → Says s (task_step running s)
 task_says None s has = quiet_says s has
-task_says (Some t) s has = call_says t (next_call t s.scripts) s (next_short t s.scripts has.programs) has
+task_says (Some t) s has = call_says t (next_call t s.scripts) s (next_has t s.scripts has.programs) has
 
 either_step_says : (found : Option ℕ) (s : State) → Says s (softint_or_task_step found s)
 either_step_says None s = task_says s.schedule.running s
@@ -307,7 +307,26 @@ booted_has machine is = record {
     names : List (List ℕ)
     names = softint_names machine.softints
 
-pub lines_are_short : LinesAreShort
+run_says : (machine : MachineData) (list : List Event) → IsMachine machine
+    → HasShortTexts (run machine list).state × All IsShort (run machine list).lines
 unfolding run
-lines_are_short machine list is =
-    (then_says starts (events list) (booted machine) (starts_say (booted machine)) (events_say list) (booted_has machine is)).1
+run_says machine list is =
+    then_says starts (events list) (booted machine) (starts_say (booted machine)) (events_say list) (booted_has machine is)
+
+pub lines_are_short : LinesAreShort
+lines_are_short machine list is = (run_says machine list is).1
+
+bodies_fit : (scripts : Scripts) (code : List CommandData) → All IsBrief code
+    → All (λ command. FitsItsWord (call_in_body command scripts)) code
+bodies_fit scripts code brief =
+    All-weaker IsBrief (λ command. FitsItsWord (call_in_body command scripts)) (λ command one. (body_call_has scripts command one).fit)
+    code brief
+
+pub calls_fit_their_words : CallsFitTheirWords
+calls_fit_their_words = record {
+  of_tasks = λ t call machine list is next.
+      let scripts = (run machine list).state.scripts in
+      (subst (λ found. IfSome found HasArguments) next (next_has t scripts (run_says machine list is).0.programs)).fit;
+  of_softints = λ i scripts machine list is. bodies_fit scripts _ ((run_says machine list is).0.texts.softints i).brief;
+  of_servers = λ k scripts machine list is. bodies_fit scripts _ ((run_says machine list is).0.texts.servers k).brief;
+}

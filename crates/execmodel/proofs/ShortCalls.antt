@@ -1,4 +1,4 @@
--- The arguments of a call are short where the command has its word's arguments, of which at most one is a name.
+-- A call has the arguments of its word, and they are short, where its command has them, of which at most one is a name.
 use Rattle.std.proofs.Common.{◌≡◌, ℕ, ◌+◌, ◌*◌, ◌≤◌, lit≤, true, List, [], ◌∷◌, length, map, refl, sym, subst, length-append, arith}
 use Rattle.std.specs.Prelude.{if◌then◌else◌, count_by, nat_le}
 use Rattle.std.specs.List.{flat_map}
@@ -14,8 +14,9 @@ use Rattle.taskscript.specs.Machines.{IsOfKind, AreOfKinds, HasItsArguments, Quo
 use Rattle.taskscript.specs.Names.{is_name}
 use Rattle.taskscript.specs.Words.{kinds}
 use Rattle.taskscript.specs.WordTable.{few_kinds}
-use Rattle.execmodel.specs.State.{Scripts}
-use Rattle.execmodel.specs.Calls.{evaluated, evaluated_in_body}
+use Rattle.execmodel.specs.State.{Call, Scripts}
+use Rattle.execmodel.specs.Calls.{evaluated, evaluated_in_body, call_of, call_in_body}
+use Rattle.execmodel.specs.Laws.{FitsKind, FitKinds, FitsItsWord}
 use Rattle.execmodel.proofs.ShortLines.{IsShortText, AreShort}
 
 -- a command has its word's arguments, of which at most one is a name
@@ -91,10 +92,75 @@ evaluates_in_body : (scripts : Scripts) → Evaluates (evaluated_in_body scripts
 evaluates_in_body scripts =
     record { numbers = λ n. lit≤ tt; variables = variable_in_body scripts; places = λ k. lit≤ tt; names = λ name. refl }
 
-pub task_arguments_short : (t : ℕ) (scripts : Scripts) (command : CommandData) → IsBrief command
-    → AreShort (map (evaluated t scripts) command.arguments)
-task_arguments_short t scripts command brief = command_short (evaluated t scripts) (evaluates_for t scripts) command brief
+-- ---- the kinds of arguments
 
-pub body_arguments_short : (scripts : Scripts) (command : CommandData) → IsBrief command
-    → AreShort (map (evaluated_in_body scripts) command.arguments)
-body_arguments_short scripts command brief = command_short (evaluated_in_body scripts) (evaluates_in_body scripts) command brief
+fits_for : (t : ℕ) (scripts : Scripts) (k : Kind) (a : ArgumentData) → IsOfKind k a → FitsKind k (evaluated t scripts a)
+fits_for t scripts kind.Value (number n) is = tt
+fits_for t scripts kind.Value (variable v) is = tt
+fits_for t scripts kind.Value (quoted name) is = absurd is
+fits_for t scripts kind.Value (place p) is = absurd is
+fits_for t scripts kind.Label (number n) is = absurd is
+fits_for t scripts kind.Label (variable v) is = absurd is
+fits_for t scripts kind.Label (quoted name) is = absurd is
+fits_for t scripts kind.Label (place p) is = tt
+fits_for t scripts kind.Name (number n) is = absurd is
+fits_for t scripts kind.Name (variable v) is = absurd is
+fits_for t scripts kind.Name (quoted name) is = tt
+fits_for t scripts kind.Name (place p) is = absurd is
+fits_for t scripts kind.NameOrNone (number n) is = tt
+fits_for t scripts kind.NameOrNone (variable v) is = tt
+fits_for t scripts kind.NameOrNone (quoted name) is = tt
+fits_for t scripts kind.NameOrNone (place p) is = tt
+fits_for t scripts kind.Softint (number n) is = absurd is
+fits_for t scripts kind.Softint (variable v) is = absurd is
+fits_for t scripts kind.Softint (quoted name) is = tt
+fits_for t scripts kind.Softint (place p) is = absurd is
+
+fits_in_body : (scripts : Scripts) (k : Kind) (a : ArgumentData) → IsOfKind k a → FitsKind k (evaluated_in_body scripts a)
+fits_in_body scripts kind.Value (number n) is = tt
+fits_in_body scripts kind.Value (variable (Private p)) is = tt
+fits_in_body scripts kind.Value (variable (Shared p)) is = tt
+fits_in_body scripts kind.Value (quoted name) is = absurd is
+fits_in_body scripts kind.Value (place p) is = absurd is
+fits_in_body scripts kind.Label (number n) is = absurd is
+fits_in_body scripts kind.Label (variable v) is = absurd is
+fits_in_body scripts kind.Label (quoted name) is = absurd is
+fits_in_body scripts kind.Label (place p) is = tt
+fits_in_body scripts kind.Name (number n) is = absurd is
+fits_in_body scripts kind.Name (variable v) is = absurd is
+fits_in_body scripts kind.Name (quoted name) is = tt
+fits_in_body scripts kind.Name (place p) is = absurd is
+fits_in_body scripts kind.NameOrNone (number n) is = tt
+fits_in_body scripts kind.NameOrNone (variable v) is = tt
+fits_in_body scripts kind.NameOrNone (quoted name) is = tt
+fits_in_body scripts kind.NameOrNone (place p) is = tt
+fits_in_body scripts kind.Softint (number n) is = absurd is
+fits_in_body scripts kind.Softint (variable v) is = absurd is
+fits_in_body scripts kind.Softint (quoted name) is = tt
+fits_in_body scripts kind.Softint (place p) is = absurd is
+
+all_fit : (value : ArgumentData → Argument) → ((k : Kind) (a : ArgumentData) → IsOfKind k a → FitsKind k (value a))
+    → (ks : List Kind) (args : List ArgumentData) → AreOfKinds ks args → FitKinds ks (map value args)
+all_fit value fits [] [] are = tt
+all_fit value fits [] (a ∷ args) are = absurd are
+all_fit value fits (k ∷ ks) [] are = absurd are
+all_fit value fits (k ∷ ks) (a ∷ args) are = (fits k a are.0, all_fit value fits ks args are.1)
+
+-- a call has the arguments of its word, and they are short
+pub record HasArguments (call : Call) : Type 0 where
+  pub short : AreShort call.arguments
+  pub fit : FitsItsWord call
+
+pub task_call_has : (t next : ℕ) (scripts : Scripts) (command : CommandData) → IsBrief command
+    → HasArguments (call_of t next command scripts)
+unfolding call_of
+task_call_has t next scripts command brief = record {
+  short = command_short (evaluated t scripts) (evaluates_for t scripts) command brief;
+  fit = all_fit (evaluated t scripts) (fits_for t scripts) (kinds command.word) command.arguments brief.arguments;
+}
+
+pub body_call_has : (scripts : Scripts) (command : CommandData) → IsBrief command → HasArguments (call_in_body command scripts)
+body_call_has scripts command brief = record {
+  short = command_short (evaluated_in_body scripts) (evaluates_in_body scripts) command brief;
+  fit = all_fit (evaluated_in_body scripts) (fits_in_body scripts) (kinds command.word) command.arguments brief.arguments;
+}

@@ -1,6 +1,6 @@
 -- Names are short and commands brief in every state: what words, bodies and requests leave of them, and that their lines are short.
 use Rattle.std.proofs.Common.{◌≡◌, ℕ, zero, suc, pos, Bool, true, false, List, [], ◌∷◌, Option, None, Some, refl, sym, subst, ap}
-use Rattle.std.specs.Prelude.{All, IfSome, not, ◌-◌, if◌then◌else◌, nat_eq, slice_get, slice_index_or}
+use Rattle.std.specs.Prelude.{◌+◌, All, IfSome, not, ◌-◌, if◌then◌else◌, nat_eq, slice_get, slice_index_or}
 use Rattle.std.proofs.lemmas.List.Elements.{All-nil, All-cons, All-head, All-tail, All-append, All-weaker}
 use Rattle.exectrace.specs.Trace.{TraceLine, Timer}
 use Rattle.taskscript.specs.Words.{word_text}
@@ -22,7 +22,7 @@ use Rattle.taskscript.specs.declared.word.interrupts.InterruptWord.{InterruptWor
 use Rattle.taskscript.specs.declared.word.interrupts.InterruptWord.TheVariants as causing
 use Rattle.execmodel.specs.State.{Call, Scripts, Bodies, State, Outcome, quiet, says, andthen, unless_stopped, program_of, on_schedule, on_memory}
 use Rattle.execmodel.specs.Scheduling.{arrives, signalled}
-use Rattle.execmodel.specs.Calls.{ByBody, argument, call_of, call_at, call_after, call_in_body, next_call, unless_by}
+use Rattle.execmodel.specs.Calls.{ByBody, argument, call_at, call_after, call_in_body, next_call, unless_by}
 use Rattle.execmodel.specs.Signals.{signal_alert}
 use Rattle.execmodel.specs.Pending.{causes}
 use Rattle.execmodel.specs.Ports.{performed, delivered, put_alert, port_alert, reply_alert, content_of, messages_of, taken_by, replied_by}
@@ -34,7 +34,7 @@ use Rattle.execmodel.proofs.Keeping.{plain_words_change_scripts, signal_words_ch
 use Rattle.execmodel.proofs.Commands.{performed_scripts}
 use Rattle.execmodel.proofs.ShortLines.{IsShort, IsShortText, AreShort, timer_short, call_short, alert_short}
 use Rattle.execmodel.proofs.ShortWords.{word_short}
-use Rattle.execmodel.proofs.ShortCalls.{IsBrief, task_arguments_short, body_arguments_short}
+use Rattle.execmodel.proofs.ShortCalls.{IsBrief, HasArguments, task_call_has, body_call_has}
 use Rattle.execmodel.proofs.Telling.{AreBriefPrograms, IsOwn, own, refusing, word_tells, word_by_tells}
 
 -- ---- short texts
@@ -125,38 +125,37 @@ all_short : (name : List ℕ) (call : Call) (lines : List TraceLine) → IsShort
 all_short name call lines short few all =
     All-weaker (IsOwn name call) IsShort (λ line is. own_short name call line short few is) lines all
 
-pub itself_says : (t : ℕ) (call : Call) (s : State) → AreShort call.arguments → Says s (does_itself t call s)
-itself_says t call s short has =
+pub itself_says : (t : ℕ) (call : Call) (s : State) → HasArguments call → Says s (does_itself t call s)
+itself_says t call s given has =
     let tells = word_tells call.word t call s in
     let texts = texts_stay s (does_itself t call s).state (word_texts call.word t call s) has.texts in (
-      record { texts = texts; programs = tells.programs short has.programs },
-      all_short (name_of (does_itself t call s).state.schedule t) call (does_itself t call s).lines (texts.tasks t) short tells.lines,
+      record { texts = texts; programs = tells.programs given has.programs },
+      all_short (name_of (does_itself t call s).state.schedule t) call (does_itself t call s).lines (texts.tasks t) given.short tells.lines,
     )
 
--- the call that is next has short arguments
+-- the call that is next has its arguments
 
 found_brief : (code : List CommandData) (place : ℕ) → All IsBrief code → IfSome (slice_get code place) IsBrief
 found_brief [] place all = tt
 found_brief (command ∷ code) zero all = All-head IsBrief command code all
 found_brief (command ∷ code) (suc place) all = found_brief code place (All-tail IsBrief command code all)
 
-at_short : (t : ℕ) (found : Option CommandData) (scripts : Scripts) → IfSome found IsBrief
-    → IfSome (call_at t found scripts) (λ (call : Call). AreShort call.arguments)
-unfolding call_of
-at_short t None scripts brief = tt
-at_short t (Some command) scripts brief = task_arguments_short t scripts command brief
+at_has : (t : ℕ) (found : Option CommandData) (scripts : Scripts) → IfSome found IsBrief
+    → IfSome (call_at t found scripts) HasArguments
+at_has t None scripts brief = tt
+at_has t (Some command) scripts brief = task_call_has t ((program_of scripts t).place + 1) scripts command brief
 
-after_short : (t : ℕ) (kept : Option Call) (scripts : Scripts) → AreBriefPrograms scripts.programs
-    → IfSome kept (λ (call : Call). AreShort call.arguments) → IfSome (call_after t kept scripts) (λ (call : Call). AreShort call.arguments)
-after_short t (Some kept) scripts all short = short
-after_short t None scripts all short =
+after_has : (t : ℕ) (kept : Option Call) (scripts : Scripts) → AreBriefPrograms scripts.programs
+    → IfSome kept HasArguments → IfSome (call_after t kept scripts) HasArguments
+after_has t (Some kept) scripts all short = short
+after_has t None scripts all short =
     let program = program_of scripts t in
-    at_short t (slice_get program.code program.place) scripts (found_brief program.code program.place (all t).code)
+    at_has t (slice_get program.code program.place) scripts (found_brief program.code program.place (all t).code)
 
-pub next_short : (t : ℕ) (scripts : Scripts) → AreBriefPrograms scripts.programs
-    → IfSome (next_call t scripts) (λ (call : Call). AreShort call.arguments)
+pub next_has : (t : ℕ) (scripts : Scripts) → AreBriefPrograms scripts.programs
+    → IfSome (next_call t scripts) HasArguments
 unfolding next_call
-next_short t scripts all = after_short t (program_of scripts t).kept scripts all (all t).kept
+next_has t scripts all = after_has t (program_of scripts t).kept scripts all (all t).kept
 
 -- ---- calls of bodies
 
@@ -243,13 +242,13 @@ pub command_says : (name : List ℕ) (command : CommandData) (s : State) → IsS
 unfolding body_step does_in_body
 command_says name command s short brief has =
     let call = call_in_body command s.scripts in
-    let few = body_arguments_short s.scripts command brief in
+    let given = body_call_has s.scripts command brief in
     let tells = word_by_tells command.word (ByBody name) call s in (
       record {
         texts = texts_stay s (does_word_by command.word (ByBody name) call s).state (body_texts command.word name call s) has.texts;
-        programs = tells.programs few has.programs;
+        programs = tells.programs given has.programs;
       },
-      all_short name call (does_word_by command.word (ByBody name) call s).lines short few tells.lines,
+      all_short name call (does_word_by command.word (ByBody name) call s).lines short given.short tells.lines,
     )
 
 -- ---- requests that finish

@@ -47,8 +47,8 @@ use Rattle.taskscript.specs.declared.variable.Variable.{Variable}
 use Rattle.taskscript.specs.declared.variable.Variable.TheVariants.{Private, Shared}
 use Rattle.taskscript.specs.Words.{word_text}
 use Rattle.execmodel.proofs.Commands.{performed_scripts}
-use Rattle.execmodel.proofs.ShortLines.{IsShortText, AreShort}
-use Rattle.execmodel.proofs.ShortCalls.{IsBrief}
+use Rattle.execmodel.proofs.ShortLines.{IsShortText}
+use Rattle.execmodel.proofs.ShortCalls.{IsBrief, HasArguments}
 use Rattle.execmodel.proofs.ShortAlerts.{mask_short, free_signal_short, signal_short, nest_short, live_task_short, set_task_pri_short, add_task_short, alloc_short, free_short, avail_short, free_list_short, new_node_short, free_node_short, link_short, insert_short, linked_short, list_short, find_short, library_short, close_short, port_short, message_short, delete_short, add_port_short, rem_port_short, reply_port_short, loose_short, put_short, reply_short, wait_short, free_sem_short, obtain_short, release_short, request_short, resting_short, delete_request_short, send_short, do_short, wait_io_short, set_io_short, IsShortAlert, coded}
 use Rattle.taskscript.specs.declared.word.Word.TheVariants as group
 use Rattle.taskscript.specs.declared.word.plain.PlainWord.TheVariants as plain
@@ -68,7 +68,7 @@ use Rattle.taskscript.specs.declared.word.requests.RequestWord.TheVariants as re
 -- the commands of a program are brief, and so is the call that its task waits in
 pub record IsBriefProgram (program : Program) : Type 0 where
   pub code : All IsBrief program.code
-  pub kept : IfSome program.kept (λ call. AreShort call.arguments)
+  pub kept : IfSome program.kept HasArguments
 
 abbrev pub AreBriefPrograms : List Program → Type 0
 AreBriefPrograms programs = (t : ℕ) → IsBriefProgram (slice_index_or programs t no_program)
@@ -114,10 +114,10 @@ pub data IsOwn (name : List ℕ) (call : Call) : TraceLine → Type 0 where
   own : (outcome : trace.Outcome) → IsOwn name call (trace.Call name (word_text call.word) call.arguments outcome)
   refusing : (code : List ℕ) → IsShortText code → IsOwn name call (Alert code name (word_text call.word))
 
--- Nothing else is printed; and where the call's arguments are short the programs stay brief.
+-- Nothing else is printed; and where the call has its arguments the programs stay brief.
 pub record Tells (c : Caller) (call : Call) (s : State) (o : Outcome) : Type 0 where
   pub lines : All (IsOwn (speaker c o.state) call) o.lines
-  pub programs : AreShort call.arguments → AreBriefPrograms s.scripts.programs → AreBriefPrograms o.state.scripts.programs
+  pub programs : HasArguments call → AreBriefPrograms s.scripts.programs → AreBriefPrograms o.state.scripts.programs
 
 one_line : (P : TraceLine → Type 0) (line : TraceLine) → P line → All P (line ∷ [])
 one_line P line holds = All-cons P line [] holds (All-nil P)
@@ -172,9 +172,9 @@ waiting_tells : (t awaited : ℕ) (call : Call) (s r : State) → r.scripts ≡ 
 unfolding waiting
 waiting_tells t awaited call s r same = record {
   lines = one_line (IsOwn (name_of r.schedule t) call) _ (own trace.Waits);
-  programs = λ short all.
+  programs = λ has all.
       let old = same_brief s r same all in
-      set_brief t _ r.scripts.programs (record { code = (old t).code; kept = short }) old;
+      set_brief t _ r.scripts.programs (record { code = (old t).code; kept = record { short = has.short; fit = has.fit } }) old;
 }
 
 leaving_tells : (c : Caller) (call : Call) (mark : Mark) (s : State) (o : Outcome) → Tells c call s o → Tells c call s (leaving mark o)
