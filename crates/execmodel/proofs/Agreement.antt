@@ -14,7 +14,9 @@ use Rattle.execlist.specs.Order.{without, chosen, chosen_or, is_lower}
 use Rattle.signals.specs.Signals.{after_post}
 use Rattle.execmodel.specs.Scheduling.{arrives, added, displaced, after_switch, switch_of, rescheduled, signalled}
 use Rattle.execmodel.specs.Semaphores.{woken}
-use Rattle.execmodel.specs.Agreement.{times, once_if, is_running, StandsInOne, Agrees}
+use Rattle.execmodel.specs.Agreement.{once_if, StandsInOne, Agrees}
+use Rattle.scheduler.specs.Sound.{is_running}
+use Rattle.execlist.specs.Lists.{times}
 use Rattle.execmodel.proofs.Heaps.{true_is_not_false}
 use Rattle.execmodel.specs.Queues.{Turn, Came, Served}
 use Rattle.execmodel.specs.Marks.{turn_at}
@@ -31,9 +33,9 @@ cons_times true m n k e = omega (arith, e)
 cons_times false m n k e = e
 
 -- one who stands last
-pub times_last : (t k : ℕ) (q : List ℕ) → times t (q ++ k ∷ []) ≡ times t q + once_if (nat_eq t k)
-times_last t k [] = once_more (nat_eq t k) 0
-times_last t k (x ∷ q) = cons_times (nat_eq t x) (times t (q ++ k ∷ [])) (times t q) (once_if (nat_eq t k)) (times_last t k q)
+pub times_last : (t k : ℕ) (q : List ℕ) → times t (q ++ k ∷ []) ≡ times t q + once_if (nat_eq k t)
+times_last t k [] = once_more (nat_eq k t) 0
+times_last t k (x ∷ q) = cons_times (nat_eq x t) (times t (q ++ k ∷ [])) (times t q) (once_if (nat_eq k t)) (times_last t k q)
 
 times_cond : (t x : ℕ) (b : Bool) (q : List ℕ) → times t (cond b (x ∷ q) q) ≡ (if b then times t (x ∷ q) else times t q)
 times_cond t x true q = refl
@@ -48,7 +50,7 @@ times_gone t (x ∷ q) =
     (λ same. ap (λ b. if not b then times t (x ∷ without t q) else times t (without t q)) (ap (λ k. nat_eq x k) same ∙ nat_eq-same x)
     ∙ times_gone t q)
     (λ apart. ap (λ b. if not b then times t (x ∷ without t q) else times t (without t q)) (nat_eq-other x t (λ e. apart (sym e)))
-    ∙ ap (λ b. if b then suc (times t (without t q)) else times t (without t q)) (nat_eq-other t x apart) ∙ times_gone t q)
+    ∙ ap (λ b. if b then suc (times t (without t q)) else times t (without t q)) (nat_eq-other x t (λ e. apart (sym e))) ∙ times_gone t q)
 
 -- and the others stand there as before
 pub times_others : (t k : ℕ) (q : List ℕ) → t ≢ k → times t (without k q) ≡ times t q
@@ -58,18 +60,21 @@ times_others t k (x ∷ q) apart =
     ∙ cases_eq x k
     (λ same. ap (λ b. if not b then times t (x ∷ without k q) else times t (without k q)) (ap (λ j. nat_eq j k) same ∙ nat_eq-same k)
     ∙ times_others t k q apart
-    ∙ sym (ap (λ b. if b then suc (times t q) else times t q) (nat_eq-other t x (λ e. apart (e ∙ same)))))
+    ∙ sym (ap (λ b. if b then suc (times t q) else times t q) (nat_eq-other x t (λ e. apart (sym e ∙ same)))))
     (λ other. ap (λ b. if not b then times t (x ∷ without k q) else times t (without k q)) (nat_eq-other x k other)
-    ∙ ap (λ n. if nat_eq t x then suc n else n) (times_others t k q apart))
+    ∙ ap (λ n. if nat_eq x t then suc n else n) (times_others t k q apart))
 
 -- one who stands nowhere in a sequence is away from it
 pub never_away : (t : ℕ) (q : List ℕ) → times t q ≡ 0 → IsAway t q
 never_away t [] e = tt
 never_away t (x ∷ q) e =
     cases_eq t x
-    (λ same. let more = ap (λ b. if b then suc (times t q) else times t q) (sym (ap (λ k. nat_eq t k) (sym same) ∙ nat_eq-same t)) ∙ e in
+    (λ same. let more = ap (λ b. if b then suc (times t q) else times t q) (sym (ap (λ k. nat_eq k t) (sym same) ∙ nat_eq-same t)) ∙ e in
     absurd (omega (arith, more)))
-    (λ apart. (apart, never_away t q (ap (λ b. if b then suc (times t q) else times t q) (sym (nat_eq-other t x apart)) ∙ e)))
+    (λ apart. (
+      apart,
+      never_away t q (ap (λ b. if b then suc (times t q) else times t q) (sym (nat_eq-other x t (λ e. apart (sym e)))) ∙ e),
+    ))
 
 -- ---- the states of tasks
 
@@ -201,7 +206,8 @@ one_time : (t : ℕ) (q : List ℕ) → times t q ≡ 0 → times t (q ++ t ∷ 
 one_time t q e = times_last t t q ∙ ap (λ n. n + once_if (nat_eq t t)) e ∙ ap (λ b. 0 + once_if b) (nat_eq-same t)
 
 no_more : (t k : ℕ) (q : List ℕ) → t ≢ k → times t (q ++ k ∷ []) ≡ times t q
-no_more t k q apart = let last = times_last t k q ∙ ap (λ b. times t q + once_if b) (nat_eq-other t k apart) in omega (arith, last)
+no_more t k q apart =
+    let last = times_last t k q ∙ ap (λ b. times t q + once_if b) (nat_eq-other k t (λ e. apart (sym e))) in omega (arith, last)
 
 -- a task that neither runs nor is ready, and stands in no queue any more
 pub arrives_agrees : (k : ℕ) (s : Schedule) (q p : ℕ → List ℕ) (x : TaskState) → status_of s k ≡ x → k < length s.queue.states
@@ -281,10 +287,10 @@ stands_there false n e h = absurd (omega (arith, e, h))
 
 -- who is chosen stands there
 pub first_stands : (t x : ℕ) (q : List ℕ) → x ≡ t → 0 < times t (x ∷ q)
-first_stands t x q same = subst (λ b. 0 < (if b then suc (times t q) else times t q)) (sym (ap (λ k. nat_eq t k) same ∙ nat_eq-same t)) (omega arith)
+first_stands t x q same = subst (λ b. 0 < (if b then suc (times t q) else times t q)) (sym (ap (λ k. nat_eq k t) same ∙ nat_eq-same t)) (omega arith)
 
 pub later_stands : (t x : ℕ) (q : List ℕ) → 0 < times t q → 0 < times t (x ∷ q)
-later_stands t x q h = either (nat_eq t x)
+later_stands t x q h = either (nat_eq x t)
   where
     either : (b : Bool) → 0 < (if b then suc (times t q) else times t q)
     either true = omega arith
@@ -483,7 +489,7 @@ wakes_agrees semaphore owner s q p follows old = either (is_at_semaphore (status
     others j a apart =
         cases_eq a semaphore
         (λ same. sym (ap (λ l. times j l) (here a same)
-        ∙ ap (λ b. if b then suc (times j (p a)) else times j (p a)) (nat_eq-other j owner apart)))
+        ∙ ap (λ b. if b then suc (times j (p a)) else times j (p a)) (nat_eq-other owner j (λ e. apart (sym e)))))
         (λ other. ap (λ l. times j l) (there a other))
 
     either : (b : Bool) → is_at_semaphore (status_of s owner) ≡ b → AllAgree (if b then arrives owner s else s) p

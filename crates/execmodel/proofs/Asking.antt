@@ -13,7 +13,8 @@ use Rattle.execmodel.specs.Ports.{is_port_at, messages_of, port_of, with_port, a
 use Rattle.exectrace.specs.Trace.{Timer as TimerLine}
 use Rattle.execmodel.specs.Requests.{is_request, is_request_at, request_of, with_request, where_port, answering_port, appended_at, acting_at, with_reply, finished_at, ended, finishes}
 use Rattle.timerdev.specs.Timing.{sooner, next_of, due_next, until_next, waits_no_more}
-use Rattle.execmodel.specs.Agreement.{times, once_if}
+use Rattle.execmodel.specs.Agreement.{once_if}
+use Rattle.execlist.specs.Lists.{times}
 use Rattle.execmodel.specs.Laws.{times_waiting}
 use Rattle.execmodel.proofs.Heaps.{true_is_not_false}
 use Rattle.execmodel.proofs.Agreement.{times_last, times_gone, times_others, first_stands, later_stands}
@@ -144,7 +145,7 @@ written_again request first next heap is =
 -- ---- requests that wait
 
 pub waits_last : (other : ℕ) (waiting : List Queued) (w : Queued)
-    → times_waiting other (waiting ++ w ∷ []) ≡ times_waiting other waiting + once_if (nat_eq other w.request)
+    → times_waiting other (waiting ++ w ∷ []) ≡ times_waiting other waiting + once_if (nat_eq w.request other)
 waits_last other waiting w =
     ap (λ q. times other q) (map_last waiting) ∙ times_last other w.request (map (λ (x : Queued). x.request) waiting)
   where
@@ -177,7 +178,7 @@ others_wait other request timer apart =
 -- ---- a request that is found among those that wait waits
 
 cons_stands : (r x : ℕ) (q p : List ℕ) → (0 < times r q → 0 < times r p) → 0 < times r (x ∷ q) → 0 < times r (x ∷ p)
-cons_stands r x q p more = tested (nat_eq r x)
+cons_stands r x q p more = tested (nat_eq x r)
   where
     tested : (b : Bool) → 0 < (if b then suc (times r q) else times r q) → 0 < (if b then suc (times r p) else times r p)
     tested true h = omega arith

@@ -41,3 +41,10 @@ pub mod Versions
 pub mod Waiting
 pub mod WaitingLaw
 pub mod Works
+pub mod ShortWords
+pub mod ShortLines
+pub mod ShortCalls
+pub mod ShortAlerts
+pub mod Telling
+pub mod ShortTexts
+pub mod LinesLaw

@@ -15,7 +15,8 @@ use Rattle.scheduler.specs.Schedule.{Schedule, status_of, is_at_semaphore}
 use Rattle.execmodel.specs.State.{Block, Heap}
 use Rattle.execmodel.specs.Memory.{extents, block_at}
 use Rattle.execmodel.specs.Semaphores.{waiters_in, waiters_of, waiters_of_object, has_waiter, awaited_by}
-use Rattle.execmodel.specs.Agreement.{times, Agrees}
+use Rattle.execmodel.specs.Agreement.{Agrees}
+use Rattle.execlist.specs.Lists.{times}
 use Rattle.execmodel.proofs.Heaps.{true_is_not_false}
 use Rattle.execmodel.proofs.Commands.{none_some}
 use Rattle.execmodel.proofs.Fifo.{both_false}
@@ -36,7 +37,7 @@ no_waiter t (x ∷ q) e =
     both_false (nat_eq x t) (list_any (λ other. other == t) q) e
     (λ one rest. cases_eq t x
     (λ same. true_is_not_false (sym (ap (λ k. nat_eq x k) same ∙ nat_eq-same x) ∙ one))
-    (λ apart. ap (λ b. if b then suc (times t q) else times t q) (nat_eq-other t x apart) ∙ no_waiter t q rest))
+    (λ apart. ap (λ b. if b then suc (times t q) else times t q) (nat_eq-other x t (λ e. apart (sym e))) ∙ no_waiter t q rest))
 
 -- the waiters of what a look-up finds
 abbrev waiters_in_block : Option Block → List ℕ

@@ -22,7 +22,7 @@ use Rattle.execmodel.specs.Bodies.{body_step}
 use Rattle.execmodel.specs.Semaphores.{waiters_of, woken}
 use Rattle.execmodel.specs.Step.{switches, ends, starts, events, run}
 use Rattle.execmodel.specs.Marks.{semaphore_turn, turns_at_semaphore}
-use Rattle.execmodel.specs.Agreement.{times}
+use Rattle.execlist.specs.Lists.{times}
 use Rattle.execmodel.specs.Laws.{QueuesAgreeWithTheSchedule, SemaphoresPassInOrder, times_waiting}
 use Rattle.execmodel.proofs.Queues.{Follows, IsOnce, follows_more, follows_once, in_order}
 use Rattle.execmodel.proofs.Itself.{does_itself}

@@ -231,7 +231,7 @@ module _ (quick : Bool) (request : ℕ) (s : State) (may : MayBegin request s.me
         ∙ ap (λ b. 0 + once_if b) (nat_eq-same request);
     others = λ other apart.
         waits_last other s.memory.timer.waiting (record { request = request; due = due })
-        ∙ ap (λ b. times_waiting other s.memory.timer.waiting + once_if b) (nat_eq-other other request apart)
+        ∙ ap (λ b. times_waiting other s.memory.timer.waiting + once_if b) (nat_eq-other request other (λ e. apart (sym e)))
         ∙ and_none (times_waiting other s.memory.timer.waiting);
     begins = λ under. (
       λ port. is_away request port s.memory.heap may.loose,

@@ -1,24 +1,13 @@
 -- What a task's state tells of where it stands: which task runs, which are ready, and who waits for a semaphore.
-use Rattle.std.specs.Prelude.{◌≡◌, ℕ, suc, Bool, true, false, if◌then◌else◌, nat_eq, List, [], ◌∷◌}
-use Rattle.execlist.specs.Lists.{is_at}
+use Rattle.std.specs.Prelude.{◌≡◌, ℕ, Bool, true, false, if◌then◌else◌, nat_eq, List}
+use Rattle.execlist.specs.Lists.{is_at, times}
 use Rattle.taskq.specs.Tasks.{is_ready}
-use Rattle.taskq.specs.declared.TaskState.{TaskState}
-use Rattle.taskq.specs.declared.TaskState.TheVariants.{Running}
 use Rattle.scheduler.specs.Schedule.{Schedule, status_of, is_at_semaphore}
-
--- how often a task stands in a sequence
-abbrev pub times : ℕ → List ℕ → ℕ
-times t [] = 0
-times t (other ∷ rest) = if nat_eq t other then suc (times t rest) else times t rest
+use Rattle.scheduler.specs.Sound.{is_running}
 
 -- once where the test says so, and else not at all
 abbrev pub once_if : Bool → ℕ
 once_if test = if test then 1 else 0
-
--- a task of that state runs
-abbrev pub is_running : TaskState → Bool
-is_running Running = true
-is_running _ = false
 
 -- A task that waits for a semaphore stands once in the queue of one, and in that of no other; any other task stands in none.
 abbrev pub StandsInOne : Bool → ℕ → (ℕ → List ℕ) → Type 0

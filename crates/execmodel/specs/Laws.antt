@@ -1,6 +1,9 @@
 -- Laws of every run: of each machine that a file may state, and each list of events.
 use Rattle.std.specs.Prelude.{◌≡◌, ◌≢◌, ◌⊎◌, ℕ, zero, suc, ◌*◌, ◌≤◌, ◌<◌, ◌≤ℤ◌, map, sum_by, length, Bool, true, false, nat_eq, bit_and, count_by, All, List, [], ◌∷◌, ◌++◌, Option, None, Some, is_some, slice_get, codes}
-use Rattle.exectrace.specs.Trace.{Switch, Serve, TraceLine}
+use Rattle.exectrace.specs.Trace.{Argument, Value, Quoted, Switch, Serve, TraceLine, printed_line}
+use Rattle.taskscript.specs.declared.word.row.Kind.{Kind}
+use Rattle.taskscript.specs.declared.word.row.Kind.TheVariants as kind
+use Rattle.taskscript.specs.Words.{kinds}
 use Rattle.memlist.specs.declared.region.Region.{Region}
 use Rattle.memlist.specs.Pieces.{AreDisjoint, IsTiled}
 use Rattle.execlist.specs.Order.{chosen}
@@ -20,8 +23,8 @@ use Rattle.taskscript.specs.declared.word.task_signals.SignalWord.TheVariants as
 use Rattle.taskscript.specs.declared.word.ports.PortWord.TheVariants as ports
 use Rattle.taskscript.specs.declared.word.requests.RequestWord.TheVariants as requests
 use Rattle.taskscript.specs.declared.word.semaphores.SemaphoreWord.TheVariants.{ReleaseSemaphore}
-use Rattle.execmodel.specs.State.{Call, Object, Plain, Block, Heap, Memory, Waiting as Queued, Mark, State, Outcome}
-use Rattle.execmodel.specs.Calls.{argument, alerted, next_call}
+use Rattle.execmodel.specs.State.{Call, Scripts, Object, Plain, Block, Heap, Memory, Waiting as Queued, Mark, State, Outcome}
+use Rattle.execmodel.specs.Calls.{argument, alerted, next_call, call_in_body}
 use Rattle.std.specs.Option.{option_map}
 use Rattle.taskscript.specs.declared.word.libraries.LibraryWord.TheVariants.{CloseLibrary}
 use Rattle.execmodel.specs.Keeping.{without_blocks}
@@ -37,9 +40,10 @@ use Rattle.iorequest.specs.Request.{is_under_way, sets_time, time_of}
 use Rattle.timerdev.specs.Timing.{offset}
 use Rattle.execmodel.specs.Semaphores.{sem_of, waiters_of, does_new_sem}
 use Rattle.execmodel.specs.Pending.{allows_interrupts, next_softint}
-use Rattle.execmodel.specs.Interrupts.{interrupts, runs_softint}
+use Rattle.execmodel.specs.Interrupts.{interrupts, runs_softint, softint_at, server_at}
 use Rattle.execmodel.specs.Step.{does, ends, step, tick, request, settle, switches, events, run}
-use Rattle.execmodel.specs.Agreement.{Agrees, once_if, times}
+use Rattle.execmodel.specs.Agreement.{Agrees, once_if}
+use Rattle.execlist.specs.Lists.{times}
 use Rattle.taskscript.specs.Events.{ticks as event_ticks}
 use Rattle.execmodel.specs.Queues.{IsInOrder}
 use Rattle.execmodel.specs.Marks.{turns_at_port, turns_at_semaphore}
@@ -106,6 +110,43 @@ pub record IsToCall (t : ℕ) (call : Call) (s : State) : Type 0 where
   pub first : next_softint s ≡ None
   pub runs : s.schedule.running ≡ Some t
   pub calls : next_call t s.scripts ≡ Some call
+
+-- ---- arguments
+
+-- where a word asks for a value or a label a value stands, and where it asks for a name a name
+abbrev pub FitsKind : Kind → Argument → Type 0
+FitsKind kind.Value (Value n) = Unit {0}
+FitsKind kind.Label (Value n) = Unit {0}
+FitsKind kind.Name (Quoted name) = Unit {0}
+FitsKind kind.NameOrNone a = Unit {0}
+FitsKind kind.Softint (Quoted name) = Unit {0}
+FitsKind _ _ = ⊥
+
+abbrev pub FitKinds : List Kind → List Argument → Type 0
+FitKinds [] [] = Unit {0}
+FitKinds (k ∷ kinds) (a ∷ others) = FitsKind k a × FitKinds kinds others
+FitKinds _ _ = ⊥
+
+-- a call has the arguments of its word, one of each kind
+abbrev pub FitsItsWord : Call → Type 0
+FitsItsWord call = FitKinds (kinds call.word) call.arguments
+
+-- In every state the call that a task is to make, and each that a body makes, has the arguments of its word. So no word ever finds that one
+-- of them is lacking or of another kind.
+pub record CallsFitTheirWords : Type 0 where
+  pub of_tasks : (t : ℕ) (call : Call) → InEveryState (λ s. next_call t s.scripts ≡ Some call → FitsItsWord call)
+  pub of_softints : (i : ℕ) (scripts : Scripts)
+      → InEveryState (λ s. All (λ command. FitsItsWord (call_in_body command scripts)) (softint_at i s.bodies).code)
+  pub of_servers : (k : ℕ) (scripts : Scripts)
+      → InEveryState (λ s. All (λ command. FitsItsWord (call_in_body command scripts)) (server_at k s.bodies).code)
+
+-- ---- lines
+
+-- Each line of a run, printed with its line feed, has at most 160 bytes.
+abbrev pub LinesAreShort : Type 0
+LinesAreShort =
+    (machine : MachineData) (list : List Event) → IsMachine machine
+    → All (λ line. length (printed_line line) ≤ 160) (run machine list).lines
 
 -- ---- semaphores
 

@@ -2,7 +2,7 @@
 ghost use Rattle.std.specs.Prelude.{◌≡◌, true, List};
 ghost use Rattle.taskscript.specs.declared.event.Event.{Event};
 ghost use Rattle.execmodel.specs.Keeping.{PlainWordsChangeScripts, SignalWordsChangeSignalsAndStates, NestingWordsChangeNestings, TaskWordsChangeStatesPrioritiesAndObjects, ListWordsChangeTheMemory, MemoryWordsChangeTheMemory, PortWordsChangePortsSignalsAndStates, SemaphoreWordsChangeStatesAndObjects, InterruptWordsChangeWhatIsCaused, LibraryWordsChangeTheMemory, RequestWordsChangeRequestsPortsSignalsAndStates};
-ghost use Rattle.execmodel.specs.Laws.{FirstInFirstOut, EachByteHasOneOwner, FreeMemRefusesObjects, OwnersChangeAtTheLastRelease, FreeSemaphoresHaveNoWaiters, SemaphoresPassInOrder, QueuesAgreeWithTheSchedule, EachStateIsSettled, SwitchesGoToTheChosen, OnlySwitchesSaySo, WaitersHaveReceivedNone, ReceivedSignalsStay, InterruptsKeepNestings, ThreeServingsAtMost, OpenLibrariesStay, LibrariesAreAskedInVersionTwo, UnaskedWordsTakeMemoryAsItIs, VersionOneIsTheMachineAsItWas, AskingChangesTheBlocks, ReplyPortsLive, RequestsUnderWayWait, TheClockCountsTicks, SystemTimeGoesWithTheClock, LibrariesGiveWayAsFarAsNeeded, OnlyClosedLibrariesGiveWay};
+ghost use Rattle.execmodel.specs.Laws.{FirstInFirstOut, EachByteHasOneOwner, FreeMemRefusesObjects, OwnersChangeAtTheLastRelease, FreeSemaphoresHaveNoWaiters, SemaphoresPassInOrder, QueuesAgreeWithTheSchedule, EachStateIsSettled, SwitchesGoToTheChosen, OnlySwitchesSaySo, WaitersHaveReceivedNone, ReceivedSignalsStay, InterruptsKeepNestings, ThreeServingsAtMost, OpenLibrariesStay, LibrariesAreAskedInVersionTwo, UnaskedWordsTakeMemoryAsItIs, VersionOneIsTheMachineAsItWas, AskingChangesTheBlocks, ReplyPortsLive, RequestsUnderWayWait, TheClockCountsTicks, SystemTimeGoesWithTheClock, CallsFitTheirWords, LinesAreShort, LibrariesGiveWayAsFarAsNeeded, OnlyClosedLibrariesGiveWay};
 ghost use Rattle.execmodel.specs.State.{State, Outcome, quiet, andthen, unless_stopped};
 ghost use Rattle.execmodel.specs.Step.{event, events};
 
@@ -172,4 +172,21 @@ pub fn the_clock_counts_ticks()
 /// Source: RKM Devices, Timer Device; autodoc timer.device/TR_SETSYSTIME; that system time begins with the clock: own choice.
 pub fn system_time_goes_with_the_clock()
     ensures { SystemTimeGoesWithTheClock }
+{}
+
+/// No line is long: each line of every run has at most 160 bytes, its line feed included. A name has at most 31 bytes, and a call has at
+/// most four arguments, of which at most one is a name.
+///
+/// Source: own choice.
+pub fn lines_are_short()
+    ensures { LinesAreShort }
+{}
+
+/// A call has the arguments of its word, one of each kind: in every state of every run so have the call that a task is to make, one that it
+/// waits in too, and each call of the body of a software interrupt or of a server. Where the word asks for a value a value stands, and
+/// where it asks for a name a name.
+///
+/// Source: own choice.
+pub fn calls_fit_their_words()
+    ensures { CallsFitTheirWords }
 {}

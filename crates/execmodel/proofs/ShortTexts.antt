@@ -1,0 +1,269 @@
+-- Names are short and commands brief in every state: what words, bodies and requests leave of them, and that their lines are short.
+use Rattle.std.proofs.Common.{◌≡◌, ℕ, zero, suc, pos, Bool, true, false, List, [], ◌∷◌, Option, None, Some, refl, sym, subst, ap}
+use Rattle.std.specs.Prelude.{◌+◌, All, IfSome, not, ◌-◌, if◌then◌else◌, nat_eq, slice_get, slice_index_or}
+use Rattle.std.proofs.lemmas.List.Elements.{All-nil, All-cons, All-head, All-tail, All-append, All-weaker}
+use Rattle.exectrace.specs.Trace.{TraceLine, Timer}
+use Rattle.taskscript.specs.Words.{word_text}
+use Rattle.execlist.specs.Order.{first}
+use Rattle.msgport.specs.declared.action.Action.{Action}
+use Rattle.msgport.specs.declared.action.Action.TheVariants as action
+use Rattle.taskq.specs.Tasks.{is_live}
+use Rattle.scheduler.specs.Schedule.{name_of, Schedule, status_of, awaits}
+use Rattle.taskscript.specs.Commands.{CommandData}
+use Rattle.taskscript.specs.declared.word.Word.{Word}
+use Rattle.taskscript.specs.declared.word.Word.TheVariants as group
+use Rattle.taskscript.specs.declared.word.plain.PlainWord.{PlainWord}
+use Rattle.taskscript.specs.declared.word.plain.PlainWord.TheVariants as plain
+use Rattle.taskscript.specs.declared.word.task_signals.SignalWord.{SignalWord}
+use Rattle.taskscript.specs.declared.word.task_signals.SignalWord.TheVariants as signals
+use Rattle.taskscript.specs.declared.word.ports.PortWord.{PortWord}
+use Rattle.taskscript.specs.declared.word.ports.PortWord.TheVariants as ports
+use Rattle.taskscript.specs.declared.word.interrupts.InterruptWord.{InterruptWord}
+use Rattle.taskscript.specs.declared.word.interrupts.InterruptWord.TheVariants as causing
+use Rattle.execmodel.specs.State.{Call, Scripts, Bodies, State, Outcome, quiet, says, andthen, unless_stopped, program_of, on_schedule, on_memory}
+use Rattle.execmodel.specs.Scheduling.{arrives, signalled}
+use Rattle.execmodel.specs.Calls.{ByBody, argument, call_at, call_after, call_in_body, next_call, unless_by}
+use Rattle.execmodel.specs.Signals.{signal_alert}
+use Rattle.execmodel.specs.Pending.{causes}
+use Rattle.execmodel.specs.Ports.{performed, delivered, put_alert, port_alert, reply_alert, content_of, messages_of, taken_by, replied_by}
+use Rattle.execmodel.specs.Bodies.{does_plain_by, does_signals_by, does_ports_by, does_interrupts_by, does_word_by, does_in_body, body_step}
+use Rattle.execmodel.specs.Requests.{answering_port, acting_at, with_reply, ended, finishes}
+use Rattle.execmodel.specs.Interrupts.{softint_at, server_at}
+use Rattle.execmodel.proofs.Itself.{word_itself, does_itself}
+use Rattle.execmodel.proofs.Keeping.{plain_words_change_scripts, signal_words_change_signals_and_states, nesting_words_change_nestings, task_words_change_states_priorities_and_objects, list_words_change_the_memory, memory_words_change_the_memory, port_words_change_ports_signals_and_states, semaphore_words_change_states_and_objects, interrupt_words_change_what_is_caused, library_words_change_the_memory, request_words_keep}
+use Rattle.execmodel.proofs.Commands.{performed_scripts}
+use Rattle.execmodel.proofs.ShortLines.{IsShort, IsShortText, AreShort, timer_short, call_short, alert_short}
+use Rattle.execmodel.proofs.ShortWords.{word_short}
+use Rattle.execmodel.proofs.ShortCalls.{IsBrief, HasArguments, task_call_has, body_call_has}
+use Rattle.execmodel.proofs.Telling.{AreBriefPrograms, IsOwn, own, refusing, word_tells, word_by_tells}
+
+-- ---- short texts
+
+-- a name is short, and the commands under it are brief
+pub record IsShortBody (name : List ℕ) (code : List CommandData) : Type 0 where
+  pub short : IsShortText name
+  pub brief : All IsBrief code
+
+-- so it is with the names of all tasks, and with what interrupts execute
+pub record AreShortTexts (names : List (List ℕ)) (bodies : Bodies) : Type 0 where
+  pub tasks : (t : ℕ) → IsShortText (slice_index_or names t [])
+  pub softints : (i : ℕ) → IsShortBody (softint_at i bodies).name (softint_at i bodies).code
+  pub servers : (k : ℕ) → IsShortBody (server_at k bodies).name (server_at k bodies).code
+
+pub record HasShortTexts (s : State) : Type 0 where
+  pub texts : AreShortTexts s.schedule.queue.names s.bodies
+  pub programs : AreBriefPrograms s.scripts.programs
+
+-- an outcome of a state with short texts has them too, and short lines
+abbrev pub Says : State → Outcome → Type 0
+Says s o = HasShortTexts s → HasShortTexts o.state × All IsShort o.lines
+
+-- the texts that nothing changes
+abbrev pub texts_of : State → List (List ℕ) × Bodies
+texts_of s = (s.schedule.queue.names, s.bodies)
+
+pub texts_stay : (s r : State) → texts_of r ≡ texts_of s → AreShortTexts s.schedule.queue.names s.bodies
+    → AreShortTexts r.schedule.queue.names r.bodies
+texts_stay s r same short = subst (λ (p : List (List ℕ) × Bodies). AreShortTexts p.0 p.1) (sym same) short
+
+pub all_stays : (s r : State) → texts_of r ≡ texts_of s → r.scripts ≡ s.scripts → HasShortTexts s → HasShortTexts r
+all_stays s r same scripts has = record {
+  texts = texts_stay s r same has.texts;
+  programs = subst (λ (q : Scripts). AreBriefPrograms q.programs) (sym scripts) has.programs;
+}
+
+-- another schedule, in which the tasks have the same names
+pub named_alike : (f : Schedule → Schedule) (s : State) → (f s.schedule).queue.names ≡ s.schedule.queue.names
+    → texts_of (on_schedule f s) ≡ texts_of s
+named_alike f s same = ap (λ names. (names, s.bodies)) same
+
+pub quiet_says : (s : State) → Says s (quiet s)
+quiet_says s has = (has, All-nil IsShort)
+
+pub line_says : (line : TraceLine) (s : State) → IsShort line → Says s (says line s)
+line_says line s short has = (has, All-cons IsShort line [] short (All-nil IsShort))
+
+pub then_says : (first next : State → Outcome) (s : State) → Says s (first s) → ((r : State) → Says r (next r))
+    → Says s (andthen first next s)
+unfolding andthen
+then_says first next s one other has =
+    let before = one has in
+    let after = other (first s).state before.0 in
+    (after.0, All-append IsShort (first s).lines (next (first s).state).lines before.1 after.1)
+
+pub either_says : (test : Bool) (s : State) (o p : Outcome) → Says s o → Says s p → Says s (if test then o else p)
+either_says true s o p one other = one
+either_says false s o p one other = other
+
+pub going_says : (next : State → Outcome) → ((r : State) → Says r (next r)) → (s : State) → Says s (unless_stopped next s)
+going_says next one s = either_says s.stopped s (quiet s) (next s) (quiet_says s) (one s)
+
+-- ---- calls of tasks
+
+word_texts : (word : Word) (t : ℕ) (call : Call) (s : State) → texts_of (word_itself word t call s).state ≡ texts_of s
+word_texts (group.Plain word) t call s = ap texts_of (plain_words_change_scripts word t call s)
+word_texts (group.Signals word) t call s = ap texts_of (signal_words_change_signals_and_states word t call s)
+word_texts (group.Nesting word) t call s = ap texts_of (nesting_words_change_nestings word t call s)
+word_texts (group.Tasks word) t call s = ap texts_of (task_words_change_states_priorities_and_objects word t call s)
+word_texts (group.Lists word) t call s = ap texts_of (list_words_change_the_memory word t call s)
+word_texts (group.Memory word) t call s = ap texts_of (memory_words_change_the_memory word t call s)
+word_texts (group.Ports word) t call s = ap texts_of (port_words_change_ports_signals_and_states word t call s)
+word_texts (group.Semaphores word) t call s = ap texts_of (semaphore_words_change_states_and_objects word t call s)
+word_texts (group.Interrupts word) t call s = ap texts_of (interrupt_words_change_what_is_caused word t call s)
+word_texts (group.Libraries word) t call s = ap texts_of (library_words_change_the_memory word t call s)
+word_texts (group.Requests word) t call s = ap texts_of (request_words_keep word t call s)
+
+own_short : (name : List ℕ) (call : Call) (line : TraceLine) → IsShortText name → AreShort call.arguments → IsOwn name call line
+    → IsShort line
+own_short name call _ short few (own outcome) =
+    call_short name (word_text call.word) call.arguments outcome short (word_short call.word) few
+own_short name call _ short few (refusing code coded) =
+    alert_short code name (word_text call.word) coded short (word_short call.word)
+
+all_short : (name : List ℕ) (call : Call) (lines : List TraceLine) → IsShortText name → AreShort call.arguments
+    → All (IsOwn name call) lines → All IsShort lines
+all_short name call lines short few all =
+    All-weaker (IsOwn name call) IsShort (λ line is. own_short name call line short few is) lines all
+
+pub itself_says : (t : ℕ) (call : Call) (s : State) → HasArguments call → Says s (does_itself t call s)
+itself_says t call s given has =
+    let tells = word_tells call.word t call s in
+    let texts = texts_stay s (does_itself t call s).state (word_texts call.word t call s) has.texts in (
+      record { texts = texts; programs = tells.programs given has.programs },
+      all_short (name_of (does_itself t call s).state.schedule t) call (does_itself t call s).lines (texts.tasks t) given.short tells.lines,
+    )
+
+-- the call that is next has its arguments
+
+found_brief : (code : List CommandData) (place : ℕ) → All IsBrief code → IfSome (slice_get code place) IsBrief
+found_brief [] place all = tt
+found_brief (command ∷ code) zero all = All-head IsBrief command code all
+found_brief (command ∷ code) (suc place) all = found_brief code place (All-tail IsBrief command code all)
+
+at_has : (t : ℕ) (found : Option CommandData) (scripts : Scripts) → IfSome found IsBrief
+    → IfSome (call_at t found scripts) HasArguments
+at_has t None scripts brief = tt
+at_has t (Some command) scripts brief = task_call_has t ((program_of scripts t).place + 1) scripts command brief
+
+after_has : (t : ℕ) (kept : Option Call) (scripts : Scripts) → AreBriefPrograms scripts.programs
+    → IfSome kept HasArguments → IfSome (call_after t kept scripts) HasArguments
+after_has t (Some kept) scripts all short = short
+after_has t None scripts all short =
+    let program = program_of scripts t in
+    at_has t (slice_get program.code program.place) scripts (found_brief program.code program.place (all t).code)
+
+pub next_has : (t : ℕ) (scripts : Scripts) → AreBriefPrograms scripts.programs
+    → IfSome (next_call t scripts) HasArguments
+unfolding next_call
+next_has t scripts all = after_has t (program_of scripts t).kept scripts all (all t).kept
+
+-- ---- calls of bodies
+
+pub either_names : (names : List (List ℕ)) (test : Bool) (r s : Schedule) → r.queue.names ≡ names → s.queue.names ≡ names
+    → (if test then r else s).queue.names ≡ names
+either_names names true r s one other = one
+either_names names false r s one other = other
+
+signalled_names : (t mask : ℕ) (s : Schedule) → (signalled t mask s).queue.names ≡ s.queue.names
+unfolding signalled arrives
+signalled_names t mask s =
+    either_names s.queue.names (not (is_live (status_of s t))) _ _ refl
+    (either_names s.queue.names (awaits (status_of s t) _) _ _ refl refl)
+
+performed_texts : (act : Action) (s : State) → texts_of (performed act s) ≡ texts_of s
+unfolding causes
+performed_texts (action.Signal task mask) s = named_alike (signalled task mask) s (signalled_names task mask s.schedule)
+performed_texts (action.Cause i) s = refl
+performed_texts action.Nothing s = refl
+
+delivered_texts : (kind port message : ℕ) (s : State) → texts_of (delivered kind port message s) ≡ texts_of s
+unfolding delivered
+delivered_texts kind port message s = performed_texts _ _
+
+either_texts : (s : State) (test : Bool) (o p : Outcome) → texts_of o.state ≡ texts_of s → texts_of p.state ≡ texts_of s
+    → texts_of (if test then o else p).state ≡ texts_of s
+either_texts s true o p one other = one
+either_texts s false o p one other = other
+
+unless_texts : (alert : Option (List ℕ)) (name : List ℕ) (call : Call) (effect : State → Outcome) (s : State)
+    → texts_of (effect s).state ≡ texts_of s → texts_of (unless_by alert (ByBody name) call effect s).state ≡ texts_of s
+unless_texts None name call effect s same = same
+unless_texts (Some code) name call effect s same = refl
+
+plain_texts : (word : PlainWord) (name : List ℕ) (call : Call) (s : State)
+    → texts_of (does_plain_by word (ByBody name) call s).state ≡ texts_of s
+plain_texts plain.Print name call s = refl
+plain_texts _ name call s = refl
+
+signals_texts : (word : SignalWord) (name : List ℕ) (call : Call) (s : State)
+    → texts_of (does_signals_by word (ByBody name) call s).state ≡ texts_of s
+signals_texts signals.Signal name call s =
+    unless_texts (signal_alert (argument 0 call) (argument 1 call) s.scripts) name call _ s
+    (named_alike (signalled (argument 0 call - 1) (argument 1 call)) s (signalled_names (argument 0 call - 1) (argument 1 call) s.schedule))
+signals_texts _ name call s = refl
+
+taken_texts : (port : ℕ) (message : Option ℕ) (name : List ℕ) (call : Call) (s : State)
+    → texts_of (taken_by port message (ByBody name) call s).state ≡ texts_of s
+taken_texts port None name call s = refl
+taken_texts port (Some message) name call s = refl
+
+replied_texts : (reply : ℕ) (name : List ℕ) (call : Call) (message : ℕ) (s : State)
+    → texts_of (replied_by reply (ByBody name) call message s).state ≡ texts_of s
+replied_texts reply name call message s = either_texts s (nat_eq reply 0) _ _ refl (delivered_texts _ reply message s)
+
+ports_texts : (word : PortWord) (name : List ℕ) (call : Call) (s : State)
+    → texts_of (does_ports_by word (ByBody name) call s).state ≡ texts_of s
+ports_texts ports.PutMsg name call s =
+    unless_texts (put_alert (argument 0 call) (argument 1 call) s.memory.heap) name call _ s
+    (delivered_texts _ (argument 0 call) (argument 1 call) s)
+ports_texts ports.GetMsg name call s =
+    unless_texts (port_alert (argument 0 call) s.memory.heap) name call _ s
+    (taken_texts (argument 0 call) (first (messages_of (argument 0 call) s.memory.heap)) name call s)
+ports_texts ports.ReplyMsg name call s =
+    unless_texts (reply_alert (argument 0 call) s.memory.heap) name call _ s
+    (replied_texts (content_of (argument 0 call) s.memory.heap).reply name call (argument 0 call) s)
+ports_texts _ name call s = refl
+
+interrupts_texts : (word : InterruptWord) (name : List ℕ) (call : Call) (s : State)
+    → texts_of (does_interrupts_by word (ByBody name) call s).state ≡ texts_of s
+unfolding causes
+interrupts_texts causing.Cause name call s = refl
+
+body_texts : (word : Word) (name : List ℕ) (call : Call) (s : State)
+    → texts_of (does_word_by word (ByBody name) call s).state ≡ texts_of s
+body_texts (group.Plain word) name call s = plain_texts word name call s
+body_texts (group.Signals word) name call s = signals_texts word name call s
+body_texts (group.Ports word) name call s = ports_texts word name call s
+body_texts (group.Interrupts word) name call s = interrupts_texts word name call s
+body_texts _ name call s = refl
+
+pub command_says : (name : List ℕ) (command : CommandData) (s : State) → IsShortText name → IsBrief command
+    → Says s (body_step name command s)
+unfolding body_step does_in_body
+command_says name command s short brief has =
+    let call = call_in_body command s.scripts in
+    let given = body_call_has s.scripts command brief in
+    let tells = word_by_tells command.word (ByBody name) call s in (
+      record {
+        texts = texts_stay s (does_word_by command.word (ByBody name) call s).state (body_texts command.word name call s) has.texts;
+        programs = tells.programs given has.programs;
+      },
+      all_short name call (does_word_by command.word (ByBody name) call s).lines short given.short tells.lines,
+    )
+
+-- ---- requests that finish
+
+reply_says : (port : Option ℕ) (request : ℕ) (s : State) (o : Outcome) → Says s o → Says s (with_reply port request o)
+reply_says None request s o one has = one has
+reply_says (Some port) request s o one has = let says = one has in (record { texts = says.0.texts; programs = says.0.programs }, says.1)
+
+pub finished_says : (request : ℕ) (s : State) → Says s (finishes request s)
+unfolding finishes
+finished_says request s =
+    let found = answering_port request s.memory.heap in
+    let act = acting_at found s.memory.heap in
+    let next = on_memory (ended (pos 0) request) s in
+    reply_says found request s (says (Timer request) (performed act next))
+    (λ has.
+    line_says (Timer request) (performed act next) (timer_short request)
+    (all_stays s (performed act next) (performed_texts act next) (performed_scripts act next) has))
