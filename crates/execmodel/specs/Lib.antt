@@ -24,6 +24,7 @@ pub mod Step
 pub mod Earlier
 pub mod Keeping
 pub mod Runs
+pub mod RulesBesideLaws
 pub mod Queues
 pub mod Marks
 pub mod Agreement

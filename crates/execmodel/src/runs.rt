@@ -1,6 +1,7 @@
 //! Whole traces of small machines, and the marks that they leave, as the definitions compute them.
 
 ghost use Rattle.execmodel.specs.Runs.{PrintsOnce, NothingFollowsAnAlert, SignalWakesAHigherTask, EqualPriorityDoesNotPreempt, APreemptedTaskArrivesAnew, AWaitKeepsItsMask, CalculatesAndJumps, ForbidKeepsOthersOff, AnEndedQuantumLetsAnEqualRun, TicksUnderDisableAreServedOnce, ALiveTaskIsFoundByItsName, SizesRoundUp, SuitableRegionsAreTriedByPriority, EqualsStandInOrderOfArrival, AListInUseIsNotFreed, EachKindHasItsPool, MessagesAreTakenInOrderOfArrival, MarksTellWhatCameAndWhatWasTaken, ThePublicPortOfGreatestPriorityIsFound, AReplyGoesToTheReplyPort, ASemaphoreIsHandedToTheFirstThatAsked, MarksTellWhoAskedAndWhoGotIt, ARemovedTaskLeavesTheQueue, MarksTellWhoAskedAndWhoLeft, WhereNoTaskWaitsThereIsNoMark, ASoftintRunsBeforeTheNextCommand, ASoftintMayCauseItselfAgain, SoftintsRunOneAStepByPriority, ASoftintRunsWhereNoTaskRuns, ServersRunByPriorityUntilOneClaims, NoSwitchFollowsAnAlertInABody, NoIdleFollowsAnAlertInABody, NoCommandFollowsAnAlertInASoftint, APortMayCauseASoftint, MarksTellWhatASoftintTook, ARemovedLibraryGoesAtItsLastClose, AnOpeningTakesARemovalBack, LibrariesGiveWay, NoLibraryGivesWayInVersionOne, WhatWasMarkedInVainStaysSo, NothingIsMarkedInVersionOne, TheFirstFitEndsTheAsking, NothingIsAskedForWhatIsNeverTaken, ALibraryGivesWayToAnother, TheClockCountsUnderDisable, ATaskSleepsByDoIO, RequestsFinishByTheTimeWhenTheyAreDue, AStraySignalMakesDoIOLookAgain, AnAbortedRequestIsRepliedAtOnce, WaitIOTakesTheReply, MarksTellWhichReplyWasTaken, ARequestThatIsDueNowFinishes, RequestsOfOneTimeFinishInTheOrderOfBeginning, MicrosecondsCountBeyondASecond, AnAwaitedPortIsNotDeleted, TheTimerHasThreeUnits, SendIOClearsTheQuickBitAndTheError, ATaskWaitsUntilASystemTime, ATimeThatHasComeIsDoneAtOnce, ASettingWakesATask, TheSetterIsRepliedFirst, MarksTellThatTheSetterWasRepliedFirst, ASettingLeavesTheOtherUnitsAlone, ASettingBackFinishesNothing, RequestsOfOneMomentFinishInTheOrderOfBeginning, DisableDoesNotHoldASettingBack};
+ghost use Rattle.execmodel.specs.RulesBesideLaws.{AQuantumLastsItsServings, AReadyTaskArrivesAnew, AWaitTakesThoseOfItsMask, AnAttemptOfTheOwnerCounts, EachWordAsksForItsMemory};
 
 /// A task that prints once ends at its next step, and the machine is idle.
 pub fn a_task_prints_once_and_ends()
@@ -308,4 +309,30 @@ pub fn requests_of_one_moment_finish_in_the_order_of_beginning()
 /// finishes after Enable.
 pub fn disable_does_not_hold_a_setting_back()
     ensures { DisableDoesNotHoldASettingBack }
+{}
+
+/// An equal task runs once the quantum of the running one has had all its servings of VERTB; a serving of another source does not count.
+pub fn a_quantum_lasts_its_servings()
+    ensures { AQuantumLastsItsServings }
+{}
+
+/// A task that runs and gets the priority that it has runs on; a ready one stands behind its equals then.
+pub fn a_ready_task_of_another_priority_arrives_anew()
+    ensures { AReadyTaskArrivesAnew }
+{}
+
+/// A task that is ready receives signals, and a Wait takes only those of its mask: the others are there for the next one.
+pub fn a_wait_takes_those_of_its_mask()
+    ensures { AWaitTakesThoseOfItsMask }
+{}
+
+/// AttemptSemaphore by the owner counts as ObtainSemaphore does: each has to be released.
+pub fn an_attempt_of_the_owner_counts()
+    ensures { AnAttemptOfTheOwnerCounts }
+{}
+
+/// NewMsg, NewSem, CreateMsgPort, CreateIORequest and NewList make a library give way that is not open, where they lack memory in version 2
+/// of the rules; what an object took is free once it is freed.
+pub fn each_word_asks_for_its_memory()
+    ensures { EachWordAsksForItsMemory }
 {}

@@ -1,0 +1,7 @@
+use Rattle.std.proofs.Common.{refl}
+use Rattle.execmodel.proofs.OnLiterals.{runs_on_literals}
+use Rattle.execmodel.proofs.runs.a_quantum_lasts_its_servings.Goals as goal
+
+pub returns : goal.returns
+unfolding runs_on_literals
+returns c = refl
