@@ -7,6 +7,7 @@ pub mod Booting
 pub mod Calculating
 pub mod Calling
 pub mod Caused
+pub mod Changing
 pub mod Clock
 pub mod Endings
 pub mod Following

@@ -67,6 +67,7 @@ impl<S: ListSpace> Kernel<S> {
     }
 
     /// The call of task t is refused: it changes nothing, and the machine stops for good.
+    #[cold]
     pub(crate) fn alerted<W: Sink>(&mut self, code: &str, t: TaskId, call: &Call, out: &mut W)
         requires { t < length self.old.scripts.programs }
         ensures { Follows (alerted code.now t (call_view call.now)) self.old self.new (W.tape out.old) (W.tape out.new) }
@@ -118,6 +119,7 @@ impl<S: ListSpace> Kernel<S> {
     }
 
     /// The call of a task or of a body is refused: it changes nothing, and the machine stops for good.
+    #[cold]
     pub(crate) fn alerted_by<W: Sink>(
         &mut self,
         code: &str,

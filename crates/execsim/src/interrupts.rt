@@ -83,6 +83,7 @@ impl<S: ListSpace> Kernel<S> {
     }
 
     /// A software interrupt, which is not caused any more, runs its whole body.
+    #[inline(never)]
     pub(crate) fn run_softint<W: Sink>(&mut self, i: IntId, out: &mut W)
         ensures { Follows (softint_body i) self.old self.new (W.tape out.old) (W.tape out.new) }
     {
@@ -152,6 +153,7 @@ impl<S: ListSpace> Kernel<S> {
     }
 
     /// A source is served, whose latch is cleared.
+    #[inline(never)]
     fn serve<W: Sink>(&mut self, source: Source, out: &mut W)
         ensures { Follows (served source) self.old self.new (W.tape out.old) (W.tape out.new) }
     {

@@ -103,7 +103,7 @@ impl<S: ListSpace> Kernel<S> {
     }
 
     /// What a variable holds for task t; 0 where there is no such variable.
-    fn content(&self, t: TaskId, variable: Slot) -> u32
+    pub(crate) fn content(&self, t: TaskId, variable: Slot) -> u32
         requires { t < length self.now.scripts.programs }
         ensures { result ≡ content t self.now.scripts (slot_view variable) }
     {

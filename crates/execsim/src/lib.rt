@@ -7,6 +7,7 @@ mod bodies;
 mod body_calls;
 mod calls;
 mod causing;
+mod change;
 mod command;
 mod interrupts;
 mod kernel;

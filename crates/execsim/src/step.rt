@@ -7,7 +7,7 @@ ghost use Rattle.taskscript.specs.Events.{ticks as ticks_of};
 ghost use Rattle.scheduler.specs.Dispatch as dispatch;
 ghost use Rattle.scheduler.specs.Schedule.{IsToOneOf};
 ghost use Rattle.execmodel.specs.State.{andthen, on_schedule, program_of, unless_stopped};
-ghost use Rattle.execmodel.specs.Step.{announced, switches, settle, does, ends, acts, acting, step, steps, request, tick, ticks, starts, all_added, event, events};
+ghost use Rattle.execmodel.specs.Step.{announced, switches, settle, does, ends, acts, acting, step, steps, request, tick, ticks, starts, all_added, event, events, task_step};
 ghost use Rattle.execmodel.specs.Interrupts.{interrupts};
 ghost use Rattle.execsim.specs.Actions.{running_task_step};
 ghost use Rattle.execsim.specs.Agreement.{Follows, FollowsWhileGood, Moves};
@@ -112,6 +112,7 @@ impl<S: ListSpace> Kernel<S> {
     }
 
     /// A task whose commands are used up ends, as by RemTask 0.
+    #[inline(never)]
     fn end<W: Sink>(&mut self, t: TaskId, out: &mut W)
         requires known { t < length self.old.scripts.programs }
         requires runs { self.old.schedule.running ≡ Some t }
@@ -122,16 +123,38 @@ impl<S: ListSpace> Kernel<S> {
         self.leave(t);
     }
 
+    /// Task t, which runs, makes its next call, or ends.
+    #[inline(never)]
+    fn make_call<W: Sink>(&mut self, t: TaskId, out: &mut W)
+        requires known { t < length self.old.scripts.programs }
+        requires runs { self.old.schedule.running ≡ Some t }
+        ensures { Follows (task_step (Some t)) self.old self.new (W.tape out.old) (W.tape out.new) }
+    {
+        match self.next_call(t) {
+            None => self.end(t, out),
+            Some(call) => self.does(t, &call, out),
+        }
+    }
+
+    /// Task t, which runs, does one command, or ends. A plain word that prints nothing is done at once, and no call is made of it.
+    fn run_command<W: Sink>(&mut self, t: TaskId, out: &mut W)
+        requires known { t < length self.old.scripts.programs }
+        requires runs { self.old.schedule.running ≡ Some t }
+        ensures { Follows (task_step (Some t)) self.old self.new (W.tape out.old) (W.tape out.new) }
+    {
+        match self.next_change(t) {
+            Some(change) => self.change(t, change),
+            None => self.make_call(t, out),
+        }
+    }
+
     /// The running task does one command; where none runs, the step is used up.
     fn run_task<W: Sink>(&mut self, out: &mut W)
         ensures { Follows running_task_step self.old self.new (W.tape out.old) (W.tape out.new) }
     {
         match self.running() {
             None => {}
-            Some(t) => match self.next_call(t) {
-                None => self.end(t, out),
-                Some(call) => self.does(t, &call, out),
-            },
+            Some(t) => self.run_command(t, out),
         }
     }
 

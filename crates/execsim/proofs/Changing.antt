@@ -1,0 +1,107 @@
+-- How the machine follows a plain word that is done on its command, with no call between.
+use Rattle.std.proofs.Common.{◌≡◌, ℕ, ◌+◌, ◌-◌, ◌%◌, ◌^◌, List, None, Some, refl, ap, sym, ◌∙◌, map, take}
+use Rattle.std.proofs.lemmas.Option.{slice_get-map}
+use Rattle.std.specs.Option.{option_map}
+use Rattle.std.specs.Prelude.{Option, IfSome, if◌then◌else◌, nat_eq, bit_and, bit_or, slice_get}
+use Rattle.exectrace.specs.Sink.{Tape}
+use Rattle.taskscript.specs.Commands.{ArgumentData, CommandData}
+use Rattle.taskscript.specs.declared.word.Word.TheVariants.{Plain}
+use Rattle.taskscript.specs.declared.word.plain.PlainWord.TheVariants as word
+use Rattle.execmodel.specs.State.{Call, Scripts, State, program_of}
+use Rattle.execmodel.specs.Calls.{argument, call_of, evaluated, goes_on, next_call, number_in, silent, stored}
+use Rattle.execmodel.specs.Plain.{does_set, does_add, does_sub, does_and, does_or, jumps, does_jump, does_jump_zero, does_jump_not_zero}
+use Rattle.execmodel.specs.Step.{call_step, does, does_word, task_step}
+use Rattle.execsim.specs.Changes.{changes}
+use Rattle.execsim.specs.Agreement.{Seen, Follows}
+use Rattle.execsim.specs.Views.{operand_view, slot_view, small_view}
+use Rattle.execsim.specs.declared.command.Change.{Change}
+use Rattle.execsim.specs.declared.command.Operand.{Operand}
+use Rattle.execsim.specs.declared.command.SmallCommand.{SmallCommand}
+use Rattle.execsim.proofs.Calling.{next-command}
+use Rattle.execsim.proofs.Following.{moves_scripts, follows_as, follows_quietly}
+use Rattle.execsim.proofs.Stepping.{task_step_as}
+
+-- what is done next, where it is a command
+pub next_changes : (t : ℕ) (scripts : Scripts) (command : CommandData) (place : ℕ) (change : Option Change) → (program_of scripts t).kept ≡ None
+    → slice_get (program_of scripts t).code (program_of scripts t).place ≡ Some command → place ≡ (program_of scripts t).place + 1
+    → IfSome change (λ change. (s : State) → does t (call_of t place command scripts) s ≡ changes t change s)
+    → IfSome change (λ change. (s : State) → call_step t (next_call t scripts) s ≡ changes t change s)
+next_changes t scripts command place None kept here behind is = _
+next_changes t scripts command place (Some change) kept here behind is = λ s.
+    ap (λ call. call_step t call s) (next-command t scripts command kept here)
+    ∙ ap (λ next. does t (call_of t next command scripts) s) (sym behind) ∙ is s
+
+-- the number at an argument of a command
+module _ (t k : ℕ) (command : SmallCommand) (scripts : Scripts) where
+  pub number_there : (operand : Operand) (n : ℕ) → slice_get (take command.count command.operands) k ≡ Some operand
+      → ((name : List ℕ) → n ≡ number_in (Some (evaluated t scripts (operand_view name operand))))
+      → (next : ℕ) → n ≡ argument k (call_of t next (small_view command) scripts)
+  unfolding call_of
+  number_there operand n at is next =
+      let view : Operand → ArgumentData = operand_view command.name.bytes in
+      let all : List Operand = take command.count command.operands in
+      is command.name.bytes ∙ sym (ap number_in (slice_get-map (evaluated t scripts) (map view all) k
+      ∙ ap (option_map (evaluated t scripts)) (slice_get-map view all k ∙ ap (option_map view) at)))
+
+  pub number_past : slice_get (take command.count command.operands) k ≡ None → (next : ℕ) → 0 ≡ argument k (call_of t next (small_view command) scripts)
+  unfolding call_of
+  number_past at next =
+      let view : Operand → ArgumentData = operand_view command.name.bytes in
+      let all : List Operand = take command.count command.operands in
+      sym (ap number_in (slice_get-map (evaluated t scripts) (map view all) k
+      ∙ ap (option_map (evaluated t scripts)) (slice_get-map view all k ∙ ap (option_map view) at)))
+
+-- a call of a plain word, by the numbers at its arguments
+module _ (t : ℕ) (call : Call) (first second : ℕ) (one : first ≡ argument 0 call) (two : second ≡ argument 1 call) where
+  pub sets : call.word ≡ Plain word.Set → (s : State) → does t call s ≡ silent t call first s
+  unfolding does does_set
+  sets is s = ap (λ w. does_word w t call s) is ∙ ap (λ x. silent t call x s) (sym one)
+
+  pub adds : call.word ≡ Plain word.Add → (value : ℕ) → value ≡ (first + second) % 2 ^ 32 → (s : State) → does t call s ≡ silent t call value s
+  unfolding does does_add
+  adds is value v s = ap (λ w. does_word w t call s) is
+      ∙ ap (λ v. silent t call v s) (sym (v ∙ ap (λ x. (x + second) % 2 ^ 32) one ∙ ap (λ y. (argument 0 call + y) % 2 ^ 32) two))
+
+  pub subtracts : call.word ≡ Plain word.Sub → (value : ℕ) → value ≡ (first + (2 ^ 32 - second)) % 2 ^ 32 → (s : State) → does t call s ≡ silent t call value s
+  unfolding does does_sub
+  subtracts is value v s = ap (λ w. does_word w t call s) is
+      ∙ ap (λ v. silent t call v s) (sym (v ∙ ap (λ x. (x + (2 ^ 32 - second)) % 2 ^ 32) one ∙ ap (λ y. (argument 0 call + (2 ^ 32 - y)) % 2 ^ 32) two))
+
+  pub masks : call.word ≡ Plain word.And → (value : ℕ) → value ≡ bit_and first second → (s : State) → does t call s ≡ silent t call value s
+  unfolding does does_and
+  masks is value v s = ap (λ w. does_word w t call s) is
+      ∙ ap (λ v. silent t call v s) (sym (v ∙ ap (λ x. bit_and x second) one ∙ ap (λ y. bit_and (argument 0 call) y) two))
+
+  pub joins : call.word ≡ Plain word.Or → (value : ℕ) → value ≡ bit_or first second → (s : State) → does t call s ≡ silent t call value s
+  unfolding does does_or
+  joins is value v s = ap (λ w. does_word w t call s) is
+      ∙ ap (λ v. silent t call v s) (sym (v ∙ ap (λ x. bit_or x second) one ∙ ap (λ y. bit_or (argument 0 call) y) two))
+
+  pub goes : call.word ≡ Plain word.Jump → (s : State) → does t call s ≡ jumps t first s
+  unfolding does does_jump
+  goes is s = ap (λ w. does_word w t call s) is ∙ ap (λ x. jumps t x s) (sym one)
+
+  pub goes_at_zero : call.word ≡ Plain word.JumpZ → (place : ℕ) → place ≡ (if nat_eq first 0 then second else call.next)
+      → (s : State) → does t call s ≡ jumps t place s
+  unfolding does does_jump_zero
+  goes_at_zero is place p s = ap (λ w. does_word w t call s) is
+      ∙ ap (λ p. jumps t p s) (sym (p ∙ ap (λ x. if nat_eq x 0 then second else call.next) one
+      ∙ ap (λ y. if nat_eq (argument 0 call) 0 then y else call.next) two))
+
+  pub goes_unless_zero : call.word ≡ Plain word.JumpNZ → (place : ℕ) → place ≡ (if nat_eq first 0 then call.next else second)
+      → (s : State) → does t call s ≡ jumps t place s
+  unfolding does does_jump_not_zero
+  goes_unless_zero is place p s = ap (λ w. does_word w t call s) is
+      ∙ ap (λ p. jumps t p s) (sym (p ∙ ap (λ x. if nat_eq x 0 then call.next else second) one
+      ∙ ap (λ y. if nat_eq (argument 0 call) 0 then call.next else y) two))
+
+pub follows_changes : {m n o : Seen} (t : ℕ) (change : Change) (tape : Tape) → n ≡ record m { scripts = stored t (option_map slot_view change.target) change.value m.scripts }
+    → o ≡ record n { scripts = goes_on t change.next n.scripts } → Follows (changes t change) m o tape tape
+follows_changes t change tape first is = follows_quietly tape
+    (moves_scripts (λ scripts. goes_on t change.next (stored t (option_map slot_view change.target) change.value scripts))
+    (is ∙ ap (λ (x : Seen). record x { scripts = goes_on t change.next x.scripts }) first))
+
+-- a task that does a plain word does its next call
+pub changed_as : {m n : Seen} {tape : Tape} (t : ℕ) (change : Change) → ((s : State) → call_step t (next_call t m.scripts) s ≡ changes t change s)
+    → Follows (changes t change) m n tape tape → Follows (task_step (Some t)) m n tape tape
+changed_as t change is follows = task_step_as t _ refl (follows_as {g = changes t change} (λ s e. is s) follows)

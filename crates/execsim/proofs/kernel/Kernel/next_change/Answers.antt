@@ -1,0 +1,9 @@
+use Rattle.std.proofs.Common.{refl, ap, ◌∙◌, ◌+◌}
+use Rattle.execmodel.specs.State.{Program}
+use Rattle.execsim.proofs.Changing.{next_changes}
+use Rattle.execsim.proofs.kernel.Kernel.next_change.Goals as goal
+
+pub returns-in-Plain : goal.returns-in-Plain
+returns-in-Plain g c = next_changes _ _ _ _ _ (rw (← c.program-program.ensures, ← c.kept.ensures, c.in-None.is) refl)
+    (rw (← c.program-program.ensures, ← c.command.ensures, c.in-Some-command.is) refl)
+    (c.next.ensures ∙ ap (λ (p : Program). p.place + 1) c.program-program.ensures) c.change_of.ensures

@@ -1,0 +1,177 @@
+//! Plain words that print nothing: a task does them on its command itself, with no call between.
+ghost use Rattle.std.specs.Prelude.{◌≡◌, ◌<◌, ◌+◌, ◌-◌, ◌%◌, ◌^◌, ℕ, List, length, IfSome, Some, bit_and, bit_or, if◌then◌else◌, nat_eq, option_copied, slice_get, take};
+ghost use Rattle.exectrace.specs.Sink.{Tape};
+ghost use Rattle.taskscript.specs.declared.word.Word.TheVariants.{Plain};
+ghost use Rattle.execmodel.specs.State.{State};
+ghost use Rattle.execmodel.specs.Calls.{argument, call_of, evaluated, next_call, number_in};
+ghost use Rattle.execmodel.specs.Step.{call_step, does};
+ghost use Rattle.execsim.specs.Changes.{changes};
+ghost use Rattle.execsim.specs.Agreement.{Follows};
+ghost use Rattle.execsim.specs.Views.{operand_view, small_view};
+
+use crate::command::{Change, Operand, SmallCommand};
+use crate::kernel::Kernel;
+use execlist::space::ListSpace;
+use taskq::TaskId;
+use taskscript::{PlainWord, Word};
+
+/// The sum of two words.
+fn sum(a: u32, b: u32) -> u32
+    ensures { result ≡ (a + b) % 2 ^ 32 }
+{
+    a.wrapping_add(b)
+}
+
+/// The difference of two words.
+fn difference(a: u32, b: u32) -> u32
+    ensures { result ≡ (a + (2 ^ 32 - b)) % 2 ^ 32 }
+{
+    a.wrapping_sub(b)
+}
+
+/// The bits that both words have.
+fn common_bits(a: u32, b: u32) -> u32
+    ensures { result ≡ bit_and a b }
+{
+    a & b
+}
+
+/// The bits that either word has.
+fn all_bits(a: u32, b: u32) -> u32
+    ensures { result ≡ bit_or a b }
+{
+    a | b
+}
+
+/// The first place where the number is 0, and else the second.
+fn place_at_zero(n: u32, zero: usize, other: usize) -> usize
+    ensures { result ≡ (if nat_eq n 0 then zero else other) }
+{
+    if n == 0 { zero } else { other }
+}
+
+/// The argument of a command, counted from 0, if it has so many.
+fn operand_at(command: &SmallCommand, k: usize) -> Option<&Operand>
+    ensures { option_copied result ≡ slice_get (take command.now.count command.now.operands) k }
+{
+    command.operands[..command.count].get(k)
+}
+
+impl<S: ListSpace> Kernel<S> {
+    /// The number that an argument is for task t; 0 for a name.
+    fn number(&self, t: TaskId, operand: Operand) -> u32
+        requires { t < length self.now.scripts.programs }
+        ensures { (name : List ℕ) → result ≡ number_in (Some (evaluated t self.now.scripts (operand_view name operand))) }
+    {
+        match operand {
+            Operand::Number(n) => n,
+            Operand::Variable(variable) => self.content(t, variable),
+            Operand::Quoted => 0,
+            Operand::Place(place) => place,
+        }
+    }
+
+    /// The number that stands at an argument of a command of task t, counted from 0; 0 where none does.
+    fn number_at(&self, t: TaskId, command: &SmallCommand, k: usize) -> u32
+        requires { t < length self.now.scripts.programs }
+        ensures { (next : ℕ) → result ≡ argument k (call_of t next (small_view command.now) self.now.scripts) }
+    {
+        match operand_at(command, k) {
+            Some(operand) => self.number(t, *operand),
+            None => 0,
+        }
+    }
+
+    /// What a command of task t of that plain word changes, where the next one stands at that place; none for a word that prints.
+    fn change_of(
+        &self,
+        t: TaskId,
+        word: PlainWord,
+        command: &SmallCommand,
+        next: usize,
+    ) -> Option<Change>
+        requires known { t < length self.now.scripts.programs }
+        requires plain { command.now.word ≡ Plain word }
+        ensures { IfSome result (λ change. (s : State) → does t (call_of t next (small_view command.now) self.now.scripts) s ≡ changes t change s) }
+    {
+        let target = command.target;
+        let first = self.number_at(t, command, 0);
+        let second = self.number_at(t, command, 1);
+        match word {
+            PlainWord::Set => Some(Change {
+                target,
+                value: first,
+                next,
+            }),
+            PlainWord::Add => Some(Change {
+                target,
+                value: sum(first, second),
+                next,
+            }),
+            PlainWord::Sub => Some(Change {
+                target,
+                value: difference(first, second),
+                next,
+            }),
+            PlainWord::And => Some(Change {
+                target,
+                value: common_bits(first, second),
+                next,
+            }),
+            PlainWord::Or => Some(Change {
+                target,
+                value: all_bits(first, second),
+                next,
+            }),
+            PlainWord::Jump => Some(Change {
+                target: None,
+                value: 0,
+                next: first as usize,
+            }),
+            PlainWord::JumpZ => {
+                let there = place_at_zero(first, second as usize, next);
+                Some(Change {
+                    target: None,
+                    value: 0,
+                    next: there,
+                })
+            }
+            PlainWord::JumpNZ => {
+                let here = place_at_zero(first, next, second as usize);
+                Some(Change {
+                    target: None,
+                    value: 0,
+                    next: here,
+                })
+            }
+            PlainWord::Print => None,
+        }
+    }
+
+    /// What task t changes by what it does next, where that is a plain word that prints nothing.
+    pub(crate) fn next_change(&self, t: TaskId) -> Option<Change>
+        requires { t < length self.now.scripts.programs }
+        ensures { IfSome result (λ change. (s : State) → call_step t (next_call t self.now.scripts) s ≡ changes t change s) }
+    {
+        let program = self.program(t);
+        match program.kept() {
+            Some(_) => None,
+            None => match program.command() {
+                None => None,
+                Some(command) => match command.word {
+                    Word::Plain(word) => self.change_of(t, word, command, program.next()),
+                    _ => None,
+                },
+            },
+        }
+    }
+
+    /// Task t changes what its command says, and goes on.
+    pub(crate) fn change(&mut self, t: TaskId, change: Change)
+        requires { t < length self.old.scripts.programs }
+        ensures { (tape : Tape) → Follows (changes t change) self.old self.new tape tape }
+    {
+        self.store(t, change.target, change.value);
+        self.go_on(t, change.next);
+    }
+}
