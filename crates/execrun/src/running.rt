@@ -53,10 +53,11 @@ fn write_trace<'a, W: Write>(
 {
     let mut sink = WriteSink::new(Lent { out: &mut *out });
     let ended = simulate(alloc, machine, events, &mut sink);
-    let Lent { out: lent } = sink.into_inner();
+    let mut lent = sink.into_inner();
     let flushed = lent.flush().is_ok();
-    // No effect at run time. The proof reads what `out` holds from this use of `lent`.
-    let _ = &*lent;
+    // No effect at run time. The proof reads what `out` holds from this use of the loan.
+    let Lent { out: loan } = lent;
+    let _ = &*loan;
     answer(ended, flushed)
 }
 
