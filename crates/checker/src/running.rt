@@ -1,17 +1,19 @@
 //! The program over the words of its command line and two writers.
-ghost use Rattle.std.specs.Prelude.{◌≡◌, ◌≢◌, ◌≤◌, ◌⊎◌, [], true, false, IfOk};
+ghost use Rattle.std.specs.Prelude.{◌≡◌, ◌≢◌, ◌≤◌, ◌⊎◌, ◌↔◌, [], true, false, IfOk, IsSome};
+ghost use Rattle.execadvice.specs.Findings.{fault_of};
+ghost use Rattle.taskscript.specs.Events.{script_of};
+ghost use Rattle.taskscript.specs.File.{file_of};
 
 use crate::command_line::{Paths, paths_given};
 use clap::error::ErrorKind;
 use execadvice::{check_events, check_machine};
+use execsim::{ReadFault, read_limited};
+use runadvice::check_run;
 use std::alloc::{AllocError, Global};
 use std::env::Env;
-use std::io::{Read, Write};
+use std::io::Write;
 use std::rt::Files;
 use std::{env, fs, io};
-
-/// The length in bytes of the longest text that is read.
-const FILE_LIMIT: usize = 4_194_304;
 
 /// The statuses with which the program ends.
 const CLEAN: u8 = 0;
@@ -40,31 +42,20 @@ impl From<AllocError> for Failure<'_> {
 
 /// The bytes of the file at a path.
 fn read_file<'a, R: Files>(rt: &R, alloc: Global, path: &'a str) -> Result<Vec<u8>, Failure<'a>> {
-    let Ok(file) = fs::open(rt, path) else {
+    let Ok(mut file) = fs::open(rt, path) else {
         return Err(Failure::CannotRead(path));
     };
-    let mut bytes = Vec::new(alloc);
-    match file.take(FILE_LIMIT as u64 + 1).read_to_end(&mut bytes) {
-        Err(error) => {
-            if error.kind() == io::ErrorKind::OutOfMemory {
-                Err(Failure::NoMemory)
-            } else {
-                Err(Failure::CannotRead(path))
-            }
-        }
-        Ok(_) => {
-            if bytes.len() > FILE_LIMIT {
-                Err(Failure::CannotRead(path))
-            } else {
-                Ok(bytes)
-            }
-        }
+    match read_limited(alloc, &mut file) {
+        Ok(bytes) => Ok(bytes),
+        Err(ReadFault::OutOfMemory) => Err(Failure::NoMemory),
+        Err(ReadFault::Failed) | Err(ReadFault::TooLong) => Err(Failure::CannotRead(path)),
     }
 }
 
 /// The status of what was found in a text.
 fn status_of(is_refused: bool, text: &str) -> u8
     ensures refused { is_refused ≡ true → result ≡ 1 }
+    ensures accepted { is_refused ≡ false → result ≢ 1 }
     ensures clean { is_refused ≡ false → text.now ≡ [] → result ≡ 0 }
     ensures warned { is_refused ≡ false → text.now ≢ [] → result ≡ 3 }
     ensures within { result ≤ 4 }
@@ -83,7 +74,7 @@ fn worse(one: u8, other: u8) -> u8
     requires one { one ≤ 4 }
     requires other { other ≤ 4 }
     ensures within { result ≤ 4 }
-    ensures refused { one ≡ 1 ⊎ other ≡ 1 → result ≡ 1 }
+    ensures refused { (result ≡ 1) ↔ (one ≡ 1 ⊎ other ≡ 1) }
 {
     if one == REFUSED || other == REFUSED {
         REFUSED
@@ -100,39 +91,60 @@ fn write_text<'a, W: Write>(text: &str, out: &mut W) -> Result<(), Failure<'a>> 
     }
 }
 
-/// Checks the machine file at a path, and writes what was found in it.
-fn check_machine_at<'a, R: Files, W: Write>(
-    rt: &R,
+/// Checks a machine file that was read from a path, and writes what was found in it.
+fn check_machine_text<'a, W: Write>(
     alloc: Global,
     path: &'a str,
+    bytes: &[u8],
     out: &mut W,
 ) -> Result<u8, Failure<'a>>
-    ensures { IfOk result (λ status. status ≤ 4) }
+    ensures within { IfOk result (λ status. status ≤ 4) }
+    ensures refused { IfOk result (λ status. (status ≡ 1) ↔ IsSome (fault_of (file_of bytes.now))) }
 {
-    let bytes = read_file(rt, alloc, path)?;
-    let finding = check_machine(alloc, path, &bytes)?;
+    let finding = check_machine(alloc, path, bytes)?;
     let text = finding.text.as_str();
     write_text(text, out)?;
     Ok(status_of(finding.fault.is_some(), text))
 }
 
-/// Checks the event text at a path, and writes what was found in it.
-fn check_events_at<'a, R: Files, W: Write>(
-    rt: &R,
+/// Checks an event text that was read from a path, and writes what was found in it.
+fn check_events_text<'a, W: Write>(
     alloc: Global,
     path: &'a str,
+    bytes: &[u8],
     out: &mut W,
 ) -> Result<u8, Failure<'a>>
-    ensures { IfOk result (λ status. status ≤ 4) }
+    ensures within { IfOk result (λ status. status ≤ 4) }
+    ensures refused { IfOk result (λ status. (status ≡ 1) ↔ IsSome (fault_of (script_of bytes.now))) }
 {
-    let bytes = read_file(rt, alloc, path)?;
-    let finding = check_events(alloc, path, &bytes)?;
+    let finding = check_events(alloc, path, bytes)?;
     let text = finding.text.as_str();
     write_text(text, out)?;
     Ok(status_of(finding.fault.is_some(), text))
 }
 
-/// Checks the texts at the paths, and writes what was found in them.
+/// Checks the two texts of a run, which were read from two paths, and then the run itself, and writes what was found.
+fn check_both<'a, W: Write>(
+    alloc: Global,
+    machine_path: &'a str,
+    machine: &[u8],
+    events_path: &'a str,
+    events: &[u8],
+    out: &mut W,
+) -> Result<u8, Failure<'a>>
+    ensures within { IfOk result (λ status. status ≤ 4) }
+    ensures refused { IfOk result (λ status. (status ≡ 1)
+        ↔ (IsSome (fault_of (file_of machine.now)) ⊎ IsSome (fault_of (script_of events.now)))) }
+{
+    let of_machine = check_machine_text(alloc, machine_path, machine, out)?;
+    let of_events = check_events_text(alloc, events_path, events, out)?;
+    let found = check_run(alloc, machine_path, machine, events_path, events)?;
+    let text = found.as_str();
+    write_text(text, out)?;
+    Ok(worse(worse(of_machine, of_events), status_of(false, text)))
+}
+
+/// Reads the texts at the paths, the machine file first, and then checks them, and writes what was found in them.
 fn check_files<'a, R: Files, W: Write>(
     rt: &R,
     alloc: Global,
@@ -141,10 +153,13 @@ fn check_files<'a, R: Files, W: Write>(
 ) -> Result<u8, Failure<'a>>
     ensures { IfOk result (λ status. status ≤ 4) }
 {
-    let of_machine = check_machine_at(rt, alloc, paths.machine, out)?;
+    let machine = read_file(rt, alloc, paths.machine)?;
     let status = match paths.events {
-        None => of_machine,
-        Some(path) => worse(of_machine, check_events_at(rt, alloc, path, out)?),
+        None => check_machine_text(alloc, paths.machine, &machine, out)?,
+        Some(path) => {
+            let events = read_file(rt, alloc, path)?;
+            check_both(alloc, paths.machine, &machine, path, &events, out)?
+        }
     };
     match out.flush() {
         Ok(()) => Ok(status),

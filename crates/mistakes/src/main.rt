@@ -1,7 +1,7 @@
 //! Checks the texts of tables of mistakes, and compares each answer with the one that stands beside it.
 //!
-//! Each argument is a table of machine files, `NAME.machines`, or of event texts, `NAME.events`. It begins with a comment, and then has
-//! for each text, after an empty line,
+//! Each argument is a table of machine files, `NAME.machines`, of event texts, `NAME.events`, or of both texts of a run, `NAME.endings`. It
+//! begins with a comment, and then has for each text, after an empty line,
 //!
 //! ```text
 //! == what is wrong
@@ -9,14 +9,20 @@
 //! -- status 0, 1 or 3
 //! the answer
 //! ```
+//!
+//! The texts of a run stand one after the other, with the line `-- events` between them.
 #![tactic(auto)]
 
 use execadvice::{check_events, check_machine};
+use runadvice::check_run;
 use std::process::ExitCode;
 use std::{env, fs, io};
 
 /// The path that stands before the places of each text.
 const PATH: &str = "text";
+
+/// The path that stands before the places of the event text of a run.
+const EVENTS_PATH: &str = "events";
 
 /// A text and the answer that is wanted.
 #[derive(Clone, Copy)]
@@ -51,16 +57,25 @@ fn status_of(is_refused: bool, answer: &str) -> &'static str {
     }
 }
 
+/// Whether the text of a case of a table is refused, and what was found in it.
+fn found_in(rt: &HostRuntime, table: &str, text: &str) -> io::Result<(bool, String)> {
+    if table.ends_with(".endings") {
+        let (machine, events) = text.split_once("-- events\n").unwrap_or((text, ""));
+        let (machine, events) = (machine.as_bytes(), events.as_bytes());
+        let found = check_run(rt.alloc(), PATH, machine, EVENTS_PATH, events)?;
+        return Ok((false, found));
+    }
+    if table.ends_with(".events") {
+        let finding = check_events(rt.alloc(), PATH, text.as_bytes())?;
+        return Ok((finding.fault.is_some(), finding.text));
+    }
+    let finding = check_machine(rt.alloc(), PATH, text.as_bytes())?;
+    Ok((finding.fault.is_some(), finding.text))
+}
+
 /// Whether the answer to a text is as it is wanted. Where it is not, it is printed.
 fn is_as_wanted(rt: &HostRuntime, table: &str, case: &Case<'_>) -> io::Result<bool> {
-    let bytes = case.text.as_bytes();
-    let (is_refused, answer) = if table.ends_with(".events") {
-        let finding = check_events(rt.alloc(), PATH, bytes)?;
-        (finding.fault.is_some(), finding.text)
-    } else {
-        let finding = check_machine(rt.alloc(), PATH, bytes)?;
-        (finding.fault.is_some(), finding.text)
-    };
+    let (is_refused, answer) = found_in(rt, table, case.text)?;
     let answer = answer.as_str();
     let status = status_of(is_refused, answer);
     if status == case.status && answer == case.answer {

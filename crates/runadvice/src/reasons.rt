@@ -1,0 +1,97 @@
+//! Why a task still waits when the events end, in one sentence.
+use crate::course::{Run, Stage};
+use crate::wait::{Awaited, Wait};
+use std::alloc::{AllocError, Global};
+
+/// Adds a word of 32 bits as a trace prints it.
+fn push_value(out: &mut String, value: u32) -> Result<(), AllocError> {
+    out.push('$')?;
+    for shift in [28u32, 24, 20, 16, 12, 8, 4, 0] {
+        let digit = char::from_digit((value >> shift) & 15, 16).unwrap_or('0');
+        out.push(digit.to_ascii_uppercase())?;
+    }
+    Ok(())
+}
+
+/// A task by its number from 1 and its name.
+pub fn task_text(alloc: Global, run: &Run<'_>, number: usize) -> Result<String, AllocError> {
+    let name = match run.tasks.get(number) {
+        None => "",
+        Some(task) => task.name,
+    };
+    let shown = number.saturating_add(1);
+    format!(in alloc; "task {shown} (\"{name}\")")
+}
+
+/// What a call waits for.
+fn awaited_text(alloc: Global, wait: Wait) -> Result<String, AllocError> {
+    let what = match wait.kind {
+        Awaited::Signals => "a signal of ",
+        Awaited::Message => "a message at the port ",
+        Awaited::Semaphore => "the semaphore ",
+        Awaited::Request => "the request ",
+    };
+    let mut text = format!(in alloc; "{what}")?;
+    push_value(&mut text, wait.of)?;
+    Ok(text)
+}
+
+/// Whether the task of a number from 0 has ended.
+fn has_ended(run: &Run<'_>, number: usize) -> bool {
+    match run.tasks.get(number) {
+        None => false,
+        Some(task) => task.stage == Stage::Ended,
+    }
+}
+
+/// Why nothing ends a wait for a semaphore, where that is so.
+fn semaphore_reason(
+    alloc: Global,
+    run: &Run<'_>,
+    semaphore: u32,
+    awaited: &str,
+) -> Result<Option<String>, AllocError> {
+    let Some(owner) = run.owners.owner(semaphore) else {
+        return Ok(None);
+    };
+    let named = task_text(alloc, run, owner)?;
+    if has_ended(run, owner) {
+        return Ok(Some(format!(in alloc;
+            "waits for {awaited} for ever: its owner, {named}, has ended"
+        )?));
+    }
+    if run.is_idle {
+        return Ok(Some(format!(in alloc;
+            "waits for {awaited} when the events end: its owner, {named}, waits too"
+        )?));
+    }
+    Ok(None)
+}
+
+/// Why a task that waits in a call is not ready when the events end, where that is known. `is_alone` says that no interrupt of the machine
+/// does anything.
+pub fn wait_reason(
+    alloc: Global,
+    run: &Run<'_>,
+    wait: Wait,
+    is_alone: bool,
+) -> Result<Option<String>, AllocError> {
+    if wait.kind == Awaited::Signals && wait.of == 0 {
+        return Ok(Some(format!(in alloc; "waits for ever: Wait 0 waits for no signal")?));
+    }
+    let awaited = awaited_text(alloc, wait)?;
+    if wait.kind == Awaited::Semaphore {
+        return semaphore_reason(alloc, run, wait.of, awaited.as_str());
+    }
+    if !run.is_idle {
+        return Ok(None);
+    }
+    let rest = if wait.kind == Awaited::Request {
+        "when the events end: the clock moves by ticks alone, and no task is left that runs"
+    } else if is_alone && !run.has_requests {
+        "for ever: no task is left that runs, and no interrupt does anything"
+    } else {
+        "when the events end: no task is left that runs, so only an interrupt can end it"
+    };
+    Ok(Some(format!(in alloc; "waits for {awaited} {rest}")?))
+}

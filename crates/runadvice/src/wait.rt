@@ -1,0 +1,39 @@
+//! What a task waits for, as the line of its call tells it.
+use crate::fields::Fields;
+
+/// The kind of a call that waits.
+#[derive(Clone, Copy, Debug, PartialEq, Eq)]
+pub enum Awaited {
+    /// Wait: a signal of a mask.
+    Signals,
+    /// WaitPort: a message at a port.
+    Message,
+    /// ObtainSemaphore: a semaphore.
+    Semaphore,
+    /// DoIO and WaitIO: a request.
+    Request,
+}
+
+/// A call that waits.
+#[derive(Clone, Copy, Debug)]
+pub struct Wait {
+    pub kind: Awaited,
+    /// The mask, or the address of the port, of the semaphore or of the request.
+    pub of: u32,
+    /// How many waits began before it.
+    pub since: u64,
+}
+
+/// What a line `NAME WORD VALUE waits` waits for.
+pub fn awaited_by(line: &Fields<'_>) -> Option<Awaited> {
+    if line.count != 4 || line.part(3) != "waits" {
+        return None;
+    }
+    match line.part(1) {
+        "Wait" => Some(Awaited::Signals),
+        "WaitPort" => Some(Awaited::Message),
+        "ObtainSemaphore" => Some(Awaited::Semaphore),
+        "DoIO" | "WaitIO" => Some(Awaited::Request),
+        _ => None,
+    }
+}
