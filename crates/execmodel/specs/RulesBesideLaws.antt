@@ -5,9 +5,7 @@ use Rattle.taskscript.specs.declared.word.Word.TheVariants.{Signals, Tasks, List
 use Rattle.taskscript.specs.declared.word.task_signals.SignalWord.TheVariants.{Signal, Wait}
 use Rattle.taskscript.specs.declared.word.tasks.TaskWord.TheVariants.{SetTaskPri}
 use Rattle.taskscript.specs.declared.word.lists.ListWord.TheVariants.{NewList}
-use Rattle.taskscript.specs.declared.word.ports.PortWord.{PortWord}
 use Rattle.taskscript.specs.declared.word.ports.PortWord.TheVariants.{CreateMsgPort, DeleteMsgPort, NewMsg, FreeMsg}
-use Rattle.taskscript.specs.declared.word.semaphores.SemaphoreWord.{SemaphoreWord}
 use Rattle.taskscript.specs.declared.word.semaphores.SemaphoreWord.TheVariants.{NewSem, FreeSem, ObtainSemaphore, AttemptSemaphore, ReleaseSemaphore}
 use Rattle.taskscript.specs.declared.word.libraries.LibraryWord.TheVariants.{CloseLibrary}
 use Rattle.taskscript.specs.declared.word.requests.RequestWord.TheVariants.{CreateIORequest, DeleteIORequest}
@@ -38,7 +36,8 @@ AReadyTaskArrivesAnew =
     trace
     (record bare {
       tasks = three_equals
-          (command (Tasks SetTaskPri) (number 1 ∷ number 0 ∷ []) ∷ prints 1 ∷ command (Tasks SetTaskPri) (number 2 ∷ number 0 ∷ []) ∷ waits ∷ [])
+          (command (Tasks SetTaskPri) (number 1 ∷ number 0 ∷ []) ∷ prints 1 ∷ command (Tasks SetTaskPri) (number 2 ∷ number 0 ∷ [])
+          ∷ waits ∷ [])
           (prints 2 ∷ []) (prints 3 ∷ []);
     })
     (Run 5 ∷ [])
@@ -63,7 +62,10 @@ AWaitTakesThoseOfItsMask = trace (record bare { tasks = waits_for_one_after_the_
 abbrev pub AnAttemptOfTheOwnerCounts : Type 0
 AnAttemptOfTheOwnerCounts =
     trace
-    (record bare { regions = room 48; tasks = alone (makes ∷ its ObtainSemaphore ∷ its AttemptSemaphore ∷ its ReleaseSemaphore ∷ its FreeSem ∷ []) })
+    (record bare {
+      regions = room 48;
+      tasks = alone (makes ∷ its ObtainSemaphore ∷ its AttemptSemaphore ∷ its ReleaseSemaphore ∷ its FreeSem ∷ []);
+    })
     (Run 5 ∷ [])
     ≡ codes "switch a\na NewSem -> $00001000\na ObtainSemaphore $00001000\na AttemptSemaphore $00001000 -> $00000001\na ReleaseSemaphore $00001000\nalert SEM a FreeSem\n"
 
@@ -91,7 +93,8 @@ EachWordAsksForItsMemory =
     (in_its_place (into 2 (Ports NewMsg) (number 0 ∷ number 0 ∷ [])) (command (Ports FreeMsg) (variable (Private 2) ∷ []))
     (in_its_place (into 2 (Semaphores NewSem) []) (command (Semaphores FreeSem) (variable (Private 2) ∷ []))
     (in_its_place (into 2 (Ports CreateMsgPort) []) (command (Ports DeleteMsgPort) (variable (Private 2) ∷ []))
-    (in_its_place (into 2 (Requests CreateIORequest) (variable (Private 0) ∷ [])) (command (Requests DeleteIORequest) (variable (Private 2) ∷ []))
+    (in_its_place (into 2 (Requests CreateIORequest) (variable (Private 0) ∷ []))
+    (command (Requests DeleteIORequest) (variable (Private 2) ∷ []))
     (opens_into 1 (codes "x") ∷ of_library 1 CloseLibrary ∷ command (Lists NewList) [] ∷ []))))))
     (Run 20 ∷ [])
     ≡ codes "switch a\na CreateMsgPort -> $00001000\na OpenLibrary \"x\" $00000000 -> $00001028\na CloseLibrary $00001028\na NewMsg $00000000 $00000000 -> $00001028\na FreeMsg $00001028\na OpenLibrary \"x\" $00000000 -> $00001028\na CloseLibrary $00001028\na NewSem -> $00001028\na FreeSem $00001028\na OpenLibrary \"x\" $00000000 -> $00001028\na CloseLibrary $00001028\na CreateMsgPort -> $00001028\na DeleteMsgPort $00001028\na OpenLibrary \"x\" $00000000 -> $00001028\na CloseLibrary $00001028\na CreateIORequest $00001000 -> $00001028\na DeleteIORequest $00001028\na OpenLibrary \"x\" $00000000 -> $00001028\na CloseLibrary $00001028\na NewList -> $00001028\n"
