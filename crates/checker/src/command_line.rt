@@ -33,6 +33,8 @@ fn command<'a>(alloc: Global) -> Result<Command<'a>, AllocError> {
 /// # Errors
 ///
 /// What `clap` answers: the text of the help where it is asked for, a mistake in the words, or that memory was refused.
+///
+/// Source: own choice.
 pub fn paths_given<'a>(alloc: Global, words: &'a [&'a str]) -> Result<Paths<'a>, Error> {
     let matches = command(alloc)?.try_get_matches_from(words)?;
     let machine = matches.get_str("MACHINE").unwrap_or("");

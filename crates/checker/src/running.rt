@@ -225,6 +225,8 @@ fn words_of<R: Env + AllocGlobal>(rt: &R) -> io::Result<Vec<String>> {
 /// Runs the program on the process's arguments, and answers the status with which it ends.
 ///
 /// Arguments that are no text are refused as a command line is.
+///
+/// Source: own choice.
 pub fn run_on_arguments<R: Env + Files + AllocGlobal, W: Write, E: Write>(
     rt: &R,
     out: &mut W,

@@ -31,6 +31,8 @@ fn label_reason(alloc: Global, field: &str) -> Result<String, AllocError> {
 }
 
 /// The text with small letters for capital ones.
+///
+/// Source: own choice.
 pub fn lower_case(alloc: Global, text: &str) -> Result<String, AllocError> {
     let mut lower = String::new(alloc);
     for c in text.chars() {
@@ -286,6 +288,8 @@ fn mistake_advice(
 }
 
 /// The part of a line for which it says no command, and why. `softints` are the software interrupts of the file.
+///
+/// Source: own choice.
 pub fn line_advice(alloc: Global, softints: &[Value], line: &str) -> Result<Advice, AllocError> {
     let fields = fields_of(alloc, line)?;
     let Some(mistake) = mistake_in(softints, &fields) else {

@@ -51,6 +51,8 @@ fn fault_name(fault: FileFault) -> &'static str {
 }
 
 /// The array of what has a body.
+///
+/// Source: own choice.
 pub fn array_of(owner: Owner) -> Array {
     match owner {
         Owner::Softint => Array::Softint,

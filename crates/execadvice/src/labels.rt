@@ -15,6 +15,8 @@ pub struct Found {
 }
 
 /// The labels of a body, with the numbers of their lines.
+///
+/// Source: own choice.
 pub fn labels_of<'a>(
     alloc: Global,
     lines: &'a [Value],
@@ -98,6 +100,8 @@ fn astray(alloc: Global, lines: &[Value]) -> Result<Option<Found>, AllocError> {
 }
 
 /// The line of a body that is BadLabel, and why.
+///
+/// Source: own choice.
 pub fn bad_label(alloc: Global, lines: &[Value]) -> Result<Option<Found>, AllocError> {
     match repeated_label(alloc, lines)? {
         Some(found) => Ok(Some(found)),

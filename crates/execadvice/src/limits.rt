@@ -60,6 +60,8 @@ fn field_past_limit<'a>(
 }
 
 /// The first line of a body that has a variable past its limit, where the bodies before it named those shared ones.
+///
+/// Source: own choice.
 pub fn past_limit<'a>(
     alloc: Global,
     lines: &'a [Value],

@@ -28,6 +28,8 @@ fn is_header_of(line: &str, name: &str) -> bool {
 }
 
 /// The lines of the item of that number of an array of so many items, with its header. None where the file has not as many headers.
+///
+/// Source: own choice.
 pub fn section_of<'a>(
     alloc: Global,
     text: &'a str,
@@ -62,6 +64,8 @@ pub fn section_of<'a>(
 }
 
 /// The lines before the first table.
+///
+/// Source: own choice.
 pub fn top_section(alloc: Global, text: &str) -> Result<Section<'_>, AllocError> {
     let mut lines = Vec::new(alloc);
     for line in text.lines() {
@@ -83,11 +87,15 @@ fn sets(line: &str, key: &str) -> bool {
 
 impl Section<'_> {
     /// The number of its first line.
+    ///
+    /// Source: own choice.
     pub fn header(&self) -> usize {
         self.first
     }
 
     /// The number of the line that gives a value to that key, where one does.
+    ///
+    /// Source: own choice.
     pub fn line_of_key(&self, key: &str) -> Option<usize> {
         let mut found = None;
         for (i, line) in self.lines.iter().enumerate() {
@@ -103,6 +111,8 @@ impl Section<'_> {
 
     /// The number of the line that has a string of this text, where as many lines have it as are wanted, or one has it; the one of
     /// that number among them.
+    ///
+    /// Source: own choice.
     pub fn line_of_string(
         &self,
         alloc: Global,
@@ -181,6 +191,8 @@ fn line_of_key(
 }
 
 /// The line of a place of the tree, where the file shows it.
+///
+/// Source: own choice.
 pub fn line_of_place(
     alloc: Global,
     text: &str,

@@ -20,6 +20,8 @@ fn in_other_case<'a>(text: &str, among: &[&'a str]) -> Option<&'a str> {
 
 /// The one of some texts that was likely meant: it differs in upper and lower case alone, or few edits lead to it, and to no other
 /// fewer. Two characters that changed places are one edit.
+///
+/// Source: own choice.
 pub fn nearest<'a>(
     alloc: Global,
     text: &str,
@@ -44,6 +46,8 @@ pub fn nearest<'a>(
 }
 
 /// The question that proposes a text, with what stands before and after it, or nothing.
+///
+/// Source: own choice.
 pub fn proposal(
     alloc: Global,
     before: &str,

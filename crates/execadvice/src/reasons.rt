@@ -221,6 +221,8 @@ fn array_reason(
 }
 
 /// The text of the key of a place, or the empty text.
+///
+/// Source: own choice.
 pub fn key_at(place: TreePlace, table: &Table) -> &str {
     match place {
         TreePlace::UnknownKey(of) => unknown_key(of, table_at(table, of)).unwrap_or(""),
@@ -230,6 +232,8 @@ pub fn key_at(place: TreePlace, table: &Table) -> &str {
 }
 
 /// Why a place of the tree is faulty.
+///
+/// Source: own choice.
 pub fn tree_reason(
     alloc: Global,
     place: TreePlace,

@@ -68,6 +68,8 @@ fn overlap(regions: &[Region]) -> Option<(usize, usize)> {
 }
 
 /// Which regions break which rule.
+///
+/// Source: own choice.
 pub fn regions_reason(alloc: Global, table: &Table) -> Result<String, AllocError> {
     let regions = regions_of(alloc, table)?;
     let mut total = 0u64;

@@ -12,6 +12,8 @@ pub struct Said<'a> {
 }
 
 /// The name of the label that a line is, if it is one.
+///
+/// Source: own choice.
 pub fn label_of(line: &str) -> Option<&str> {
     match label_in(line.as_bytes()) {
         None => None,
@@ -20,6 +22,8 @@ pub fn label_of(line: &str) -> Option<&str> {
 }
 
 /// The parts of a line, where it has a word.
+///
+/// Source: own choice.
 pub fn said_by(alloc: Global, line: &str) -> Result<Option<Said<'_>>, AllocError> {
     let fields = fields_of(alloc, line)?;
     let (target, at) = match fields.as_slice() {
@@ -45,6 +49,8 @@ pub fn said_by(alloc: Global, line: &str) -> Result<Option<Said<'_>>, AllocError
 
 impl Said<'_> {
     /// The arguments that may be variables.
+    ///
+    /// Source: own choice.
     pub fn is_value(&self, number: usize) -> bool {
         match self.word.kinds().get(number) {
             Some(kind) => *kind == Kind::Value,
@@ -53,6 +59,8 @@ impl Said<'_> {
     }
 
     /// The number of the field at which the argument of a number stands.
+    ///
+    /// Source: own choice.
     pub fn place_of(&self, number: usize) -> usize {
         let before = if self.target.is_some() {
             3usize
@@ -63,6 +71,8 @@ impl Said<'_> {
     }
 
     /// The number of the field of its word.
+    ///
+    /// Source: own choice.
     pub fn place_of_word(&self) -> usize {
         if self.target.is_some() { 2 } else { 0 }
     }

@@ -17,6 +17,8 @@ pub struct Advice {
 
 impl Advice {
     /// The reason for a part.
+    ///
+    /// Source: own choice.
     pub fn new(alloc: Global, span: Span, reason: &str) -> Result<Advice, AllocError> {
         Ok(Advice {
             span,
@@ -26,6 +28,8 @@ impl Advice {
 }
 
 /// The part of a line between single spaces that has this number, from 0; behind the last one, the place after the line's end.
+///
+/// Source: own choice.
 pub fn field_span(line: &str, number: usize) -> Span {
     let mut start = 0usize;
     for (i, field) in line.split(' ').enumerate() {
@@ -58,6 +62,8 @@ fn push_times(out: &mut String, part: &str, count: usize) -> Result<(), AllocErr
 }
 
 /// Adds the line, and below it marks under the part that is wrong, with the reason.
+///
+/// Source: own choice.
 pub fn push_marked(out: &mut String, line: &str, advice: &Advice) -> Result<(), AllocError> {
     out.push_str("    ")?;
     push_shown(out, line)?;
@@ -70,6 +76,8 @@ pub fn push_marked(out: &mut String, line: &str, advice: &Advice) -> Result<(), 
 }
 
 /// Adds a reason on a line of its own.
+///
+/// Source: own choice.
 pub fn push_reason(out: &mut String, reason: &str) -> Result<(), AllocError> {
     out.push_str("    ")?;
     out.push_str(reason)?;

@@ -28,6 +28,8 @@ fn reason_of(field: &str) -> Option<&'static str> {
 }
 
 /// What is wrong with the spaces of a line, or with a part that no line has.
+///
+/// Source: own choice.
 pub fn spacing_advice(alloc: Global, line: &str) -> Result<Option<Advice>, AllocError> {
     let whole = Span { start: 0, width: 1 };
     if line.is_empty() {

@@ -85,6 +85,8 @@ fn interrupt_advice(alloc: Global, line: &str) -> Result<Option<Advice>, AllocEr
 }
 
 /// The first line of the body of an interrupt that may not stand there, and why.
+///
+/// Source: own choice.
 pub fn not_in_interrupt(alloc: Global, lines: &[Value]) -> Result<Option<Found>, AllocError> {
     for (i, item) in lines.iter().enumerate() {
         if let Some(advice) = interrupt_advice(alloc, line_in(item))? {

@@ -249,6 +249,8 @@ fn add_unknown_names<'a>(
 
 /// What is worth a warning in a file that is accepted: variables that are read and never set, labels that nothing jumps to, tasks that
 /// never run, and names that FindPort and FindTask ask for and nobody has.
+///
+/// Source: own choice.
 pub fn warnings_of(alloc: Global, table: &Table) -> Result<Vec<Warning>, AllocError> {
     let all = spoken_in(alloc, table)?;
     let mut warnings = Vec::new(alloc);

@@ -12,6 +12,8 @@ use taskscript::Kind;
 use toml::Value;
 
 /// Whether a field is an argument of that kind. `softints` are the software interrupts of the file.
+///
+/// Source: own choice.
 pub fn is_right(softints: &[Value], kind: Kind, field: &[u8]) -> bool
     ensures { result ≡ is_right (item_names (items_view softints.now)) kind (argument_of kind field.now) }
 {
@@ -28,6 +30,8 @@ pub fn is_right(softints: &[Value], kind: Kind, field: &[u8]) -> bool
 }
 
 /// The number of the first argument that is not right: it is of another kind, or there is none, or it is one too many.
+///
+/// Source: own choice.
 pub fn wrong_argument(softints: &[Value], kinds: &[Kind], fields: &[&str]) -> Option<usize>
     ensures { result ≡ wrong_argument (item_names (items_view softints.now)) 0 kinds.now (map (λ f. f.now) fields.now) }
 {

@@ -16,6 +16,8 @@ pub struct Before<'a> {
 
 impl Before<'_> {
     /// Whether one of the items has that name.
+    ///
+    /// Source: own choice.
     pub fn has(self, name: &[u8]) -> bool
         ensures { result ≡ list_any (bytes_eq name.now) (names_before self.entry) }
     {

@@ -13,6 +13,8 @@ use std::alloc::{AllocError, Global};
 use toml::{Table, Value};
 
 /// The lines of what has a `code`, or none.
+///
+/// Source: own choice.
 pub fn lines_of(owner: &Value) -> &[Value]
     ensures { lines_in (items_view result.now) ≡ code_lines (view owner.now) }
 {

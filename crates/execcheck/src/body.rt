@@ -11,6 +11,8 @@ use std::alloc::{AllocError, Global};
 use toml::Value;
 
 /// The number of the first line that says nothing, or names a software interrupt that the file lacks.
+///
+/// Source: own choice.
 pub fn first_without_command(
     alloc: Global,
     softints: &[Value],

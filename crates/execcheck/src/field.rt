@@ -14,6 +14,8 @@ fn has_identifier_bytes(bytes: &[u8]) -> bool
 }
 
 /// Whether the bytes are the name of a variable or of a label.
+///
+/// Source: own choice.
 pub fn is_identifier(bytes: &[u8]) -> bool
     ensures { result ≡ is_identifier bytes.now }
 {
@@ -27,6 +29,8 @@ pub fn is_identifier(bytes: &[u8]) -> bool
 }
 
 /// Whether the bytes are a variable, private or shared.
+///
+/// Source: own choice.
 pub fn is_variable(bytes: &[u8]) -> bool
     ensures { result ≡ is_some (variable_of bytes.now) }
 {
@@ -47,6 +51,8 @@ fn has_name_bytes(bytes: &[u8]) -> bool
 }
 
 /// Whether the bytes are a name of the machine file.
+///
+/// Source: own choice.
 pub fn is_name(bytes: &[u8]) -> bool
     ensures { result ≡ is_name bytes.now }
 {
@@ -57,6 +63,8 @@ pub fn is_name(bytes: &[u8]) -> bool
 }
 
 /// What stands between double quotes, where that is a name.
+///
+/// Source: own choice.
 pub fn quoted_in(bytes: &[u8]) -> Option<&[u8]>
     ensures { option_map (λ n. n.now) result ≡ quoted_in bytes.now }
 {
@@ -72,6 +80,8 @@ pub fn quoted_in(bytes: &[u8]) -> Option<&[u8]>
 }
 
 /// The name of a label, where the bytes are a label's.
+///
+/// Source: own choice.
 pub fn label_in(bytes: &[u8]) -> Option<&[u8]>
     ensures { option_map (λ n. n.now) result ≡ label_in bytes.now }
 {

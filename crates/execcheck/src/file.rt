@@ -15,6 +15,8 @@ use taskscript::{FileFault, regions_at, total_of};
 use toml::Table;
 
 /// The bytes that the regions of a file may have together, by its version.
+///
+/// Source: own choice.
 pub fn total_at(table: &Table) -> u32
     ensures { result ≡ total_of (version_of (table_view table.now)) }
 {

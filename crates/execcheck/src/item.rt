@@ -87,6 +87,8 @@ fn is_listed(place: TablePlace, key: &str) -> bool
 }
 
 /// The first key of a table, in the order of the bytes of their texts, that it may not have.
+///
+/// Source: own choice.
 pub fn unknown_key(place: TablePlace, table: &Table) -> Option<&str>
     ensures { option_map (λ k. k.now) result ≡ unknown_among (keys_at place) (table_view table.now) }
 {
@@ -144,6 +146,8 @@ fn items_found(array: Array, one: &[Value], other: &[Value], items: &[Value]) ->
 }
 
 /// The first faulty place of an array of the file and of its items, which may have none of the names of two other ones.
+///
+/// Source: own choice.
 #[tactic(auto, using(taskscript::proofs::Keys::count_items_view))]
 pub fn array_in(array: Array, one: &[Value], other: &[Value], table: &Table) -> Option<TreeFault>
     ensures { let before = item_names (items_view one.now) ++ item_names (items_view other.now) in
@@ -173,6 +177,8 @@ pub fn array_in(array: Array, one: &[Value], other: &[Value], table: &Table) -> 
 }
 
 /// The first faulty place of the top table, without its arrays.
+///
+/// Source: own choice.
 pub fn top_found(table: &Table) -> Option<TreeFault>
     ensures { result ≡ first (table_found table_place.Top [] (table_view table.now)) }
 {

@@ -75,6 +75,8 @@ fn is_label(fields: &[&str]) -> bool
 }
 
 /// The mistake in a line of these fields, if there is one. `softints` are the software interrupts of the file.
+///
+/// Source: own choice.
 #[tactic(auto, unfolding(crate::specs::Mistakes::mistake_in))]
 pub fn mistake_in(softints: &[Value], fields: &[&str]) -> Option<Mistake>
     ensures { result ≡ mistake_in (item_names (items_view softints.now)) (map (λ f. f.now) fields.now) }

@@ -54,6 +54,8 @@ fn below_word(bytes: &[u8], radix: u64) -> Option<u32>
 }
 
 /// The number below 2 ^ 32 that these decimal digits write, if they are such; none has a leading zero.
+///
+/// Source: own choice.
 pub fn decimal_of(bytes: &[u8]) -> Option<u32>
     ensures { result ≡ decimal_of bytes.now }
 {

@@ -87,6 +87,8 @@ fn name_fault(before: Before<'_>, value: &Value) -> Option<FileFault>
 }
 
 /// Whether the items are strings.
+///
+/// Source: own choice.
 pub fn are_strings(items: &[Value]) -> bool
     ensures { result ≡ are_strings (items_view items.now) }
 {
@@ -120,6 +122,8 @@ fn code_fault(value: &Value) -> Option<FileFault>
 }
 
 /// The fault of what a key holds, if it is not what is wanted. `before` are the items whose names a name may not be.
+///
+/// Source: own choice.
 pub fn value_fault(wanted: Wanted, before: Before<'_>, value: &Value) -> Option<FileFault>
     ensures { result ≡ first (value_faults wanted (names_before before.entry) (view value.now)) }
 {

@@ -21,6 +21,8 @@ use execlist::space::{HeaderId, ListSpace, NodeId};
 
 impl<S: ListSpace> Objects<S> {
     /// The list that begins at an address.
+    ///
+    /// Source: own choice.
     pub fn list_at(&self, list: u32) -> Result<HeaderId, Refusal>
         ensures alert { alert_of result ≡ model.list_alert list (shown_heap self.now) }
         ensures found { IfOk result (λ h. slot (places variant.List self.now) h ≡ Some list) }
@@ -33,6 +35,8 @@ impl<S: ListSpace> Objects<S> {
     }
 
     /// The list that begins at an address, which has no node.
+    ///
+    /// Source: own choice.
     pub fn empty_list_at(&self, list: u32) -> Result<HeaderId, Refusal>
         ensures alert { alert_of result ≡ model.free_list_alert list (shown_heap self.now) }
         ensures found { IfOk result (λ h. slot (places variant.List self.now) h ≡ Some list) }
@@ -49,6 +53,8 @@ impl<S: ListSpace> Objects<S> {
     }
 
     /// The node that begins at an address, which is not linked.
+    ///
+    /// Source: own choice.
     pub fn unlinked_node_at(&self, node: u32) -> Result<NodeId, Refusal>
         ensures alert { alert_of result ≡ model.free_node_alert node (shown_heap self.now) }
         ensures found { IfOk result (λ n. slot (places variant.Node self.now) n ≡ Some node) }
@@ -65,6 +71,8 @@ impl<S: ListSpace> Objects<S> {
     }
 
     /// The node that begins at an address, which is linked, after the list that has it.
+    ///
+    /// Source: own choice.
     pub fn linked_node_at(&self, node: u32) -> Result<(HeaderId, NodeId), Refusal>
         ensures alert { alert_of result ≡ model.linked_alert node (shown_heap self.now) }
         ensures found { IfOk result (λ pair. slot (places variant.Node self.now) pair.1 ≡ Some node) }
@@ -81,6 +89,8 @@ impl<S: ListSpace> Objects<S> {
     }
 
     /// The list that begins at an address, and the node that begins at another and is not linked.
+    ///
+    /// Source: own choice.
     pub fn to_link(&self, list: u32, node: u32) -> Result<(HeaderId, NodeId), Refusal>
         ensures alert { alert_of result ≡ model.link_alert list node (shown_heap self.now) }
         ensures list { IfOk result (λ pair. slot (places variant.List self.now) pair.0 ≡ Some list) }
@@ -125,6 +135,8 @@ impl<S: ListSpace> Objects<S> {
 
     /// The list and the node that begin at addresses, the node not linked, and the node of the list that begins at a third one, or none
     /// for 0.
+    ///
+    /// Source: own choice.
     pub fn to_insert(
         &self,
         list: u32,
@@ -161,6 +173,8 @@ impl<S: ListSpace> Objects<S> {
     }
 
     /// Where FindName begins: at the first node of the list that begins at an address, or after the linked node that does.
+    ///
+    /// Source: own choice.
     pub fn to_search(&self, start: u32) -> Result<(HeaderId, Option<NodeId>), Refusal>
         ensures alert { alert_of result ≡ model.find_alert start (shown_heap self.now) }
         ensures live { IfOk result (λ pair. IsSome (slot (places variant.List self.now) pair.0)) }
@@ -179,6 +193,8 @@ impl<S: ListSpace> Objects<S> {
     }
 
     /// The address of a live node, or 0 for none.
+    ///
+    /// Source: own choice.
     pub fn address_or_0(&self, n: Option<NodeId>) -> u32
         requires { IfSome n (λ m. IsSome (slot (places variant.Node self.now) m)) }
         ensures { result ≡ model.or_none (option_map (address_in (places variant.Node self.now)) n) }

@@ -51,6 +51,8 @@ impl<S: ListSpace> Heap<S> {
     /// where memory is lacking if `asks` says so. Of each kind as many objects may live as `pool` says, and clock and system time stand at 0
     /// and gain `tick_micros` microseconds at each tick. An error means that memory of the host is lacking, or that `check_regions` refuses
     /// the regions, which no machine file's are.
+    ///
+    /// Source: own choice.
     pub fn new(
         alloc: Global,
         regions: &[Region],

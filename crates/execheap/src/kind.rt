@@ -21,6 +21,8 @@ pub enum Kind {
 
 impl Kind {
     /// The number of the kind, by which its pool stands in the table.
+    ///
+    /// Source: own choice.
     pub fn code(self) -> usize
         ensures { result ≡ kind_code self }
     {
@@ -35,6 +37,8 @@ impl Kind {
     }
 
     /// The kind of a number, if there is one.
+    ///
+    /// Source: own choice.
     pub fn of_code(code: u32) -> Option<Kind>
         ensures { result ≡ slice_get kinds code }
     {

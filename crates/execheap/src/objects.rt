@@ -82,6 +82,8 @@ impl<S: ListSpace> Model for Objects<S> {
 impl<S: ListSpace> Objects<S> {
     /// Memory of these regions in which nothing is allocated, room for so many objects of each kind, these libraries, none of them loaded,
     /// which are asked to give way or not, and a clock at 0 that gains so many microseconds at each tick.
+    ///
+    /// Source: own choice.
     pub fn new(
         alloc: Global,
         regions: &[Region],
@@ -112,6 +114,8 @@ impl<S: ListSpace> Objects<S> {
     }
 
     /// What always holds of the objects. It costs nothing.
+    ///
+    /// Source: own choice.
     pub fn facts(&self)
         ensures { IsKnown self.now }
     {
@@ -125,6 +129,8 @@ impl<S: ListSpace> Objects<S> {
     // ---- plain blocks
 
     /// A plain block of so many bytes, if one fits once libraries were asked to give way: its address.
+    ///
+    /// Source: autodoc exec.library/AllocMem; when libraries are asked: own choice.
     pub fn allocate(&mut self, size: u32, reqs: u32) -> Option<u32>
         ensures address { result ≡ place_for size reqs (after_asking size reqs (shown_memory self.old)) }
         ensures next { shown_memory self.new ≡ placed size Plain result (after_asking size reqs (shown_memory self.old)) }
@@ -133,6 +139,8 @@ impl<S: ListSpace> Objects<S> {
     }
 
     /// Frees the plain block that begins at an address, if the size names it.
+    ///
+    /// Source: autodoc exec.library/FreeMem; the refusal is own choice.
     pub fn free(&mut self, address: u32, size: u32) -> bool
         ensures answer { result ≡ can_free address size self.old.table.memory.blocks }
         ensures freed { result ≡ true → self.new ≡ record self.old { table = record self.old.table { memory = without_block address self.old.table.memory } } }
@@ -142,6 +150,8 @@ impl<S: ListSpace> Objects<S> {
     }
 
     /// How much memory there is.
+    ///
+    /// Source: autodoc exec.library/AvailMem.
     pub fn available(&self, reqs: u32) -> u32
         requires { IsTrue (not (asks 17 reqs && asks 19 reqs)) }
         ensures { result ≡ avail self.now.table.memory.regions self.now.table.memory.blocks reqs }
@@ -153,6 +163,8 @@ impl<S: ListSpace> Objects<S> {
 
     /// The number of the object of a kind that begins at an address, if one does. A call on objects begins here, and learns here what
     /// always holds of them.
+    ///
+    /// Source: own choice.
     pub fn number_at(&self, kind: Kind, address: u32) -> Option<usize>
         ensures value { result ≡ number_at kind address self.now.table }
         ensures live { IfSome result (λ n. slot (places kind self.now) n ≡ Some address) }
@@ -163,6 +175,8 @@ impl<S: ListSpace> Objects<S> {
     }
 
     /// The address of a live object of a kind.
+    ///
+    /// Source: own choice.
     pub fn address_of(&self, kind: Kind, number: usize) -> u32
         requires { IsSome (slot (places kind self.now) number) }
         ensures { slot (places kind self.now) number ≡ Some result }
@@ -173,6 +187,8 @@ impl<S: ListSpace> Objects<S> {
     // ---- lists and nodes made and freed
 
     /// A new empty list, if the pool has one left and its block fits once libraries gave way: its address.
+    ///
+    /// Source: autodoc amiga.lib/NewList; that it takes the memory is own choice.
     pub fn make_list(&mut self) -> Option<u32>
         ensures address { result ≡ place_for_object is_list 14 (after_asking_for_object is_list 14 (shown_memory self.old)) }
         ensures next { shown_memory self.new ≡ placed 14 (ListHead []) result (after_asking_for_object is_list 14 (shown_memory self.old)) }
@@ -182,6 +198,8 @@ impl<S: ListSpace> Objects<S> {
     }
 
     /// A new node with that key, if the pool has one left and its block fits once libraries gave way: its address.
+    ///
+    /// Source: RKM Libraries, Exec Lists and Queues: node initialization; that it takes the memory is own choice.
     pub fn make_node(&mut self, pri: i8, name: Option<Name>) -> Option<u32>
         ensures address { result ≡ place_for_object is_node 14 (after_asking_for_object is_node 14 (shown_memory self.old)) }
         ensures next { shown_memory self.new ≡ placed 14 (Node (key_with pri (option_map (λ text. text.bytes) name))) result (after_asking_for_object is_node 14 (shown_memory self.old)) }
@@ -192,6 +210,8 @@ impl<S: ListSpace> Objects<S> {
     }
 
     /// Frees an empty list.
+    ///
+    /// Source: own choice.
     pub fn free_list(&mut self, h: HeaderId, address: u32)
         requires live { slot (places variant.List self.old) h ≡ Some address }
         requires empty { sequence self.old.sequences h ≡ [] }
@@ -201,6 +221,8 @@ impl<S: ListSpace> Objects<S> {
     }
 
     /// Frees a node that is not linked.
+    ///
+    /// Source: own choice.
     pub fn free_node(&mut self, n: NodeId, address: u32)
         requires live { slot (places variant.Node self.old) n ≡ Some address }
         requires unlinked { home self.old.homes n ≡ None }
@@ -212,6 +234,8 @@ impl<S: ListSpace> Objects<S> {
     // ---- linking
 
     /// The list that has a live node, if one has.
+    ///
+    /// Source: own choice.
     pub fn home(&self, n: NodeId) -> Option<HeaderId>
         requires { IsSome (slot (places variant.Node self.now) n) }
         ensures { result ≡ home self.now.homes n }
@@ -220,6 +244,8 @@ impl<S: ListSpace> Objects<S> {
     }
 
     /// Puts an unlinked node first.
+    ///
+    /// Source: autodoc exec.library/AddHead.
     pub fn add_head(&mut self, h: HeaderId, n: NodeId)
         requires list { IsSome (slot (places variant.List self.old) h) }
         requires node { IsSome (slot (places variant.Node self.old) n) }
@@ -230,6 +256,8 @@ impl<S: ListSpace> Objects<S> {
     }
 
     /// Puts an unlinked node last.
+    ///
+    /// Source: autodoc exec.library/AddTail.
     pub fn add_tail(&mut self, h: HeaderId, n: NodeId)
         requires list { IsSome (slot (places variant.List self.old) h) }
         requires node { IsSome (slot (places variant.Node self.old) n) }
@@ -240,6 +268,8 @@ impl<S: ListSpace> Objects<S> {
     }
 
     /// Puts an unlinked node before the first node of lower priority.
+    ///
+    /// Source: autodoc exec.library/Enqueue.
     pub fn enqueue(&mut self, h: HeaderId, n: NodeId)
         requires list { IsSome (slot (places variant.List self.old) h) }
         requires node { IsSome (slot (places variant.Node self.old) n) }
@@ -250,6 +280,8 @@ impl<S: ListSpace> Objects<S> {
     }
 
     /// Puts an unlinked node after a node of the list, or first for none.
+    ///
+    /// Source: autodoc exec.library/Insert.
     pub fn insert(&mut self, h: HeaderId, n: NodeId, pred: Option<NodeId>)
         requires list { IsSome (slot (places variant.List self.old) h) }
         requires node { IsSome (slot (places variant.Node self.old) n) }
@@ -261,6 +293,8 @@ impl<S: ListSpace> Objects<S> {
     }
 
     /// Takes a linked node out of its list.
+    ///
+    /// Source: autodoc exec.library/Remove.
     pub fn remove(&mut self, n: NodeId)
         requires { IsSome (home self.old.homes n) }
         ensures { self.new ≡ taken_out n self.old }
@@ -269,6 +303,8 @@ impl<S: ListSpace> Objects<S> {
     }
 
     /// Takes the first node out of a list, if it has one.
+    ///
+    /// Source: autodoc exec.library/RemHead.
     pub fn rem_head(&mut self, h: HeaderId) -> Option<NodeId>
         requires { IsSome (slot (places variant.List self.old) h) }
         ensures value { result ≡ first (sequence self.old.sequences h) }
@@ -279,6 +315,8 @@ impl<S: ListSpace> Objects<S> {
     }
 
     /// Takes the last node out of a list, if it has one.
+    ///
+    /// Source: autodoc exec.library/RemTail.
     pub fn rem_tail(&mut self, h: HeaderId) -> Option<NodeId>
         requires { IsSome (slot (places variant.List self.old) h) }
         ensures value { result ≡ last (sequence self.old.sequences h) }
@@ -291,6 +329,8 @@ impl<S: ListSpace> Objects<S> {
     // ---- scanning
 
     /// The first node of a list, if it has one.
+    ///
+    /// Source: RKM Libraries, Exec Lists and Queues: scanning a list.
     pub fn first(&self, h: HeaderId) -> Option<NodeId>
         requires { IsSome (slot (places variant.List self.now) h) }
         ensures value { result ≡ first (sequence self.now.sequences h) }
@@ -300,6 +340,8 @@ impl<S: ListSpace> Objects<S> {
     }
 
     /// The last node of a list, if it has one.
+    ///
+    /// Source: RKM Libraries, Exec Lists and Queues: scanning a list.
     pub fn last(&self, h: HeaderId) -> Option<NodeId>
         requires { IsSome (slot (places variant.List self.now) h) }
         ensures value { result ≡ last (sequence self.now.sequences h) }
@@ -309,6 +351,8 @@ impl<S: ListSpace> Objects<S> {
     }
 
     /// The node after a linked one, if there is one.
+    ///
+    /// Source: RKM Libraries, Exec Lists and Queues: `ln_Succ`.
     pub fn succ(&self, n: NodeId) -> Option<NodeId>
         requires { IsSome (home self.now.homes n) }
         ensures value { ForSome (home self.now.homes n) (λ h. result ≡ first (part_after n (sequence self.now.sequences h))) }
@@ -318,6 +362,8 @@ impl<S: ListSpace> Objects<S> {
     }
 
     /// The node before a linked one, if there is one.
+    ///
+    /// Source: RKM Libraries, Exec Lists and Queues: `ln_Pred`.
     pub fn pred(&self, n: NodeId) -> Option<NodeId>
         requires { IsSome (home self.now.homes n) }
         ensures value { ForSome (home self.now.homes n) (λ h. result ≡ last (part_before n (sequence self.now.sequences h))) }
@@ -327,6 +373,8 @@ impl<S: ListSpace> Objects<S> {
     }
 
     /// The first node of a name in a list, or after a node of it.
+    ///
+    /// Source: autodoc exec.library/FindName.
     pub fn find_name(&self, h: HeaderId, after: Option<NodeId>, name: &str) -> Option<NodeId>
         requires list { IsSome (slot (places variant.List self.now) h) }
         requires after_in { ForSome after (λ n. home self.now.homes n ≡ Some h) }

@@ -30,6 +30,8 @@ pub enum Refusal {
 
 impl Refusal {
     /// The code of the alert, as it stands in the trace.
+    ///
+    /// Source: own choice.
     pub fn code(self) -> &'static str
         ensures { result.now ≡ code_of self }
     {

@@ -42,6 +42,8 @@ impl<S: ListSpace> Model for Table<S> {
 impl<S: ListSpace> Table<S> {
     /// Memory of these regions in which nothing is allocated, room for so many objects of each kind, and these libraries, none of them loaded,
     /// which are asked to give way or not.
+    ///
+    /// Source: own choice.
     pub fn new(
         alloc: Global,
         regions: &[Region],
@@ -65,6 +67,8 @@ impl<S: ListSpace> Table<S> {
     }
 
     /// What always holds of the table. It costs nothing.
+    ///
+    /// Source: own choice.
     pub fn facts(&self)
         ensures sound { IsSound self.now }
         ensures memory { IsWellFormed self.now.memory.regions self.now.memory.blocks }
@@ -75,6 +79,8 @@ impl<S: ListSpace> Table<S> {
     // ---- plain blocks
 
     /// A plain block of so many bytes, if one fits once libraries were asked to give way.
+    ///
+    /// Source: autodoc exec.library/AllocMem; when libraries are asked: own choice.
     pub fn allocate(&mut self, size: u32, reqs: u32) -> Option<u32>
         ensures answer { let ready = after_asking size reqs self.old in result ≡ fit ready.memory.regions ready.memory.blocks size reqs }
         ensures next { let ready = after_asking size reqs self.old in self.new ≡ record ready { memory = allocated size 0 result ready.memory } }
@@ -86,6 +92,8 @@ impl<S: ListSpace> Table<S> {
     }
 
     /// Frees the plain block that begins at an address, if the size names it.
+    ///
+    /// Source: autodoc exec.library/FreeMem; the refusal is own choice.
     pub fn free_plain(&mut self, address: u32, size: u32) -> bool
         ensures answer { result ≡ can_free address size self.old.memory.blocks }
         ensures freed { result ≡ true → self.new ≡ record self.old { memory = without_block address self.old.memory } }
@@ -96,6 +104,8 @@ impl<S: ListSpace> Table<S> {
     }
 
     /// How much memory there is.
+    ///
+    /// Source: autodoc exec.library/AvailMem.
     pub fn available(&self, reqs: u32) -> u32
         requires { IsTrue (not (asks 17 reqs && asks 19 reqs)) }
         ensures { result ≡ avail self.now.memory.regions self.now.memory.blocks reqs }
@@ -104,6 +114,8 @@ impl<S: ListSpace> Table<S> {
     }
 
     /// How many objects of each kind may live.
+    ///
+    /// Source: own choice.
     pub fn pool(&self) -> usize
         ensures { result ≡ self.now.pool }
     {
@@ -113,6 +125,8 @@ impl<S: ListSpace> Table<S> {
     // ---- objects
 
     /// The number of the object of a kind that begins at an address, if one does.
+    ///
+    /// Source: own choice.
     pub fn number_at(&self, kind: Kind, address: u32) -> Option<usize>
         ensures value { result ≡ number_at kind address self.now }
         ensures live { IfSome result (λ n. slot (slots_of kind self.now) n ≡ Some address) }
@@ -124,6 +138,8 @@ impl<S: ListSpace> Table<S> {
     }
 
     /// The address of the object of a kind and a number, if it lives.
+    ///
+    /// Source: own choice.
     pub fn address_of(&self, kind: Kind, number: usize) -> Option<u32>
         ensures { result ≡ slot (slots_of kind self.now) number }
     {
@@ -132,6 +148,8 @@ impl<S: ListSpace> Table<S> {
 
     /// A new object of a kind, if the pool has one left and its block fits once libraries were asked to give way: its number and its
     /// address. Nothing is asked where the pool has none left.
+    ///
+    /// Source: own choice.
     pub fn make(&mut self, kind: Kind) -> Option<(usize, u32)>
         ensures answer { result ≡ next_object kind (ready_for kind self.old) }
         ensures next { self.new ≡ with_object kind result (ready_for kind self.old) }
@@ -152,6 +170,8 @@ impl<S: ListSpace> Table<S> {
     }
 
     /// Frees the object of a kind and a number.
+    ///
+    /// Source: own choice.
     pub fn free(&mut self, kind: Kind, number: usize, address: u32)
         requires { slot (slots_of kind self.old) number ≡ Some address }
         ensures next { self.new ≡ without_object kind number address self.old }
@@ -166,6 +186,8 @@ impl<S: ListSpace> Table<S> {
     // ---- libraries
 
     /// The number of the loaded library that begins at an address, if one does.
+    ///
+    /// Source: own choice.
     pub fn library_at(&self, address: u32) -> Option<LibId>
         ensures value { result ≡ library_at address self.now }
         ensures live { IfSome result (λ i. base_at i self.now.libs ≡ Some address) }
@@ -177,6 +199,8 @@ impl<S: ListSpace> Table<S> {
     }
 
     /// How often a loaded library is open.
+    ///
+    /// Source: RKM Libraries, Exec Libraries: `lib_OpenCnt`.
     pub fn library_count(&self, i: LibId) -> u32
         requires { IsTrue (is_loaded i self.now.libs) }
         ensures { result ≡ count_of i self.now.libs }
@@ -186,6 +210,8 @@ impl<S: ListSpace> Table<S> {
 
     /// Opens the library of a name that has at least a version, loading it first where it is absent, and answers its base; none where there
     /// is none such, or it can be opened no more, or its block fits nowhere once others were asked to give way.
+    ///
+    /// Source: autodoc exec.library/OpenLibrary.
     pub fn open_library(&mut self, name: &str, version: u32) -> Option<u32>
         ensures answer { let found = library_to_open name.now version self.old.libs in let ready = ready_to_open found self.old in result ≡ opened_base found ready.libs ready.memory }
         ensures next { let found = library_to_open name.now version self.old.libs in self.new ≡ library_opened found result (ready_to_open found self.old) }
@@ -197,6 +223,8 @@ impl<S: ListSpace> Table<S> {
     }
 
     /// Closes a library that is open once.
+    ///
+    /// Source: autodoc exec.library/CloseLibrary.
     pub fn close_library(&mut self, i: LibId)
         requires loaded { IsTrue (is_loaded i self.old.libs) }
         requires open { close_fault i self.old.libs ≡ None }
@@ -209,6 +237,8 @@ impl<S: ListSpace> Table<S> {
     }
 
     /// Removes a loaded library, now or when it is closed for the last time.
+    ///
+    /// Source: autodoc exec.library/RemLibrary.
     pub fn remove_library(&mut self, i: LibId)
         requires { IsTrue (is_loaded i self.old.libs) }
         ensures next { self.new ≡ library_removed i self.old }

@@ -19,6 +19,8 @@ pub enum Tagged {
 }
 
 /// What a tag says.
+///
+/// Source: own choice.
 pub fn read(tag: u32) -> Tagged
     ensures { result ≡ tagged tag }
 {
@@ -36,6 +38,8 @@ pub fn read(tag: u32) -> Tagged
 }
 
 /// The tag of the object of a kind and a number.
+///
+/// Source: own choice.
 pub fn tag_of(kind: Kind, number: usize) -> u32
     requires { number < 1024 }
     ensures { result ≡ tag_of kind number }
@@ -44,6 +48,8 @@ pub fn tag_of(kind: Kind, number: usize) -> u32
 }
 
 /// The number of the object, if it is one of that kind.
+///
+/// Source: own choice.
 pub fn number_in(kind: Kind, tagged: Tagged) -> Option<usize>
     ensures { result ≡ number_in kind tagged }
 {
@@ -54,6 +60,8 @@ pub fn number_in(kind: Kind, tagged: Tagged) -> Option<usize>
 }
 
 /// The number of the library, if it is one.
+///
+/// Source: own choice.
 pub fn library_in(tagged: Tagged) -> Option<usize>
     ensures { result ≡ library_in tagged }
 {

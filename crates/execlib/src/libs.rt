@@ -56,6 +56,8 @@ impl<S: ListSpace> Libs<S> {
     /// are asked to give way where a block fits nowhere (`alloc_mem`, and `open` where it loads one).
     ///
     /// An error means that memory is lacking.
+    ///
+    /// Source: own choice.
     pub fn new(alloc: Global, libraries: &[LibInit], asks: bool) -> Result<Self, AllocError>
         requires { length libraries.now ≤ 32 }
         ensures { IfOk result (λ q. q ≡ no_library_loaded (map description_of libraries.now) asks) }

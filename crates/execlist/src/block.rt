@@ -48,6 +48,8 @@ impl<A: Allocator> Model for Deed<A> {
 
 /// Takes a block with room for `capacity` cells, none of which is there yet, and the deed to give it back,
 /// or answers none where memory is lacking.
+///
+/// Source: own choice.
 pub fn reserve<A: Allocator>(alloc: &A, capacity: usize) -> Option<(Block, Deed<A>)>
     requires { capacity < 2 ^ 32 }
     ensures { IfSome result (λ r. (r.0.capacity ≡ capacity) × (r.0.links ≡ []) × (r.1.alloc ≡ alloc.now)
@@ -65,6 +67,8 @@ pub fn reserve<A: Allocator>(alloc: &A, capacity: usize) -> Option<(Block, Deed<
 
 impl Block {
     /// Gives the block back to the allocator that it was taken from. Both the block and its deed are used up.
+    ///
+    /// Source: own choice.
     pub fn free<A: Allocator>(self, deed: Deed<A>, alloc: &A, capacity: usize)
         requires { (deed.alloc ≡ alloc.now) × (deed.base ≡ self.base) × (deed.capacity ≡ self.capacity)
             × (capacity ≡ self.capacity) }
@@ -76,6 +80,8 @@ impl Block {
 
     /// Writes the next cell, of number `cell`, with the cells `next` and `prev` on its sides. `home` is 0 for
     /// none, and one more than the header's number else; `number` is `cell` in the cell's own width.
+    ///
+    /// Source: own choice.
     pub fn push(&mut self, cell: usize, number: u32, next: usize, prev: usize, home: u32)
         requires { (cell ≡ length self.old.links) × (number ≡ length self.old.links)
             × (cell < self.old.capacity) × (next < self.old.capacity) × (prev < self.old.capacity) }
@@ -93,6 +99,8 @@ impl Block {
     }
 
     /// Answers 0 for a cell that has no header, and one more than the header's number else.
+    ///
+    /// Source: own choice.
     pub fn home_id(&self, i: usize) -> u32
         requires { i < length self.now.links }
         ensures { result ≡ (link_at self.now.links i).home }
@@ -101,6 +109,8 @@ impl Block {
     }
 
     /// Answers the number of the next cell.
+    ///
+    /// Source: RKM Libraries, Exec Lists and Queues: `ln_Succ`.
     pub fn next_id(&self, i: usize) -> u32
         requires { (i < length self.now.links) × ((link_at self.now.links i).next < length self.now.links) }
         ensures { result ≡ (link_at self.now.links i).next }
@@ -112,6 +122,8 @@ impl Block {
     }
 
     /// Answers the number of the cell before.
+    ///
+    /// Source: RKM Libraries, Exec Lists and Queues: `ln_Pred`.
     pub fn prev_id(&self, i: usize) -> u32
         requires { (i < length self.now.links) × ((link_at self.now.links i).prev < length self.now.links) }
         ensures { result ≡ (link_at self.now.links i).prev }

@@ -29,6 +29,8 @@ impl DigestKey {
     ghost use Rattle.execlist.specs.DigestKeys.{digest_key_of};
 
     /// Makes the key of this priority, and of this name or none.
+    ///
+    /// Source: own choice.
     pub fn new(pri: i8, name: Option<Name>) -> DigestKey
         ensures { digest_key_of result ≡ record { pri = pri; name = option_map (λ t. t.bytes) name } }
     {
@@ -40,6 +42,8 @@ impl DigestKey {
     }
 
     /// Answers the priority, -128 to 127.
+    ///
+    /// Source: RKM Libraries, Exec Lists and Queues: `ln_Pri`.
     #[inline]
     pub fn pri(&self) -> i8
         ensures { result ≡ (digest_key_of self.now).pri }
@@ -48,6 +52,8 @@ impl DigestKey {
     }
 
     /// Whether there is a name and it is `name`, byte for byte.
+    ///
+    /// Source: own choice.
     pub fn is_named(&self, name: &str) -> bool
         ensures { result ≡ name_is ((digest_key_of self.now).name) name.now }
     {
@@ -58,6 +64,8 @@ impl DigestKey {
     }
 
     /// The same, where the digest of `name` is known.
+    ///
+    /// Source: own choice.
     #[inline]
     pub fn is_told(&self, digest: u64, name: &str) -> bool
         requires { digest ≡ digest_of name.now }

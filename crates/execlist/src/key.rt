@@ -18,6 +18,8 @@ impl NodeKey {
     ghost use Rattle.execlist.specs.Keys.{key_of};
 
     /// Whether there is a name and it is `name`, byte for byte.
+    ///
+    /// Source: own choice.
     pub fn is_named(&self, name: &str) -> bool
         ensures { result ≡ name_is ((key_of self.now).name) name.now }
     {

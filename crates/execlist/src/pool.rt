@@ -29,6 +29,8 @@ impl<T: Copy> Model for Pool<T> {
 
 impl<T: Copy> Pool<T> {
     /// A pool of so many numbers, all of them free. An error means that memory is lacking.
+    ///
+    /// Source: own choice.
     pub fn new(alloc: Global, count: usize) -> Result<Self, AllocError>
         ensures { IfOk result (λ pool. pool ≡ all_free count) }
     {
@@ -38,6 +40,8 @@ impl<T: Copy> Pool<T> {
     }
 
     /// The number that is given next, none where every number holds an item.
+    ///
+    /// Source: own choice.
     pub fn next(&self) -> Option<usize>
         ensures value { result ≡ next_number self.now }
         ensures free { IfSome result (λ n. slot self.now.slots n ≡ None) }
@@ -47,6 +51,8 @@ impl<T: Copy> Pool<T> {
     }
 
     /// Puts an item at the next number, which there is.
+    ///
+    /// Source: own choice.
     pub fn give(&mut self, item: T)
         requires { IsSome (next_number self.old) }
         ensures { self.new ≡ given item self.old }
@@ -56,6 +62,8 @@ impl<T: Copy> Pool<T> {
     }
 
     /// Makes a number that holds an item free again.
+    ///
+    /// Source: own choice.
     pub fn release(&mut self, n: usize)
         requires { IsSome (slot self.old.slots n) }
         ensures { self.new ≡ released n self.old }
@@ -65,6 +73,8 @@ impl<T: Copy> Pool<T> {
     }
 
     /// The item of a number, none where the number is free or there is no such number.
+    ///
+    /// Source: own choice.
     pub fn get(&self, n: usize) -> Option<T>
         ensures { result ≡ slot self.now.slots n }
     {
@@ -75,6 +85,8 @@ impl<T: Copy> Pool<T> {
     }
 
     /// Puts another item in place of that of a number.
+    ///
+    /// Source: own choice.
     pub fn set(&mut self, n: usize, other: T)
         requires { IsSome (slot self.old.slots n) }
         ensures { self.new ≡ written n other self.old }
@@ -83,6 +95,8 @@ impl<T: Copy> Pool<T> {
     }
 
     /// Does nothing: its clause is what always holds of the number that is next.
+    ///
+    /// Source: own choice.
     pub fn facts(&self)
         ensures { IsStocked self.now }
     {

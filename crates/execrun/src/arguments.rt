@@ -58,6 +58,8 @@ fn ending_without_words<'a>(alloc: Global, error: &io::Error) -> Ending<'a>
 /// Runs the program on the process's arguments, and answers the status with which it ends.
 ///
 /// Arguments that are no text are refused as a command line is.
+///
+/// Source: own choice.
 pub fn run_on_arguments<R: Env + Files + AllocGlobal, W: Write + Drop, E: Write>(
     rt: &R,
     out: W,

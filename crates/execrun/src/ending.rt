@@ -27,6 +27,8 @@ pub enum Status {
 
 impl Status {
     /// The number that stands for it where the program ends.
+    ///
+    /// Source: own choice.
     pub fn code(self) -> u8
         ensures { result ≡ code_of self }
     {
@@ -61,6 +63,8 @@ impl<'a> From<Result<End, Fault<'a>>> for Ending<'a> {
 
 impl Ending<'_> {
     /// The status that stands for this end.
+    ///
+    /// Source: own choice.
     pub fn status(&self) -> Status
         ensures { result ≡ status_of self.now }
     {
@@ -93,6 +97,8 @@ fn write_fault<E: Write>(fault: &Fault<'_>, err: &mut E) -> io::Result<()>
 
 /// Says on standard error why the program ends, where there is something to say, and answers its status.
 /// A write that fails there changes nothing.
+///
+/// Source: own choice.
 pub fn report<E: Write>(ending: &Ending<'_>, err: &mut E) -> Status
     ensures status { result ≡ status_of ending.now }
     ensures silent { IsSilent ending.now → err.new ≡ err.old }

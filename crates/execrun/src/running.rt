@@ -125,6 +125,8 @@ fn ending_of<'a, T: Texts, W: Write>(
 /// ends.
 ///
 /// The trace, or the help, goes to `out`, and is flushed. What went wrong goes to `err`, where a write that fails changes nothing.
+///
+/// Source: own choice.
 pub fn run_on_texts<T: Texts, W: Write, E: Write>(
     texts: &T,
     alloc: Global,
@@ -151,6 +153,8 @@ pub fn run_on_texts<T: Texts, W: Write, E: Write>(
 /// which it ends.
 ///
 /// The trace, or the help, goes to `out`, and is flushed. What went wrong goes to `err`, where a write that fails changes nothing.
+///
+/// Source: own choice.
 pub fn run<R: Files, W: Write, E: Write>(
     rt: &R,
     alloc: Global,

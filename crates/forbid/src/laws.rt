@@ -4,6 +4,8 @@ ghost use Rattle.std.specs.Prelude.{◌≡◌, Some, IfSome, IsFalse};
 ghost use Rattle.forbid.specs.Nesting.{Nesting, IsInRange, after_forbid, after_permit, after_disable, after_enable, may_switch, may_interrupt};
 
 /// Permit takes back a Forbid, and Enable takes back a Disable.
+///
+/// Source: autodocs exec.library/Permit and exec.library/Enable.
 pub fn each_call_has_its_counterpart()
     ensures permit { (nesting : Nesting) → IsInRange nesting
         → IfSome (after_forbid nesting) (λ inside. after_permit inside ≡ Some nesting) }
@@ -12,6 +14,8 @@ pub fn each_call_has_its_counterpart()
 {}
 
 /// After Forbid no other task may be switched to, and interrupts are allowed as before.
+///
+/// Source: autodoc exec.library/Forbid.
 pub fn a_forbid_stops_switching()
     ensures switching { (nesting : Nesting) → IsInRange nesting
         → IfSome (after_forbid nesting) (λ inside. IsFalse (may_switch inside)) }
@@ -20,6 +24,8 @@ pub fn a_forbid_stops_switching()
 {}
 
 /// After Disable no other task may be switched to, and no interrupt is allowed.
+///
+/// Source: autodoc exec.library/Disable.
 pub fn a_disable_stops_switching_and_interrupts()
     ensures switching { (nesting : Nesting) → IsInRange nesting
         → IfSome (after_disable nesting) (λ inside. IsFalse (may_switch inside)) }

@@ -66,6 +66,8 @@ pub enum Begun {
 
 impl Request {
     /// Whether it was begun and is not finished.
+    ///
+    /// Source: autodoc exec.library/CheckIO.
     pub fn is_under_way(self) -> bool
         ensures { result ≡ is_under_way self }
     {
@@ -76,6 +78,8 @@ impl Request {
     }
 
     /// Whether it is open.
+    ///
+    /// Source: autodoc exec.library/OpenDevice.
     pub fn is_open(self) -> bool
         ensures { result ≡ is_open self }
     {
@@ -83,6 +87,8 @@ impl Request {
     }
 
     /// Its time in microseconds.
+    ///
+    /// Source: RKM Devices, timer device: `tr_time`.
     pub fn time(self) -> u64
         ensures { result ≡ time_of self }
     {
@@ -90,6 +96,8 @@ impl Request {
     }
 
     /// Whether its time is a system time: whether it is open for UNIT_WAITUNTIL.
+    ///
+    /// Source: RKM Devices, timer device: UNIT_WAITUNTIL.
     pub fn is_until(self) -> bool
         ensures { result ≡ is_until self }
     {
@@ -100,6 +108,8 @@ impl Request {
     }
 
     /// Whether it is to wait that begins at system time `sys`, in microseconds.
+    ///
+    /// Source: RKM Devices, timer device: TR_ADDREQUEST and UNIT_WAITUNTIL.
     pub fn is_to_wait(self, sys: u64) -> bool
         ensures { result ≡ is_to_wait sys self }
     {
@@ -113,6 +123,8 @@ impl Request {
     }
 
     /// What comes of beginning it when the clock tells `now` and system time is `sys`, both in microseconds.
+    ///
+    /// Source: RKM Devices, timer device: TR_ADDREQUEST, TR_GETSYSTIME and TR_SETSYSTIME.
     pub fn outcome(self, now: u64, sys: u64) -> Begun
         requires { now + time_of self < 2 ^ 64 }
         ensures { result ≡ outcome now sys self }
@@ -133,6 +145,8 @@ impl Request {
     }
 
     /// The request as it is under way, begun at system time `sys`, in microseconds, with that quick bit.
+    ///
+    /// Source: RKM Devices, Introduction to Amiga System Devices: IOF_QUICK.
     pub fn begun(self, quick: bool, sys: u64) -> Request
         ensures { result ≡ begun quick sys self }
     {

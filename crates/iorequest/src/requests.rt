@@ -47,6 +47,8 @@ impl Requests {
     /// Room for so many requests. There is none yet.
     ///
     /// An error means that memory is lacking.
+    ///
+    /// Source: own choice.
     pub fn new(alloc: Global, n: usize) -> Result<Self, AllocError>
         ensures { IfOk result (λ q. q ≡ all_free n) }
     {
@@ -300,6 +302,8 @@ impl Requests {
     }
 
     /// Does nothing: its clause is what always holds of the number that is next.
+    ///
+    /// Source: own choice.
     pub fn facts(&self)
         ensures { IsStocked self.now }
     {

@@ -16,6 +16,8 @@ pub struct Chunk {
 pub const WORD: u32 = 4;
 
 /// The place of the word that stands for an address.
+///
+/// Source: RKM Libraries, Exec Memory Allocation: MemChunk.
 pub fn word_place(base: u32, address: u32) -> usize
     requires { base ≤ address }
     ensures { result ≡ word_place base address }
@@ -24,6 +26,8 @@ pub fn word_place(base: u32, address: u32) -> usize
 }
 
 /// Reads the chunk whose first word is at a place.
+///
+/// Source: RKM Libraries, Exec Memory Allocation: MemChunk.
 pub fn read(words: &[u32], place: usize) -> Chunk
     requires { place + 1 < length words.now }
     ensures next { result.next ≡ get_or words.now place 0 }
@@ -36,6 +40,8 @@ pub fn read(words: &[u32], place: usize) -> Chunk
 }
 
 /// Writes a chunk: two words, the first of them at a place.
+///
+/// Source: RKM Libraries, Exec Memory Allocation: MemChunk.
 pub fn write(words: &mut Vec<u32>, place: usize, chunk: Chunk)
     requires { place + 1 < length words.old.items }
     ensures { words.new.items ≡ written words.old.items place chunk.next chunk.size }
@@ -46,6 +52,8 @@ pub fn write(words: &mut Vec<u32>, place: usize, chunk: Chunk)
 
 /// Cuts the first bytes off a gap, so that what is left is a chunk of its own before the next one. The answer is where it
 /// begins, or where the next one does if nothing is left.
+///
+/// Source: RKM Libraries, Exec Memory Allocation: MemChunk.
 pub fn cut(words: &mut Vec<u32>, base: u32, gap: Gap, size: u32, next: u32) -> u32
     requires low { base ≤ gap.address }
     requires fits { size ≤ gap.size }
@@ -67,6 +75,8 @@ pub fn cut(words: &mut Vec<u32>, base: u32, gap: Gap, size: u32, next: u32) -> u
 }
 
 /// Makes the chunk at an address, or the head where that is 0, name the next one.
+///
+/// Source: RKM Libraries, Exec Memory Allocation: MemChunk.
 pub fn link(head: &mut u32, words: &mut Vec<u32>, base: u32, before: u32, next: u32)
     requires low { 0 < before → base ≤ before }
     requires within { 0 < before → word_place base before < length words.old.items }

@@ -41,6 +41,8 @@ fn at_base(base: u32, top: u32) -> u32
 
 /// The chunk before a block that has so many units below it, or 0 where there is none. The chain is walked up from its first
 /// chunk and the units down from the block, in turn: whichever comes to an end first says where it is.
+///
+/// Source: autodoc exec.library/Deallocate; how the chunk is looked for is own choice.
 pub fn chunk_below(base: u32, slots: &[Slot], space: &FreeSpace, units: usize, address: u32) -> u32
     requires units { units ≤ length slots.now }
     requires address { address ≡ base + MEM_BLOCKSIZE * units }

@@ -40,6 +40,8 @@ impl Model for MemHeader {
 
 impl MemHeader {
     /// A region in which nothing is allocated, with a slot for each unit and a word for each 4 bytes.
+    ///
+    /// Source: own choice.
     pub fn new(alloc: Global, region: Region) -> Result<MemHeader, AllocError>
         requires aligned { IsTrue (is_aligned region) }
         requires in_reach { IsTrue (is_in_reach region) }
@@ -56,6 +58,9 @@ impl MemHeader {
         })
     }
 
+    /// The region that it manages.
+    ///
+    /// Source: own choice.
     pub fn region(&self) -> Region
         ensures { result ≡ self.now.region }
     {
@@ -63,6 +68,8 @@ impl MemHeader {
     }
 
     /// Whether the region has all of bits 0 to 2 that are asked for.
+    ///
+    /// Source: autodoc exec.library/AllocMem: the attributes.
     pub fn is_suitable(&self, reqs: u32) -> bool
         ensures { result ≡ is_suitable reqs self.now.region }
     {
@@ -70,6 +77,8 @@ impl MemHeader {
     }
 
     /// Whether the region's priority is below that of another.
+    ///
+    /// Source: RKM Libraries, Exec Memory Allocation: priorities of regions.
     pub fn is_below(&self, other: &MemHeader) -> bool
         ensures { result ≡ int_lt self.now.region.pri other.now.region.pri }
     {
@@ -77,6 +86,8 @@ impl MemHeader {
     }
 
     /// The words of the region.
+    ///
+    /// Source: own choice.
     pub fn words(&self) -> &[u32]
         ensures len { WORD * length result.now ≡ self.now.region.size }
         ensures linked { IsLinked self.now.region.base result.now (area_gaps self.now) 0 }
@@ -85,6 +96,8 @@ impl MemHeader {
     }
 
     /// Where the first chunk begins, or 0 where nothing is free.
+    ///
+    /// Source: RKM Libraries, Exec Memory Allocation: MemHeader, mh_First.
     pub fn head(&self) -> u32
         ensures { result ≡ first_or 0 (area_gaps self.now) }
     {
@@ -92,6 +105,8 @@ impl MemHeader {
     }
 
     /// Whether an address lies in the region.
+    ///
+    /// Source: own choice.
     pub fn holds(&self, address: u32) -> bool
         ensures { result ≡ is_in self.now.region address }
     {
@@ -99,6 +114,8 @@ impl MemHeader {
     }
 
     /// The size and the tag of the block that begins at an address of the region.
+    ///
+    /// Source: own choice.
     pub fn block_at(&self, address: u32) -> Option<(u32, u32)>
         requires { IsTrue (is_in self.now.region address) }
         ensures { result ≡ block_at address self.now.blocks }
@@ -112,6 +129,8 @@ impl MemHeader {
     }
 
     /// The chunk before the lowest gap of at least that many bytes, or 0 where that gap is the first.
+    ///
+    /// Source: autodoc exec.library/Allocate: first fit.
     pub fn lowest_gap(&self, size: u64) -> Option<u32>
         ensures { IsLowest size (area_gaps self.now) result }
     {
@@ -120,6 +139,8 @@ impl MemHeader {
 
     /// Puts a block at the front of the lowest gap that has room for it, which is the one after the chunk at an address, or the
     /// first where that is 0; and answers the block's address.
+    ///
+    /// Source: autodoc exec.library/Allocate.
     pub fn take(&mut self, before: u32, size: u64, tag: u32) -> u32
         requires some { 0 < size }
         requires whole { size % MEM_BLOCKSIZE ≡ 0 }
@@ -136,6 +157,8 @@ impl MemHeader {
     }
 
     /// Frees the block that begins at an address.
+    ///
+    /// Source: autodoc exec.library/Deallocate.
     pub fn free(&mut self, address: u32)
         requires { IsSome (block_at address self.old.blocks) }
         ensures freed { self.new ≡ record self.old { blocks = freed address self.old.blocks } }
@@ -149,6 +172,8 @@ impl MemHeader {
     }
 
     /// The bytes that are free.
+    ///
+    /// Source: autodoc exec.library/AvailMem.
     pub fn free_size(&self) -> u32
         ensures value { result ≡ sum_by (λ (gap : Gap). gap.size) (area_gaps self.now) }
         ensures bound { result ≤ self.now.region.size }
@@ -157,6 +182,8 @@ impl MemHeader {
     }
 
     /// The size of the greatest gap, or 0 where there is none.
+    ///
+    /// Source: autodoc exec.library/AvailMem: MEMF_LARGEST.
     pub fn largest_gap(&self) -> u32
         ensures { result ≡ greatest (map (λ (gap : Gap). gap.size) (area_gaps self.now)) }
     {

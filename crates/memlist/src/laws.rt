@@ -10,6 +10,8 @@ ghost use Rattle.memlist.specs.declared.region.Region.{Region};
 use crate::region::MEM_BLOCKSIZE;
 
 /// A rounded size is the least multiple of 8 that is at least the size.
+///
+/// Source: autodoc exec.library/AllocMem: MEM_BLOCKSIZE.
 pub fn rounds_up()
     ensures whole { (n : ℕ) → round n % MEM_BLOCKSIZE ≡ 0 }
     ensures enough { (n : ℕ) → n ≤ round n }
@@ -17,23 +19,31 @@ pub fn rounds_up()
 {}
 
 /// The region that is chosen is the earliest among those of greatest priority, and none is chosen of none alone.
+///
+/// Source: RKM Libraries, Exec Memory Allocation: priorities of regions.
 pub fn chosen_is_earliest_of_greatest()
     ensures some { (regions : List Region) (region : Region) → chosen regions ≡ Some region → IsEarliestGreatest regions region }
     ensures none { (regions : List Region) → chosen regions ≡ None → regions ≡ [] }
 {}
 
 /// Blocks and gaps tile each region of a well-formed memory.
+///
+/// Source: own choice.
 pub fn regions_are_tiled()
     ensures { (regions : List Region) (blocks : Blocks) (place : ℕ) (region : Region) → IsWellFormed regions blocks → slice_get regions place ≡ Some region → IsTiled region blocks }
 {}
 
 /// The blocks of a well-formed memory lie in its regions and do not meet.
+///
+/// Source: own choice.
 pub fn blocks_are_disjoint()
     ensures { (regions : List Region) (blocks : Blocks) → IsWellFormed regions blocks → AreDisjoint regions blocks }
 {}
 
 /// Where a block fits, no block begins, and there it lies on whole units; so does each block of a well-formed memory. An
 /// address is never 0.
+///
+/// Source: own choice.
 pub fn blocks_are_placed()
     ensures fresh { (regions : List Region) (blocks : Blocks) (size reqs address : ℕ) → IsWellFormed regions blocks → fit regions blocks size reqs ≡ Some address → block_at address blocks ≡ None }
     ensures fitted { (regions : List Region) (blocks : Blocks) (size reqs address : ℕ) → IsWellFormed regions blocks → fit regions blocks size reqs ≡ Some address → IsPlaced address (round size) }
@@ -42,6 +52,8 @@ pub fn blocks_are_placed()
 
 /// A memory in which nothing is allocated is well formed, and it stays so when a block is put where it fits and when one
 /// is freed.
+///
+/// Source: own choice.
 pub fn memory_stays_well_formed()
     ensures untouched { (total : ℕ) (regions : List Region) → regions_fault total regions ≡ None → IsWellFormed regions [] }
     ensures allocated { (regions : List Region) (blocks : Blocks) (size reqs tag address : ℕ) → IsWellFormed regions blocks → fit regions blocks size reqs ≡ Some address → IsWellFormed regions (with_block address (round size) tag blocks) }

@@ -64,6 +64,8 @@ impl MemList {
     ///
     /// The fault is that of `check_regions`; where that has none, OutOfMemory is answered if there is no memory for the
     /// list itself.
+    ///
+    /// Source: own choice.
     pub fn new(alloc: Global, regions: &[Region], total: u32) -> Result<MemList, MemFault>
         ensures value { IfOk result (λ memory. memory ≡ untouched regions.now) }
         ensures sound { OnOk result (regions_fault total regions.now ≡ None) }
@@ -77,6 +79,8 @@ impl MemList {
     }
 
     /// The law of every memory list: its blocks lie in its regions, in order and beside one another. It costs nothing.
+    ///
+    /// Source: own choice.
     pub fn is_well_formed(&self)
         ensures { IsWellFormed self.now.regions self.now.blocks }
     {
@@ -134,6 +138,8 @@ impl MemList {
     }
 
     /// Frees the block that begins at an address, whatever its tag.
+    ///
+    /// Source: own choice.
     pub fn free_block(&mut self, address: u32)
         requires { IsSome (block_at address self.old.blocks) }
         ensures { self.new ≡ without_block address self.old }
@@ -143,6 +149,8 @@ impl MemList {
     }
 
     /// The size, as it was rounded, and the tag of the block that begins at an address.
+    ///
+    /// Source: own choice.
     pub fn block_at(&self, address: u32) -> Option<(u32, u32)>
         ensures { result ≡ block_at address self.now.blocks }
     {

@@ -13,6 +13,8 @@ impl Slot {
     pub const EMPTY: Slot = Slot { size: 0, tag: 0 };
 
     /// The size and the tag of the block that begins there.
+    ///
+    /// Source: own choice.
     pub fn block(&self) -> Option<(u32, u32)>
         ensures { result ≡ block_of self.now }
     {

@@ -39,6 +39,8 @@ impl Model for FreeSpace {
 
 impl FreeSpace {
     /// So many bytes from an address on, all of them free.
+    ///
+    /// Source: own choice.
     pub fn new(alloc: Global, base: u32, size: u32) -> Result<FreeSpace, AllocError>
         requires place { base % MEM_BLOCKSIZE ≡ 0 }
         requires low { MEM_BLOCKSIZE ≤ base }
@@ -57,6 +59,8 @@ impl FreeSpace {
     }
 
     /// The words, the first of which stands for the lowest address.
+    ///
+    /// Source: own choice.
     pub fn words(&self) -> &[u32]
         ensures len { self.now.base + WORD * length result.now ≡ self.now.end }
         ensures linked { IsLinked self.now.base result.now self.now.gaps 0 }
@@ -65,6 +69,8 @@ impl FreeSpace {
     }
 
     /// Where the first chunk begins, or 0 where there is none.
+    ///
+    /// Source: RKM Libraries, Exec Memory Allocation: MemHeader, mh_First.
     pub fn head(&self) -> u32
         ensures { result ≡ first_or 0 self.now.gaps }
     {
@@ -104,6 +110,8 @@ impl FreeSpace {
     }
 
     /// The chunk before the lowest gap of at least that many bytes, or 0 where that gap is the first.
+    ///
+    /// Source: autodoc exec.library/Allocate: first fit.
     pub fn lowest_gap(&self, size: u64) -> Option<u32>
         ensures { IsLowest size self.now.gaps result }
     {
@@ -118,6 +126,8 @@ impl FreeSpace {
     }
 
     /// The chunk after the one at an address, or the first where that is 0, if it begins below another address.
+    ///
+    /// Source: RKM Libraries, Exec Memory Allocation: MemChunk.
     pub fn next_below(&self, before: u32, address: u32) -> Option<u32>
         requires { IsClimbed address self.now.gaps before }
         ensures { IsNextBelow address self.now.gaps before result }
@@ -136,6 +146,8 @@ impl FreeSpace {
 
     /// Takes so many bytes off the front of the lowest gap that has them, which is the one after the chunk at an address, and
     /// answers where they begin.
+    ///
+    /// Source: autodoc exec.library/Allocate.
     pub fn take(&mut self, before: u32, size: u32) -> u32
         requires spot { IsSpot size self.old.gaps before }
         requires some { 0 < size }
@@ -190,6 +202,8 @@ impl FreeSpace {
     }
 
     /// Frees a block, which joins the gaps that touch it. The chunk before it begins at `before`, which is 0 where there is none.
+    ///
+    /// Source: autodoc exec.library/Deallocate.
     pub fn join(&mut self, before: u32, address: u32, size: u32)
         requires before { IsLastBelow address self.old.gaps before }
         requires around { Around self.old.gaps address size }
@@ -214,6 +228,8 @@ impl FreeSpace {
     }
 
     /// The bytes of all gaps.
+    ///
+    /// Source: autodoc exec.library/AvailMem.
     pub fn total(&self) -> u32
         ensures { result ≡ sum_by (λ gap. gap.size) self.now.gaps }
     {
@@ -227,6 +243,8 @@ impl FreeSpace {
     }
 
     /// The size of the greatest gap, or 0 where there is none.
+    ///
+    /// Source: autodoc exec.library/AvailMem: MEMF_LARGEST.
     pub fn largest(&self) -> u32
         ensures { result ≡ greatest (map (λ (gap : Gap). gap.size) self.now.gaps) }
     {

@@ -28,6 +28,8 @@ impl Model for Port {
 
 impl Port {
     /// A port of a task, which signals it by the signal of that number.
+    ///
+    /// Source: autodoc exec.library/CreateMsgPort.
     pub fn new(task: TaskId, bit: u32) -> Self
         requires { bit < 32 }
         ensures { result ≡ new_port task bit }
@@ -40,6 +42,8 @@ impl Port {
     }
 
     /// The task of the port and the number of its signal.
+    ///
+    /// Source: RKM Libraries, Exec Messages and Ports: `mp_SigTask` and `mp_SigBit`.
     pub fn owner(&self) -> (TaskId, u32)
         ensures value { result ≡ (self.now.task, self.now.bit) }
         ensures signal { result.1 < 32 }
@@ -48,6 +52,8 @@ impl Port {
     }
 
     /// The port with another action.
+    ///
+    /// Source: RKM Libraries, Exec Messages and Ports: `mp_Flags`.
     pub fn with_action(&self, action: PortAction) -> Self
         ensures { result ≡ record self.now { action = action } }
     {
@@ -59,6 +65,8 @@ impl Port {
     }
 
     /// What is to be done where a message arrives.
+    ///
+    /// Source: autodoc exec.library/PutMsg.
     pub fn acting(&self) -> Action
         ensures { result ≡ acting self.now }
     {
@@ -70,6 +78,8 @@ impl Port {
     }
 
     /// The number of the signal that the task waits for at this port, none where the port is another's or signals no task.
+    ///
+    /// Source: autodoc exec.library/WaitPort.
     pub fn wait_bit(&self, task: TaskId) -> Option<u32>
         ensures value { result ≡ wait_bit task self.now }
         ensures signal { IfSome result (λ bit. bit < 32) }

@@ -76,6 +76,8 @@ impl<S: ListSpace> Ports<S> {
     /// Room for so many ports and messages, at most 4,096 of each. There is no port and no message yet.
     ///
     /// An error means that memory is lacking.
+    ///
+    /// Source: own choice.
     pub fn new(alloc: Global, ports: usize, msgs: usize) -> Result<Self, AllocError>
         requires few_ports { ports ≤ 4096 }
         requires few_messages { msgs ≤ 4096 }
@@ -403,6 +405,8 @@ impl<S: ListSpace> Ports<S> {
     }
 
     /// Gives a message another word.
+    ///
+    /// Source: own choice.
     pub fn set_word(&mut self, m: MsgId, word: u32)
         requires { IsTrue (is_message m self.old) }
         ensures { self.new ≡ with_message m (record (message_at m self.old) { word = word }) self.old }
@@ -469,6 +473,8 @@ impl<S: ListSpace> Ports<S> {
     }
 
     /// Does nothing: its clauses are what always holds of the ports and the messages, and of the numbers that are next.
+    ///
+    /// Source: own choice.
     pub fn facts(&self)
         ensures sound { IsSound self.now }
         ensures ports { IsStocked self.now.ports }

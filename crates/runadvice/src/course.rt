@@ -41,6 +41,8 @@ pub struct Run<'a> {
 
 impl<'a> Run<'a> {
     /// The run of a machine at its start.
+    ///
+    /// Source: own choice.
     pub fn new(alloc: Global, file: &'a MachineFile) -> Result<Run<'a>, AllocError> {
         let mut tasks = Vec::new(alloc);
         for task in file.tasks() {
@@ -146,6 +148,8 @@ impl<'a> Run<'a> {
     }
 
     /// The next line of the trace.
+    ///
+    /// Source: own choice.
     pub fn tell(&mut self, line: &str) -> Result<(), AllocError> {
         let line = fields_of(line);
         if line.count == 1 {

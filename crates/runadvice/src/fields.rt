@@ -13,6 +13,8 @@ pub struct Fields<'a> {
 }
 
 /// The parts of a line.
+///
+/// Source: own choice.
 pub fn fields_of(line: &str) -> Fields<'_> {
     let mut parts = [""; 6];
     let mut count = 0usize;
@@ -27,6 +29,8 @@ pub fn fields_of(line: &str) -> Fields<'_> {
 
 impl<'a> Fields<'a> {
     /// The part of a number from 0; the empty one behind the last.
+    ///
+    /// Source: own choice.
     pub fn part(&self, number: usize) -> &'a str {
         if number < MOST {
             self.parts[number]
@@ -36,6 +40,8 @@ impl<'a> Fields<'a> {
     }
 
     /// The word of 32 bits that the part of a number is; 0 where it is none.
+    ///
+    /// Source: own choice.
     pub fn value(&self, number: usize) -> u32 {
         number_of(self.part(number).as_bytes()).unwrap_or(0)
     }

@@ -19,6 +19,8 @@ pub struct Owners {
 
 impl Owners {
     /// No semaphore is owned.
+    ///
+    /// Source: own choice.
     pub fn new(alloc: Global) -> Owners {
         Owners {
             all: Vec::new(alloc),
@@ -26,6 +28,8 @@ impl Owners {
     }
 
     /// The number of the task that owns a semaphore.
+    ///
+    /// Source: own choice.
     pub fn owner(&self, semaphore: u32) -> Option<usize> {
         self.all
             .iter()
@@ -34,6 +38,8 @@ impl Owners {
     }
 
     /// A task owns a semaphore, or owns it once more.
+    ///
+    /// Source: own choice.
     pub fn obtain(&mut self, semaphore: u32, owner: usize) -> Result<(), AllocError> {
         for one in &mut self.all {
             if one.semaphore == semaphore {
@@ -50,6 +56,8 @@ impl Owners {
     }
 
     /// A semaphore is released once. The answer is whether that was the last release.
+    ///
+    /// Source: own choice.
     pub fn release(&mut self, semaphore: u32) -> bool {
         for one in &mut self.all {
             if one.semaphore == semaphore {

@@ -14,6 +14,8 @@ fn push_value(out: &mut String, value: u32) -> Result<(), AllocError> {
 }
 
 /// A task by its number from 1 and its name.
+///
+/// Source: own choice.
 pub fn task_text(alloc: Global, run: &Run<'_>, number: usize) -> Result<String, AllocError> {
     let name = match run.tasks.get(number) {
         None => "",
@@ -70,6 +72,8 @@ fn semaphore_reason(
 
 /// Why a task that waits in a call is not ready when the events end, where that is known. `is_alone` says that no interrupt of the machine
 /// does anything.
+///
+/// Source: own choice.
 pub fn wait_reason(
     alloc: Global,
     run: &Run<'_>,

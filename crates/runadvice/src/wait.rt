@@ -25,6 +25,8 @@ pub struct Wait {
 }
 
 /// What a line `NAME WORD VALUE waits` waits for.
+///
+/// Source: own choice.
 pub fn awaited_by(line: &Fields<'_>) -> Option<Awaited> {
     if line.count != 4 || line.part(3) != "waits" {
         return None;

@@ -15,6 +15,8 @@ pub struct Watch<'a> {
 
 impl<'a> Watch<'a> {
     /// Watches a run from its first line on.
+    ///
+    /// Source: own choice.
     pub fn new(alloc: Global, run: Run<'a>) -> Watch<'a> {
         Watch {
             run,
@@ -23,6 +25,8 @@ impl<'a> Watch<'a> {
     }
 
     /// The run, up to its last whole line.
+    ///
+    /// Source: own choice.
     pub fn into_run(self) -> Run<'a> {
         let Watch { run, line: _ } = self;
         run

@@ -50,6 +50,8 @@ impl<S: ListSpace> Sems<S> {
     /// Room for so many semaphores and for tasks of so many numbers, at most 4,096 of each. There is no semaphore yet.
     ///
     /// An error means that memory is lacking.
+    ///
+    /// Source: own choice.
     pub fn new(alloc: Global, sems: usize, tasks: usize) -> Result<Self, AllocError>
         requires few_sems { sems ≤ 4096 }
         requires few_tasks { tasks ≤ 4096 }
@@ -217,6 +219,8 @@ impl<S: ListSpace> Sems<S> {
     }
 
     /// Does nothing: its clauses are what always holds of the semaphores, and of the number that is next.
+    ///
+    /// Source: own choice.
     pub fn facts(&self)
         ensures sound { IsSound self.now }
         ensures sems { IsStocked self.now.sems }

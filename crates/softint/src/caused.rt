@@ -13,6 +13,8 @@ pub type IntId = usize;
 pub const PRIORITIES: usize = 5;
 
 /// The header of the software interrupts of a priority.
+///
+/// Source: RKM Libraries, Exec Interrupts: software interrupts.
 pub fn header_of(pri: i8) -> HeaderId
     requires { IsPriority pri }
     ensures within { result < 5 }
@@ -28,6 +30,8 @@ pub fn header_of(pri: i8) -> HeaderId
 }
 
 /// The first software interrupt of the first header that has one, or none.
+///
+/// Source: RKM Libraries, Exec Interrupts: software interrupts.
 pub fn first_caused<S: ListSpace>(caused: &S) -> Option<IntId>
     requires { length (S.sequences caused.now) ≡ 5 }
     ensures value { result ≡ first (joined (S.sequences caused.now)) }

@@ -54,6 +54,8 @@ fn place_for(chain: &[ServerId], servers: &[Server], s: ServerId) -> usize
 }
 
 /// The server at a place of a chain, from 0, or none where the chain is shorter.
+///
+/// Source: RKM Libraries, Exec Interrupts: interrupt servers.
 pub fn server_at(chain: &[ServerId], k: usize) -> Option<ServerId>
     ensures { result ≡ slice_get chain.now k }
 {

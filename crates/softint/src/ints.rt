@@ -53,6 +53,8 @@ impl<S: ListSpace> Ints<S> {
     /// is caused and no source asks to be served.
     ///
     /// The priority of a software interrupt is -32, -16, 0, 16 or 32. An error means that memory is lacking.
+    ///
+    /// Source: own choice.
     pub fn new(alloc: Global, softs: &[Soft], servers: &[Server]) -> Result<Self, AllocError>
         requires few_softs { length softs.now ≤ 32 }
         requires few_servers { length servers.now ≤ 32 }

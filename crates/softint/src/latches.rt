@@ -14,6 +14,8 @@ pub struct Latches {
 
 impl Latches {
     /// No source asks to be served.
+    ///
+    /// Source: own choice.
     pub fn new() -> Latches
         ensures { result ≡ no_latches }
     {
@@ -25,6 +27,8 @@ impl Latches {
     }
 
     /// Answers the source of highest level among those that ask to be served, or none.
+    ///
+    /// Source: RKM Libraries, Exec Interrupts: the order of their priorities.
     pub fn highest(self) -> Option<Source>
         ensures { result ≡ highest self }
     {
@@ -40,6 +44,8 @@ impl Latches {
     }
 
     /// Answers the latches with that of one source set or cleared.
+    ///
+    /// Source: own choice.
     pub fn with(self, source: Source, set: bool) -> Latches
         ensures { result ≡ with_latch source set self }
     {

@@ -79,6 +79,8 @@ impl<S: ListSpace> Model for TaskQ<S> {
 impl<S: ListSpace> TaskQ<S> {
     /// Makes absent tasks of these names and priorities, at most 4,096, numbered in the order given.
     /// An error means that memory is lacking.
+    ///
+    /// Source: own choice.
     pub fn new(alloc: Global, tasks: &[TaskInit]) -> Result<Self, AllocError>
         requires { length tasks.now ≤ 4096 }
         ensures ready { IfOk result (λ q. q.ready ≡ []) }
@@ -204,6 +206,8 @@ impl<S: ListSpace> TaskQ<S> {
     }
 
     /// Answers whether a task was added and not removed.
+    ///
+    /// Source: RKM Libraries, Exec Tasks: task states.
     pub fn is_live(&self, t: TaskId) -> bool
         requires { t < length self.now.states }
         ensures { result ≡ is_live (state_at self.now.states t) }
@@ -216,6 +220,8 @@ impl<S: ListSpace> TaskQ<S> {
 
     /// Does nothing: its clauses are what always holds of the tasks. A ready task stands once among the
     /// ready ones and any other not at all; each task has one state, one priority and one name.
+    ///
+    /// Source: own choice.
     pub fn facts(&self)
         ensures ready { (t : ℕ) → times t self.now.ready
             ≡ (if is_ready (state_at self.now.states t) then 1 else 0) }

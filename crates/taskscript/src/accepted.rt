@@ -13,12 +13,16 @@ ghost use Rattle.taskscript.specs.declared.event.Event.{Event};
 /// interrupt, one of the file is named. Each jump of a task goes to a command of its body or to the end behind the last one. A software
 /// interrupt has one of the five priorities, and the commands of software interrupts and of servers have only the words that may stand
 /// there, and shared variables.
+///
+/// Source: own choice.
 pub fn accepted_file_is_machine()
     ensures { (bytes : List ℕ) (m : MachineData) → file_of bytes ≡ Ok m → IsMachine m }
 {}
 
 /// The events of an accepted text are at most 100,000. Each asks for at least one turn, and their steps and their ticks sum to at most
 /// 1,000,000 each.
+///
+/// Source: own choice.
 pub fn accepted_events_are_within()
     ensures { (text : List ℕ) (events : List Event) → script_of text ≡ Ok events → AreWithin events }
 {}

@@ -134,6 +134,8 @@ fn body_of(
 /// that stood before; TooMany where it has the 33rd private variable of the body or the 65th shared one of
 /// the file. If no line is faulty, a jump to a label that is not in the body is BadLabel. After an `Err`
 /// nothing is said of `shared`. The lines are our own.
+///
+/// Source: own choice.
 pub fn read_code(
     alloc: Global,
     setting: Setting<'_>,

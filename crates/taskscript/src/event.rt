@@ -69,6 +69,8 @@ impl Events {
     }
 
     /// The events, in their order.
+    ///
+    /// Source: own choice.
     pub fn list(&self) -> &[Event]
         ensures events { result.now ≡ self.now }
         ensures within { AreWithin self.now }

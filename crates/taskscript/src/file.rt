@@ -177,6 +177,8 @@ impl MachineFile {
     }
 
     /// The tasks, in the order of the file: at most 64. The first one is task 1.
+    ///
+    /// Source: own choice.
     pub fn tasks(&self) -> &[TaskRecord]
         ensures tasks { map task_view result.now ≡ self.now.tasks }
         ensures machine { IsMachine self.now }

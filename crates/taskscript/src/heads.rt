@@ -312,6 +312,8 @@ fn heads_of<H: Named>(
 }
 
 /// The heads of the items of the array that the key holds, at most `limit`, or none; their names are added to those before them.
+///
+/// Source: own choice.
 #[tactic(auto, using(crate::proofs::Keys::count_items_view))]
 pub fn heads_at<H: Named>(
     alloc: Global,

@@ -24,6 +24,8 @@ fn has_name_bytes(bytes: &[u8]) -> bool
 }
 
 /// Whether the text is a name.
+///
+/// Source: own choice.
 pub fn is_name(text: &str) -> bool
     ensures { result ≡ is_name text.now }
 {
@@ -40,6 +42,8 @@ fn any_named(names: &[Name], text: &str) -> bool
 }
 
 /// Whether the text is one of these names.
+///
+/// Source: own choice.
 #[tactic(auto, using(crate::proofs::Names::any_texts))]
 pub fn is_among(names: &[Name], text: &str) -> bool
     ensures { result ≡ list_any (bytes_eq text.now) (texts names.now) }

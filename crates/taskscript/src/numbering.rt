@@ -101,6 +101,8 @@ fn see_arguments(
 /// right.
 ///
 /// `private` has the names of the body, and `shared` those of the file. TooMany where a number is past its limit.
+///
+/// Source: own choice.
 pub fn see_command(
     command: &NamedCommand,
     private: &mut IndexSet<VariableName>,
@@ -126,6 +128,8 @@ fn number_in(names: &IndexSet<VariableName>, name: VariableName) -> usize
 }
 
 /// A variable by its number.
+///
+/// Source: own choice.
 pub fn variable_in(
     variable: NamedVariable,
     private: &IndexSet<VariableName>,
@@ -141,6 +145,8 @@ pub fn variable_in(
 }
 
 /// A target by its number, if there is one.
+///
+/// Source: own choice.
 pub fn target_in(
     target: Option<NamedVariable>,
     private: &IndexSet<VariableName>,

@@ -150,6 +150,8 @@ fn owners_in(alloc: Global, table: &Table, heads: &Heads) -> Result<Owners, File
 }
 
 /// The software interrupts, the servers and the tasks of a file, by both passes.
+///
+/// Source: own choice.
 pub fn owners_at(alloc: Global, table: &Table) -> Result<Owners, FileFault>
     ensures { Judges result (both_passes_faults (table_view table.now)) (λ o. AreOwners o (table_view table.now)) }
 {

@@ -67,6 +67,8 @@ fn arguments_in(
 
 /// The commands with numbers and places for their names, or BadLabel where one jumps to a label that is
 /// not among these.
+///
+/// Source: own choice.
 pub fn commands_in(
     alloc: Global,
     commands: &[NamedCommand],

@@ -15,6 +15,8 @@ pub enum Source {
 
 impl Source {
     /// The source of this name, if there is one.
+    ///
+    /// Source: own choice.
     pub fn named(name: &str) -> Option<Source>
         ensures { result ≡ source_of name.now }
     {
@@ -30,6 +32,8 @@ impl Source {
     }
 
     /// The name of the source, as it stands in the texts and in the trace.
+    ///
+    /// Source: own choice.
     pub fn text(self) -> &'static str
         ensures { result.now ≡ source_text self }
     {

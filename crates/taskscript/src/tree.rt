@@ -13,6 +13,8 @@ use std::alloc::Global;
 use toml::{Table, Value};
 
 /// The tree that the bytes state. Bytes that are no UTF-8 state none.
+///
+/// Source: own choice.
 pub fn document(alloc: Global, bytes: &[u8]) -> Result<Table, FileFault>
     ensures ok { IfOk result (λ t. document_of bytes.now ≡ Some (table_view t)) }
     ensures err { IfErr result (λ f. DocumentFault f bytes.now) }
@@ -30,6 +32,8 @@ pub fn document(alloc: Global, bytes: &[u8]) -> Result<Table, FileFault>
 }
 
 /// What the key holds.
+///
+/// Source: own choice.
 pub fn member<'a>(table: &'a Table, key: &str) -> Option<&'a Value>
     ensures { option_map (λ v. view v.now) result ≡ get_member key.now (table_view table.now) }
 {
@@ -43,6 +47,8 @@ fn is_among(listed: &[&str], key: &str) -> bool
 }
 
 /// Whether each key of the table is one of those listed.
+///
+/// Source: own choice.
 pub fn has_only(table: &Table, listed: &[&str]) -> bool
     ensures { result ≡ keys_are_among (map (λ k. k.now) listed.now) (table_view table.now) }
 {
@@ -84,6 +90,8 @@ fn optional_integer(
 }
 
 /// The priority that the key `pri` holds, or 0 where it is absent.
+///
+/// Source: own choice.
 pub fn optional_pri(table: &Table) -> Result<i8, FileFault>
     ensures { Judges result (pri_faults (table_view table.now)) (λ p. p ≡ pri_in (table_view table.now)) }
 {
@@ -92,6 +100,8 @@ pub fn optional_pri(table: &Table) -> Result<i8, FileFault>
 }
 
 /// The number from `low` to `high` that the key holds, or `otherwise` where the key is absent.
+///
+/// Source: own choice.
 pub fn optional_number(
     table: &Table,
     key: &str,
@@ -116,6 +126,8 @@ pub fn optional_number(
 }
 
 /// The number from `low` to `high` that the key holds.
+///
+/// Source: own choice.
 pub fn required_number(table: &Table, key: &str, low: u32, high: u32) -> Result<u32, FileFault>
     ensures exact { Judges result (required (integer_faults (pos low) (pos high)) (get_member key.now (table_view table.now))) (λ n. n ≡ number_or 0 (get_member key.now (table_view table.now))) }
     ensures low_out { IfOk result (λ n. low ≤ n) }
@@ -164,6 +176,8 @@ pub fn softint_pri(table: &Table) -> Result<i8, FileFault>
 }
 
 /// The source whose name the key `source` holds.
+///
+/// Source: own choice.
 pub fn required_source(table: &Table) -> Result<Source, FileFault>
     ensures { Judges result (required source_faults (get_member (codes "source") (table_view table.now))) (λ s. s ≡ source_in (table_view table.now)) }
 {
@@ -182,6 +196,8 @@ pub fn required_source(table: &Table) -> Result<Source, FileFault>
 }
 
 /// The boolean that the key holds, or `otherwise` where the key is absent.
+///
+/// Source: own choice.
 pub fn optional_boolean(table: &Table, key: &str, otherwise: bool) -> Result<bool, FileFault>
     ensures { Judges result (optional boolean_faults (get_member key.now (table_view table.now))) (λ b. b ≡ boolean_or otherwise (get_member key.now (table_view table.now))) }
 {
@@ -195,6 +211,8 @@ pub fn optional_boolean(table: &Table, key: &str, otherwise: bool) -> Result<boo
 }
 
 /// The items of the array that the key holds, or none.
+///
+/// Source: own choice.
 pub fn items_at<'a>(table: &'a Table, key: &str) -> &'a [Value]
     ensures { items_view result.now ≡ items_or_none (get_member key.now (table_view table.now)) }
 {
@@ -209,6 +227,8 @@ pub fn items_at<'a>(table: &'a Table, key: &str) -> &'a [Value]
 }
 
 /// Whether the items are strings.
+///
+/// Source: own choice.
 pub fn are_strings(items: &[Value]) -> bool
     ensures { result ≡ are_strings (items_view items.now) }
 {

@@ -79,6 +79,8 @@ impl Word {
     }
 
     /// The text of the word, as it stands in a line and in the trace.
+    ///
+    /// Source: own choice.
     pub fn text(self) -> &'static str
         ensures { result.now ≡ word_text self }
     {
@@ -86,6 +88,8 @@ impl Word {
     }
 
     /// Whether the word answers, so that a target may stand before it.
+    ///
+    /// Source: own choice.
     pub fn answers(self) -> bool
         ensures { result ≡ answers self }
     {
@@ -93,6 +97,8 @@ impl Word {
     }
 
     /// The kinds of its arguments, from left to right.
+    ///
+    /// Source: own choice.
     pub fn kinds(self) -> &'static [Kind]
         ensures { result.now ≡ kinds self }
     {
@@ -108,6 +114,8 @@ fn found(words: &[Word], text: &str) -> Option<Word>
 }
 
 /// The word of a text, if there is one. Upper and lower case count.
+///
+/// Source: own choice.
 pub fn word_of(text: &str) -> Option<Word>
     ensures { result ≡ word_of text.now }
 {

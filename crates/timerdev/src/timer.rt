@@ -54,6 +54,8 @@ impl<S: ListSpace> Timer<S> {
     /// most 4,096. None waits.
     ///
     /// An error means that memory is lacking.
+    ///
+    /// Source: own choice.
     pub fn new(alloc: Global, requests: usize, tick_micros: u32) -> Result<Self, AllocError>
         requires { requests ≤ 4096 }
         ensures { IfOk result (λ q. q ≡ record { room = requests; timer = new_timer tick_micros }) }
@@ -89,6 +91,8 @@ impl<S: ListSpace> Timer<S> {
     }
 
     /// Clock and system time gain the microseconds of a tick. Both sums are to stay below 2 to the power 64.
+    ///
+    /// Source: RKM Devices, timer device: UNIT_VBLANK; that ticks alone move the clock is own choice.
     pub fn tick(&mut self)
         requires clock { self.old.timer.clock + self.old.timer.tick_micros < 2 ^ 64 }
         requires system { self.old.timer.system + self.old.timer.tick_micros < 2 ^ 64 }

@@ -13,6 +13,8 @@ use execlist::space::ListSpace;
 
 impl<S: ListSpace> Objects<S> {
     /// The loaded library that begins at an address.
+    ///
+    /// Source: own choice.
     pub fn library_at(&self, base: u32) -> Result<LibId, Refusal>
         ensures alert { alert_of result ≡ library_alert base (shown_heap self.now) }
         ensures found { IfOk result (λ i. base_at i self.now.table.libs ≡ Some base) }
@@ -25,6 +27,8 @@ impl<S: ListSpace> Objects<S> {
     }
 
     /// The loaded library that begins at an address, which is open.
+    ///
+    /// Source: own choice.
     pub fn open_library_at(&self, base: u32) -> Result<LibId, Refusal>
         ensures alert { alert_of result ≡ close_alert base (shown_heap self.now) }
         ensures found { IfOk result (λ i. base_at i self.now.table.libs ≡ Some base) }

@@ -20,6 +20,8 @@ use msgport::ports::{MsgId, PortId};
 
 impl<S: ListSpace> Objects<S> {
     /// The port that begins at an address.
+    ///
+    /// Source: own choice.
     pub fn port_at(&self, port: u32) -> Result<PortId, Refusal>
         ensures alert { alert_of result ≡ model.port_alert port (shown_heap self.now) }
         ensures found { IfOk result (λ p. slot (places variant.Port self.now) p ≡ Some port) }
@@ -33,6 +35,8 @@ impl<S: ListSpace> Objects<S> {
     }
 
     /// The port that begins at an address, which has no message, is not public, and is the reply port of no request that is under way.
+    ///
+    /// Source: own choice.
     pub fn port_to_delete(&self, port: u32) -> Result<PortId, Refusal>
         ensures alert { alert_of result ≡ model.delete_alert port (shown_memory self.now) }
         ensures found { IfOk result (λ p. slot (places variant.Port self.now) p ≡ Some port) }
@@ -56,6 +60,8 @@ impl<S: ListSpace> Objects<S> {
     }
 
     /// The port that begins at an address, which is not public and is to be so with that priority.
+    ///
+    /// Source: own choice.
     pub fn private_port_at(&self, port: u32, pri: i8) -> Result<PortId, Refusal>
         ensures alert { alert_of result ≡ model.add_port_alert port pri (shown_memory self.now) }
         ensures found { IfOk result (λ p. slot (places variant.Port self.now) p ≡ Some port) }
@@ -73,6 +79,8 @@ impl<S: ListSpace> Objects<S> {
     }
 
     /// The port that begins at an address, which is public.
+    ///
+    /// Source: own choice.
     pub fn public_port_at(&self, port: u32) -> Result<PortId, Refusal>
         ensures alert { alert_of result ≡ model.rem_port_alert port (shown_memory self.now) }
         ensures found { IfOk result (λ p. slot (places variant.Port self.now) p ≡ Some port) }
@@ -90,6 +98,8 @@ impl<S: ListSpace> Objects<S> {
     }
 
     /// The port that begins at an address and signals a task, and the number of its signal.
+    ///
+    /// Source: own choice.
     pub fn port_to_wait_at(&self, task: TaskId, port: u32) -> Result<(PortId, u32), Refusal>
         ensures alert { alert_of result ≡ model.wait_alert task port (shown_heap self.now) }
         ensures found { IfOk result (λ pair. slot (places variant.Port self.now) pair.0 ≡ Some port) }
@@ -108,6 +118,8 @@ impl<S: ListSpace> Objects<S> {
     }
 
     /// The reply port at an address: none for 0, or else the port that begins there.
+    ///
+    /// Source: own choice.
     pub fn reply_port_at(&self, reply: u32) -> Result<Option<PortId>, Refusal>
         ensures alert { alert_of result ≡ model.reply_port_alert reply (shown_heap self.now) }
         ensures none { IfOk result (λ p. p ≡ None → reply ≡ 0) }
@@ -125,6 +137,8 @@ impl<S: ListSpace> Objects<S> {
     }
 
     /// The message that begins at an address.
+    ///
+    /// Source: own choice.
     pub fn message_at(&self, message: u32) -> Result<MsgId, Refusal>
         ensures alert { alert_of result ≡ model.message_alert message (shown_heap self.now) }
         ensures found { IfOk result (λ m. slot (places variant.Message self.now) m ≡ Some message) }
@@ -138,6 +152,8 @@ impl<S: ListSpace> Objects<S> {
     }
 
     /// The message that begins at an address, which is in no port.
+    ///
+    /// Source: own choice.
     pub fn loose_message_at(&self, message: u32) -> Result<MsgId, Refusal>
         ensures alert { alert_of result ≡ model.loose_alert message (shown_heap self.now) }
         ensures found { IfOk result (λ m. slot (places variant.Message self.now) m ≡ Some message) }
@@ -155,6 +171,8 @@ impl<S: ListSpace> Objects<S> {
     }
 
     /// The port that begins at an address, and the message that begins at another and is in no port.
+    ///
+    /// Source: own choice.
     pub fn to_put(&self, port: u32, message: u32) -> Result<(PortId, MsgId), Refusal>
         ensures alert { alert_of result ≡ model.put_alert port message (shown_heap self.now) }
         ensures port { IfOk result (λ pair. slot (places variant.Port self.now) pair.0 ≡ Some port) }
@@ -174,6 +192,8 @@ impl<S: ListSpace> Objects<S> {
     }
 
     /// The message that begins at an address and is in no port, and its reply port, or none.
+    ///
+    /// Source: own choice.
     pub fn to_reply(&self, message: u32) -> Result<(MsgId, Option<PortId>), Refusal>
         ensures alert { alert_of result ≡ model.reply_alert message (shown_heap self.now) }
         ensures message { IfOk result (λ pair. slot (places variant.Message self.now) pair.0 ≡ Some message) }
@@ -195,6 +215,8 @@ impl<S: ListSpace> Objects<S> {
     }
 
     /// The address of what stands in a port, a live message or a request, or 0 for none.
+    ///
+    /// Source: own choice.
     pub fn message_or_0(&self, m: Option<MsgId>) -> u32
         requires { ForSome m (λ n. IsSome (slot (message_places self.now) n)) }
         ensures { result ≡ or_none (option_map (address_in (message_places self.now)) m) }
@@ -206,6 +228,8 @@ impl<S: ListSpace> Objects<S> {
     }
 
     /// The address of a live port, or 0 for none.
+    ///
+    /// Source: own choice.
     pub fn port_or_0(&self, p: Option<PortId>) -> u32
         requires { IfSome p (λ q. IsTrue (is_port q self.now.ports)) }
         ensures { result ≡ or_none (option_map (address_in (places variant.Port self.now)) p) }

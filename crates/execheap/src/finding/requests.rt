@@ -22,6 +22,8 @@ use msgport::action::TaskId;
 
 impl<S: ListSpace> Objects<S> {
     /// The request that begins at an address.
+    ///
+    /// Source: own choice.
     pub fn request_at(&self, request: u32) -> Result<ReqId, Refusal>
         ensures alert { alert_of result ≡ model.request_alert request (shown_heap self.now) }
         ensures found { IfOk result (λ r. slot (places variant.Request self.now) r ≡ Some request) }
@@ -36,6 +38,8 @@ impl<S: ListSpace> Objects<S> {
     }
 
     /// The request that begins at an address, which is not under way.
+    ///
+    /// Source: own choice.
     pub fn resting_request_at(&self, request: u32) -> Result<ReqId, Refusal>
         ensures alert { alert_of result ≡ model.resting_alert request (shown_heap self.now) }
         ensures found { IfOk result (λ r. slot (places variant.Request self.now) r ≡ Some request) }
@@ -54,6 +58,8 @@ impl<S: ListSpace> Objects<S> {
     }
 
     /// The request that begins at an address, which is not under way and whose reply is in no port.
+    ///
+    /// Source: own choice.
     pub fn request_to_delete(&self, request: u32) -> Result<ReqId, Refusal>
         ensures alert { alert_of result ≡ model.delete_request_alert request (shown_heap self.now) }
         ensures found { IfOk result (λ r. slot (places variant.Request self.now) r ≡ Some request) }
@@ -98,6 +104,8 @@ impl<S: ListSpace> Objects<S> {
     }
 
     /// The request that begins at an address and may be sent: it may begin, and its reply port lives.
+    ///
+    /// Source: own choice.
     pub fn request_to_send(&self, request: u32) -> Result<ReqId, Refusal>
         ensures alert { alert_of result ≡ model.send_alert request (shown_heap self.now) }
         ensures found { IfOk result (λ r. slot (places variant.Request self.now) r ≡ Some request) }
@@ -119,6 +127,8 @@ impl<S: ListSpace> Objects<S> {
 
     /// The request that begins at an address and that a task may do: it may begin, and its reply port signals the task by the signal of the number
     /// that is answered.
+    ///
+    /// Source: own choice.
     pub fn request_to_do(&self, task: TaskId, request: u32) -> Result<(ReqId, u32), Refusal>
         ensures alert { alert_of result ≡ model.do_alert task request (shown_heap self.now) }
         ensures found { IfOk result (λ pair. slot (places variant.Request self.now) pair.0 ≡ Some request) }
@@ -142,6 +152,8 @@ impl<S: ListSpace> Objects<S> {
 
     /// The request that begins at an address and that a task may wait for: it was begun; where it is under way, its reply port signals the task, by
     /// the signal of the number that is answered; where it is replied, its reply is in a port.
+    ///
+    /// Source: own choice.
     pub fn request_to_wait_for(&self, task: TaskId, request: u32) -> Result<(ReqId, u32), Refusal>
         ensures alert { alert_of result ≡ model.wait_io_alert task request (shown_heap self.now) }
         ensures found { IfOk result (λ pair. slot (places variant.Request self.now) pair.0 ≡ Some request) }

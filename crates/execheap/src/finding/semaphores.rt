@@ -15,6 +15,8 @@ use sigsem::sems::SemId;
 
 impl<S: ListSpace> Objects<S> {
     /// The semaphore that begins at an address.
+    ///
+    /// Source: own choice.
     pub fn semaphore_at(&self, semaphore: u32) -> Result<SemId, Refusal>
         ensures alert { alert_of result ≡ model.semaphore_alert semaphore (shown_heap self.now) }
         ensures found { IfOk result (λ n. slot (places variant.Semaphore self.now) n ≡ Some semaphore) }
@@ -28,6 +30,8 @@ impl<S: ListSpace> Objects<S> {
     }
 
     /// The semaphore that begins at an address, which no task owns.
+    ///
+    /// Source: own choice.
     pub fn semaphore_to_free(&self, semaphore: u32) -> Result<SemId, Refusal>
         ensures alert { alert_of result ≡ model.free_sem_alert semaphore (shown_heap self.now) }
         ensures found { IfOk result (λ n. slot (places variant.Semaphore self.now) n ≡ Some semaphore) }

@@ -12,6 +12,8 @@ use execlist::space::ListSpace;
 impl<S: ListSpace> Objects<S> {
     /// The number of the loaded library that begins at an address, if one does. A call on libraries begins here, and learns here what
     /// always holds of the objects.
+    ///
+    /// Source: own choice.
     pub fn library_number(&self, address: u32) -> Option<LibId>
         ensures value { result ≡ library_at address self.now.table }
         ensures live { IfSome result (λ i. base_at i self.now.table.libs ≡ Some address) }
@@ -22,6 +24,8 @@ impl<S: ListSpace> Objects<S> {
     }
 
     /// How often a loaded library is open.
+    ///
+    /// Source: RKM Libraries, Exec Libraries: `lib_OpenCnt`.
     pub fn library_count(&self, i: LibId) -> u32
         requires { IsTrue (is_loaded i self.now.table.libs) }
         ensures { result ≡ count_of i self.now.table.libs }
@@ -30,6 +34,8 @@ impl<S: ListSpace> Objects<S> {
     }
 
     /// Opens the library of a name that has at least a version, loading it first where it is absent: its base, if it was opened.
+    ///
+    /// Source: autodoc exec.library/OpenLibrary.
     pub fn open_library(&mut self, name: &str, version: u32) -> Option<u32>
         ensures answer { result ≡ model.opening name.now version (shown_memory self.old) }
         ensures next { shown_memory self.new ≡ model.opened name.now version (shown_memory self.old) }
@@ -38,6 +44,8 @@ impl<S: ListSpace> Objects<S> {
     }
 
     /// Closes once the open library that begins at an address.
+    ///
+    /// Source: autodoc exec.library/CloseLibrary.
     pub fn close_library(&mut self, i: LibId, base: u32)
         requires live { base_at i self.old.table.libs ≡ Some base }
         requires open { close_fault i self.old.table.libs ≡ None }
@@ -48,6 +56,8 @@ impl<S: ListSpace> Objects<S> {
     }
 
     /// Removes the library that begins at an address, now or when it is closed for the last time.
+    ///
+    /// Source: autodoc exec.library/RemLibrary.
     pub fn remove_library(&mut self, i: LibId, base: u32)
         requires { base_at i self.old.table.libs ≡ Some base }
         ensures { shown_memory self.new ≡ model.removed base (shown_memory self.old) }

@@ -24,6 +24,8 @@ use msgport::ports::{MsgId, PortId, Ports};
 
 impl<S: ListSpace> Objects<S> {
     /// The ports and the messages.
+    ///
+    /// Source: own choice.
     pub fn ports(&self) -> &Ports<S>
         ensures { result.now ≡ self.now.ports }
     {
@@ -33,6 +35,8 @@ impl<S: ListSpace> Objects<S> {
     // ---- numbers and addresses
 
     /// The address of what may stand in a port: of a live message, or of a live request, whose numbers as messages stand behind.
+    ///
+    /// Source: own choice.
     pub fn address_of_message(&self, m: MsgId) -> u32
         requires { IsSome (slot (message_places self.now) m) }
         ensures { slot (message_places self.now) m ≡ Some result }
@@ -47,6 +51,8 @@ impl<S: ListSpace> Objects<S> {
     }
 
     /// The address of a live port.
+    ///
+    /// Source: own choice.
     pub fn address_of_port(&self, p: PortId) -> u32
         requires { IsTrue (is_port p self.now.ports) }
         ensures { slot (places variant.Port self.now) p ≡ Some result }
@@ -58,6 +64,8 @@ impl<S: ListSpace> Objects<S> {
     // ---- made and freed
 
     /// A new port of a task, which signals it by the signal of that number, if the pool has one left and its block fits once libraries gave way: its address.
+    ///
+    /// Source: autodoc exec.library/CreateMsgPort.
     pub fn make_port(&mut self, task: TaskId, bit: u32) -> Option<u32>
         requires own { 16 ≤ bit }
         requires signal { bit < 32 }
@@ -71,6 +79,8 @@ impl<S: ListSpace> Objects<S> {
     }
 
     /// A new message with a reply port, or 0, and a word, if the pool has one left and its block fits once libraries gave way: its address.
+    ///
+    /// Source: RKM Libraries, Exec Messages and Ports: messages; that it takes the memory is own choice.
     pub fn make_message(&mut self, reply: u32, word: u32) -> Option<u32>
         ensures address { result ≡ place_for_object model.is_message 24 (after_asking_for_object model.is_message 24 (shown_memory self.old)) }
         ensures next { shown_memory self.new ≡ placed 24 (Message (new_message reply word)) result (after_asking_for_object model.is_message 24 (shown_memory self.old)) }
@@ -82,6 +92,8 @@ impl<S: ListSpace> Objects<S> {
     }
 
     /// Frees a port that has no message and is not public, and answers its task and the number of its signal.
+    ///
+    /// Source: autodoc exec.library/DeleteMsgPort.
     pub fn free_port(&mut self, p: PortId, address: u32) -> (TaskId, u32)
         requires live { slot (places variant.Port self.old) p ≡ Some address }
         requires empty { IsTrue (not (has_messages p self.old.ports)) }
@@ -97,6 +109,8 @@ impl<S: ListSpace> Objects<S> {
     }
 
     /// Frees a message that is in no port.
+    ///
+    /// Source: own choice.
     pub fn free_message(&mut self, m: MsgId, address: u32)
         requires live { slot (places variant.Message self.old) m ≡ Some address }
         requires loose { home self.old.ports.places m ≡ None }
@@ -110,6 +124,8 @@ impl<S: ListSpace> Objects<S> {
     // ---- putting and taking
 
     /// Puts a message that is in no port at a port, as one of type NT_MESSAGE, and answers what is to be done for it.
+    ///
+    /// Source: autodoc exec.library/PutMsg.
     pub fn put(&mut self, p: PortId, m: MsgId) -> Action
         requires port { IsTrue (is_port p self.old.ports) }
         requires message { IsSome (slot (places variant.Message self.old) m) }
@@ -122,6 +138,8 @@ impl<S: ListSpace> Objects<S> {
     }
 
     /// Puts a message that is in no port at a port, as one of type NT_REPLYMSG, and answers what is to be done for it.
+    ///
+    /// Source: autodoc exec.library/ReplyMsg.
     pub fn reply(&mut self, p: PortId, m: MsgId) -> Action
         requires port { IsTrue (is_port p self.old.ports) }
         requires message { IsSome (slot (places variant.Message self.old) m) }
@@ -134,6 +152,8 @@ impl<S: ListSpace> Objects<S> {
     }
 
     /// Gives a message that is in no port the type NT_FREEMSG.
+    ///
+    /// Source: autodoc exec.library/ReplyMsg.
     pub fn reply_none(&mut self, m: MsgId)
         requires message { IsSome (slot (places variant.Message self.old) m) }
         requires loose { home self.old.ports.places m ≡ None }
@@ -144,6 +164,8 @@ impl<S: ListSpace> Objects<S> {
     }
 
     /// Takes the first message off a port, if it has one.
+    ///
+    /// Source: autodoc exec.library/GetMsg.
     pub fn take_message(&mut self, p: PortId) -> Option<MsgId>
         requires { IsTrue (is_port p self.old.ports) }
         ensures value { result ≡ first (messages_of p self.old.ports) }
@@ -157,6 +179,8 @@ impl<S: ListSpace> Objects<S> {
     // ---- public ports
 
     /// Makes a port public that is not.
+    ///
+    /// Source: autodoc exec.library/AddPort.
     pub fn add_port(&mut self, p: PortId, name: Name, pri: i8)
         requires live { IsTrue (is_port p self.old.ports) }
         requires private { IsTrue (not (is_public p self.old.ports)) }
@@ -166,6 +190,8 @@ impl<S: ListSpace> Objects<S> {
     }
 
     /// Makes a public port public no more.
+    ///
+    /// Source: autodoc exec.library/RemPort.
     pub fn rem_port(&mut self, p: PortId)
         requires live { IsTrue (is_port p self.old.ports) }
         requires public { IsTrue (is_public p self.old.ports) }
@@ -177,6 +203,8 @@ impl<S: ListSpace> Objects<S> {
     // ---- one port or message
 
     /// Gives a port another action.
+    ///
+    /// Source: RKM Libraries, Exec Messages and Ports: `mp_Flags`.
     pub fn set_action(&mut self, p: PortId, action: PortAction)
         requires { IsTrue (is_port p self.old.ports) }
         ensures { self.new ≡ on_ports (with_port p (record (port_at p self.old.ports) { action = action })) self.old }
@@ -185,6 +213,8 @@ impl<S: ListSpace> Objects<S> {
     }
 
     /// Gives a message another word.
+    ///
+    /// Source: own choice.
     pub fn set_word(&mut self, m: MsgId, word: u32)
         requires { IsTrue (is_message m self.old.ports) }
         ensures { self.new ≡ on_ports (with_message m (record (message_at m self.old.ports) { word = word })) self.old }

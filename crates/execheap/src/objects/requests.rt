@@ -45,6 +45,8 @@ pub(crate) fn with_requests<S: ListSpace>(mut ports: Ports<S>, requests: usize) 
 
 impl<S: ListSpace> Objects<S> {
     /// The requests.
+    ///
+    /// Source: own choice.
     pub fn requests(&self) -> &Requests
         ensures { result.now ≡ self.now.requests }
     {
@@ -52,6 +54,8 @@ impl<S: ListSpace> Objects<S> {
     }
 
     /// The number of a request as a message.
+    ///
+    /// Source: own choice.
     pub fn message_of(&self, r: ReqId) -> MsgId
         requires { IsTrue (is_request r self.now.requests) }
         ensures value { result ≡ message_of_request r self.now }
@@ -64,6 +68,8 @@ impl<S: ListSpace> Objects<S> {
     // ---- made and freed
 
     /// A new request with that reply port, which is idle and not open, if the pool has one left and its block fits once libraries gave way: its address.
+    ///
+    /// Source: autodoc exec.library/CreateIORequest.
     pub fn make_request(&mut self, port: u32) -> Option<u32>
         ensures address { result ≡ place_for_object model.is_request 40 (after_asking_for_object model.is_request 40 (shown_memory self.old)) }
         ensures next { shown_memory self.new ≡ placed 40 (Request (idle_request port)) result (after_asking_for_object model.is_request 40 (shown_memory self.old)) }
@@ -75,6 +81,8 @@ impl<S: ListSpace> Objects<S> {
     }
 
     /// Frees a request that is not under way and whose reply is in no port.
+    ///
+    /// Source: autodoc exec.library/DeleteIORequest.
     pub fn free_request(&mut self, r: ReqId, address: u32)
         requires live { slot (places variant.Request self.old) r ≡ Some address }
         requires rests { is_under_way (request_at r self.old.requests) ≡ false }
@@ -89,6 +97,8 @@ impl<S: ListSpace> Objects<S> {
     // ---- opening and writing
 
     /// Opens a request that is not under way for a unit of the timer, none where another device is meant, and answers the error.
+    ///
+    /// Source: autodoc exec.library/OpenDevice.
     pub fn open_request(&mut self, r: ReqId, unit: Option<u32>) -> i8
         requires live { IsTrue (is_request r self.old.requests) }
         requires rests { is_under_way (request_at r self.old.requests) ≡ false }
@@ -99,6 +109,8 @@ impl<S: ListSpace> Objects<S> {
     }
 
     /// Leaves a request that is not under way not open.
+    ///
+    /// Source: autodoc exec.library/CloseDevice.
     pub fn close_request(&mut self, r: ReqId)
         requires live { IsTrue (is_request r self.old.requests) }
         requires rests { is_under_way (request_at r self.old.requests) ≡ false }
@@ -108,6 +120,8 @@ impl<S: ListSpace> Objects<S> {
     }
 
     /// Gives a request that is not under way a command and a time.
+    ///
+    /// Source: RKM Devices, Introduction to Amiga System Devices: `io_Command`; RKM Devices, timer device: `tr_time`.
     pub fn set_request(&mut self, r: ReqId, command: u16, secs: u32, micros: u32)
         requires live { IsTrue (is_request r self.old.requests) }
         requires rests { is_under_way (request_at r self.old.requests) ≡ false }
@@ -119,6 +133,8 @@ impl<S: ListSpace> Objects<S> {
     // ---- begun and finished
 
     /// Begins a request with IOF_QUICK set or not, and answers what is to be done for its reply, if it is done at once.
+    ///
+    /// Source: RKM Devices, timer device, and autodocs exec.library/DoIO and exec.library/SendIO.
     pub fn begin_request(&mut self, r: ReqId, quick: bool) -> Action
         requires live { IsTrue (is_request r self.old.requests) }
         requires rests { is_under_way (request_at r self.old.requests) ≡ false }
@@ -176,6 +192,8 @@ impl<S: ListSpace> Objects<S> {
     }
 
     /// Ends a request that is under way with IOERR_ABORTED, and answers what is to be done for its reply.
+    ///
+    /// Source: autodoc exec.library/AbortIO.
     pub fn abort_request(&mut self, r: ReqId) -> Action
         requires live { IsTrue (is_request r self.old.requests) }
         requires under_way { IsTrue (is_under_way (request_at r self.old.requests)) }
@@ -196,6 +214,8 @@ impl<S: ListSpace> Objects<S> {
 
     /// Ends the first request whose time has come, if there is one, with error 0, and answers its number and what is to be done for its
     /// reply.
+    ///
+    /// Source: RKM Devices, timer device: TR_ADDREQUEST.
     pub fn finish_due(&mut self) -> Option<(ReqId, Action)>
         ensures answer { result ≡ option_map (λ r. (r, next.acting_ended r self.old)) (due_next self.old.timing.timer) }
         ensures live { IfSome result (λ pair. IsSome (slot (places variant.Request self.new) pair.0)) }
@@ -216,6 +236,8 @@ impl<S: ListSpace> Objects<S> {
     }
 
     /// The same of the first request that waits for system time.
+    ///
+    /// Source: RKM Devices, timer device: UNIT_WAITUNTIL.
     pub fn finish_until(&mut self) -> Option<(ReqId, Action)>
         ensures answer { result ≡ option_map (λ r. (r, next.acting_ended r self.old)) (until_next self.old.timing.timer) }
         ensures live { IfSome result (λ pair. IsSome (slot (places variant.Request self.new) pair.0)) }
@@ -238,6 +260,8 @@ impl<S: ListSpace> Objects<S> {
     // ---- looked for
 
     /// Takes the reply of a request that is replied out of the port that has it; any other stays as it is.
+    ///
+    /// Source: autodoc exec.library/WaitIO.
     pub fn take_reply(&mut self, r: ReqId)
         requires live { IsTrue (is_request r self.old.requests) }
         requires queued { (request_at r self.old.requests).state ≡ Replied → IsSome (home self.old.ports.places (message_of_request r self.old)) }
@@ -251,6 +275,8 @@ impl<S: ListSpace> Objects<S> {
     }
 
     /// What a task gets that looks for a request, whose reply port signals the task by the signal of that number.
+    ///
+    /// Source: autodoc exec.library/WaitIO.
     pub fn looked_for(&self, r: ReqId, bit: u32) -> Awaited
         requires { IsTrue (is_request r self.now.requests) }
         ensures { result ≡ next.looked_for (request_at r self.now.requests) bit }
@@ -263,6 +289,8 @@ impl<S: ListSpace> Objects<S> {
     }
 
     /// Whether a request is under way.
+    ///
+    /// Source: autodoc exec.library/CheckIO.
     pub fn is_under_way(&self, r: ReqId) -> bool
         requires { IsTrue (is_request r self.now.requests) }
         ensures { result ≡ is_under_way (request_at r self.now.requests) }
@@ -273,6 +301,8 @@ impl<S: ListSpace> Objects<S> {
     // ---- the clock, and system time
 
     /// Clock and system time gain the microseconds of a tick. The clock is to stay below 2 to the power 63.
+    ///
+    /// Source: RKM Devices, timer device: UNIT_VBLANK; that ticks alone move the clock is own choice.
     pub fn tick(&mut self)
         requires { self.old.timing.timer.clock + self.old.timing.timer.tick_micros < 2 ^ 63 }
         ensures { self.new ≡ on_timing ticked self.old }
@@ -281,6 +311,8 @@ impl<S: ListSpace> Objects<S> {
     }
 
     /// Whether system time was set since this was asked last.
+    ///
+    /// Source: RKM Devices, timer device: TR_SETSYSTIME.
     pub fn take_setting(&mut self) -> bool
         ensures value { result ≡ self.old.timing.timer.is_set }
         ensures next { self.new ≡ on_timing looked_at self.old }

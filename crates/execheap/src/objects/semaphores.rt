@@ -21,6 +21,8 @@ use sigsem::sems::{SemId, Sems};
 
 impl<S: ListSpace> Objects<S> {
     /// The semaphores.
+    ///
+    /// Source: own choice.
     pub fn sems(&self) -> &Sems<S>
         ensures { result.now ≡ self.now.sems }
     {
@@ -30,6 +32,8 @@ impl<S: ListSpace> Objects<S> {
     // ---- made and freed
 
     /// A new semaphore, which no task owns, if the pool has one left and its block fits once libraries gave way: its address.
+    ///
+    /// Source: autodoc exec.library/InitSemaphore; that it takes the memory is own choice.
     pub fn make_semaphore(&mut self) -> Option<u32>
         ensures address { result ≡ place_for_object is_semaphore 46 (after_asking_for_object is_semaphore 46 (shown_memory self.old)) }
         ensures next { shown_memory self.new ≡ placed 46 (Semaphore free_sem []) result (after_asking_for_object is_semaphore 46 (shown_memory self.old)) }
@@ -41,6 +45,8 @@ impl<S: ListSpace> Objects<S> {
     }
 
     /// Frees a semaphore that no task owns.
+    ///
+    /// Source: own choice.
     pub fn free_semaphore(&mut self, n: SemId, address: u32)
         requires live { slot (places variant.Semaphore self.old) n ≡ Some address }
         requires unowned { IsTrue (not (is_owned n self.old.sems)) }
@@ -53,6 +59,8 @@ impl<S: ListSpace> Objects<S> {
     // ---- obtaining and releasing
 
     /// Asks for a semaphore for a task that is not to wait, and answers whether it has it.
+    ///
+    /// Source: autodoc exec.library/AttemptSemaphore.
     pub fn attempt(&mut self, n: SemId, t: TaskId) -> Result<bool, SemFault>
         requires { IsTrue (is_sem n self.old.sems) }
         ensures answer { result ≡ fault_or (deep_fault n t self.old.sems) (is_open n t self.old.sems) }
@@ -62,6 +70,8 @@ impl<S: ListSpace> Objects<S> {
     }
 
     /// Asks for a semaphore for a task, which has it then or waits for it, and for no other.
+    ///
+    /// Source: autodoc exec.library/ObtainSemaphore.
     pub fn obtain(&mut self, n: SemId, t: TaskId) -> Result<Obtained, SemFault>
         requires live { IsTrue (is_sem n self.old.sems) }
         requires task { t < 4096 }
@@ -79,6 +89,8 @@ impl<S: ListSpace> Objects<S> {
     }
 
     /// Releases a semaphore once, for its owner, and answers the new owner, if another task becomes it.
+    ///
+    /// Source: autodoc exec.library/ReleaseSemaphore.
     pub fn release(&mut self, n: SemId, t: TaskId) -> Result<Option<TaskId>, SemFault>
         requires { IsTrue (is_sem n self.old.sems) }
         ensures answer { result ≡ fault_or (release_fault n t self.old.sems) (heir n self.old.sems) }
@@ -88,6 +100,8 @@ impl<S: ListSpace> Objects<S> {
     }
 
     /// A task waits for no semaphore any more.
+    ///
+    /// Source: own choice.
     pub fn drop_waiter(&mut self, t: TaskId)
         requires { t < 4096 }
         ensures { self.new ≡ on_semaphores (dropped t) self.old }
