@@ -4,4 +4,5 @@ mod cut_texts;
 mod heap;
 mod openings;
 mod reading;
+mod simulated;
 mod writers;

@@ -1,6 +1,7 @@
 //! Machine files and event texts that end anywhere: each has an answer, and one that is refused has no trace.
-use execsim::{End, SimFault, simulate};
-use exectrace::{Sink, SinkState, WriteSink};
+use crate::tests::simulated::simulated;
+use execsim::{End, SimFault};
+use exectrace::SinkState;
 use std::alloc::Global;
 use std::process::Abort;
 use std::test::*;
@@ -74,10 +75,9 @@ type Answered = (Result<End, SimFault>, usize);
 
 /// Simulates to a writer that takes all; no answer is a failed write, and a refusal has written nothing.
 fn answers(rt: &impl Abort, alloc: Global, machine: &[u8], events: &[u8]) -> Answered {
-    let mut out = WriteSink::new(Vec::new(alloc));
-    let given = simulate(alloc, machine, events, &mut out);
-    assert_eq!(rt; out.state(), SinkState::Good);
-    let written = out.into_inner().len();
+    let (given, state, trace) = simulated(alloc, machine, events, Vec::new(alloc));
+    assert_eq!(rt; state, SinkState::Good);
+    let written = trace.len();
     match given {
         Ok(_) => {}
         Err(fault) => {

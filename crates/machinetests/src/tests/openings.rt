@@ -1,6 +1,6 @@
 //! A run whose trace is too long for a table: a library is opened as often as it may be.
-use execsim::{End, simulate};
-use exectrace::WriteSink;
+use crate::tests::simulated::simulated;
+use execsim::End;
 use std::process::Abort;
 use std::test::*;
 
@@ -26,10 +26,10 @@ fn a_library_is_open_65535_times_at_most(rt: HostRuntime) -> Result<(), Fail> {
     }
     trace.push_str("a OpenLibrary \"x.library\" $00000000 -> $00000000\n")?;
     trace.push_str("a LibOpenCnt $00001000 -> $0000FFFF\n")?;
-    let mut out = WriteSink::new(Vec::new(rt.alloc()));
     let events = b"run 131073\n";
-    let answer = simulate(rt.alloc(), MACHINE.as_bytes(), events, &mut out);
+    let writer = Vec::new(rt.alloc());
+    let (answer, _, written) = simulated(rt.alloc(), MACHINE.as_bytes(), events, writer);
     assert_eq!(rt; answer, Ok(End::Ran));
-    assert!(rt; out.into_inner().as_slice() == trace.as_bytes());
+    assert!(rt; written.as_slice() == trace.as_bytes());
     Ok(())
 }

@@ -1,6 +1,7 @@
 //! Whole runs to writers that take little, take nothing or fail, and runs whose trace is too long for a table.
-use execsim::{End, SimFault, simulate};
-use exectrace::{Sink, SinkState, WriteSink};
+use crate::tests::simulated::simulated;
+use execsim::{End, SimFault};
+use exectrace::SinkState;
 use std::alloc::Global;
 use std::io;
 use std::io::Write;
@@ -110,21 +111,20 @@ const BROKEN: Result<End, SimFault> = Err(SimFault::Write);
 /// Simulates to a writer with a habit, and compares what stands in the case; the calls of the writer.
 fn writes(rt: &impl Abort, alloc: Global, case: Case) -> usize {
     let (habit, answer, state, count, idle) = case;
-    let mut out = WriteSink::new(Fickle {
+    let fickle = Fickle {
         held: Vec::new(alloc),
         habit,
         calls: 0,
         idle: 0,
-    });
-    let given = simulate(
+    };
+    let (given, ended, writer) = simulated(
         alloc,
         ROTATES.as_bytes(),
         ROTATES_EVENTS.as_bytes(),
-        &mut out,
+        fickle,
     );
     assert_eq!(rt; given, answer, "{habit:?}");
-    assert_eq!(rt; out.state(), state, "{habit:?}");
-    let writer = out.into_inner();
+    assert_eq!(rt; ended, state, "{habit:?}");
     assert_eq!(rt;
         Some(writer.held.as_slice()),
         ROTATES_TRACE.as_bytes().get(..count),
@@ -187,11 +187,10 @@ fn obtains_32767_times(
     }
     let alert = format!(in alloc; "alert SEM a {word}\n")?;
     trace.push_str(alert.as_str())?;
-    let mut out = WriteSink::new(Vec::new(alloc));
     let events = b"run 65536\nrun 5\ntick 1\n";
-    let answer = simulate(alloc, machine.as_bytes(), events, &mut out);
+    let (answer, _, written) = simulated(alloc, machine.as_bytes(), events, Vec::new(alloc));
     assert_eq!(rt; answer, Ok(End::Alerted), "{word}");
-    assert!(rt; out.into_inner().as_slice() == trace.as_bytes(), "{word}");
+    assert!(rt; written.as_slice() == trace.as_bytes(), "{word}");
     Ok(())
 }
 
