@@ -178,6 +178,8 @@ fn server_claims(servers: &[Server], k: usize) -> bool
 
 impl Bodies {
     /// The software interrupts and the servers of a file.
+    ///
+    /// Source: own choice.
     pub fn new(
         alloc: Global,
         softints: &[SoftintRecord],
@@ -202,6 +204,8 @@ impl Bodies {
     }
 
     /// The number of the software interrupt of a name; where none has it, the number of all of them.
+    ///
+    /// Source: own choice.
     pub fn softint_named(&self, name: Name) -> usize
         ensures { result ≡ softint_named name.bytes self.now.softints }
     {
@@ -212,6 +216,8 @@ impl Bodies {
     }
 
     /// How many software interrupts there are.
+    ///
+    /// Source: own choice.
     pub fn softint_count(&self) -> usize
         ensures { result ≡ length self.now.softints }
     {
@@ -219,6 +225,8 @@ impl Bodies {
     }
 
     /// How many servers there are.
+    ///
+    /// Source: own choice.
     pub fn server_count(&self) -> usize
         ensures { result ≡ length self.now.servers }
     {
@@ -226,6 +234,8 @@ impl Bodies {
     }
 
     /// Whether server k ends the chain of its source.
+    ///
+    /// Source: own choice.
     pub fn claims(&self, k: usize) -> bool
         ensures { result ≡ (server_at k self.now).claim }
     {
@@ -233,6 +243,8 @@ impl Bodies {
     }
 
     /// The name of a body; an empty one where there is none of that number.
+    ///
+    /// Source: own choice.
     pub fn name(&self, body: Body) -> Name
         ensures { result.bytes ≡ name_of_body body self.now }
     {
@@ -243,6 +255,8 @@ impl Bodies {
     }
 
     /// The commands of a body; none where there is none of that number.
+    ///
+    /// Source: own choice.
     pub fn code(&self, body: Body) -> &[SmallCommand]
         ensures { map small_view result.now ≡ code_of_body body self.now }
     {

@@ -20,6 +20,8 @@ use taskscript::Source as NamedSource;
 const SOURCES: u32 = 3;
 
 /// The source of a name of the texts.
+///
+/// Source: own choice.
 pub fn source_named(name: NamedSource) -> Source
     ensures { result ≡ source_named name }
 {

@@ -216,6 +216,8 @@ impl<S: ListSpace> Machine<S> {
     /// # Errors
     ///
     /// Memory is lacking.
+    ///
+    /// Source: own choice.
     pub fn boot(alloc: Global, file: &MachineFile) -> Result<Machine<S>, AllocError>
         ensures agrees { IfOk result (λ m. Agrees m.seen (booted file.now)) }
         ensures whole { IfOk result (λ m. m.failed ≡ false) }

@@ -15,6 +15,8 @@ pub const PRIVATE_VARIABLES: usize = 32;
 
 impl Call {
     /// The arguments that the word has, as the trace prints them, each name as the call's.
+    ///
+    /// Source: own choice.
     pub fn shown(&self) -> &[ShortArg]
         ensures { map (short_argument self.now.quoted.bytes) result.now ≡ (call_view self.now).arguments }
     {
@@ -22,6 +24,8 @@ impl Call {
     }
 
     /// The number that stands at an argument, counted from 0; 0 where none does.
+    ///
+    /// Source: own choice.
     pub fn number(&self, k: usize) -> u32
         ensures { result ≡ argument k (call_view self.now) }
     {
@@ -32,6 +36,8 @@ impl Call {
     }
 
     /// The name that stands at an argument, counted from 0, if one does.
+    ///
+    /// Source: own choice.
     pub fn name(&self, k: usize) -> Option<Name>
         ensures { option_map (λ n. n.bytes) result ≡ name_argument k (call_view self.now) }
     {
@@ -42,6 +48,8 @@ impl Call {
     }
 
     /// The call, waiting for these signals.
+    ///
+    /// Source: own choice.
     pub fn awaiting(&self, mask: u32) -> Call
         ensures { call_view result ≡ record (call_view self.now) { awaited = mask } }
     {
@@ -52,6 +60,8 @@ impl Call {
 }
 
 /// The command of that place, if there is one.
+///
+/// Source: own choice.
 pub fn command_at(code: &[SmallCommand], place: usize) -> Option<&SmallCommand>
     ensures { option_copied result ≡ slice_get code.now place }
 {
@@ -87,6 +97,8 @@ impl Model for Program {
 
 impl Program {
     /// The program of these commands, at its first one, with every variable 0, of a task that starts with the machine or not.
+    ///
+    /// Source: own choice.
     pub fn new(code: Vec<SmallCommand>, starts: bool) -> Self
         ensures { result ≡ begun_with (map small_view code.items) starts }
     {
@@ -100,6 +112,8 @@ impl Program {
     }
 
     /// Whether the task starts with the machine.
+    ///
+    /// Source: own choice.
     pub fn starts(&self) -> bool
         ensures { result ≡ self.now.starts }
     {
@@ -107,6 +121,8 @@ impl Program {
     }
 
     /// The call that the task waits in, if any.
+    ///
+    /// Source: own choice.
     pub fn kept(&self) -> Option<&Call>
         ensures { option_map call_view (option_copied result) ≡ self.now.kept }
     {
@@ -114,6 +130,8 @@ impl Program {
     }
 
     /// The next command, if any is left.
+    ///
+    /// Source: own choice.
     pub fn command(&self) -> Option<&SmallCommand>
         ensures { option_map small_view (option_copied result) ≡ slice_get self.now.code self.now.place }
     {
@@ -121,6 +139,8 @@ impl Program {
     }
 
     /// The place of the command after the next one.
+    ///
+    /// Source: own choice.
     pub fn next(&self) -> usize
         requires { self.now.place < length self.now.code }
         ensures { result ≡ self.now.place + 1 }
@@ -129,6 +149,8 @@ impl Program {
     }
 
     /// What a variable of the task holds; 0 where it has no such variable.
+    ///
+    /// Source: own choice.
     pub fn variable(&self, k: usize) -> u32
         ensures { result ≡ slice_index_or self.now.variables k 0 }
     {
@@ -136,6 +158,8 @@ impl Program {
     }
 
     /// Gives a variable of the task a value; nothing changes where it has no such variable.
+    ///
+    /// Source: own choice.
     pub fn store(&mut self, k: usize, value: u32)
         ensures { self.new ≡ record self.old { variables = slice_set self.old.variables k value } }
     {
@@ -145,6 +169,8 @@ impl Program {
     }
 
     /// The task goes on at the command of that place.
+    ///
+    /// Source: own choice.
     pub fn go_on(&mut self, next: usize)
         ensures { self.new ≡ record self.old { place = next; kept = None } }
     {
@@ -155,6 +181,8 @@ impl Program {
     }
 
     /// The task will try this call again.
+    ///
+    /// Source: own choice.
     pub fn keep(&mut self, call: &Call)
         ensures { self.new ≡ record self.old { kept = Some (call_view call.now) } }
     {

@@ -94,6 +94,8 @@ fn small(command: &Command) -> SmallCommand
 }
 
 /// The commands of a body, made small.
+///
+/// Source: own choice.
 pub fn small_code(alloc: Global, code: &[Command]) -> Result<Vec<SmallCommand>, AllocError>
     requires { CanBeSmall (map command_view code.now) }
     ensures { IfOk result (λ v. map small_view v.items ≡ map command_view code.now) }

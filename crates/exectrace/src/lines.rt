@@ -82,6 +82,8 @@ pub enum Line {
 
 impl Arg {
     /// Whether it is a name between double quotes.
+    ///
+    /// Source: own choice.
     pub fn is_quoted(&self) -> bool
         ensures { result ≡ is_quoted (shown_argument self.now) }
     {
@@ -138,6 +140,8 @@ impl CallLine {
 
 impl Line {
     /// How many arguments are quoted.
+    ///
+    /// Source: own choice.
     pub fn quoted_count(&self) -> usize
         ensures { result ≡ quoted_count (shown self.now) }
     {
@@ -148,6 +152,8 @@ impl Line {
     }
 
     /// How many bytes the printed line has, its line feed included.
+    ///
+    /// Source: own choice.
     pub fn printed_len(&self) -> usize
         ensures value { result ≡ length (printed_line (shown self.now)) }
         ensures fits { quoted_count (shown self.now) ≤ 1 → result ≤ 160 }

@@ -102,6 +102,7 @@ fn hand_over<W: Sink>(line: &Draft, out: &mut W)
 }
 
 /// Puts a text between two others.
+#[inline(never)]
 fn put_between<W: Sink>(before: &[u8], text: &[u8], after: &[u8], out: &mut W)
     ensures { Puts (W.tape out.old) (W.tape out.new) (before.now ++ text.now ++ after.now) }
 {
@@ -188,6 +189,8 @@ fn add_outcome<W: Sink>(line: &mut Draft, outcome: CallOutcome, out: &mut W)
 }
 
 /// Puts `switch NAME`: the task of this name begins to run.
+///
+/// Source: own choice.
 pub fn put_switch<W: Sink>(name: &Name, out: &mut W)
     ensures { Puts (W.tape out.old) (W.tape out.new) (printed_line (Switch name.now.bytes)) }
 {
@@ -195,6 +198,9 @@ pub fn put_switch<W: Sink>(name: &Name, out: &mut W)
 }
 
 /// Puts `idle`: no task runs.
+///
+/// Source: own choice.
+#[inline(never)]
 pub fn put_idle<W: Sink>(out: &mut W)
     ensures { Puts (W.tape out.old) (W.tape out.new) (printed_line Idle) }
 {
@@ -203,6 +209,9 @@ pub fn put_idle<W: Sink>(out: &mut W)
 
 /// Puts `NAME WORD{ ARG}`, and ` -> VALUE` or ` waits` by the outcome: the task, server or software interrupt of this
 /// name made the call of this word.
+///
+/// Source: own choice.
+#[inline(never)]
 pub fn put_call<W: Sink>(
     name: &Name,
     word: &str,
@@ -224,6 +233,9 @@ pub fn put_call<W: Sink>(
 }
 
 /// Puts the line of a call as `put_call` does, where each quoted argument is that name.
+///
+/// Source: own choice.
+#[inline(never)]
 pub fn put_short_call<W: Sink>(
     name: &Name,
     word: &str,
@@ -246,6 +258,8 @@ pub fn put_short_call<W: Sink>(
 }
 
 /// Puts `serve SOURCE`: the latch of this interrupt source is served.
+///
+/// Source: own choice.
 pub fn put_serve<W: Sink>(source: &str, out: &mut W)
     ensures { Puts (W.tape out.old) (W.tape out.new) (printed_line (Serve source.now)) }
 {
@@ -253,6 +267,8 @@ pub fn put_serve<W: Sink>(source: &str, out: &mut W)
 }
 
 /// Puts `timer VALUE`: the queued request at this address finishes at a tick.
+///
+/// Source: own choice.
 pub fn put_timer<W: Sink>(value: u32, out: &mut W)
     ensures { Puts (W.tape out.old) (W.tape out.new) (printed_line (Timer value)) }
 {
@@ -261,6 +277,8 @@ pub fn put_timer<W: Sink>(value: u32, out: &mut W)
 }
 
 /// Puts `server NAME`: the body of the interrupt server of this name begins.
+///
+/// Source: own choice.
 pub fn put_server<W: Sink>(name: &Name, out: &mut W)
     ensures { Puts (W.tape out.old) (W.tape out.new) (printed_line (Server name.now.bytes)) }
 {
@@ -268,6 +286,8 @@ pub fn put_server<W: Sink>(name: &Name, out: &mut W)
 }
 
 /// Puts `softint NAME`: the body of the software interrupt of this name begins.
+///
+/// Source: own choice.
 pub fn put_softint<W: Sink>(name: &Name, out: &mut W)
     ensures { Puts (W.tape out.old) (W.tape out.new) (printed_line (Softint name.now.bytes)) }
 {
@@ -276,6 +296,9 @@ pub fn put_softint<W: Sink>(name: &Name, out: &mut W)
 
 /// Puts `alert CODE NAME WORD`: the call of this word, by the task, server or software interrupt of this name, was
 /// refused for the reason that the code names.
+///
+/// Source: own choice.
+#[inline(never)]
 pub fn put_alert<W: Sink>(code: &str, name: &Name, word: &str, out: &mut W)
     ensures { Puts (W.tape out.old) (W.tape out.new) (printed_line (Alert code.now name.now.bytes word.now)) }
 {
@@ -298,6 +321,8 @@ fn put_call_line<W: Sink>(call: &CallLine, outcome: CallOutcome, out: &mut W)
 }
 
 /// Puts any line: the one call for all of the above.
+///
+/// Source: own choice.
 pub fn put_line<W: Sink>(line: &Line, out: &mut W)
     ensures { Puts (W.tape out.old) (W.tape out.new) (printed_line (shown line.now)) }
 {
@@ -320,6 +345,8 @@ pub fn put_line<W: Sink>(line: &Line, out: &mut W)
 /// At most one argument of the line is quoted, and then no line is longer than 160 bytes. `Ok` leaves the sink good,
 /// and all bytes of the line were taken. At `WriteFault` only a first part of them was: the sink failed, or took no
 /// byte 16 times in a row.
+///
+/// Source: own choice.
 pub fn emit<W: Sink>(line: &Line, out: &mut W) -> Result<(), WriteFault>
     requires good { (W.tape out.old).state ≡ SinkState.Good }
     requires one_quoted { quoted_count (shown line.now) ≤ 1 }

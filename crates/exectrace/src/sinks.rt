@@ -71,6 +71,8 @@ pub struct WriteSink<W> {
 
 impl<W: Write> WriteSink<W> {
     /// A good sink, whose bytes are those that the writer holds. It takes no memory.
+    ///
+    /// Source: own choice.
     pub fn new(writer: W) -> Self
         ensures { ⟦<WriteSink<W> as Sink>⟧.tape result ≡ record { taken = W.contents writer; state = SinkState.Good } }
     {
@@ -81,6 +83,8 @@ impl<W: Write> WriteSink<W> {
     }
 
     /// The writer, which holds what the sink took.
+    ///
+    /// Source: own choice.
     pub fn into_inner(self) -> W
         ensures { W.contents result ≡ (⟦<WriteSink<W> as Sink>⟧.tape self).taken }
     {
@@ -137,6 +141,8 @@ fn write_all<W: Sink>(out: &mut W, bytes: &[u8]) -> Result<(), WriteFault>
 }
 
 /// Writes all the bytes to a good sink, and nothing to one that is not good.
+///
+/// Source: own choice.
 pub fn put<W: Sink>(bytes: &[u8], out: &mut W)
     ensures { Puts (W.tape out.old) (W.tape out.new) bytes.now }
 {
@@ -146,6 +152,8 @@ pub fn put<W: Sink>(bytes: &[u8], out: &mut W)
 }
 
 /// Whether all was written that was put to a sink that was good before.
+///
+/// Source: own choice.
 pub fn written<W: Sink>(out: &W) -> Result<(), WriteFault>
     ensures { IsOk result ↔ ((W.tape out.now).state ≡ SinkState.Good) }
 {

@@ -145,6 +145,8 @@ impl<S: ListSpace> Sched<S> {
 
     /// Does nothing: its clause is what always holds of the ready sequence. A ready task stands once in it, and
     /// any other not at all.
+    ///
+    /// Source: own choice.
     pub fn facts(&self)
         ensures { (t : ℕ) → times t self.now.queue.ready ≡ (if is_ready (status_of self.now t) then 1 else 0) }
     {
