@@ -4,7 +4,7 @@ ghost use Rattle.std.specs.Option.{option_map};
 ghost use Rattle.exectrace.specs.Short.{short_argument};
 ghost use Rattle.scheduler.specs.Schedule.{name_of, task_count};
 ghost use Rattle.execmodel.specs.State.{program_of, shared_variables};
-ghost use Rattle.execmodel.specs.Calls.{content, evaluated, stored, goes_on, keeps, call_of, next_call};
+ghost use Rattle.execmodel.specs.Calls.{content, evaluated, stored, goes_on, keeps, call_of};
 ghost use Rattle.execmodel.specs.Signals.{is_task};
 ghost use Rattle.execsim.specs.Views.{IsFor, call_view, operand_view, slot_view, small_view};
 
@@ -148,7 +148,8 @@ impl<S: ListSpace> Kernel<S> {
     }
 
     /// The call that a command is for task t, where the next command stands at that place.
-    fn call_of(&self, t: TaskId, next: usize, command: &SmallCommand) -> Call
+    #[inline(always)]
+    pub(crate) fn call_of(&self, t: TaskId, next: usize, command: &SmallCommand) -> Call
         requires { t < length self.now.scripts.programs }
         ensures { call_view result ≡ call_of t next (small_view command.now) self.now.scripts }
     {
@@ -160,22 +161,6 @@ impl<S: ListSpace> Kernel<S> {
             quoted: command.name,
             next,
             awaited: 0,
-        }
-    }
-
-    /// The call that task t tries next: the one that it waits in, or else that of its next command; none where its commands are
-    /// used up.
-    pub(crate) fn next_call(&self, t: TaskId) -> Option<Call>
-        requires { t < length self.now.scripts.programs }
-        ensures { option_map call_view result ≡ next_call t self.now.scripts }
-    {
-        let program = self.program(t);
-        match program.kept() {
-            Some(call) => Some(*call),
-            None => match program.command() {
-                Some(command) => Some(self.call_of(t, program.next(), command)),
-                None => None,
-            },
         }
     }
 

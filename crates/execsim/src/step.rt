@@ -1,5 +1,5 @@
 //! Steps and settling: all interleaving comes from the list of events.
-ghost use Rattle.std.specs.Prelude.{◌≡◌, ◌<◌, length, sum_by, Some, IfSome, if◌then◌else◌};
+ghost use Rattle.std.specs.Prelude.{◌≡◌, ◌<◌, length, sum_by, Some, None, IfSome, if◌then◌else◌};
 ghost use Rattle.exectrace.specs.Sink.{Puts};
 ghost use Rattle.exectrace.specs.Trace.{printed_line};
 ghost use Rattle.exectrace.specs.declared.sinks.SinkState.{SinkState};
@@ -7,6 +7,7 @@ ghost use Rattle.taskscript.specs.Events.{ticks as ticks_of};
 ghost use Rattle.scheduler.specs.Dispatch as dispatch;
 ghost use Rattle.scheduler.specs.Schedule.{IsToOneOf};
 ghost use Rattle.execmodel.specs.State.{andthen, on_schedule, program_of, unless_stopped};
+ghost use Rattle.execmodel.specs.Calls.{next_call};
 ghost use Rattle.execmodel.specs.Step.{announced, switches, settle, does, ends, acts, acting, step, steps, request, tick, ticks, starts, all_added, event, events, task_step};
 ghost use Rattle.execmodel.specs.Interrupts.{interrupts};
 ghost use Rattle.execsim.specs.Actions.{running_task_step};
@@ -123,16 +124,48 @@ impl<S: ListSpace> Kernel<S> {
         self.leave(t);
     }
 
-    /// Task t, which runs, makes its next call, or ends.
+    /// Task t, which runs, makes this call, which is its next one.
+    #[inline(always)]
+    fn make<W: Sink>(&mut self, t: TaskId, call: &Call, out: &mut W)
+        requires known { t < length self.old.scripts.programs }
+        requires runs { self.old.schedule.running ≡ Some t }
+        requires next { next_call t self.old.scripts ≡ Some (call_view call.now) }
+        ensures { Follows (task_step (Some t)) self.old self.new (W.tape out.old) (W.tape out.new) }
+    {
+        self.does(t, call, out);
+    }
+
+    /// Task t, which runs and has no call left to make, ends.
+    #[inline(always)]
+    fn make_none<W: Sink>(&mut self, t: TaskId, out: &mut W)
+        requires known { t < length self.old.scripts.programs }
+        requires runs { self.old.schedule.running ≡ Some t }
+        requires next { next_call t self.old.scripts ≡ None }
+        ensures { Follows (task_step (Some t)) self.old self.new (W.tape out.old) (W.tape out.new) }
+    {
+        self.end(t, out);
+    }
+
+    /// Task t, which runs, tries the call again that it waits in, or makes that of its next command, or ends.
     #[inline(never)]
     fn make_call<W: Sink>(&mut self, t: TaskId, out: &mut W)
         requires known { t < length self.old.scripts.programs }
         requires runs { self.old.schedule.running ≡ Some t }
         ensures { Follows (task_step (Some t)) self.old self.new (W.tape out.old) (W.tape out.new) }
     {
-        match self.next_call(t) {
-            None => self.end(t, out),
-            Some(call) => self.does(t, &call, out),
+        let program = self.program(t);
+        match program.kept() {
+            Some(kept) => {
+                let call = *kept;
+                self.make(t, &call, out);
+            }
+            None => match program.command() {
+                Some(command) => {
+                    let call = self.call_of(t, program.next(), command);
+                    self.make(t, &call, out);
+                }
+                None => self.make_none(t, out),
+            },
         }
     }
 
