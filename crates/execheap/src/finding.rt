@@ -174,7 +174,7 @@ impl<S: ListSpace> Objects<S> {
 
     /// Where FindName begins: at the first node of the list that begins at an address, or after the linked node that does.
     ///
-    /// Source: own choice.
+    /// Source: autodoc exec.library/FindName: it starts at a list header or behind a node.
     pub fn to_search(&self, start: u32) -> Result<(HeaderId, Option<NodeId>), Refusal>
         ensures alert { alert_of result ≡ model.find_alert start (shown_heap self.now) }
         ensures live { IfOk result (λ pair. IsSome (slot (places variant.List self.now) pair.0)) }

@@ -53,7 +53,7 @@ impl DigestKey {
 
     /// Whether there is a name and it is `name`, byte for byte.
     ///
-    /// Source: own choice.
+    /// Source: autodoc exec.library/FindName: the comparison is case sensitive.
     pub fn is_named(&self, name: &str) -> bool
         ensures { result ≡ name_is ((digest_key_of self.now).name) name.now }
     {
@@ -65,7 +65,7 @@ impl DigestKey {
 
     /// The same, where the digest of `name` is known.
     ///
-    /// Source: own choice.
+    /// Source: autodoc exec.library/FindName; the digest is own choice.
     #[inline]
     pub fn is_told(&self, digest: u64, name: &str) -> bool
         requires { digest ≡ digest_of name.now }

@@ -19,7 +19,7 @@ impl NodeKey {
 
     /// Whether there is a name and it is `name`, byte for byte.
     ///
-    /// Source: own choice.
+    /// Source: autodoc exec.library/FindName: the comparison is case sensitive.
     pub fn is_named(&self, name: &str) -> bool
         ensures { result ≡ name_is ((key_of self.now).name) name.now }
     {

@@ -380,7 +380,7 @@ RequestsUnderWayWait =
     (request : ℕ) → InEveryState (λ s.
     times_waiting request s.memory.timer.waiting ≡ once_if (is_under_way (request_of request s.memory.heap)))
 
--- The clock has counted the ticks of the events, and nothing else; after an alert it stands still.
+-- The clock has counted the ticks of the events, and nothing else; after an alert it has gained no more than these.
 pub record CountsTicks (machine : MachineData) (list : List Event) (s : State) : Type 0 where
   pub ticks : s.memory.timer.tick_micros ≡ machine.tick_micros
   pub going : s.stopped ≡ false → s.memory.timer.clock ≡ sum_by event_ticks list * machine.tick_micros

@@ -235,7 +235,7 @@ impl Bodies {
 
     /// Whether server k ends the chain of its source.
     ///
-    /// Source: own choice.
+    /// Source: autodoc exec.library/AddIntServer: a server that answers other than 0 ends its chain.
     pub fn claims(&self, k: usize) -> bool
         ensures { result ≡ (server_at k self.now).claim }
     {

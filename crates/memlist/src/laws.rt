@@ -28,7 +28,7 @@ pub fn chosen_is_earliest_of_greatest()
 
 /// Blocks and gaps tile each region of a well-formed memory.
 ///
-/// Source: own choice.
+/// Source: RKM Libraries, Exec Memory Allocation: the free chunks of a region.
 pub fn regions_are_tiled()
     ensures { (regions : List Region) (blocks : Blocks) (place : ℕ) (region : Region) → IsWellFormed regions blocks → slice_get regions place ≡ Some region → IsTiled region blocks }
 {}
@@ -43,7 +43,7 @@ pub fn blocks_are_disjoint()
 /// Where a block fits, no block begins, and there it lies on whole units; so does each block of a well-formed memory. An
 /// address is never 0.
 ///
-/// Source: own choice.
+/// Source: autodoc exec.library/AllocMem: the block's alignment, and 0 where there is none.
 pub fn blocks_are_placed()
     ensures fresh { (regions : List Region) (blocks : Blocks) (size reqs address : ℕ) → IsWellFormed regions blocks → fit regions blocks size reqs ≡ Some address → block_at address blocks ≡ None }
     ensures fitted { (regions : List Region) (blocks : Blocks) (size reqs address : ℕ) → IsWellFormed regions blocks → fit regions blocks size reqs ≡ Some address → IsPlaced address (round size) }

@@ -111,7 +111,7 @@ impl MemList {
 
     /// Whether `alloc_mem` would find a gap for a block of that size, and changes nothing. Never for size 0.
     ///
-    /// Source: own choice.
+    /// Source: autodoc exec.library/AllocMem; to ask beforehand is own choice.
     pub fn fits(&self, size: u32, reqs: u32) -> bool
         ensures { result ≡ is_some (fit self.now.regions self.now.blocks size reqs) }
     {
@@ -139,7 +139,7 @@ impl MemList {
 
     /// Frees the block that begins at an address, whatever its tag.
     ///
-    /// Source: own choice.
+    /// Source: autodoc exec.library/FreeMem; the tag is own choice.
     pub fn free_block(&mut self, address: u32)
         requires { IsSome (block_at address self.old.blocks) }
         ensures { self.new ≡ without_block address self.old }
