@@ -18,6 +18,7 @@ impl<W: Write> Write for Lent<'_, W> {
 
     ghost contents = { λ lent. named lent.out.ghost_name (W.contents lent.out.now) };
 
+    #[inline(always)]
     fn write(&mut self, buf: &[u8]) -> io::Result<usize> {
         self.out.write(buf)
     }

@@ -1,14 +1,24 @@
 -- The calls that commands are.
-use Rattle.std.proofs.Common.{◌≡◌, ℕ, ◌+◌, List, [], ◌∷◌, None, Some, refl, ap, sym, ◌∙◌, map, take}
-use Rattle.std.proofs.lemmas.List.{take-map}
+use Rattle.std.proofs.Common.{◌≡◌, ℕ, ◌+◌, ◌<◌, List, [], ◌∷◌, None, Some, refl, ap, sym, ◌∙◌, get_or, length, map, take}
+use Rattle.std.proofs.lemmas.List.{take-map, take_more_set}
+use Rattle.std.proofs.Math.ListN.{set}
 use Rattle.std.specs.Prelude.{slice_get}
 use Rattle.taskscript.specs.Commands.{CommandData}
 use Rattle.execmodel.specs.State.{Call, Scripts, program_of}
 use Rattle.execmodel.specs.Calls.{call_of, call_at, call_after, next_call}
+use Rattle.execsim.proofs.Naming.{shown_more}
 
 pub map-map_as : {A B C : Type 0} (f : B → C) (v : A → B) (xs : List A) → map (λ a. f (v a)) xs ≡ map f (map v xs)
 map-map_as f v [] = refl
 map-map_as f v (x ∷ xs) = ap (λ ys. f (v x) ∷ ys) (map-map_as f v xs)
+
+-- one more value is shown as that of the argument at its place
+pub shown_one_more : {A B C : Type 0} (value : B → C) (shown : A → C) (arguments : List B) (values : List A) (k : ℕ) (argument : B) (made : A) → k < length arguments
+    → k < length values → argument ≡ get_or arguments k argument → shown made ≡ value argument
+    → map shown (take k values) ≡ map value (take k arguments) → map shown (take (k + 1) (set values k made)) ≡ map value (take (k + 1) arguments)
+shown_one_more value shown arguments values k argument made below room there is before =
+    ap (map shown) (take_more_set values k made room)
+    ∙ shown_more value shown arguments (take k values) made k argument below there is before
 
 -- the first of some values, where all of them are shown as the values of all arguments
 pub first_shown : {A B C D : Type 0} (shown : A → C) (value : D → C) (view : B → D) (n : ℕ) (values : List A) (arguments : List B)

@@ -159,6 +159,7 @@ impl<S: ListSpace> Kernel<S> {
             None => match program.command() {
                 None => None,
                 Some(command) => match command.word {
+                    Word::Plain(PlainWord::Print) => None,
                     Word::Plain(word) => self.change_of(t, word, command, program.next()),
                     _ => None,
                 },

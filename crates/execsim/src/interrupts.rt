@@ -77,7 +77,7 @@ impl<S: ListSpace> Kernel<S> {
         ensures answer { result ≡ softint_seen self.old }
         ensures next { self.new ≡ record self.old { pending = without_softint result self.old.pending } }
     {
-        if self.sched.may_interrupt() {
+        if self.ints.any_caused() && self.sched.may_interrupt() {
             self.ints.next()
         } else {
             None

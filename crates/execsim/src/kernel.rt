@@ -1,5 +1,5 @@
 //! The machine without its failure to write. The methods here touch its fields, and have one equation each.
-ghost use Rattle.std.specs.Prelude.{◌≡◌, ◌<◌, ◌≤◌, ℕ, List, length, true, false, Some, None, slice_index_or, slice_set, map, replicate};
+ghost use Rattle.std.specs.Prelude.{◌≡◌, ◌<◌, ◌≤◌, ℕ, List, length, true, false, Some, None, slice_index_or, slice_set, map, replicate, take};
 ghost use Rattle.std.specs.Option.{option_map};
 ghost use Rattle.exectrace.specs.Short.{short_argument};
 ghost use Rattle.scheduler.specs.Schedule.{name_of, task_count};
@@ -133,18 +133,18 @@ impl<S: ListSpace> Kernel<S> {
         }
     }
 
-    /// The values of all arguments of a command for task t.
-    fn evaluate_all(&self, t: TaskId, operands: &[Operand; 4]) -> [ShortArg; 4]
-        requires { t < length self.now.scripts.programs }
-        ensures { (name : List ℕ) → map (short_argument name) result ≡ map (λ a. evaluated t self.now.scripts (operand_view name a)) operands.now }
+    /// The values of so many arguments of a command for task t; what stands past them is unused.
+    fn evaluate_all(&self, t: TaskId, operands: &[Operand; 4], count: usize) -> [ShortArg; 4]
+        requires known { t < length self.now.scripts.programs }
+        requires few { count ≤ 4 }
+        ensures { (name : List ℕ) → map (short_argument name) (take count result)
+            ≡ map (λ a. evaluated t self.now.scripts (operand_view name a)) (take count operands.now) }
     {
-        let [first, second, third, fourth] = *operands;
-        [
-            self.evaluate(t, first),
-            self.evaluate(t, second),
-            self.evaluate(t, third),
-            self.evaluate(t, fourth),
-        ]
+        let mut values = [ShortArg::Value(0); 4];
+        for k in 0..count {
+            values[k] = self.evaluate(t, operands[k]);
+        }
+        values
     }
 
     /// The call that a command is for task t, where the next command stands at that place.
@@ -156,7 +156,7 @@ impl<S: ListSpace> Kernel<S> {
         Call {
             word: command.word,
             target: command.target,
-            arguments: self.evaluate_all(t, &command.operands),
+            arguments: self.evaluate_all(t, &command.operands, command.count),
             count: command.count,
             quoted: command.name,
             next,

@@ -2,7 +2,7 @@
 //!
 //! Each `put` writes to a good sink, and does nothing on one that is not good: the sink's own state remembers that a
 //! write failed, so one call can follow another with no test between, and `written` tells at the end.
-ghost use Rattle.std.specs.Prelude.{◌≡◌, ◌<◌, ◌≤◌, length, map, codes, ◌++◌};
+ghost use Rattle.std.specs.Prelude.{◌≡◌, ◌<◌, ◌≤◌, ◌/◌, ◌%◌, length, map, codes, ◌++◌};
 ghost use Rattle.std.specs.List.{flat_map};
 ghost use Rattle.exectrace.specs.Sink.{Adds, Puts, Writes};
 ghost use Rattle.exectrace.specs.Trace.{printed_line, value_text, hex_digit, quoted_count, Switch, Idle, Call, Serve, Timer, Server, Softint, Alert, Value, Quoted, argument_text, outcome_text};
@@ -14,28 +14,46 @@ use crate::lines::{Arg, CallLine, CallOutcome, Line, Name, ShortArg};
 use crate::sinks::{Sink, WriteFault, put, written};
 use arrayvec::ArrayVec;
 
-/// The digit for a number below 16.
-fn digit(n: u32) -> u8
-    requires { n < 16 }
-    ensures { result ≡ hex_digit n }
+/// The two digits of each number below 256.
+const PAIRS: &[u8; 512] =
+    b"000102030405060708090A0B0C0D0E0F101112131415161718191A1B1C1D1E1F202122232425262728292A2B2C2D2E2F303132333435363738393A3B3C3D3E3F404142434445464748494A4B4C4D4E4F505152535455565758595A5B5C5D5E5F606162636465666768696A6B6C6D6E6F707172737475767778797A7B7C7D7E7F808182838485868788898A8B8C8D8E8F909192939495969798999A9B9C9D9E9FA0A1A2A3A4A5A6A7A8A9AAABACADAEAFB0B1B2B3B4B5B6B7B8B9BABBBCBDBEBFC0C1C2C3C4C5C6C7C8C9CACBCCCDCECFD0D1D2D3D4D5D6D7D8D9DADBDCDDDEDFE0E1E2E3E4E5E6E7E8E9EAEBECEDEEEFF0F1F2F3F4F5F6F7F8F9FAFBFCFDFEFF";
+
+/// The digit of the high half of a number below 256.
+fn high_digit(n: u32) -> u8
+    requires { n < 256 }
+    ensures { result ≡ hex_digit (n / 16) }
 {
-    b"0123456789ABCDEF"[n as usize]
+    PAIRS[2 * n as usize]
 }
 
-/// `$` and eight digits, upper case.
+/// The digit of the low half of a number below 256.
+fn low_digit(n: u32) -> u8
+    requires { n < 256 }
+    ensures { result ≡ hex_digit (n % 16) }
+{
+    PAIRS[2 * n as usize + 1]
+}
+
+/// `$` and eight digits.
 fn value_digits(n: u32) -> [u8; 9]
     ensures { result ≡ value_text n }
 {
+    let [first, second, third, fourth] = [
+        n / 0x100_0000,
+        n / 0x1_0000 % 256,
+        n / 0x100 % 256,
+        n % 256,
+    ];
     [
         b'$',
-        digit(n / 0x1000_0000 % 16),
-        digit(n / 0x100_0000 % 16),
-        digit(n / 0x10_0000 % 16),
-        digit(n / 0x1_0000 % 16),
-        digit(n / 0x1000 % 16),
-        digit(n / 0x100 % 16),
-        digit(n / 0x10 % 16),
-        digit(n % 16),
+        high_digit(first),
+        low_digit(first),
+        high_digit(second),
+        low_digit(second),
+        high_digit(third),
+        low_digit(third),
+        high_digit(fourth),
+        low_digit(fourth),
     ]
 }
 
@@ -45,14 +63,6 @@ fn spaced_digits(n: u32) -> [u8; 10]
 {
     let [dollar, a, b, c, d, e, f, g, h] = value_digits(n);
     [b' ', dollar, a, b, c, d, e, f, g, h]
-}
-
-/// ` -> `, `$` and eight digits.
-fn answer_digits(n: u32) -> [u8; 13]
-    ensures { result ≡ codes " -> " ++ value_text n }
-{
-    let [dollar, a, b, c, d, e, f, g, h] = value_digits(n);
-    [b' ', b'-', b'>', b' ', dollar, a, b, c, d, e, f, g, h]
 }
 
 /// What is built of a line and is not yet handed over: the room of the longest line of which one argument is quoted.
@@ -118,8 +128,19 @@ fn put_between<W: Sink>(before: &[u8], text: &[u8], after: &[u8], out: &mut W)
 fn add_value<W: Sink>(line: &mut Draft, n: u32, out: &mut W)
     ensures { Adds (W.tape out.old) (W.tape out.new) line.old.items line.new.items (argument_text (Value n)) }
 {
-    let text = spaced_digits(n);
-    add(line, &text, out);
+    match line.try_extend_from_slice(&spaced_digits(n)) {
+        Ok(()) => {}
+        Err(_) => add_value_beyond(line, n, out),
+    }
+}
+
+/// Hands over the line, a space and the word, which do not fit its room, and begins the line anew.
+#[cold]
+#[inline(never)]
+fn add_value_beyond<W: Sink>(line: &mut Draft, n: u32, out: &mut W)
+    ensures { Adds (W.tape out.old) (W.tape out.new) line.old.items line.new.items (argument_text (Value n)) }
+{
+    add_beyond(line, &spaced_digits(n), out);
 }
 
 /// Adds a space and the name between double quotes.
@@ -181,8 +202,8 @@ fn add_outcome<W: Sink>(line: &mut Draft, outcome: CallOutcome, out: &mut W)
     match outcome {
         CallOutcome::Done => (),
         CallOutcome::Answers(n) => {
-            let text = answer_digits(n);
-            add(line, &text, out);
+            add(line, b" ->", out);
+            add_value(line, n, out);
         }
         CallOutcome::Waits => add(line, b" waits", out),
     }

@@ -96,6 +96,7 @@ impl<W: Write> WriteSink<W> {
 impl<W: Write> Sink for WriteSink<W> {
     ghost tape = { λ s. record { taken = W.contents s.writer; state = s.state } };
 
+    #[inline(always)]
     fn write(&mut self, bytes: &[u8]) -> Result<usize, SinkFault> {
         match self.writer.write(bytes) {
             Ok(0) => {
@@ -143,6 +144,7 @@ fn write_all<W: Sink>(out: &mut W, bytes: &[u8]) -> Result<(), WriteFault>
 /// Writes all the bytes to a good sink, and nothing to one that is not good.
 ///
 /// Source: own choice.
+#[inline(never)]
 pub fn put<W: Sink>(bytes: &[u8], out: &mut W)
     ensures { Puts (W.tape out.old) (W.tape out.new) bytes.now }
 {

@@ -60,6 +60,7 @@ pub enum Word {
 }
 
 impl Word {
+    #[inline(always)]
     fn row(self) -> Row
         ensures { row_view result ≡ row self }
     {

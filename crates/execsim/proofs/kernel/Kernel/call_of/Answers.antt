@@ -1,9 +1,8 @@
-use Rattle.std.proofs.Common.{ap}
+use Rattle.std.proofs.Common.{ap, take, ◌∙◌}
 use Rattle.std.specs.Option.{option_map}
-use Rattle.exectrace.specs.Short.{short_argument}
 use Rattle.execmodel.specs.Calls.{evaluated, call_of}
 use Rattle.execsim.specs.Views.{operand_view, slot_view}
-use Rattle.execsim.proofs.Calling.{first_shown}
+use Rattle.execsim.proofs.Calling.{map-map_as}
 use Rattle.execsim.proofs.kernel.Kernel.call_of.Goals as goal
 
 pub returns : goal.returns
@@ -12,5 +11,4 @@ returns g c =
     let command = c.args.command.now in
     let name = command.name.bytes in
     ap (λ arguments. record { word = command.word; target = option_map slot_view command.target; arguments = arguments; next = c.args.next; awaited = 0 })
-    (first_shown (short_argument name) (evaluated c.args.t c.args.self.now.scripts) (operand_view name) command.count
-    c.evaluate_all.result command.operands (c.evaluate_all.ensures name))
+    (c.evaluate_all.ensures name ∙ map-map_as (evaluated c.args.t c.args.self.now.scripts) (operand_view name) (take command.count command.operands))

@@ -1,0 +1,5 @@
+use Rattle.exectrace.proofs.Digits.{high_of_pair}
+use Rattle.exectrace.proofs.printing.high_digit.Goals as goal
+
+pub returns : goal.returns
+returns c = high_of_pair c.args.n c.requires

@@ -1,0 +1,5 @@
+use Rattle.exectrace.proofs.Digits.{low_of_pair}
+use Rattle.exectrace.proofs.printing.low_digit.Goals as goal
+
+pub returns : goal.returns
+returns c = low_of_pair c.args.n c.requires
