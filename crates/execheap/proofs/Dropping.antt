@@ -6,8 +6,9 @@ use Rattle.std.proofs.Math.Path.{fun_ext}
 use Rattle.std.proofs.lemmas.Simd.{map-map}
 use Rattle.std.proofs.lemmas.List.{length-set}
 use Rattle.execlist.specs.Order.{without}
-use Rattle.execlist.specs.Lists.{is_at}
-use Rattle.memlist.proofs.Answered.{nat_eq-other}
+use Rattle.execlist.specs.Lists.{is_at, times}
+use Rattle.execlist.proofs.Pools.{item_of}
+use Rattle.memlist.proofs.Answered.{nat_eq-other, nat_eq-same}
 use Rattle.sigsem.specs.Semaphores as sems
 use Rattle.sigsem.specs.Semaphores.{Semaphores, dropped_from, sem_at, waiters_of, waits_at}
 use Rattle.execlist.specs.Pool.{slot}
@@ -21,14 +22,15 @@ use Rattle.execheap.specs.declared.tag.Tagged.{Tagged}
 use Rattle.execheap.specs.declared.tag.Tagged.TheVariants as tag
 use Rattle.execheap.specs.Tags.{tagged}
 use Rattle.execheap.specs.Numbered.{Numbered, IsSound, object_of, shown_entry, shown_heap, shown_memory, shown_tagged, places}
-use Rattle.execheap.specs.Table.{number_at}
-use Rattle.execheap.specs.Changes.{on_semaphores, semaphore_obtained}
+use Rattle.execheap.specs.Table.{number_at, pool_of}
+use Rattle.execheap.specs.Changes.{on_semaphores}
 use Rattle.execheap.proofs.Mapped.{stands_by_times, without_absent}
 use Rattle.execheap.proofs.Owning.{attempted_heap, entered_heap, heap_owned, queue_heap, released_heap}
 use Rattle.execheap.proofs.Posted.{item_known}
 use Rattle.execheap.proofs.Relisted.{Tells, sequence_set}
 use Rattle.execheap.proofs.Matching.{number_live}
 use Rattle.execheap.proofs.Shown.{sem_shown, tells, waiters_shown}
+use Rattle.execheap.proofs.Stepping.{shape_lives}
 use Rattle.execheap.proofs.Tagging.{either_number}
 
 -- ---- the queues without a task
@@ -90,33 +92,49 @@ module _ (s : Numbered) (held : sems.IsSound s.sems) (t : ℕ) where
       (fun_ext (λ (entry : ℕ × (ℕ × ℕ)). ap (λ (object : Object). (entry.0, record { size = entry.1.0; object = object })) (shown_dropped (tagged entry.1.1))))
       ∙ sym (map-map (λ (entry : ℕ × Block). (entry.0, record entry.1 { object = left_by_task t entry.1.object })) (shown_entry s) s.table.memory.blocks)
 
-  -- ---- a task that waits, or has the semaphore at once
+-- ---- a task that waits, or has the semaphore at once
 
-  module _ (n semaphore : ℕ) (found : number_at variant.Semaphore semaphore s.table ≡ Some n) (told : Tells s semaphore variant.Semaphore n) (live : IsTrue (sems.is_sem n s.sems)) where
-    known : n < length (sems.dropped t s.sems).queues
-    known = omega (arith, queues_kept held t, held.each_queue, item_known s.sems.sems.slots n live)
+module _ (s : Numbered) (n semaphore : ℕ) (found : number_at variant.Semaphore semaphore s.table ≡ Some n) (told : Tells s semaphore variant.Semaphore n)
+    (live : IsTrue (sems.is_sem n s.sems)) (known : n < length s.sems.queues) (t : ℕ) where
+  queued_heap : shown_heap (on_semaphores (sems.queued n t) s) ≡ model.queued t semaphore (shown_heap s)
+  unfolding model.queued
+  queued_heap =
+      queue_heap s n semaphore found told known (waiters_of n s.sems ++ t ∷ []) (slice_set s.sems.places t (Some n))
+      ∙ (λ i. model.with_semaphore semaphore (sym (sem_shown s semaphore n found) i) (sym (waiters_shown s semaphore n found) i ++ t ∷ []) (shown_heap s))
 
-    -- the queue by address of a task that waits
-    behind : waiters_of n (sems.dropped t s.sems) ++ t ∷ [] ≡ without t (model.waiters_of semaphore (shown_heap s)) ++ t ∷ []
-    behind = ap (λ queue. queue ++ t ∷ []) (waiters_without held t n ∙ ap (without t) (sym (waiters_shown s semaphore n found)))
+  pub obtained_heap : shown_heap (on_semaphores (sems.obtained n t) s) ≡ model.obtained t semaphore (shown_heap s)
+  unfolding model.obtained
+  obtained_heap =
+      either (sems.is_open n t s.sems)
+      ∙ ap (λ sem. if model.is_open t sem then model.entered t semaphore (shown_heap s) else model.queued t semaphore (shown_heap s))
+      (sym (sem_shown s semaphore n found))
+    where
+      either : (b : Bool) → shown_heap (on_semaphores (λ m. if b then sems.entered n t m else sems.queued n t m) s)
+          ≡ (if b then model.entered t semaphore (shown_heap s) else model.queued t semaphore (shown_heap s))
+      either true = entered_heap s n semaphore found told live t
+      either false = queued_heap
 
-    queued_heap : shown_heap (on_semaphores (λ m. sems.queued n t (sems.dropped t m)) s) ≡ model.queued t semaphore (shown_heap s)
-    unfolding model.queued
-    queued_heap =
-        queue_heap without_task n semaphore found told known (waiters_of n (sems.dropped t s.sems) ++ t ∷ []) (slice_set (sems.dropped t s.sems).places t (Some n))
-        ∙ (λ i. model.with_semaphore semaphore ((sem_beside held t n ∙ sym (sem_shown s semaphore n found)) i) (behind i) (dropped_heap i))
+-- ---- a task that stands in no queue
 
-    pub obtained_heap : shown_heap (on_semaphores (semaphore_obtained n t) s) ≡ model.obtained t semaphore (shown_heap s)
-    unfolding model.obtained
-    obtained_heap =
-        either (sems.is_open n t s.sems)
-        ∙ ap (λ sem. if model.is_open t sem then model.entered t semaphore (shown_heap s) else model.queued t semaphore (shown_heap s))
-        (sym (sem_shown s semaphore n found))
-      where
-        either : (b : Bool) → shown_heap (on_semaphores (λ m. if b then sems.entered n t m else sems.queued n t (sems.dropped t m)) s)
-            ≡ (if b then model.entered t semaphore (shown_heap s) else model.queued t semaphore (shown_heap s))
-        either true = entered_heap s n semaphore found told live t
-        either false = queued_heap
+module _ {s : Numbered} (sound : IsSound s) (held : sems.IsSound s.sems) (t : ℕ) where
+  -- a semaphore that lives begins at an address
+  begins_there : (k : ℕ) → IsTrue (sems.is_sem k s.sems) → (a : ℕ) × (slot (places variant.Semaphore s) k ≡ Some a)
+  begins_there k lives =
+      item_of (slot (places variant.Semaphore s) k)
+      (shape_lives (pool_of variant.Semaphore s.table) s.sems.sems (sound.kept.in_step variant.Semaphore) k ∙ lives)
+
+  pub waits_at_none : ((a : ℕ) → times t (model.waiters_of a (shown_heap s)) ≡ 0) → waits_at t s.sems ≡ None
+  waits_at_none nowhere = by_place (waits_at t s.sems) refl
+    where
+      by_place : (o : Option ℕ) → waits_at t s.sems ≡ o → o ≡ None
+      by_place None at = refl
+      by_place (Some k) at =
+          let there = begins_there k (held.live t k at) in
+          let shown = waiters_shown s there.0 k (number_live sound.table variant.Semaphore k there.0 there.1) in
+          let once : times t (waiters_of k s.sems) ≡ 1 =
+          held.stands k t ∙ ap (λ o. if is_at o k then 1 else 0) at ∙ ap (λ b. if b then 1 else 0) (nat_eq-same k) in
+          let none : times t (waiters_of k s.sems) ≡ 0 = ap (times t) (sym shown) ∙ nowhere there.0 in
+          absurd (omega (arith, once, none))
 
 -- ---- the memory that is shown
 
@@ -135,9 +153,9 @@ module _ {s : Numbered} (sound : IsSound s) (held : sems.IsSound s.sems) (formed
     has_queue : n < length s.sems.queues
     has_queue = omega (arith, held.each_queue, item_known s.sems.sems.slots n live)
 
-    pub obtained_shown : (t : ℕ) → shown_memory (on_semaphores (semaphore_obtained n t) s) ≡ on_heap (model.obtained t semaphore) (shown_memory s)
-    obtained_shown t = heap_owned s (semaphore_obtained n t s.sems) (model.obtained t semaphore (shown_heap s))
-        (obtained_heap s held t n semaphore begins just_there live)
+    pub obtained_shown : (t : ℕ) → shown_memory (on_semaphores (sems.obtained n t) s) ≡ on_heap (model.obtained t semaphore) (shown_memory s)
+    obtained_shown t = heap_owned s (sems.obtained n t s.sems) (model.obtained t semaphore (shown_heap s))
+        (obtained_heap s n semaphore begins just_there live has_queue t)
 
     pub attempted_shown : (t : ℕ) → shown_memory (on_semaphores (sems.attempted n t) s) ≡ on_heap (model.attempted t semaphore) (shown_memory s)
     attempted_shown t = heap_owned s (sems.attempted n t s.sems) (model.attempted t semaphore (shown_heap s))

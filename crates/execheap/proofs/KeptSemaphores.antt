@@ -12,7 +12,7 @@ use Rattle.execheap.specs.declared.kind.Kind.TheVariants as variant
 use Rattle.execheap.specs.Table.{pool_of}
 use Rattle.execheap.specs.Numbered.{Numbered, Fits, IsKept, own_shape, shape}
 use Rattle.execheap.proofs.InTime.{in_time_beside}
-use Rattle.execheap.proofs.Stepping.{shape_lives, shape_written}
+use Rattle.execheap.proofs.Stepping.{shape_written}
 
 -- ---- what stays
 
@@ -20,9 +20,6 @@ use Rattle.execheap.proofs.Stepping.{shape_lives, shape_written}
 pub record IsAlike (m q : Semaphores) : Type 0 where
   pub same : shape q.sems ≡ shape m.sems
   pub each_task : length q.places ≡ length m.places
-
-pub same_live : {m q : Semaphores} → IsAlike m q → (n : ℕ) → is_sem n q ≡ is_sem n m
-same_live {m} {q} alike n = sym (shape_lives m.sems q.sems alike.same n)
 
 pub kept_same : (m : Semaphores) → IsAlike m m
 kept_same m = record { same = refl; each_task = refl }
@@ -71,12 +68,6 @@ kept_dropped_from (Some n) t m = record { same = refl; each_task = length-set m.
 
 pub kept_dropped : (t : ℕ) (m : Semaphores) → IsAlike m (dropped t m)
 kept_dropped t m = kept_dropped_from (waits_at t m) t m
-
-pub kept_then : (m q r : Semaphores) → IsAlike m q → IsAlike q r → IsAlike m r
-kept_then m q r here there = record {
-  same = there.same ∙ here.same;
-  each_task = there.each_task ∙ here.each_task;
-}
 
 -- a call that may be refused
 pub kept_unless : (fault : Option SemFault) (m q r : Semaphores) → q ≡ kept_or fault m r → IsAlike m r → IsAlike m q

@@ -1,5 +1,5 @@
 -- What the calls on objects by number make of them.
-use Rattle.std.specs.Prelude.{Bool, ℕ, zero, suc, ℤ, ◌+◌, ◌-◌, if◌then◌else◌, List, [], ◌∷◌, ◌++◌, drop, length, replicate, slice_set, take, Option, None, Some}
+use Rattle.std.specs.Prelude.{Bool, ℕ, zero, suc, ℤ, ◌+◌, ◌-◌, List, [], ◌∷◌, ◌++◌, drop, length, replicate, slice_set, take, Option, None, Some}
 use Rattle.execlist.specs.Order.{enqueue, first, without}
 use Rattle.execlist.specs.Lists.{Key, blank, home, last, pri_of, put_after, sequence}
 use Rattle.execlib.specs.Libraries.{Description}
@@ -7,7 +7,7 @@ use Rattle.memlist.specs.declared.region.Region.{Region}
 use Rattle.msgport.specs.Ports.{MessagePorts, message_made, no_ports}
 use Rattle.execlist.specs.Pool.{all_free}
 use Rattle.timerdev.specs.Timing.{new_timer}
-use Rattle.sigsem.specs.Semaphores.{Semaphores, no_sems, is_open, entered, queued as sem_queued, dropped}
+use Rattle.sigsem.specs.Semaphores.{Semaphores, no_sems}
 use Rattle.execheap.specs.Table as table
 use Rattle.execheap.specs.Numbered.{Numbered, most_tasks}
 
@@ -38,10 +38,6 @@ key_with pri name = record { pri = pri; name = name }
 -- an action on the semaphores
 abbrev pub on_semaphores : (Semaphores → Semaphores) → Numbered → Numbered
 on_semaphores f s = record s { sems = f s.sems }
-
--- task t has semaphore n at once, or waits for it and for no other
-abbrev pub semaphore_obtained : (n t : ℕ) → Semaphores → Semaphores
-semaphore_obtained n t m = if is_open n t m then entered n t m else sem_queued n t (dropped t m)
 
 -- an action on the ports and the messages
 abbrev pub on_ports : (MessagePorts → MessagePorts) → Numbered → Numbered

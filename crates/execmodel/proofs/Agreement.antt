@@ -13,7 +13,6 @@ use Rattle.scheduler.specs.declared.Switch.TheVariants.{To, Idle}
 use Rattle.execlist.specs.Order.{without, chosen, chosen_or, is_lower}
 use Rattle.signals.specs.Signals.{after_post}
 use Rattle.execmodel.specs.Scheduling.{arrives, added, displaced, after_switch, switch_of, rescheduled, signalled}
-use Rattle.execmodel.specs.Semaphores.{woken}
 use Rattle.execmodel.specs.Agreement.{once_if, StandsInOne, Agrees}
 use Rattle.scheduler.specs.Sound.{is_running}
 use Rattle.execlist.specs.Lists.{times}
@@ -154,7 +153,7 @@ absent_is Running e = true_is_not_false (sym e)
 absent_is (Waiting why) e = true_is_not_false (sym e)
 absent_is Removed e = true_is_not_false (sym e)
 
-at_semaphore_is : (x : TaskState) → is_at_semaphore x ≡ true → x ≡ Waiting Sem
+pub at_semaphore_is : (x : TaskState) → is_at_semaphore x ≡ true → x ≡ Waiting Sem
 at_semaphore_is Absent e = true_is_not_false (sym e)
 at_semaphore_is Ready e = true_is_not_false (sym e)
 at_semaphore_is Running e = true_is_not_false (sym e)
@@ -438,7 +437,7 @@ asks_agrees semaphore t s q p runs follows old =
     (λ other. ap (λ l. times j l) (there a other))) old
 
 -- one who stands in a queue waits for a semaphore, that one
-waits_there : (b : Bool) (t : ℕ) (q : ℕ → List ℕ) (a : ℕ) → StandsInOne b t q → 0 < times t (q a) → b ≡ true
+pub waits_there : (b : Bool) (t : ℕ) (q : ℕ → List ℕ) (a : ℕ) → StandsInOne b t q → 0 < times t (q a) → b ≡ true
 waits_there true t q a one h = refl
 waits_there false t q a one h = let none = one a in absurd (omega (arith, none, h))
 
@@ -460,9 +459,10 @@ once_there false t q a one = let none = one a in omega (arith, none)
 
 -- the first of the tasks that wait is made the owner, and ready
 pub wakes_agrees : (semaphore owner : ℕ) (s : Schedule) (q p : ℕ → List ℕ)
-    → ((a : ℕ) → Follows (q a) (turn_at a semaphore (Served owner) ++ []) (p a)) → AllAgree s q → AllAgree (woken owner s) p
-unfolding woken
-wakes_agrees semaphore owner s q p follows old = either (is_at_semaphore (status_of s owner)) refl
+    → ((a : ℕ) → Follows (q a) (turn_at a semaphore (Served owner) ++ []) (p a)) → AllAgree s q → AllAgree (arrives owner s) p
+wakes_agrees semaphore owner s q p follows old =
+    let status = at_semaphore_is (status_of s owner) (waits_there (is_at_semaphore (status_of s owner)) owner q semaphore (old owner).waits first) in
+    arrives_agrees owner s q p (Waiting Sem) status (range_of owner s (Waiting Sem) status refl) refl refl none others old
   where
     here : (a : ℕ) → a ≡ semaphore → q a ≡ owner ∷ p a
     here a same = here_turn a semaphore (Served owner) (q a) (p a) same (follows a)
@@ -491,10 +491,3 @@ wakes_agrees semaphore owner s q p follows old = either (is_at_semaphore (status
         (λ same. sym (ap (λ l. times j l) (here a same)
         ∙ ap (λ b. if b then suc (times j (p a)) else times j (p a)) (nat_eq-other owner j (λ e. apart (sym e)))))
         (λ other. ap (λ l. times j l) (there a other))
-
-    either : (b : Bool) → is_at_semaphore (status_of s owner) ≡ b → AllAgree (if b then arrives owner s else s) p
-    either true e =
-        let status = at_semaphore_is (status_of s owner) e in
-        arrives_agrees owner s q p (Waiting Sem) status (range_of owner s (Waiting Sem) status refl) refl refl none others old
-    either false e =
-        true_is_not_false (sym (waits_there (is_at_semaphore (status_of s owner)) owner q semaphore (old owner).waits first) ∙ e)

@@ -262,23 +262,6 @@ turned p address turn old new here there =
     (sym (ap (λ k. nat_eq p k) (sym same) ∙ nat_eq-same p)) (new, here same, refl))
     (λ apart. subst (λ test. Follows old ((if test then turn ∷ [] else []) ++ []) new) (sym (nat_eq-other p address apart)) (there apart))
 
-semaphore_kept : (t : ℕ) (found : Option Object) → is_kind is_semaphore (option_map (left_by_task t) found) ≡ is_kind is_semaphore found
-semaphore_kept t None = refl
-semaphore_kept t (Some Plain) = refl
-semaphore_kept t (Some (ListHead nodes)) = refl
-semaphore_kept t (Some (Node key)) = refl
-semaphore_kept t (Some (MsgPort port messages)) = refl
-semaphore_kept t (Some (Message content)) = refl
-semaphore_kept t (Some (Semaphore sem waiters)) = refl
-semaphore_kept t (Some (Library number count delayed)) = refl
-semaphore_kept t (Some (Request content)) = refl
-
-pub still_semaphore : (t semaphore : ℕ) (heap : Heap) → is_semaphore_at semaphore heap ≡ true → is_semaphore_at semaphore (dropped t heap) ≡ true
-unfolding is_semaphore_at dropped
-still_semaphore t semaphore heap is =
-    ap (λ found. is_kind is_semaphore found) (object_remade (left_by_task t) semaphore heap)
-    ∙ semaphore_kept t (object_at semaphore heap) ∙ is
-
 left_marks : (semaphore : Option ℕ) (t p : ℕ) → turns_at_port p (leaving_marks semaphore t) ≡ []
 left_marks None t p = refl
 left_marks (Some semaphore) t p = refl
@@ -351,8 +334,7 @@ moves_follow regions t call old marks new (sets act port is) formed p =
     (λ same. ap (λ a. messages_of a new) same ∙ port_there port _ (messages_of port old) old is ∙ sym (ap (λ a. messages_of a old) same))
     (λ apart. port_elsewhere p port _ (messages_of port old) old apart)
 moves_follow regions t call old marks new (enters semaphore is e) formed p = semaphore_still semaphore _ _ p old is
-moves_follow regions t call old marks new (queues semaphore is e) formed p =
-    semaphore_still semaphore _ _ p (dropped t old) (still_semaphore t semaphore old is) ∙ all_remade (left_by_task t) (task_left_same t) p old
+moves_follow regions t call old marks new (queues semaphore is e) formed p = semaphore_still semaphore _ _ p old is
 moves_follow regions t call old marks new (hands semaphore owner release is last e) formed p = semaphore_still semaphore _ _ p old is
 moves_follow regions t call old marks new (opens semaphore release is last e) formed p = semaphore_still semaphore _ _ p old is
 moves_follow regions t call old marks new (releases semaphore is last) formed p = semaphore_still semaphore _ _ p old is

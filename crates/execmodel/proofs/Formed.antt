@@ -116,8 +116,7 @@ moves_formed regions t call old marks new (relists list nodes is) formed =
 moves_formed regions t call old marks new (unlinks node) formed = same_extents regions old new (extents_remade (left_by node) old) formed
 moves_formed regions t call old marks new (sets act port is) formed = same_extents regions old new (extents_replaced port _ old) formed
 moves_formed regions t call old marks new (enters semaphore is e) formed = same_extents regions old new (extents_replaced semaphore _ old) formed
-moves_formed regions t call old marks new (queues semaphore is e) formed =
-    same_extents regions old new (extents_replaced semaphore _ _ ∙ extents_remade (left_by_task t) old) formed
+moves_formed regions t call old marks new (queues semaphore is e) formed = same_extents regions old new (extents_replaced semaphore _ old) formed
 moves_formed regions t call old marks new (hands semaphore owner release is last e) formed =
     same_extents regions old new (extents_replaced semaphore _ old) formed
 moves_formed regions t call old marks new (opens semaphore release is last e) formed =

@@ -47,7 +47,7 @@ use Rattle.execmodel.specs.Objects.{place_for_object}
 use Rattle.execmodel.specs.Memory.{allocates, makes_object, placed, place_for, alloc_alert, free_alert, avail_alert, does_alloc_mem, does_free_mem, does_avail_mem}
 use Rattle.execmodel.specs.Lists.{is_list, list_size, is_node, node_size, free_list_alert, new_node_alert, free_node_alert, link_alert, insert_alert, linked_alert, list_alert, find_alert, does_new_list, does_free_list, does_new_node, does_free_node, does_add_head, does_add_tail, does_enqueue, does_insert, does_remove, does_rem_head, does_rem_tail, does_first, does_last, does_succ, does_pred, does_find_name}
 use Rattle.execmodel.specs.Ports.{is_port, is_message, port_size, message_size, after_asking_for_port, port_created, port_alert, message_alert, port_of, loses, messages_of, content_of, delete_alert, add_port_alert, rem_port_alert, reply_port_alert, loose_alert, put_alert, reply_alert, wait_alert, made_public, made_private, replied, delivered, performed, taken, looked, does_create_msg_port, does_delete_msg_port, does_add_port, does_rem_port, does_find_port, does_port_signal, does_port_cause, does_port_ignore, does_new_msg, does_free_msg, does_msg_word, does_set_msg_word, does_msg_type, does_put_msg, does_get_msg, does_wait_port, does_reply_msg}
-use Rattle.execmodel.specs.Semaphores.{awaited_by, free_sem_alert, heir, is_semaphore, is_tried_again, leaving_queue, obtain_alert, obtains, outcome_for, passes, release_alert, sem_of, semaphore_size, woken, does_new_sem, does_free_sem, does_obtain_semaphore, does_attempt_semaphore, does_release_semaphore}
+use Rattle.execmodel.specs.Semaphores.{awaited_by, free_sem_alert, heir, is_semaphore, is_tried_again, leaving_queue, obtain_alert, obtains, outcome_for, passes, release_alert, sem_of, semaphore_size, does_new_sem, does_free_sem, does_obtain_semaphore, does_attempt_semaphore, does_release_semaphore}
 use Rattle.execmodel.specs.Requests.{does_requests, finishes, finishes_each, finishes_set, is_request, request_size, request_of, request_alert, resting_alert, delete_request_alert, send_alert, do_alert, wait_io_alert, set_io_alert, answering_port, acting_at, with_reply, ended, outcome_at, timer_begun, begun_at, replying_port, looks_for, aborts, does_create_io_request, does_delete_io_request, does_open_device, does_close_device, does_set_io, does_do_io, does_send_io, does_check_io, does_wait_io, does_abort_io, does_io_secs, does_io_micros, does_io_error, does_io_flags}
 use Rattle.execmodel.specs.Keeping.{Keeps, without_progress, without_progress_of, without_states, without_priorities, without_signals, without_blocks, beside_plain, beside_signals, beside_nestings, beside_memory, beside_ports, beside_interrupts, beside_semaphores, beside_tasks, beside_requests, without_caused, clock_alone, without_blocks_system_and_waiting, PlainWordsChangeScripts, SignalWordsChangeSignalsAndStates, NestingWordsChangeNestings, TaskWordsChangeStatesPrioritiesAndObjects, ListWordsChangeTheMemory, MemoryWordsChangeTheMemory, PortWordsChangePortsSignalsAndStates, SemaphoreWordsChangeStatesAndObjects, InterruptWordsChangeWhatIsCaused, LibraryWordsChangeTheMemory, RequestWordsChangeRequestsPortsSignalsAndStates}
 use Rattle.execmodel.proofs.BodyActions.{finishes_found}
@@ -407,15 +407,11 @@ unfolding done waiting waits_at_semaphore
 obtains_keeps Owner semaphore t call s r keeps = keeps
 obtains_keeps Waits semaphore t call s r keeps = keeps
 
-woken_keeps : (t : ℕ) (s : Schedule) → without_states (woken t s) ≡ without_states s
-unfolding woken arrives
-woken_keeps t s = either_schedule without_states _ (is_at_semaphore (status_of s t)) _ _ refl refl
-
 passes_keeps : (owner : Option ℕ) (semaphore t : ℕ) (call : Call) (s r : State) → beside_semaphores r ≡ beside_semaphores s
     → beside_semaphores (passes owner semaphore t call r).state ≡ beside_semaphores s
-unfolding done
+unfolding done arrives
 passes_keeps None semaphore t call s r keeps = keeps
-passes_keeps (Some owner) semaphore t call s r keeps = states_change (woken owner) r (woken_keeps owner r.schedule) ∙ keeps
+passes_keeps (Some owner) semaphore t call s r keeps = states_change (arrives owner) r refl ∙ keeps
 
 pub semaphore_words_change_states_and_objects : SemaphoreWordsChangeStatesAndObjects
 unfolding does_new_sem does_free_sem does_obtain_semaphore does_attempt_semaphore does_release_semaphore done answered

@@ -302,8 +302,7 @@ moves_keep regions t call old marks new (sets act port there) formed base is ope
 moves_keep regions t call old marks new (enters semaphore there e) formed base is opened =
     inl (still base old new is (block_elsewhere base semaphore _ old (at_semaphore base semaphore old is there)))
 moves_keep regions t call old marks new (queues semaphore there e) formed base is opened =
-    inl (still base old new is (block_elsewhere base semaphore _ (dropped t old) (at_semaphore base semaphore old is there)
-    ∙ block_remade_alike (left_by_task t) (task_left_alone t) base old is))
+    inl (still base old new is (block_elsewhere base semaphore _ old (at_semaphore base semaphore old is there)))
 moves_keep regions t call old marks new (hands semaphore owner release there last e) formed base is opened =
     inl (still base old new is (block_elsewhere base semaphore _ old (at_semaphore base semaphore old is there)))
 moves_keep regions t call old marks new (opens semaphore release there last e) formed base is opened =

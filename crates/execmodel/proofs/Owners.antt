@@ -133,8 +133,7 @@ moves_idle regions t call old marks new (unlinks node) idle = idle_remade (left_
 moves_idle regions t call old marks new (sets act port is) idle = idle_replaced port _ old (λ e. refl) idle
 moves_idle regions t call old marks new (enters semaphore is e) idle = idle_replaced semaphore _ old (λ none. none_some none) idle
 moves_idle regions t call old marks new (queues semaphore is e) idle =
-    idle_replaced semaphore _ (dropped t old) (λ none. absurd (closed_owned t (sem_of semaphore old) e none))
-    (idle_remade (left_by_task t) (task_left_idle t) old idle)
+    idle_replaced semaphore _ old (λ none. absurd (closed_owned t (sem_of semaphore old) e none)) idle
 moves_idle regions t call old marks new (hands semaphore owner release is last e) idle =
     idle_replaced semaphore _ old (next_idle (waiters_of semaphore old)) idle
 moves_idle regions t call old marks new (opens semaphore release is last e) idle =
@@ -367,11 +366,8 @@ moves_own regions t call old marks new (enters semaphore is e) formed a =
       | inr h ↦ inr (inl (ap (λ k. owner_in (object_at k old)) same ∙ h))
     ])
 moves_own regions t call old marks new (queues semaphore is e) formed a =
-    let left = remade_owner (left_by_task t) (task_left_owner t) in
-    cases_eq a semaphore
-    (λ same. inl (subst (λ k. owner_in (object_at k new) ≡ owner_in (object_at k old)) (sym same)
-    (same_owner semaphore _ (dropped t old) (sym (left semaphore old)) ∙ left semaphore old)))
-    (λ apart. inl (ap (λ found. owner_in found) (elsewhere a semaphore _ (dropped t old) apart) ∙ left a old))
+    by_address t call a semaphore _ old
+    (λ same. inl (subst (λ k. owner_in (object_at k new) ≡ owner_in (object_at k old)) (sym same) (same_owner semaphore _ old refl)))
 moves_own regions t call old marks new (hands semaphore owner release is last e) formed a =
     by_address t call a semaphore _ old
     (λ same. inr (inr (subst (λ k. IsRelease t call k old × ((sem_of k old).count ≡ 1)) (sym same) (release, once_count (sem_of semaphore old).count last))))

@@ -22,7 +22,7 @@ use Rattle.execmodel.proofs.Queues.{Follows, IsAway}
 use Rattle.execmodel.proofs.Heaps.{rid, filled, instead, object_replaced, object_remade, object_placed_here, object_placed_there, object_rid_here, object_rid_there, true_is_not_false}
 use Rattle.execmodel.proofs.Formed.{placed_fresh, counted_formed, rid_formed}
 use Rattle.execmodel.proofs.Owners.{Idle, AllIdle, free_owner}
-use Rattle.execmodel.proofs.Fifo.{turned, first_is, still_semaphore, first_none, port_stays}
+use Rattle.execmodel.proofs.Fifo.{turned, first_is, first_none, port_stays}
 use Rattle.msgport.specs.Port.{Port}
 use Rattle.msgport.specs.declared.message.Message.{Message as Content}
 use Rattle.sigsem.specs.declared.semaphore.Sem.{Sem}
@@ -281,11 +281,10 @@ moves_pass regions t call old marks new (queues semaphore is e) formed idle nowh
     (λ same. (
       nowhere p,
       ap (λ a. waiters_of a new) same
-          ∙ semaphore_there semaphore _ (without t (waiters_of semaphore old) ++ t ∷ []) (dropped t old) (still_semaphore t semaphore old is)
-          ∙ ap (λ q. q ++ t ∷ []) (without_away t (waiters_of semaphore old) (nowhere semaphore) ∙ sym (ap (λ a. waiters_of a old) same)),
+          ∙ semaphore_there semaphore _ (waiters_of semaphore old ++ t ∷ []) old is
+          ∙ ap (λ q. q ++ t ∷ []) (sym (ap (λ a. waiters_of a old) same)),
     ))
-    (λ apart. semaphore_elsewhere p semaphore _ (without t (waiters_of semaphore old) ++ t ∷ []) (dropped t old) apart
-    ∙ dropped_left t p old ∙ without_away t (waiters_of p old) (nowhere p))
+    (λ apart. semaphore_elsewhere p semaphore _ (waiters_of semaphore old ++ t ∷ []) old apart)
 moves_pass regions t call old marks new (hands semaphore owner release is last e) formed idle nowhere one p =
     turned p semaphore (Served owner) (waiters_of p old) (waiters_of p new)
     (λ same. ap (λ a. waiters_of a old) same ∙ first_is owner (waiters_of semaphore old) e

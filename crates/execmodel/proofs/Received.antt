@@ -17,7 +17,6 @@ use Rattle.execmodel.specs.Scheduling.{arrives, added, displaced, after_switch, 
 use Rattle.execmodel.specs.Calls.{next_call}
 use Rattle.execmodel.specs.Pending.{next_softint}
 use Rattle.execmodel.specs.Bodies.{body_step}
-use Rattle.execmodel.specs.Semaphores.{woken}
 use Rattle.execmodel.specs.Step.{switches, ends, call_step, task_step, softint_or_task_step, acting, acts, step, tick, starts, run}
 use Rattle.execmodel.specs.Laws.{OneStep, OneTick, OneRequest, IsToCall, is_own_taking, WaitersHaveReceivedNone, ReceivedSignalsStay}
 use Rattle.execmodel.proofs.Bits.{signal_joined}
@@ -119,10 +118,6 @@ added_none : (k : ℕ) (s : Schedule) → AllHaveNone s → AllHaveNone (added k
 unfolding added
 added_none k s old = either_none (is_absent (status_of s k)) (arrives k s) s (arrives_none k s old) old
 
-woken_none : (k : ℕ) (s : Schedule) → AllHaveNone s → AllHaveNone (woken k s)
-unfolding woken
-woken_none k s old = either_none (is_at_semaphore (status_of s k)) (arrives k s) s (arrives_none k s old) old
-
 leaves_none : (t : ℕ) (s : Schedule) → AllHaveNone s → AllHaveNone (leaves_for_good t s)
 unfolding leaves_for_good is_listening
 leaves_none t s old = set_silent t Removed s (leaves_for_good t s) refl refl (λ j apart. refl) old
@@ -177,7 +172,7 @@ shifts_none t call s o (takes calm taking own) runs old = own_none t s.schedule 
 shifts_none t call s o (sleeps mask q calm taking own none e) runs old =
     subst (λ r. AllHaveNone r) (sym e) (sleeps_none t mask s.schedule q runs own.states own.others none old)
 shifts_none t call s o (asks semaphore marks e) runs old = subst (λ r. AllHaveNone r) (sym e) (asks_none t s.schedule old)
-shifts_none t call s o (wakes semaphore owner marks e) runs old = subst (λ r. AllHaveNone r) (sym e) (woken_none owner s.schedule old)
+shifts_none t call s o (wakes semaphore owner marks e) runs old = subst (λ r. AllHaveNone r) (sym e) (arrives_none owner s.schedule old)
 shifts_none t call s o (leaves calm e) runs old = subst (λ r. AllHaveNone r) (sym e) (leaves_none t s.schedule old)
 shifts_none t call s o (removes other apart heap e) runs old = subst (λ r. AllHaveNone r) (sym e) (removed_none other s.schedule old)
 
@@ -286,10 +281,6 @@ signalled_keeps t n k mask s =
     (either_keeps t n (awaits (status_of s k) (received k (got k mask s))) (arrives k (got k mask s)) (got k mask s) s
     (λ h. arrives_keeps t n k (got k mask s) (got_keeps t n k mask s h)) (got_keeps t n k mask s))
 
-woken_keeps : (t n k : ℕ) (s : Schedule) → Keeps t n s (woken k s)
-unfolding woken
-woken_keeps t n k s = either_keeps t n (is_at_semaphore (status_of s k)) (arrives k s) s s (arrives_keeps t n k s) (λ h. h)
-
 displaced_keeps : (t n : ℕ) (o : Option ℕ) (s : Schedule) → Keeps t n s (displaced o s)
 displaced_keeps t n None s = λ h. h
 displaced_keeps t n (Some r) s = arrives_keeps t n r s
@@ -337,7 +328,7 @@ shifts_keep j n t call s o (sleeps mask q calm taking own none e) h =
     cases_eq j t (λ same. inr (same, taking))
     (λ apart. inl (ap (λ r. has_signal (received j r) n) e ∙ same_keeps j n s.schedule q (own.others j apart) h))
 shifts_keep j n t call s o (asks semaphore marks e) h = inl (ap (λ r. has_signal (received j r) n) e ∙ h)
-shifts_keep j n t call s o (wakes semaphore owner marks e) h = inl (ap (λ r. has_signal (received j r) n) e ∙ woken_keeps j n owner s.schedule h)
+shifts_keep j n t call s o (wakes semaphore owner marks e) h = inl (ap (λ r. has_signal (received j r) n) e ∙ arrives_keeps j n owner s.schedule h)
 shifts_keep j n t call s o (leaves calm e) h = inl (ap (λ r. has_signal (received j r) n) e ∙ h)
 shifts_keep j n t call s o (removes other apart heap e) h = inl (ap (λ r. has_signal (received j r) n) e ∙ h)
 

@@ -52,7 +52,7 @@ use Rattle.execmodel.specs.Objects.{place_for_object}
 use Rattle.execmodel.specs.Memory.{alloc_alert, free_alert, avail_alert, does_memory, does_alloc_mem, does_free_mem, does_avail_mem}
 use Rattle.execmodel.specs.Lists.{free_list_alert, new_node_alert, free_node_alert, link_alert, insert_alert, linked_alert, list_alert, find_alert, does_lists, does_new_list, does_free_list, does_new_node, does_free_node, does_add_head, does_add_tail, does_enqueue, does_insert, does_remove, does_rem_head, does_rem_tail, does_first, does_last, does_succ, does_pred, does_find_name}
 use Rattle.execmodel.specs.Ports.{is_port, port_size, after_asking_for_port, messages_of, port_of, port_created, delete_alert, port_alert, reply_port_alert, loose_alert, message_alert, add_port_alert, rem_port_alert, wait_alert, looked, loses, made_public, made_private, performed, does_ports, does_create_msg_port, does_delete_msg_port, does_add_port, does_rem_port, does_find_port, does_port_signal, does_port_cause, does_port_ignore, does_new_msg, does_free_msg, does_msg_word, does_set_msg_word, does_msg_type, does_put_msg, does_get_msg, does_wait_port, does_reply_msg}
-use Rattle.execmodel.specs.Semaphores.{awaited_by, dropped, sem_of, free_sem_alert, obtain_alert, release_alert, outcome_for, obtains, passes, heir, is_tried_again, leaving_queue, woken, does_semaphores, does_new_sem, does_free_sem, does_obtain_semaphore, does_attempt_semaphore, does_release_semaphore}
+use Rattle.execmodel.specs.Semaphores.{awaited_by, dropped, sem_of, free_sem_alert, obtain_alert, release_alert, outcome_for, obtains, passes, heir, is_tried_again, leaving_queue, does_semaphores, does_new_sem, does_free_sem, does_obtain_semaphore, does_attempt_semaphore, does_release_semaphore}
 use Rattle.execmodel.specs.Causing.{does_interrupts, does_cause}
 use Rattle.execmodel.specs.Libraries.{library_alert, close_alert, does_libraries, does_open_library, does_close_library, does_rem_library, does_lib_open_cnt}
 use Rattle.execmodel.specs.Requests.{does_requests, request_of, request_alert, resting_alert, delete_request_alert, send_alert, do_alert, wait_io_alert, set_io_alert, answering_port, acting_at, with_reply, ended, begun_at, replying_port, looks_for, aborts, does_create_io_request, does_delete_io_request, does_open_device, does_close_device, does_set_io, does_do_io, does_send_io, does_check_io, does_wait_io, does_abort_io, does_io_secs, does_io_micros, does_io_error, does_io_flags}
@@ -81,7 +81,7 @@ pub data Shifts (t : ℕ) (call : Call) (s : State) (o : Outcome) : Type 0 where
   sleeps : (mask : ℕ) (q : Schedule) → IsCalm o.marks → is_own_taking call.word ≡ true → IsOwn t s.schedule q
       → bit_and (signals_of q t).received mask ≡ 0 → o.state.schedule ≡ waits_for t mask q → Shifts t call s o
   asks : (semaphore : ℕ) → o.marks ≡ asked semaphore t ∷ [] → o.state.schedule ≡ waits_at_semaphore t s.schedule → Shifts t call s o
-  wakes : (semaphore owner : ℕ) → o.marks ≡ passed semaphore owner ∷ [] → o.state.schedule ≡ woken owner s.schedule → Shifts t call s o
+  wakes : (semaphore owner : ℕ) → o.marks ≡ passed semaphore owner ∷ [] → o.state.schedule ≡ arrives owner s.schedule → Shifts t call s o
   leaves : IsCalm o.marks → o.state.schedule ≡ leaves_for_good t s.schedule → Shifts t call s o
   removes : (other : ℕ) → other ≢ t → o.state.memory.heap ≡ dropped other s.memory.heap → o.state.schedule ≡ removed other s.schedule
       → Shifts t call s o

@@ -24,7 +24,7 @@ use Rattle.execmodel.proofs.Queues.{IsAway, away_more, away_drop, away_without}
 use Rattle.execmodel.proofs.Posts.{Post, APort, AMessage, ARequest, Other, post_in, post_of_object, post_at, messages_at, asked_at, is_a_port, is_mail, may_stand, AreInOrder, IsTidy, messages_are, port_is, port_there, message_there, request_there, post_elsewhere, post_here, post_remade, unchanged, queue_changes, content_changes, replaced_in_order}
 use Rattle.execmodel.proofs.Asking.{Asks, writes, answers, IsRewritten, written_here, written_elsewhere, ports_written, without_reply}
 use Rattle.execmodel.proofs.Formed.{placed_fresh, counted_formed, rid_formed}
-use Rattle.execmodel.proofs.Fifo.{both_false, is_away, first_none, port_stays, still_semaphore}
+use Rattle.execmodel.proofs.Fifo.{both_false, is_away, first_none, port_stays}
 use Rattle.execmodel.proofs.Commands.{Touches, remains, fills, puts, gets}
 use Rattle.execmodel.proofs.Taking.{IsNew, Takes, nothing, places, recounts, yields}
 use Rattle.execmodel.proofs.Moves.{MayGo, IsUnneeded, list_other, semaphore_other, Moves, touches, takes, frees, relists, unlinks, sets, enters, queues, hands, opens, releases, counts, expunges, drops}
@@ -233,8 +233,7 @@ module _ (waiting : List Queued) where
       unchanged (post_at old) (post_at new) waiting order
       (same_there is_port port _ old (unfold is_port_at in is) (port_there port old is))
   moves_order regions t call old marks new (enters semaphore is e) formed order = semaphore_order semaphore _ old is refl order
-  moves_order regions t call old marks new (queues semaphore is e) formed order =
-      semaphore_order semaphore _ (dropped t old) (still_semaphore t semaphore old is) refl (remade_order (left_by_task t) (task_left_post t) old order)
+  moves_order regions t call old marks new (queues semaphore is e) formed order = semaphore_order semaphore _ old is refl order
   moves_order regions t call old marks new (hands semaphore owner release is last e) formed order = semaphore_order semaphore _ old is refl order
   moves_order regions t call old marks new (opens semaphore release is last e) formed order = semaphore_order semaphore _ old is refl order
   moves_order regions t call old marks new (releases semaphore is last) formed order = semaphore_order semaphore _ old is refl order

@@ -19,7 +19,7 @@ use Rattle.execmodel.specs.Scheduling.{arrives, added, displaced, after_switch, 
 use Rattle.taskscript.specs.Commands.{CommandData}
 use Rattle.execmodel.specs.Calls.{next_call}
 use Rattle.execmodel.specs.Bodies.{body_step}
-use Rattle.execmodel.specs.Semaphores.{waiters_of, woken}
+use Rattle.execmodel.specs.Semaphores.{waiters_of}
 use Rattle.execmodel.specs.Step.{switches, ends, starts, events, run}
 use Rattle.execmodel.specs.Marks.{semaphore_turn, turns_at_semaphore}
 use Rattle.execlist.specs.Lists.{times}
@@ -83,10 +83,6 @@ signalled_count k mask s =
     either_count (not (is_live (status_of s k))) s (if awaits (status_of s k) (signals_of got k).received then arrives k got else got) s refl
     (either_count (awaits (status_of s k) (signals_of got k).received) (arrives k got) got s (arrives_count k got) refl)
 
-woken_count : (k : ℕ) (s : Schedule) → length (woken k s).queue.states ≡ length s.queue.states
-unfolding woken
-woken_count k s = either_count (is_at_semaphore (status_of s k)) (arrives k s) s s (arrives_count k s) refl
-
 ticked_running : (o : Option ℕ) (s : Schedule) → (ticked_for o s).queue ≡ s.queue
 ticked_running None s = refl
 ticked_running (Some r) s = refl
@@ -109,7 +105,7 @@ shifts_count t call s o (takes calm taking own) = ap (λ l. length l) own.states
 shifts_count t call s o (sleeps mask q calm taking own none e) =
     ap (λ r. length (states_of r)) e ∙ length-set q.queue.states t _ ∙ ap (λ l. length l) own.states
 shifts_count t call s o (asks semaphore marks e) = ap (λ r. length (states_of r)) e ∙ length-set s.schedule.queue.states t _
-shifts_count t call s o (wakes semaphore owner marks e) = ap (λ r. length (states_of r)) e ∙ woken_count owner s.schedule
+shifts_count t call s o (wakes semaphore owner marks e) = ap (λ r. length (states_of r)) e ∙ arrives_count owner s.schedule
 shifts_count t call s o (leaves calm e) = ap (λ r. length (states_of r)) e ∙ length-set s.schedule.queue.states t _
 shifts_count t call s o (removes other apart heap e) = ap (λ r. length (states_of r)) e ∙ length-set s.schedule.queue.states other _
 

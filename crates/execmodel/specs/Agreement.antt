@@ -4,6 +4,8 @@ use Rattle.execlist.specs.Lists.{is_at, times}
 use Rattle.taskq.specs.Tasks.{is_ready}
 use Rattle.scheduler.specs.Schedule.{Schedule, status_of, is_at_semaphore}
 use Rattle.scheduler.specs.Sound.{is_running}
+use Rattle.execmodel.specs.Blocks.{Heap}
+use Rattle.execmodel.specs.Semaphores.{waiters_of}
 
 -- once where the test says so, and else not at all
 abbrev pub once_if : Bool → ℕ
@@ -13,6 +15,10 @@ once_if test = if test then 1 else 0
 abbrev pub StandsInOne : Bool → ℕ → (ℕ → List ℕ) → Type 0
 StandsInOne true t waiters = (semaphore : ℕ) × ((other : ℕ) → times t (waiters other) ≡ once_if (nat_eq other semaphore))
 StandsInOne false t waiters = (other : ℕ) → times t (waiters other) ≡ 0
+
+-- a task waits for no semaphore
+abbrev pub WaitsForNone : ℕ → Heap → Type 0
+WaitsForNone t heap = StandsInOne false t (λ semaphore. waiters_of semaphore heap)
 
 -- The state of a task agrees with where it stands: just the running task has the state Running; just a ready one stands among the ready
 -- tasks, and once; and just one that waits for a semaphore stands in the queue of one. The queues are given by the addresses of their

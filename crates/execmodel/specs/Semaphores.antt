@@ -6,7 +6,7 @@ use Rattle.std.specs.List.{list_any}
 use Rattle.std.specs.Option.{option_map}
 use Rattle.execlist.specs.Order.{first, without}
 use Rattle.execlist.specs.Lists.{is_at}
-use Rattle.scheduler.specs.Schedule.{Schedule, is_at_semaphore, status_of, waits_at_semaphore}
+use Rattle.scheduler.specs.Schedule.{waits_at_semaphore}
 use Rattle.sigsem.specs.declared.semaphore.Sem.{Sem}
 use Rattle.sigsem.specs.declared.semaphore.Obtained.{Obtained}
 use Rattle.sigsem.specs.declared.semaphore.Obtained.TheVariants.{Owner, Waits}
@@ -99,10 +99,9 @@ left_by_task t object = object
 unfoldable pub dropped : ℕ → Heap → Heap
 dropped t heap = map (λ (entry : ℕ × Block). (entry.0, record entry.1 { object = left_by_task t entry.1.object })) heap
 
--- task t waits for the semaphore, behind those that wait there, and for no other
+-- task t waits for the semaphore, behind those that wait there
 unfoldable pub queued : ℕ → ℕ → Heap → Heap
-queued t semaphore heap =
-    with_semaphore semaphore (sem_of semaphore heap) (without t (waiters_of semaphore heap) ++ t ∷ []) (dropped t heap)
+queued t semaphore heap = with_semaphore semaphore (sem_of semaphore heap) (waiters_of semaphore heap ++ t ∷ []) heap
 
 -- a task waits for the semaphore of an entry
 abbrev pub has_waiter : ℕ → ℕ × Block → Bool
@@ -219,14 +218,10 @@ released_once semaphore heap =
 unfoldable pub released : ℕ → Heap → Heap
 released semaphore heap = if is_last (sem_of semaphore heap) then handed_on semaphore heap else released_once semaphore heap
 
--- a task that waits for a semaphore becomes ready
-unfoldable pub woken : ℕ → Schedule → Schedule
-woken t s = if is_at_semaphore (status_of s t) then arrives t s else s
-
 -- the new owner, if there is one, becomes ready
 abbrev pub passes : Option ℕ → ℕ → ℕ → Call → State → Outcome
 passes None semaphore t call s = done t call s
-passes (Some owner) semaphore t call s = leaving (passed semaphore owner) (done t call (on_schedule (woken owner) s))
+passes (Some owner) semaphore t call s = leaving (passed semaphore owner) (done t call (on_schedule (arrives owner) s))
 
 -- ReleaseSemaphore semaphore: the owner has to release the semaphore once less. The last release hands it on: the first of the tasks that
 -- wait there is the owner with the count 1, and ready; where none waits, no task owns it (autodoc exec.library/ReleaseSemaphore; the

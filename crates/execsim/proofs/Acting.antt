@@ -13,6 +13,7 @@ use Rattle.execmodel.specs.State.{State, Outcome, andthen, booted}
 use Rattle.execmodel.specs.Step.{starts, events, run}
 use Rattle.execsim.specs.Agreement.{Seen, Agrees, FollowsWhileGood}
 use Rattle.execsim.specs.declared.machine.Flow.{Flow}
+use Rattle.execsim.specs.Reached.{IsReached}
 use Rattle.execsim.specs.Time.{IsKnown}
 use Rattle.execsim.specs.Headline.{Shown, Acts, Finishes, Simulates, flow_of, end_of, end_for, ended}
 
@@ -25,13 +26,18 @@ acts_by {result = result} follows good finishes = record {
   failing = finishes.failing;
 }
 
--- a machine that has not failed shows a state after an action, if it showed one before
+-- a machine that has not failed shows a state that it comes to by an action, if it showed one before
 pub known_after_action : {next : State → Outcome} {m n : Seen} {failed : Bool} {a b : Tape} {result : Result Flow WriteFault}
+    → ((s : State) → IsReached s → IsReached (next s).state)
     → IsKnown m → FollowsWhileGood next m n a b → Finishes n.stopped failed b result → failed ≡ false → IsKnown n
-known_after_action {next} {m} {n} {failed} {a} {b} {result} known follows finishes going = by_result result finishes
+known_after_action {next} {m} {n} {failed} {a} {b} {result} reaches known follows finishes going = by_result result finishes
   where
     by_result : (result : Result Flow WriteFault) → Finishes n.stopped failed b result → IsKnown n
-    by_result (Ok flow) finishes = record { state = (next known.state).state; agrees = follows.agrees known.state known.agrees (finishes.written.0 refl) }
+    by_result (Ok flow) finishes = record {
+      state = (next known.state).state;
+      agrees = follows.agrees known.state known.agrees (finishes.written.0 refl);
+      reached = reaches known.state known.reached;
+    }
     by_result (Err why) finishes = let bad : true ≡ false = sym finishes.failing ∙ going in absurd cc
 
 end-flow : (b : Bool) → end_for (flow_of b) ≡ end_of b

@@ -24,9 +24,11 @@ use Rattle.execmodel.proofs.Itself.{does_itself, word_itself}
 use Rattle.execmodel.proofs.Keeping as words
 use Rattle.execmodel.proofs.Stretches.{HoldsOfEach, HoldsOfInterrupts, of_request, of_starts, of_steps}
 use Rattle.execsim.specs.Agreement.{Seen, Agrees, FollowsWhileGood}
+use Rattle.execsim.specs.Reached.{IsReached, after_start}
 use Rattle.execsim.specs.Time.{HasTimeFor, IsInTime}
 use Rattle.execsim.proofs.Following.{good_before}
 use Rattle.execsim.proofs.Keeping.{finish_keeps, keeps_step}
+use Rattle.execsim.proofs.Reached.{ticks_reached, events_reached}
 
 -- ---- what moves the clock
 
@@ -163,8 +165,9 @@ clock_shown s e = ap (λ (y : Memory). y.timer.clock) e.memory
 micros_shown : {m : Seen} (s : State) → Agrees m s → m.memory.timer.tick_micros ≡ s.memory.timer.tick_micros
 micros_shown s e = ap (λ (y : Memory). y.timer.tick_micros) e.memory
 
--- after an action that brings so many ticks at most
-module _ {next : State → Outcome} {m n : Seen} {a b : Tape} (spent left total : ℕ) (within : spent + left ≤ total) (gains : (s : State) → Gains spent s (next s).state) where
+-- after an action that brings so many ticks at most, and to a state that the machine comes to
+module _ {next : State → Outcome} {m n : Seen} {a b : Tape} (spent left total : ℕ) (within : spent + left ≤ total) (gains : (s : State) → Gains spent s (next s).state)
+    (reaches : (s : State) → IsReached s → IsReached (next s).state) where
   pub time_left : (a.state ≡ Good → IsInTime total m) → FollowsWhileGood next m n a b → b.state ≡ Good → IsInTime left n
   time_left has_time follows good =
       let time = has_time (good_before follows good) in
@@ -183,23 +186,23 @@ module _ {next : State → Outcome} {m n : Seen} {a b : Tape} (spent left total 
       let most = mul-le (spent + left) m.memory.timer.tick_micros total m.memory.timer.tick_micros within (omega arith) in
       let enough = time.time in
       record {
-        known = record { state = r; agrees = e_r };
+        known = record { state = r; agrees = e_r; reached = reaches s time.known.reached };
         time = subst (λ (k : ℕ). n.memory.timer.clock + left * k < 2 ^ 63) (sym micros) (omega (arith, before, after, known, parts, most, enough));
       }
 
 -- after some ticks of many there is time for one more
 pub time_for_tick : {m n : Seen} {a b : Tape} (i many : ℕ) → i < many → (a.state ≡ Good → IsInTime many m) → FollowsWhileGood (ticks i) m n a b → b.state ≡ Good → IsInTime 1 n
-time_for_tick i many within = time_left i 1 many (omega (arith, within)) (ticks_gain i)
+time_for_tick i many within = time_left i 1 many (omega (arith, within)) (ticks_gain i) (ticks_reached i)
 
 -- after some events of a list there is time for the next one
 pub time_for_event : {m n : Seen} {a b : Tape} (list : List Event) (k : ℕ) (d : Event) → k < length list → (a.state ≡ Good → IsInTime (sum_by ticks_of list) m)
     → FollowsWhileGood (events (take k list)) m n a b → b.state ≡ Good → IsInTime (ticks_of (get_or list k d)) n
 time_for_event list k d within = time_left (sum_by ticks_of (take k list)) (ticks_of (get_or list k d)) (sum_by ticks_of list)
-    (sum_by_more_le ticks_of list k d within) (events_gain (take k list))
+    (sum_by_more_le ticks_of list k d within) (events_gain (take k list)) (events_reached (take k list))
 
 -- the start takes no time
 pub time_from_start : {m n : Seen} {a b : Tape} (many : ℕ) → (a.state ≡ Good → IsInTime many m) → FollowsWhileGood starts m n a b → b.state ≡ Good → IsInTime many n
-time_from_start many = time_left 0 many many (omega arith) start_gains
+time_from_start many = time_left 0 many many (omega arith) start_gains after_start
 
 -- fewer ticks take less time
 pub time_for_fewer : (few many : ℕ) (m : Seen) → few ≤ many → HasTimeFor many m → HasTimeFor few m

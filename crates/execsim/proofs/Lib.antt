@@ -21,6 +21,7 @@ pub mod Opening
 pub mod Ordering
 pub mod PortOrder
 pub mod Porting
+pub mod Reached
 pub mod ReadLemmas
 pub mod Requesting
 pub mod ServerChains

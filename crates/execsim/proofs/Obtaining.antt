@@ -3,7 +3,8 @@ use Rattle.std.proofs.Common.{◌≡◌, ℕ, Bool, true, false, List, [], Optio
 use Rattle.std.specs.Prelude.{Result, Ok, Err, IfOk, OnOk, OnErr, if◌then◌else◌}
 use Rattle.std.specs.Option.{unwrap_or}
 use Rattle.exectrace.specs.Sink.{Tape}
-use Rattle.scheduler.specs.Schedule.{Schedule, is_at_semaphore, status_of, waits_at_semaphore}
+use Rattle.scheduler.specs.Dispatch as dispatch
+use Rattle.scheduler.specs.Schedule.{Schedule, waits_at_semaphore}
 use Rattle.sigsem.specs.Semaphores.{free_sem}
 use Rattle.sigsem.specs.declared.semaphore.Obtained.{Obtained}
 use Rattle.sigsem.specs.declared.semaphore.Obtained.TheVariants.{Waits}
@@ -12,26 +13,22 @@ use Rattle.execmodel.specs.Calls.{unless, argument, done, answered, waiting, ale
 use Rattle.execmodel.specs.Memory.{placed}
 use Rattle.execmodel.specs.GivingWay.{after_asking_for_object}
 use Rattle.execmodel.specs.Objects.{place_for_object}
-use Rattle.execmodel.specs.Scheduling as scheduling
+use Rattle.execmodel.specs.Scheduling.{arrives}
 use Rattle.execmodel.specs.Semaphores as model
 use Rattle.execmodel.specs.Semaphores.{attempted, heir, is_open, is_semaphore, is_tried_again, obtain_alert, obtained, obtains, outcome_for, passes, release_alert, released, sem_of, semaphore_size}
 use Rattle.execheap.specs.declared.refusal.Refusal.{Refusal}
 use Rattle.execheap.specs.Refusals.{alert_of, code_of}
-use Rattle.execsim.specs.Actions.{obtains_or_alerted, passes_or_alerted, woken}
+use Rattle.execsim.specs.Actions.{obtains_or_alerted, passes_or_alerted}
 use Rattle.execsim.specs.Agreement.{Seen, Follows, in_order}
 use Rattle.execsim.proofs.Following.{reads_memory, reads_scripts, moves_memory, moves_schedule, follows_as, follows_change, follows_leaving}
 use Rattle.execsim.proofs.Listing.{follows_allowed, follows_made, follows_refused}
-use Rattle.execsim.proofs.Ordering.{arrives-in_order, by_test}
+use Rattle.execsim.proofs.Ordering.{arrives-in_order}
 
--- ---- waiting and waking
+-- ---- waiting
 
 waits_at_semaphore-in_order : (t : ℕ) (y : Schedule) → waits_at_semaphore t (in_order y) ≡ in_order (waits_at_semaphore t y)
 unfolding waits_at_semaphore
 waits_at_semaphore-in_order t y = refl
-
-woken-in_order : (t : ℕ) (y : Schedule) → woken t (in_order y) ≡ in_order (model.woken t y)
-unfolding model.woken
-woken-in_order t y = by_test (is_at_semaphore (status_of y t)) (scheduling.arrives t y) y _ _ (arrives-in_order t y) refl
 
 -- ---- made
 
@@ -130,8 +127,8 @@ module _ {m o : Seen} {a b : Tape} (t : ℕ) (call : Call) where
       follows_refused t call (λ memory. release_alert t (argument 0 call) memory.heap) (λ y. refl) _ why says (rw kept at follows)
 
 -- the new owner becomes ready, and then the call is done
-pub passed_on : {m n o : Seen} {a b : Tape} (t : ℕ) (call : Call) (semaphore owner : ℕ) → n ≡ record m { schedule = woken owner m.schedule }
+pub passed_on : {m n o : Seen} {a b : Tape} (t : ℕ) (call : Call) (semaphore owner : ℕ) → n ≡ record m { schedule = dispatch.arrives owner m.schedule }
     → Follows (done t call) n o a b → Follows (passes_or_alerted (Ok (Some owner)) semaphore t call) m o a b
 passed_on t call semaphore owner is follows =
-    follows_leaving {f = λ s. done t call (on_schedule (model.woken owner) s)} (λ s. passed semaphore owner)
-    (follows_change (moves_schedule (model.woken owner) (woken owner) (woken-in_order owner) is) follows)
+    follows_leaving {f = λ s. done t call (on_schedule (arrives owner) s)} (λ s. passed semaphore owner)
+    (follows_change (moves_schedule (arrives owner) (dispatch.arrives owner) (arrives-in_order owner) is) follows)

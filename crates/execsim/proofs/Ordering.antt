@@ -117,10 +117,14 @@ times_all_put key n s (x ∷ xs) =
     moved true a c = omega arith
     moved false a c = omega arith
 
+-- each stands in the order as often as it stood before
+pub times_in_order : (key : ℕ → ℤ) (n : ℕ) (xs : List ℕ) → times n (order key xs) ≡ times n xs
+unfolding order
+times_in_order key n xs = let all = times_all_put key n [] xs in omega (arith, all)
+
 -- what the order leaves out was not there
 none_in_order : (key : ℕ → ℤ) (n : ℕ) (xs : List ℕ) → times n (order key xs) ≡ 0 → times n xs ≡ 0
-unfolding order
-none_in_order key n xs none = let all = times_all_put key n [] xs in omega (arith, all, none)
+none_in_order key n xs none = sym (times_in_order key n xs) ∙ none
 
 stands : (xs : List ℕ) (k d : ℕ) → k < length xs → 0 < times (get_or xs k d) xs
 stands [] k d within = absurd (omega arith)

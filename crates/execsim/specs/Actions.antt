@@ -5,8 +5,8 @@ use Rattle.std.specs.Int.{cast_unsigned, w32}
 use Rattle.std.specs.Prelude.{ℕ, ◌^◌, false, not, ◌&&◌, if◌then◌else◌, nat_lt, length, List, Option, None, Some, Result, Ok, Err}
 use Rattle.exectrace.specs.Trace.{Serve, Softint, Timer}
 use Rattle.execlist.specs.Order.{enqueue, first}
-use Rattle.scheduler.specs.Schedule.{Schedule, frees, is_at_semaphore, status_of}
-use Rattle.scheduler.specs.Dispatch.{arrives, signalled}
+use Rattle.scheduler.specs.Schedule.{frees}
+use Rattle.scheduler.specs.Dispatch.{signalled}
 use Rattle.msgport.specs.declared.action.Action.{Action}
 use Rattle.msgport.specs.declared.action.Action.TheVariants as action
 use Rattle.taskscript.specs.File.{SoftintData}
@@ -57,10 +57,6 @@ performed_or_alerted tried t call s = performed_or_alerted_by tried (ByTask t) c
 abbrev pub given_back_or_alerted : Result (ℕ × ℕ) Refusal → ℕ → Call → State → Outcome
 given_back_or_alerted (Ok owner) t call s = done t call (on_schedule (frees owner.0 owner.1) s)
 given_back_or_alerted (Err why) t call s = alerted (code_of why) t call s
-
--- a task that waits for a semaphore becomes ready
-abbrev pub woken : ℕ → Schedule → Schedule
-woken t s = if is_at_semaphore (status_of s t) then arrives t s else s
 
 -- a call by which a task asks for a semaphore: it goes on as the answer says, or stops the machine by its alert
 abbrev pub obtains_or_alerted : Result Obtained Refusal → ℕ → ℕ → Call → State → Outcome

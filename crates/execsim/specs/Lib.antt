@@ -3,6 +3,7 @@ pub mod Agreement
 pub mod Changes
 pub mod Endings
 pub mod Headline
+pub mod Reached
 pub mod Reading
 pub mod Time
 pub mod Views

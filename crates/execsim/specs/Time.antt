@@ -2,15 +2,17 @@
 use Rattle.std.specs.Prelude.{ℕ, ◌+◌, ◌*◌, ◌^◌, ◌<◌}
 use Rattle.execmodel.specs.State.{State}
 use Rattle.execsim.specs.Agreement.{Seen, Agrees}
+use Rattle.execsim.specs.Reached.{IsReached}
 
 -- so many ticks may come
 abbrev pub HasTimeFor : ℕ → Seen → Type 0
 HasTimeFor ticks seen = seen.memory.timer.clock + ticks * seen.memory.timer.tick_micros < 2 ^ 63
 
--- the machine shows some state of the abstract machine
+-- the machine shows a state that the abstract machine comes to
 pub record IsKnown (seen : Seen) : Type 0 where
   pub state : State
   pub agrees : Agrees seen state
+  pub reached : IsReached state
 
 -- the machine shows a state, from which so many ticks may come
 pub record IsInTime (ticks : ℕ) (seen : Seen) : Type 0 where

@@ -15,6 +15,7 @@ ghost use Rattle.execmodel.specs.State.{State, booted, begun, andthen};
 ghost use Rattle.execmodel.specs.Step.{starts, event, events};
 ghost use Rattle.execsim.specs.Agreement.{Agrees};
 ghost use Rattle.execsim.specs.Headline.{Acts, StaysFailed, Finishes, flow_of};
+ghost use Rattle.execsim.specs.Reached.{QueuesAgree};
 ghost use Rattle.execsim.specs.Time.{HasTimeFor};
 ghost use Rattle.execsim.specs.Views.{CanBeSmall, interrupting};
 
@@ -283,6 +284,16 @@ impl<S: ListSpace> Machine<S> {
         self.kernel.event(one, out);
         let stopped = self.kernel.is_stopped();
         finish(stopped, &mut self.failed, out)
+    }
+
+    /// Does nothing: its clause is what always holds of a machine that has not failed. Just the running task has the state of one, and it
+    /// waits for no semaphore; and just the tasks that wait for a semaphore stand in its queue, each in one and once.
+    ///
+    /// Source: own choice.
+    pub fn facts(&self)
+        ensures { self.now.failed ≡ false → QueuesAgree self.now.seen }
+    {
+        let _ = &self.kernel;
     }
 
     /// Starts the machine and does one event after another.

@@ -1,7 +1,10 @@
 //! Signal semaphores: how they are made and freed, obtained and released. A semaphore is named by the address of its block. The calls of
 //! `Heap` have the effects on memory; which task waits and which is made ready is done here.
-ghost use Rattle.std.specs.Prelude.{◌≡◌, ◌<◌, [], length, if◌then◌else◌, Some};
-ghost use Rattle.scheduler.specs.Schedule.{waits_at_semaphore};
+ghost use Rattle.std.specs.Prelude.{◌≡◌, ◌<◌, [], length, if◌then◌else◌, Some, IfOk, IfSome};
+ghost use Rattle.taskq.specs.declared.TaskState.{TaskState};
+ghost use Rattle.taskq.specs.declared.Why.{Why};
+ghost use Rattle.scheduler.specs.Dispatch.{arrives};
+ghost use Rattle.scheduler.specs.Schedule.{status_of, waits_at_semaphore};
 ghost use Rattle.sigsem.specs.Semaphores.{free_sem};
 ghost use Rattle.execmodel.specs.State.{Semaphore};
 ghost use Rattle.execmodel.specs.Calls.{argument};
@@ -10,8 +13,10 @@ ghost use Rattle.execmodel.specs.GivingWay.{after_asking_for_object};
 ghost use Rattle.execmodel.specs.Objects.{place_for_object};
 ghost use Rattle.execmodel.specs.Semaphores.{is_semaphore, is_tried_again, semaphore_size, does_semaphores};
 ghost use Rattle.execmodel.specs.Semaphores.{does_new_sem, does_free_sem, does_obtain_semaphore, does_attempt_semaphore, does_release_semaphore};
-ghost use Rattle.execsim.specs.Actions.{obtains_or_alerted, passes_or_alerted, woken};
+ghost use Rattle.execmodel.specs.Agreement.{WaitsForNone};
+ghost use Rattle.execsim.specs.Actions.{obtains_or_alerted, passes_or_alerted};
 ghost use Rattle.execsim.specs.Agreement.{Follows};
+ghost use Rattle.execsim.specs.Reached.{QueuesAgree};
 ghost use Rattle.execsim.specs.Views.{call_view};
 
 use crate::command::Call;
@@ -111,6 +116,7 @@ impl<S: ListSpace> Kernel<S> {
     fn obtain_semaphore<W: Sink>(&mut self, t: TaskId, call: &Call, out: &mut W)
         requires known { t < length self.old.scripts.programs }
         requires runs { self.old.schedule.running ≡ Some t }
+        requires stopped { WaitsForNone t self.old.memory.heap }
         ensures { Follows (does_obtain_semaphore t (call_view call.now)) self.old self.new (W.tape out.old) (W.tape out.new) }
     {
         if self.is_tried_again(t) {
@@ -138,13 +144,12 @@ impl<S: ListSpace> Kernel<S> {
 
     // ---- releasing
 
-    /// A task becomes ready, if there is one of that number and it waits for a semaphore.
+    /// A task that waits for a semaphore becomes ready.
     fn wake(&mut self, t: TaskId)
-        ensures { self.new ≡ record self.old { schedule = woken t self.old.schedule } }
+        requires { status_of self.old.schedule t ≡ TaskState.Waiting Why.Sem }
+        ensures { self.new ≡ record self.old { schedule = arrives t self.old.schedule } }
     {
-        if t < self.programs.len() && self.sched.is_at_semaphore(t) {
-            self.sched.wake_sem(t);
-        }
+        self.sched.wake_sem(t);
     }
 
     /// A call that releases a semaphore: the new owner, if there is one, becomes ready; or the call is refused by its alert.
@@ -155,7 +160,8 @@ impl<S: ListSpace> Kernel<S> {
         call: &Call,
         out: &mut W,
     )
-        requires { t < length self.old.scripts.programs }
+        requires known { t < length self.old.scripts.programs }
+        requires waits { IfOk tried (λ heir. IfSome heir (λ owner. status_of self.old.schedule owner ≡ TaskState.Waiting Why.Sem)) }
         ensures { Follows (passes_or_alerted tried (argument 0 (call_view call.now)) t (call_view call.now)) self.old self.new (W.tape out.old) (W.tape out.new) }
     {
         match tried {
@@ -174,7 +180,8 @@ impl<S: ListSpace> Kernel<S> {
     /// that wait there is the owner with the count 1, and ready; where none waits, no task owns it. HANDLE where no semaphore begins there,
     /// SEM where the caller does not own it (autodoc exec.library/ReleaseSemaphore; the alerts: own choice).
     fn release_semaphore<W: Sink>(&mut self, t: TaskId, call: &Call, out: &mut W)
-        requires { t < length self.old.scripts.programs }
+        requires known { t < length self.old.scripts.programs }
+        requires agree { QueuesAgree self.old }
         ensures { Follows (does_release_semaphore t (call_view call.now)) self.old self.new (W.tape out.old) (W.tape out.new) }
     {
         let semaphore = call.number(0);
@@ -192,6 +199,7 @@ impl<S: ListSpace> Kernel<S> {
     )
         requires known { t < length self.old.scripts.programs }
         requires runs { self.old.schedule.running ≡ Some t }
+        requires agree { QueuesAgree self.old }
         ensures { Follows (does_semaphores word t (call_view call.now)) self.old self.new (W.tape out.old) (W.tape out.new) }
     {
         match word {

@@ -12,7 +12,8 @@ ghost use Rattle.execmodel.specs.Step.{announced, switches, settle, does, ends, 
 ghost use Rattle.execmodel.specs.Interrupts.{interrupts};
 ghost use Rattle.execsim.specs.Actions.{running_task_step};
 ghost use Rattle.execsim.specs.Agreement.{Follows, FollowsWhileGood, Moves};
-ghost use Rattle.execsim.specs.Time.{HasTimeFor, IsInTime};
+ghost use Rattle.execsim.specs.Reached.{QueuesAgree};
+ghost use Rattle.execsim.specs.Time.{HasTimeFor, IsInTime, IsKnown};
 ghost use Rattle.execsim.specs.Views.{call_view};
 
 use crate::command::Call;
@@ -92,6 +93,7 @@ impl<S: ListSpace> Kernel<S> {
     fn does<W: Sink>(&mut self, t: TaskId, call: &Call, out: &mut W)
         requires known { t < length self.old.scripts.programs }
         requires runs { self.old.schedule.running ≡ Some t }
+        requires agree { QueuesAgree self.old }
         ensures { Follows (does t (call_view call.now)) self.old self.new (W.tape out.old) (W.tape out.new) }
     {
         match call.word {
@@ -129,6 +131,7 @@ impl<S: ListSpace> Kernel<S> {
     fn make<W: Sink>(&mut self, t: TaskId, call: &Call, out: &mut W)
         requires known { t < length self.old.scripts.programs }
         requires runs { self.old.schedule.running ≡ Some t }
+        requires agree { QueuesAgree self.old }
         requires next { next_call t self.old.scripts ≡ Some (call_view call.now) }
         ensures { Follows (task_step (Some t)) self.old self.new (W.tape out.old) (W.tape out.new) }
     {
@@ -151,6 +154,7 @@ impl<S: ListSpace> Kernel<S> {
     fn make_call<W: Sink>(&mut self, t: TaskId, out: &mut W)
         requires known { t < length self.old.scripts.programs }
         requires runs { self.old.schedule.running ≡ Some t }
+        requires agree { QueuesAgree self.old }
         ensures { Follows (task_step (Some t)) self.old self.new (W.tape out.old) (W.tape out.new) }
     {
         let program = self.program(t);
@@ -173,6 +177,7 @@ impl<S: ListSpace> Kernel<S> {
     fn run_command<W: Sink>(&mut self, t: TaskId, out: &mut W)
         requires known { t < length self.old.scripts.programs }
         requires runs { self.old.schedule.running ≡ Some t }
+        requires agree { QueuesAgree self.old }
         ensures { Follows (task_step (Some t)) self.old self.new (W.tape out.old) (W.tape out.new) }
     {
         match self.next_change(t) {
@@ -183,6 +188,7 @@ impl<S: ListSpace> Kernel<S> {
 
     /// The running task does one command; where none runs, the step is used up.
     fn run_task<W: Sink>(&mut self, out: &mut W)
+        requires { QueuesAgree self.old }
         ensures { Follows running_task_step self.old self.new (W.tape out.old) (W.tape out.new) }
     {
         match self.running() {
@@ -193,6 +199,7 @@ impl<S: ListSpace> Kernel<S> {
 
     /// A software interrupt that may run does so, or else the running task does one command.
     fn run_one<W: Sink>(&mut self, out: &mut W)
+        requires { QueuesAgree self.old }
         ensures { Follows acting self.old self.new (W.tape out.old) (W.tape out.new) }
     {
         match self.take_softint() {
@@ -210,6 +217,7 @@ impl<S: ListSpace> Kernel<S> {
 
     /// What a step does before the machine settles; a stopped machine does nothing.
     fn act<W: Sink>(&mut self, out: &mut W)
+        requires { QueuesAgree self.old }
         ensures { Follows acts self.old self.new (W.tape out.old) (W.tape out.new) }
     {
         if !self.stopped {
@@ -219,6 +227,7 @@ impl<S: ListSpace> Kernel<S> {
 
     /// One step.
     fn step<W: Sink>(&mut self, out: &mut W)
+        requires { QueuesAgree self.old }
         ensures { Follows step self.old self.new (W.tape out.old) (W.tape out.new) }
     {
         self.act(out);
@@ -227,6 +236,7 @@ impl<S: ListSpace> Kernel<S> {
 
     /// One step, as long as the sink is good; after a failed write nothing more is simulated.
     fn step_while_good<W: Sink>(&mut self, out: &mut W)
+        requires { (W.tape out.old).state ≡ SinkState.Good → QueuesAgree self.old }
         ensures { FollowsWhileGood step self.old self.new (W.tape out.old) (W.tape out.new) }
     {
         match written(out) {
@@ -237,6 +247,7 @@ impl<S: ListSpace> Kernel<S> {
 
     /// So many steps.
     fn steps<W: Sink>(&mut self, n: u32, out: &mut W)
+        requires { (W.tape out.old).state ≡ SinkState.Good → IsKnown self.old }
         ensures { FollowsWhileGood (steps n) self.old self.new (W.tape out.old) (W.tape out.new) }
     {
         for _done in 0..n {

@@ -3,6 +3,7 @@ ghost use Rattle.std.specs.Prelude.{◌≡◌, ◌<◌, IfOk, OnErr, OnOk, []};
 ghost use Rattle.execmodel.specs.State.{Semaphore, on_heap};
 ghost use Rattle.execmodel.specs.Memory.{freed, placed};
 ghost use Rattle.execmodel.specs.GivingWay.{after_asking_for_object};
+ghost use Rattle.execmodel.specs.Agreement.{WaitsForNone};
 ghost use Rattle.execmodel.specs.Objects.{place_for_object};
 ghost use Rattle.execmodel.specs.Semaphores.{attempted, dropped, free_sem_alert, heir, is_open, is_semaphore, obtain_alert, obtained, outcome_for, release_alert, released, sem_of};
 ghost use Rattle.sigsem.specs.Semaphores.{free_sem};
@@ -42,12 +43,13 @@ impl<S: ListSpace> Heap<S> {
 
     // ---- obtaining and releasing
 
-    /// Asks for a semaphore for a task (0 to 4,095). A free one is the task's, with the count 1; the owner's count is one more; any other
-    /// task waits, behind those that asked before, and for no other semaphore. Answers which of these came of it. It is refused where no
-    /// semaphore begins at the address (Handle), and where the count would go past 32767 (Sem).
+    /// Asks for a semaphore for a task (0 to 4,095) that waits for none. A free one is the task's, with the count 1; the owner's count is
+    /// one more; any other task waits, behind those that asked before. Answers which of these came of it. It is refused where no semaphore
+    /// begins at the address (Handle), and where the count would go past 32767 (Sem).
     /// Autodoc exec.library/ObtainSemaphore; the refusals: own choice.
     pub fn obtain_semaphore(&mut self, task: TaskId, semaphore: u32) -> Result<Obtained, Refusal>
-        requires { task < 4096 }
+        requires task { task < 4096 }
+        requires stopped { WaitsForNone task self.old.heap }
         ensures alert { alert_of result ≡ obtain_alert task semaphore self.old.heap }
         ensures answer { IfOk result (λ how. how ≡ outcome_for task (sem_of semaphore self.old.heap)) }
         ensures next { OnOk result (self.new ≡ on_heap (obtained task semaphore) self.old) }

@@ -1,8 +1,8 @@
 //! Semaphores by number, and the blocks in which they live.
-ghost use Rattle.std.specs.Prelude.{◌≡◌, ◌<◌, not, [], Some, IsTrue};
+ghost use Rattle.std.specs.Prelude.{◌≡◌, ◌<◌, not, [], None, Some, IsTrue};
 ghost use Rattle.execlist.specs.Pool.{slot};
 ghost use Rattle.sigsem.specs.Faults.{fault_or, kept_or};
-ghost use Rattle.sigsem.specs.Semaphores.{attempted, deep_fault, dropped, free_sem, heir, is_open, is_owned, is_sem, let_go, outcome, release_fault};
+ghost use Rattle.sigsem.specs.Semaphores.{attempted, deep_fault, dropped, free_sem, heir, is_open, is_owned, is_sem, let_go, obtained, outcome, release_fault, waits_at};
 ghost use Rattle.execmodel.specs.State.{Semaphore};
 ghost use Rattle.execmodel.specs.Memory.{freed, placed};
 ghost use Rattle.execmodel.specs.GivingWay.{after_asking_for_object};
@@ -10,7 +10,7 @@ ghost use Rattle.execmodel.specs.Objects.{place_for_object};
 ghost use Rattle.execmodel.specs.Semaphores.{is_semaphore};
 ghost use Rattle.execheap.specs.declared.kind.Kind.TheVariants as variant;
 ghost use Rattle.execheap.specs.Numbered.{places, shown_memory};
-ghost use Rattle.execheap.specs.Changes.{on_semaphores, semaphore_obtained};
+ghost use Rattle.execheap.specs.Changes.{on_semaphores};
 
 use crate::kind::Kind;
 use crate::objects::Objects;
@@ -69,23 +69,17 @@ impl<S: ListSpace> Objects<S> {
         self.sems.attempt(n, t)
     }
 
-    /// Asks for a semaphore for a task, which has it then or waits for it, and for no other.
+    /// Asks for a semaphore for a task that waits for none. It has the semaphore then, or waits for it.
     ///
     /// Source: autodoc exec.library/ObtainSemaphore.
     pub fn obtain(&mut self, n: SemId, t: TaskId) -> Result<Obtained, SemFault>
         requires live { IsTrue (is_sem n self.old.sems) }
         requires task { t < 4096 }
+        requires stopped { waits_at t self.old.sems ≡ None }
         ensures answer { result ≡ fault_or (deep_fault n t self.old.sems) (outcome n t self.old.sems) }
-        ensures next { self.new ≡ on_semaphores (λ m. kept_or (deep_fault n t m) m (semaphore_obtained n t m)) self.old }
+        ensures next { self.new ≡ on_semaphores (λ m. kept_or (deep_fault n t m) m (obtained n t m)) self.old }
     {
-        match self.sems.attempt(n, t) {
-            Err(why) => Err(why),
-            Ok(true) => Ok(Obtained::Owner),
-            Ok(false) => {
-                self.sems.drop_waiter(t);
-                self.sems.obtain(n, t)
-            }
-        }
+        self.sems.obtain(n, t)
     }
 
     /// Releases a semaphore once, for its owner, and answers the new owner, if another task becomes it.

@@ -1,14 +1,15 @@
--- The task has the semaphore that is shown, or waits there and nowhere else.
+-- The task has the semaphore that is shown, or waits there.
 use Rattle.std.proofs.Common.{◌≡◌, ap, sym, subst, ◌∙◌}
 use Rattle.std.specs.Prelude.{IfOk, OnOk}
 use Rattle.execmodel.specs.State.{Memory, on_heap}
-use Rattle.execmodel.specs.Semaphores.{obtain_alert, obtained, outcome_for, sem_of}
+use Rattle.execlist.specs.Lists.{times}
+use Rattle.execmodel.specs.Semaphores.{obtain_alert, obtained, outcome_for, sem_of, waiters_of}
 use Rattle.sigsem.specs.Faults.{fault_or}
+use Rattle.sigsem.specs.Semaphores as sems
 use Rattle.sigsem.specs.Semaphores.{Semaphores, deep_fault, outcome}
-use Rattle.execheap.specs.Changes.{semaphore_obtained}
 use Rattle.execheap.specs.Refusals.{alert_of, told}
 use Rattle.execheap.specs.Numbered.{shown_heap, shown_memory}
-use Rattle.execheap.proofs.Dropping.{obtained_shown}
+use Rattle.execheap.proofs.Dropping.{obtained_shown, waits_at_none}
 use Rattle.execheap.proofs.SemaphoreAlerts.{obtain_refused, obtain_told, sem_of_shown, told_answer, told_next}
 use Rattle.execheap.proofs.heap.Heap.obtain_semaphore.Goals as goal
 
@@ -16,6 +17,12 @@ pub returns-in-Err-clause-alert : goal.returns-in-Err-clause-alert
 returns-in-Err-clause-alert g c =
     sym (obtain_refused c.args.semaphore (shown_heap c.self.inside.objects) (sym c.in-Err.ensures.alert) c.args.task)
     ∙ ap (λ (m : Memory). obtain_alert c.args.task c.args.semaphore m.heap) c.self.view_is
+
+-- a task that stands in no queue that is shown waits at none
+pub obtain-requires-clause-stopped : goal.obtain-requires-clause-stopped
+obtain-requires-clause-stopped g c =
+    waits_at_none c.in-Ok.ensures.known.sound c.in-Ok.ensures.known.sems c.args.task
+    (λ a. ap (λ (m : Memory). times c.args.task (waiters_of a m.heap)) c.self.view_is ∙ c.requires.stopped a)
 
 -- any refusal by number is told as one
 refusal_told : (g : _) (c : goal.After-told g) → c.told.result
@@ -45,7 +52,7 @@ returns-in-Ok-clause-next g c =
     let e = c.in-Ok.ensures in
     subst (λ r. OnOk r (shown_memory c.obtain.new.self ≡ on_heap (obtained c.args.task c.args.semaphore) c.args.self.now))
     (sym (refusal_told g c))
-    (told_next (deep_fault c.in-Ok.n c.args.task s.sems) (outcome c.in-Ok.n c.args.task s.sems) s.sems (semaphore_obtained c.in-Ok.n c.args.task s.sems)
+    (told_next (deep_fault c.in-Ok.n c.args.task s.sems) (outcome c.in-Ok.n c.args.task s.sems) s.sems (sems.obtained c.in-Ok.n c.args.task s.sems)
     (λ done. ap shown_memory c.obtain.ensures.next ∙ ap (λ (m : Semaphores). shown_memory (record s { sems = m })) done
     ∙ obtained_shown f.sound f.sems f.memory c.in-Ok.n c.args.semaphore e.found e.live c.args.task
     ∙ ap (on_heap (obtained c.args.task c.args.semaphore)) c.self.view_is))

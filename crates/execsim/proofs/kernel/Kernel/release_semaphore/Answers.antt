@@ -1,5 +1,6 @@
 use Rattle.execsim.specs.Views.{call_view}
 use Rattle.execsim.proofs.Obtaining.{release_tried}
+use Rattle.execsim.proofs.Reached.{heirs_wait}
 use Rattle.execsim.proofs.kernel.Kernel.release_semaphore.Goals as goal
 
 pub returns : goal.returns
@@ -8,3 +9,6 @@ returns g c = rw (← c.self.view_is) (release_tried _ (call_view c.args.call.no
     (rw c.number-semaphore.ensures at c.release_semaphore-tried.ensures.answer)
     (rw c.number-semaphore.ensures at c.release_semaphore-tried.ensures.next) c.release_semaphore-tried.ensures.kept
     c.passes.ensures)
+
+pub passes-requires-clause-waits : goal.passes-requires-clause-waits
+passes-requires-clause-waits g c = heirs_wait c.self.view_is _ _ c.release_semaphore-tried.ensures.answer c.requires.agree

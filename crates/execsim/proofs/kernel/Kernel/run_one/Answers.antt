@@ -1,3 +1,5 @@
+use Rattle.std.proofs.Common.{subst, sym}
+use Rattle.execsim.specs.Reached.{QueuesAgree}
 use Rattle.execsim.proofs.Stepping.{acting_softint, acting_task}
 use Rattle.execsim.proofs.kernel.Kernel.run_one.Goals as goal
 
@@ -6,3 +8,6 @@ returns-in-Some g c = acting_softint _ (rw c.in-Some.is at c.take_softint.ensure
 
 pub returns-in-None : goal.returns-in-None
 returns-in-None g c = acting_task (rw c.in-None.is at c.take_softint.ensures.answer) (rw c.in-None.is at c.take_softint.ensures.next) c.run_task.ensures
+
+pub run_task-requires : goal.run_task-requires
+run_task-requires g c = subst QueuesAgree (sym c.take_softint.ensures.next) c.requires

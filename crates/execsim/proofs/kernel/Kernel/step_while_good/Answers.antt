@@ -7,3 +7,6 @@ returns-in-Ok g c = while_good (c.in-Ok.ensures.0 refl) c.step.ensures
 
 pub returns-in-Err : goal.returns-in-Err
 returns-in-Err g c = stays_behind _ (λ good. let bad : false ≡ true = c.in-Err.ensures.1 good in cc)
+
+pub step-requires : goal.step-requires
+step-requires g c = c.requires (c.in-Ok.ensures.0 refl)

@@ -1,6 +1,7 @@
 use Rattle.std.proofs.Common.{ap, ◌∙◌}
 use Rattle.execmodel.specs.State.{booted}
 use Rattle.execsim.specs.Agreement.{Agrees, Seen}
+use Rattle.execsim.specs.Reached.{at_boot}
 use Rattle.execsim.proofs.Accepted.{softints_differ}
 use Rattle.execsim.proofs.Booting.{boots}
 use Rattle.execsim.proofs.Serving.{pending_of}
@@ -20,7 +21,7 @@ invariant_of-result g c =
     (ap (λ (m : Seen). m.memory) c.new-3.ensures ∙ c.in_ok-memory.ensures)
     (ap (λ (m : Seen). m.bodies) c.new-3.ensures ∙ (rw (c.softints.ensures.softints, c.servers.ensures.servers) at c.in_ok-bodies.ensures))
     (ap (λ (m : Seen). m.pending) c.new-3.ensures ∙ ap pending_of c.in_ok-ints.ensures) (ap (λ (m : Seen). m.stopped) c.new-3.ensures)
-    in λ _. record { state = booted c.args.file.now; agrees = agrees }
+    in λ _. record { state = booted c.args.file.now; agrees = agrees; reached = at_boot c.args.file.now c.softints.ensures.machine }
 
 pub returns-clause-agrees : goal.returns-clause-agrees
 unfolding booted

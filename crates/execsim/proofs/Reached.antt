@@ -1,0 +1,104 @@
+-- What holds of each state that a machine comes to, and so of what the machine shows.
+use Rattle.std.proofs.Common.{◌≡◌, ℕ, ◌<◌, List, [], ◌∷◌, Option, None, Some, Bool, true, false, refl, ap, sym, ◌∙◌, subst}
+use Rattle.std.specs.Prelude.{Result, Ok, Err, IfOk, IfSome, if◌then◌else◌}
+use Rattle.exectrace.specs.Sink.{Tape}
+use Rattle.exectrace.specs.declared.sinks.SinkState.TheVariants.{Good}
+use Rattle.taskscript.specs.declared.event.Event.{Event}
+use Rattle.taskscript.specs.declared.event.Event.TheVariants.{Run, Tick}
+use Rattle.execlist.specs.Lists.{is_at, times}
+use Rattle.execlist.specs.Order.{first}
+use Rattle.taskq.specs.Tasks.{pri_at}
+use Rattle.taskq.specs.declared.TaskState.TheVariants.{Running, Waiting}
+use Rattle.taskq.specs.declared.Why.TheVariants.{Sem}
+use Rattle.scheduler.specs.Schedule.{Schedule, is_at_semaphore, status_of}
+use Rattle.execmodel.specs.State.{Memory, State, andthen}
+use Rattle.execmodel.specs.Step.{steps, ticks, starts, event, events}
+use Rattle.execmodel.specs.Agreement.{WaitsForNone}
+use Rattle.execmodel.specs.Semaphores.{heir, is_last, sem_of, waiters_of}
+use Rattle.execmodel.proofs.Stretches.{of_event, of_starts}
+use Rattle.execmodel.proofs.WaitingLaw.{IsSound, Waits, waits, clocked, booted_sound}
+use Rattle.execmodel.proofs.Agreement.{untouched, at_semaphore_is, first_stands, running_state, waits_at as stands_where, waits_there}
+use Rattle.execheap.specs.declared.refusal.Refusal.{Refusal}
+use Rattle.execsim.specs.Agreement.{Seen, Agrees, FollowsWhileGood}
+use Rattle.execsim.specs.Reached.{IsReached, at_boot, after_start, after_event, QueuesAgree}
+use Rattle.execsim.specs.Time.{IsKnown}
+use Rattle.execsim.proofs.Following.{good_before}
+use Rattle.execsim.proofs.Ordering.{times_in_order}
+
+-- ---- more states that a machine comes to
+
+pub steps_reached : (n : ℕ) (s : State) → IsReached s → IsReached (steps n s).state
+unfolding event
+steps_reached n s reached = after_event (Run n) s reached
+
+pub ticks_reached : (n : ℕ) (s : State) → IsReached s → IsReached (ticks n s).state
+unfolding event
+ticks_reached n s reached = after_event (Tick n) s reached
+
+pub events_reached : (list : List Event) (s : State) → IsReached s → IsReached (events list s).state
+unfolding events andthen
+events_reached [] s reached = reached
+events_reached (e ∷ rest) s reached = events_reached rest (event e s).state (after_event e s reached)
+
+pub run_reached : (list : List Event) (s : State) → IsReached s → IsReached (andthen starts (events list) s).state
+unfolding andthen
+run_reached list s reached = events_reached list (starts s).state (after_start s reached)
+
+-- ---- what holds of each
+
+sound_there : (s : State) → IsReached s → IsSound s
+sound_there s (at_boot machine is) = booted_sound machine is
+sound_there s (after_start before reached) = (of_starts Waits waits before (sound_there before reached)).0
+sound_there s (after_event e before reached) = (of_event Waits waits clocked e before (sound_there before reached)).0
+
+-- the queues of what the machine shows agree, since those of the state do
+shown_agree : (m : Seen) (s : State) → Agrees m s → IsSound s → QueuesAgree m
+shown_agree m s shows sound t =
+    untouched t s.schedule m.schedule (λ a. waiters_of a s.memory.heap) (λ a. waiters_of a m.memory.heap)
+    (ap (λ (y : Schedule). status_of y t) shows.schedule) (ap (λ (y : Schedule). is_at y.running t) shows.schedule)
+    (ap (λ (y : Schedule). times t y.queue.ready) shows.schedule ∙ times_in_order (pri_at s.schedule.queue.pris) t s.schedule.queue.ready)
+    (λ a. ap (λ (y : Memory). times t (waiters_of a y.heap)) shows.memory) (sound.agrees t)
+
+pub queues_agree : (m : Seen) → IsKnown m → QueuesAgree m
+queues_agree m known = shown_agree m known.state known.agrees (sound_there known.state known.reached)
+
+-- after some steps of many the queues agree
+pub agree_after_steps : {m n : Seen} {a b : Tape} (i : ℕ) → (a.state ≡ Good → IsKnown m) → FollowsWhileGood (steps i) m n a b → b.state ≡ Good → QueuesAgree n
+agree_after_steps {n = n} i shown follows good =
+    let known = shown (good_before follows good) in
+    queues_agree n (record {
+      state = (steps i known.state).state;
+      agrees = follows.agrees known.state known.agrees good;
+      reached = steps_reached i known.state known.reached;
+    })
+
+-- ---- what the queues tell
+
+-- the running task waits for no semaphore
+pub runs_for_none : (m : Seen) (t : ℕ) → m.schedule.running ≡ Some t → QueuesAgree m → WaitsForNone t m.memory.heap
+runs_for_none m t runs agree =
+    let queues = λ (a : ℕ). waiters_of a m.memory.heap in
+    stands_where t m.schedule queues Running (running_state t m.schedule queues runs (agree t)) (agree t)
+
+first_there : (t : ℕ) (q : List ℕ) → first q ≡ Some t → 0 < times t q
+first_there t [] e = let bad : None ≡ Some t = e in cc
+first_there t (x ∷ q) e = let same : x ≡ t = cc in first_stands t x q same
+
+heir_there : (last : Bool) (t : ℕ) (q : List ℕ) → (if last then first q else None) ≡ Some t → 0 < times t q
+heir_there true t q e = first_there t q e
+heir_there false t q e = let bad : None ≡ Some t = e in cc
+
+-- the task that a release makes the owner waits for a semaphore
+pub heir_waits : (m : Seen) (semaphore owner : ℕ) → heir semaphore m.memory.heap ≡ Some owner → QueuesAgree m → status_of m.schedule owner ≡ Waiting Sem
+unfolding heir
+heir_waits m semaphore owner is agree =
+    at_semaphore_is (status_of m.schedule owner)
+    (waits_there (is_at_semaphore (status_of m.schedule owner)) owner (λ a. waiters_of a m.memory.heap) semaphore (agree owner).waits
+    (heir_there (is_last (sem_of semaphore m.memory.heap)) owner (waiters_of semaphore m.memory.heap) is))
+
+-- so does the one of an answer, if it is one
+pub heirs_wait : {m n : Seen} → m ≡ n → (semaphore : ℕ) (tried : Result (Option ℕ) Refusal) → IfOk tried (λ owner. owner ≡ heir semaphore m.memory.heap)
+    → QueuesAgree n → IfOk tried (λ heir. IfSome heir (λ owner. status_of m.schedule owner ≡ Waiting Sem))
+heirs_wait same semaphore (Ok None) is agree = tt
+heirs_wait {m} {n} same semaphore (Ok (Some owner)) is agree = heir_waits m semaphore owner (sym is) (subst (λ (x : Seen). QueuesAgree x) (sym same) agree)
+heirs_wait same semaphore (Err why) is agree = tt

@@ -1,0 +1,21 @@
+-- The states that a machine comes to, and that what the machine shows of its semaphores agrees with what it shows of its tasks.
+use Rattle.std.specs.Prelude.{ℕ}
+use Rattle.taskscript.specs.File.{MachineData}
+use Rattle.taskscript.specs.Machines.{IsMachine}
+use Rattle.taskscript.specs.declared.event.Event.{Event}
+use Rattle.execmodel.specs.State.{State, booted}
+use Rattle.execmodel.specs.Step.{starts, event}
+use Rattle.execmodel.specs.Semaphores.{waiters_of}
+use Rattle.execmodel.specs.Agreement as model
+use Rattle.execsim.specs.Agreement.{Seen}
+
+-- a machine comes to the state before its start, and from a state that it comes to to those after a start and after an event
+pub data IsReached : State → Type 0 where
+  at_boot : (machine : MachineData) → IsMachine machine → IsReached (booted machine)
+  after_start : (s : State) → IsReached s → IsReached (starts s).state
+  after_event : (e : Event) (s : State) → IsReached s → IsReached (event e s).state
+
+-- Just the running task has the state Running, just the ready ones stand among the ready, each once, and just those that wait for a
+-- semaphore stand in its queue, each in one and once. So the running task waits for none.
+abbrev pub QueuesAgree : Seen → Type 0
+QueuesAgree seen = (t : ℕ) → model.Agrees t seen.schedule (λ semaphore. waiters_of semaphore seen.memory.heap)
