@@ -27,7 +27,7 @@ use toml::{Table, Value};
 pub struct Finding {
     /// The fault for which the file is refused, if it is.
     pub fault: Option<FileFault>,
-    /// The place of the fault, where it is one of the tree, or the line of BadCommand.
+    /// The place of the fault, where the text is a document.
     pub place: Option<Place>,
     /// What there is to say of it, a line or more for each; nothing where nothing was found.
     pub text: String,
@@ -257,22 +257,38 @@ fn found_in_body<'a>(
     }
 }
 
-/// The place of a fault of lines other than BadCommand, and what is wrong there.
+/// What is wrong where a fault of lines other than BadCommand stands.
 fn found_in_lines(
     alloc: Global,
     fault: FileFault,
     table: &Table,
-) -> Result<Option<(LinePlace, Found)>, AllocError> {
+) -> Result<Option<Found>, AllocError> {
     let mut shared = Vec::new(alloc);
     for owner in [Owner::Softint, Owner::Server, Owner::Task] {
-        for (item, value) in items_at(table, array_of(owner).key()).iter().enumerate() {
-            if let Some(found) = found_in_body(alloc, fault, owner, lines_of(value), &mut shared)? {
-                let line = found.line;
-                return Ok(Some((LinePlace { owner, item, line }, found)));
+        for value in items_at(table, array_of(owner).key()) {
+            let found = found_in_body(alloc, fault, owner, lines_of(value), &mut shared)?;
+            if found.is_some() {
+                return Ok(found);
             }
         }
     }
     Ok(None)
+}
+
+/// What is wrong with the line at a place.
+fn advice_at(
+    alloc: Global,
+    table: &Table,
+    fault: FileFault,
+    place: LinePlace,
+) -> Result<Advice, AllocError> {
+    match found_in_lines(alloc, fault, table)? {
+        Some(found) => Ok(found.advice),
+        None => {
+            let softints = items_at(table, "softint");
+            line_advice(alloc, softints, text_at_place(table, place))
+        }
+    }
 }
 
 /// The text of a fault of a line.
@@ -292,23 +308,6 @@ fn push_line_fault(
     push_marked(out, text_at_place(table, place), advice)
 }
 
-/// The text of a fault whose place is not among those that are looked for first.
-fn push_other_fault(
-    alloc: Global,
-    out: &mut String,
-    path: &str,
-    text: &str,
-    table: &Table,
-    fault: FileFault,
-) -> Result<(), AllocError> {
-    if let Some((place, found)) = found_in_lines(alloc, fault, table)? {
-        return push_line_fault(alloc, out, path, text, table, fault, place, &found.advice);
-    }
-    push_path(alloc, out, path, None)?;
-    out.push_str(fault_name(fault))?;
-    out.push_str("\n")
-}
-
 /// The text of a fault of a file that has a tree.
 fn push_fault(
     alloc: Global,
@@ -322,11 +321,14 @@ fn push_fault(
     match place {
         Some(Place::Tree(place)) => push_tree_fault(alloc, out, path, text, table, place, fault),
         Some(Place::Line(place)) => {
-            let softints = items_at(table, "softint");
-            let advice = line_advice(alloc, softints, text_at_place(table, place))?;
+            let advice = advice_at(alloc, table, fault, place)?;
             push_line_fault(alloc, out, path, text, table, fault, place, &advice)
         }
-        None => push_other_fault(alloc, out, path, text, table, fault),
+        None => {
+            push_path(alloc, out, path, None)?;
+            out.push_str(fault_name(fault))?;
+            out.push_str("\n")
+        }
     }
 }
 
@@ -350,7 +352,7 @@ fn push_not_toml(
 #[tactic(auto, using(taskscript::proofs::Documents::a_document, taskscript::proofs::Documents::no_document))]
 fn refusal(alloc: Global, path: &str, bytes: &[u8], fault: FileFault) -> Result<Finding, AllocError>
     ensures fault { IfOk result (λ finding. finding.fault ≡ Some fault) }
-    ensures place { IfOk result (λ finding. finding.place ≡ place_at fault (document_of bytes.now)) }
+    ensures place { IfOk result (λ finding. finding.place ≡ place_at (document_of bytes.now)) }
 {
     let mut text = String::new(alloc);
     match toml::table_from_slice(alloc, bytes) {
@@ -366,7 +368,7 @@ fn refusal(alloc: Global, path: &str, bytes: &[u8], fault: FileFault) -> Result<
             })
         }
         Ok(table) => {
-            let place = place_of_fault(alloc, &table, fault)?;
+            let place = place_of_fault(alloc, &table)?;
             let whole = from_utf8(bytes).unwrap_or("");
             push_fault(alloc, &mut text, path, whole, &table, fault, place)?;
             Ok(Finding {
@@ -401,9 +403,8 @@ fn push_warnings(
 
 /// What the bytes of a machine file are refused for, and where, or else what is worth a warning. `path` stands before each place.
 ///
-/// The file is refused just where `execsim` refuses it, with that fault. Its place is the first faulty place of the tree, in the order in
-/// which the tree is judged, or else, for BadCommand, the first line that says no command. The text names the fault, the place and the
-/// reason; of other lines, too, it names one.
+/// The file is refused just where `execsim` refuses it, with that fault. Its place is the first faulty place of the file, in the order in
+/// which the file is judged. The text names the fault, the place and the reason.
 ///
 /// # Errors
 ///

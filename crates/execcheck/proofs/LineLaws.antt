@@ -1,4 +1,4 @@
--- The faults of the places of a file are its faults; and where the first of them is BadCommand, its place is the first line that says no command.
+-- The faults of the places of a file are its faults; and where that of its first faulty line is BadCommand, it is the first line that says no command.
 use Rattle.std.proofs.Common.{◌≡◌, ℕ, ◌+◌, Bool, true, false, not, List, [], ◌∷◌, ◌++◌, length, map, Option, Some, None, option_map, nat_le, cond, refl, sym, ap, ◌∙◌, append_assoc, subst}
 use Rattle.std.specs.Prelude.{bytes_eq}
 use Rattle.std.specs.List.{flat_map, list_all, list_any}
@@ -9,7 +9,7 @@ use Rattle.taskscript.specs.declared.fault.FileFault.{FileFault}
 use Rattle.taskscript.specs.declared.fault.FileFault.TheVariants.{BadCommand, BadLabel, NotInInterrupt, TooMany}
 use Rattle.taskscript.specs.Code.{body_faults, command_said, commands_of, jump_faults, labels_of, line_faults, lines_faults, names_of, shared_after}
 use Rattle.taskscript.specs.Faults.{check, first}
-use Rattle.taskscript.specs.File.{bodies_faults, code_lines, faults, lines_of_all_faults, servers_in, setting_of, shared_after_servers, shared_after_softints, softints_in, tasks_in}
+use Rattle.taskscript.specs.File.{bodies_faults, code_lines, faults, item_names, lines_of_all_faults, servers_in, setting_of, shared_after_servers, shared_after_softints, softints_in, tasks_in}
 use Rattle.taskscript.specs.Interrupting.{Setting, may_stand, names_softints}
 use Rattle.taskscript.specs.Lines.{NamedCommandData, LineData, label_line, command_line}
 use Rattle.taskscript.specs.Meaning.{says}
@@ -22,9 +22,8 @@ use Rattle.execcheck.specs.declared.place.LinePlace.{LinePlace}
 use Rattle.execcheck.specs.declared.place.TreeFault.{TreeFault}
 use Rattle.execcheck.specs.declared.placed.PlacedFault.{PlacedFault}
 use Rattle.execcheck.specs.AllPlaces.{all_at, bodies_placed, body_placed, code_place, faults_of_places, file_places, jumps_of, jumps_placed, lines_in_file, lines_placed, placed_of}
-use Rattle.execcheck.specs.FilePlaces.{place_of, tree_place}
 use Rattle.execcheck.specs.Lines.{first_line, says_no_command}
-use Rattle.execcheck.specs.Places.{line_in_bodies, line_of_fault, place}
+use Rattle.execcheck.specs.Places.{line_in_bodies, line_without_command, place}
 use Rattle.execcheck.specs.TreePlaces.{faults_of, tree_found}
 use Rattle.execcheck.proofs.TreeLaws.{tree_law}
 
@@ -194,7 +193,7 @@ or_assoc None b c = refl
 or_assoc (Some x) b c = refl
 
 bodies_fit : (owner : Owner) (number : ℕ) (s : Setting) (shared : List (List ℕ)) (bodies : Items) (rest : List PlacedFault) (later : Option LinePlace) → Fits (first rest) later
-    → Fits (first (bodies_placed owner number s shared bodies ++ rest)) (option_or (line_in_bodies owner BadCommand s number bodies) later)
+    → Fits (first (bodies_placed owner number s shared bodies ++ rest)) (option_or (line_in_bodies owner s.softints number bodies) later)
 bodies_fit owner number s shared no_items rest later h = h
 bodies_fit owner number s shared (item body others) rest later h =
     let lines = code_lines body in
@@ -202,7 +201,7 @@ bodies_fit owner number s shared (item body others) rest later h =
     let here = body_placed owner number s shared lines in
     let own = bodies_placed owner (number + 1) s more others in
     let found = option_map (place owner number) (first_line (says_no_command s.softints) 0 lines) in
-    let left = line_in_bodies owner BadCommand s (number + 1) others in
+    let left = line_in_bodies owner s.softints (number + 1) others in
     fits_same (here ++ (own ++ rest)) ((here ++ own) ++ rest) (option_or found (option_or left later)) (option_or (option_or found left) later) (sym (append_assoc here own rest)) (or_assoc found left later)
     (body_fit owner number s shared lines (own ++ rest) (option_or left later) (bodies_fit owner (number + 1) s more others rest later h))
 
@@ -210,30 +209,26 @@ no_later : {X : Type 0} (o : Option X) → option_or o None ≡ o
 no_later None = refl
 no_later (Some x) = refl
 
-file_fits : (tree : Members) → Fits (first (lines_in_file tree)) (line_of_fault BadCommand tree)
-unfolding line_of_fault
+file_fits : (tree : Members) → Fits (first (lines_in_file tree)) (line_without_command tree)
+unfolding line_without_command
 file_fits tree =
+    let names = item_names (softints_in tree) in
     let tasks = bodies_placed Task 0 (setting_of false tree) (shared_after_servers tree) (tasks_in tree) in
     let servers = bodies_placed Server 0 (setting_of true tree) (shared_after_softints tree) (servers_in tree) in
-    let in_tasks = line_in_bodies Task BadCommand (setting_of false tree) 0 (tasks_in tree) in
-    let in_servers = line_in_bodies Server BadCommand (setting_of true tree) 0 (servers_in tree) in
+    let in_tasks = line_in_bodies Task names 0 (tasks_in tree) in
+    let in_servers = line_in_bodies Server names 0 (servers_in tree) in
     let last : Fits (first tasks) in_tasks =
     fits_same (tasks ++ []) tasks (option_or in_tasks None) in_tasks (append-nil tasks) (no_later in_tasks) (bodies_fit Task 0 (setting_of false tree) (shared_after_servers tree) (tasks_in tree) [] None refl) in
     bodies_fit Softint 0 (setting_of true tree) [] (softints_in tree) (servers ++ tasks) (option_or in_servers in_tasks)
     (bodies_fit Server 0 (setting_of true tree) (shared_after_softints tree) (servers_in tree) tasks in_tasks last)
 
--- ---- the place of a fault
+-- ---- the first faulty place
 
 fits_first : (o : Option PlacedFault) (line : Option LinePlace) (p : PlacedFault) → o ≡ Some p → Fits o line → p.fault ≡ BadCommand → option_map Line line ≡ Some p.place
 fits_first o line p h fits bad = subst (λ (x : Option PlacedFault). Fits x line) h fits bad
 
-command_place : (found : List TreeFault) (lines : List PlacedFault) (line : Option LinePlace) (p : PlacedFault) → Fits (first lines) line → first (map placed_of found ++ lines) ≡ Some p → p.fault ≡ BadCommand
-    → option_or (option_map tree_place (first found)) (option_map Line line) ≡ Some p.place
-command_place [] lines line p fits h bad = fits_first (first lines) line p h fits bad
-command_place (f ∷ found) lines line p fits h bad = ap (option_map (λ (x : PlacedFault). x.place)) h
-
-pub command_law : (tree : Members) (p : PlacedFault) → first (file_places tree) ≡ Some p → p.fault ≡ BadCommand → place_of BadCommand tree ≡ Some p.place
-command_law tree p h bad = command_place (tree_found tree) (lines_in_file tree) (line_of_fault BadCommand tree) p (file_fits tree) h bad
+pub command_law : (tree : Members) (p : PlacedFault) → first (lines_in_file tree) ≡ Some p → p.fault ≡ BadCommand → option_map Line (line_without_command tree) ≡ Some p.place
+command_law tree p h bad = fits_first (first (lines_in_file tree)) (line_without_command tree) p h (file_fits tree) bad
 
 tree_fault_place : (found : List TreeFault) (lines : List PlacedFault) (f : TreeFault) → first found ≡ Some f → first (map placed_of found ++ lines) ≡ Some (placed_of f)
 tree_fault_place [] lines f h = absurd cc

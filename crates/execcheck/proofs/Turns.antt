@@ -1,4 +1,4 @@
--- One turn of a loop over items, over arguments and over lines.
+-- One turn of a loop over items and over arguments.
 use Rattle.std.proofs.Common.{◌≡◌, ℕ, ◌+◌, ◌<◌, ◌≤◌, Bool, false, ◌||◌, cond, bytes_eq, List, [], ◌∷◌, length, get_or, drop, map, Option, Some, None, option_map, refl, sym, ap, ◌∙◌, Bor}
 use Rattle.std.specs.List.{list_any}
 use Rattle.std.specs.Prelude.{is_some}
@@ -10,18 +10,10 @@ use Rattle.toml.specs.Data.{Items}
 use Rattle.toml.specs.View.{view, items_view}
 use Rattle.taskscript.specs.declared.word.row.Kind.{Kind}
 use Rattle.taskscript.specs.declared.word.row.Kind.TheVariants as kind
-use Rattle.taskscript.specs.Code.{line_in, lines_in}
-use Rattle.taskscript.specs.File.{code_lines, item_names, name_of}
-use Rattle.taskscript.specs.Lines.{LineData, NamedVariableData, variable, number}
-use Rattle.taskscript.specs.Meaning.{says}
+use Rattle.taskscript.specs.File.{item_names, name_of}
+use Rattle.taskscript.specs.Lines.{NamedVariableData, variable, number}
 use Rattle.taskscript.specs.Parsing.{argument_of}
 use Rattle.taskscript.proofs.OwnerTurns.{next_item}
-use Rattle.taskscript.proofs.BodyReading.{next_line}
-use Rattle.taskscript.specs.declared.fault.FileFault.{FileFault}
-use Rattle.taskscript.specs.Interrupting.{Setting}
-use Rattle.execcheck.specs.declared.place.Owner.{Owner}
-use Rattle.execcheck.specs.Lines.{first_line, faulty_line}
-use Rattle.execcheck.specs.Places.{line_in_bodies, place}
 use Rattle.execcheck.specs.Mistakes.{is_right, wrong_argument}
 
 -- ---- items
@@ -68,20 +60,3 @@ pub value_right : (s : List (List ℕ)) (v : Option NamedVariableData) (n : Opti
 value_right s (Some v) n h = absurd cc
 value_right s None None h = refl
 value_right s None (Some n) h = refl
-
--- ---- lines
-
-pub line_turn : (test : Option LineData → Bool) (items : List Value) (i : ℕ) (v : Value) (line : List ℕ) → i < length items → v ≡ get_or items i v → line ≡ line_in (view v)
-    → first_line test i (lines_in (items_view (drop i items))) ≡ cond (test (says line)) (Some i) (first_line test (i + 1) (lines_in (items_view (drop (i + 1) items))))
-line_turn test items i v line lt is text = ap (first_line test i) (next_line items i v line lt is text)
-
--- ---- bodies
-
-pub body_turn : (owner : Owner) (fault : FileFault) (judged : Setting) (vs : List Value) (i : ℕ) (v : Value) (lines : List (List ℕ)) (found : Option ℕ) → i < length vs → v ≡ get_or vs i v → lines ≡ code_lines (view v)
-    → found ≡ faulty_line fault judged lines
-    → line_in_bodies owner fault judged i (items_view (drop i vs)) ≡ option_or (option_map (place owner i) found) (line_in_bodies owner fault judged (i + 1) (items_view (drop (i + 1) vs)))
-body_turn owner fault judged vs i v lines found lt is read at =
-    let rest = line_in_bodies owner fault judged (i + 1) (items_view (drop (i + 1) vs)) in
-    ap (line_in_bodies owner fault judged i) (next_item vs i v lt is)
-    ∙ ap (λ (ls : List (List ℕ)). option_or (option_map (place owner i) (faulty_line fault judged ls)) rest) (sym read)
-    ∙ ap (λ (o : Option ℕ). option_or (option_map (place owner i) o) rest) (sym at)

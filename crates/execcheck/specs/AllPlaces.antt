@@ -44,11 +44,15 @@ array_of Task = array.Task
 abbrev pub code_place : Owner → ℕ → Place
 code_place owner number = Tree (tree_place.Key (table_place.Item (array_of owner) number) Code)
 
+-- the place of a line of a body
+abbrev pub line_at : Owner → ℕ → ℕ → Place
+line_at owner number line = Line (place owner number line)
+
 -- the lines of a body from that number on, each after the labels before it
 abbrev pub lines_placed : Owner → ℕ → ℕ → Setting → Names → List (List ℕ) → List (List ℕ) → List PlacedFault
 lines_placed owner number at setting names before [] = []
 lines_placed owner number at setting names before (line ∷ others) =
-    all_at (Line (place owner number at)) (line_faults setting names before (says line))
+    all_at (line_at owner number at) (line_faults setting names before (says line))
     ++ lines_placed owner number (at + 1) setting names (before ++ labels_of (line ∷ [])) others
 
 abbrev pub jumps_of : List (List ℕ) → Option NamedCommandData → List FileFault
@@ -59,7 +63,7 @@ jumps_of labels (Some c) = jump_faults labels c
 abbrev pub jumps_placed : Owner → ℕ → ℕ → List (List ℕ) → List (List ℕ) → List PlacedFault
 jumps_placed owner number at labels [] = []
 jumps_placed owner number at labels (line ∷ others) =
-    all_at (Line (place owner number at)) (jumps_of labels (command_said (says line))) ++ jumps_placed owner number (at + 1) labels others
+    all_at (line_at owner number at) (jumps_of labels (command_said (says line))) ++ jumps_placed owner number (at + 1) labels others
 
 -- a body, after the shared variables of the bodies before it: how many lines it has, its lines, and its jumps
 abbrev pub body_placed : Owner → ℕ → Setting → List (List ℕ) → List (List ℕ) → List PlacedFault

@@ -1,8 +1,12 @@
 pub mod AllPlaces
+pub mod Bodies
 pub mod FilePlaces
+pub mod Jumps
 pub mod Lines
 pub mod Mistakes
+pub mod Named
 pub mod Names
 pub mod Places
 pub mod Rules
+pub mod Seen
 pub mod TreePlaces

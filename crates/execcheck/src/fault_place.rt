@@ -1,48 +1,50 @@
 //! The place of the fault of a machine file.
-ghost use Rattle.std.specs.Prelude.{◌≡◌, option_map, IfOk};
+ghost use Rattle.std.specs.Prelude.{◌≡◌, IfOk};
 ghost use Rattle.toml.specs.View.{table_view};
-ghost use Rattle.execcheck.specs.FilePlaces.{line_place, place_of};
+ghost use Rattle.taskscript.specs.Faults.{first};
+ghost use Rattle.execcheck.specs.AllPlaces.{file_places};
+ghost use Rattle.execcheck.specs.FilePlaces.{place_of};
 
-use crate::bodies::line_without_command;
+use crate::bodies::faulty_line;
 use crate::file::tree_fault;
-use crate::place::{LinePlace, Place};
+use crate::place::Place;
+use crate::placed::PlacedFault;
 use std::alloc::{AllocError, Global};
-use taskscript::FileFault;
 use toml::Table;
 
-fn line_place(
-    alloc: Global,
-    table: &Table,
-    fault: FileFault,
-) -> Result<Option<LinePlace>, AllocError>
-    ensures { IfOk result (λ line. line ≡ line_place fault (table_view table.now)) }
-{
-    match fault {
-        FileFault::BadCommand => line_without_command(alloc, table),
-        _ => Ok(None),
-    }
-}
-
-/// The place of a file that has that fault: the first faulty place of its tree, in the order in which it is judged, or else, where the
-/// fault is BadCommand, the first line that says no command. Where another fault stands in a line, that line is not looked for.
+/// The first faulty place of a file with its fault, in the order in which the file is judged: that of its tree, or else its first faulty line.
+/// A file has none just where it has no fault, and the fault is the file's.
 ///
 /// # Errors
 ///
 /// Where memory is refused.
 ///
 /// Source: own choice.
-pub fn place_of_fault(
-    alloc: Global,
-    table: &Table,
-    fault: FileFault,
-) -> Result<Option<Place>, AllocError>
-    ensures { IfOk result (λ place. place ≡ place_of fault (table_view table.now)) }
+#[tactic(auto, using(crate::proofs::PlaceTurns::places_first))]
+pub fn faulty_place(alloc: Global, table: &Table) -> Result<Option<PlacedFault>, AllocError>
+    ensures { IfOk result (λ found. found ≡ first (file_places (table_view table.now))) }
 {
     if let Some(found) = tree_fault(alloc, table)? {
-        return Ok(Some(Place::Tree(found.place)));
+        return Ok(Some(PlacedFault {
+            place: Place::Tree(found.place),
+            fault: found.fault,
+        }));
     }
-    match line_place(alloc, table, fault)? {
+    faulty_line(alloc, table)
+}
+
+/// The place of the fault of a file: its first faulty place.
+///
+/// # Errors
+///
+/// Where memory is refused.
+///
+/// Source: own choice.
+pub fn place_of_fault(alloc: Global, table: &Table) -> Result<Option<Place>, AllocError>
+    ensures { IfOk result (λ place. place ≡ place_of (table_view table.now)) }
+{
+    match faulty_place(alloc, table)? {
         None => Ok(None),
-        Some(line) => Ok(Some(Place::Line(line))),
+        Some(found) => Ok(Some(found.place)),
     }
 }

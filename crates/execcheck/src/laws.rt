@@ -1,12 +1,13 @@
 //! The laws of places: the fault of the first faulty place is that of the file. The functions do nothing; their contracts are the laws.
-ghost use Rattle.std.specs.Prelude.{◌≡◌, ◌++◌, Some};
+ghost use Rattle.std.specs.Prelude.{◌≡◌, ◌++◌, Some, option_map};
 ghost use Rattle.toml.specs.Data.{Members};
 ghost use Rattle.taskscript.specs.Faults.{first};
 ghost use Rattle.taskscript.specs.declared.fault.FileFault.TheVariants as FileFault;
 ghost use Rattle.taskscript.specs.File.{faults, lines_of_all_faults};
 ghost use Rattle.execcheck.specs.TreePlaces.{faults_of, tree_found};
-ghost use Rattle.execcheck.specs.AllPlaces.{faults_of_places, file_places, placed_of};
-ghost use Rattle.execcheck.specs.FilePlaces.{place_of};
+ghost use Rattle.execcheck.specs.AllPlaces.{faults_of_places, file_places, lines_in_file, placed_of};
+ghost use Rattle.execcheck.specs.Places.{line_without_command};
+ghost use Rattle.execcheck.specs.declared.place.Place.TheVariants as place;
 ghost use Rattle.execcheck.specs.declared.place.TreeFault.{TreeFault};
 ghost use Rattle.execcheck.specs.declared.placed.PlacedFault.{PlacedFault};
 
@@ -41,10 +42,10 @@ pub fn first_place_of_the_tree_is_first()
         → first (file_places tree) ≡ Some (placed_of found) }
 {}
 
-/// Where the first fault of a file is BadCommand, its place is that which is named: the first line that says no command.
+/// Where the fault of the first faulty line of a file is BadCommand, it is the first line that says no command.
 ///
 /// Source: own choice.
 pub fn first_line_without_command_is_first()
-    ensures { (tree : Members) (found : PlacedFault) → first (file_places tree) ≡ Some found → found.fault ≡ FileFault.BadCommand
-        → place_of FileFault.BadCommand tree ≡ Some found.place }
+    ensures { (tree : Members) (found : PlacedFault) → first (lines_in_file tree) ≡ Some found → found.fault ≡ FileFault.BadCommand
+        → option_map place.Line (line_without_command tree) ≡ Some found.place }
 {}

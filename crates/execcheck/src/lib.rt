@@ -1,29 +1,32 @@
-//! Where a machine file is faulty: the first faulty place of its tree, the parts of a line that are not right, and the first line of a file
-//! that says no command.
+//! Where a machine file is faulty: the first faulty place of its tree and of its lines, and the parts of a line that are not right.
 #![tactic(auto)]
 
 mod argument;
 mod before;
 mod bodies;
 mod body;
+mod command;
 mod fault_place;
 mod field;
 mod file;
 mod item;
 mod laws;
 mod line;
+mod line_fault;
 mod mistake;
+mod named;
 mod number;
 mod place;
 mod placed;
+mod reading;
 mod rules;
+mod seen;
 mod tree;
 mod value;
 
 pub use argument::{is_right, wrong_argument};
-pub use bodies::{line_without_command, lines_of};
-pub use body::first_without_command;
-pub use fault_place::place_of_fault;
+pub use bodies::{faulty_line, lines_of};
+pub use fault_place::{faulty_place, place_of_fault};
 pub use field::{is_identifier, is_name, is_variable, label_in, quoted_in};
 pub use file::{total_at, tree_fault};
 pub use item::unknown_key;
