@@ -1,9 +1,9 @@
 -- The variables and the labels of a command, one argument after another.
-use Rattle.std.proofs.Common.{◌≡◌, ℕ, ◌+◌, ◌<◌, Bool, true, ◌&&◌, List, [], ◌∷◌, ◌++◌, length, map, drop, get_or, bytes_eq, refl, sym, ap, ◌∙◌}
+use Rattle.std.proofs.Common.{◌≡◌, ℕ, ◌+◌, ◌<◌, Bool, ◌&&◌, List, [], ◌∷◌, ◌++◌, length, map, drop, get_or, bytes_eq, refl, sym, ap, ◌∙◌}
 use Rattle.std.specs.List.{list_all, list_any}
 use Rattle.std.proofs.lemmas.List.Folds.{list_all-map}
 use Rattle.std.proofs.lemmas.List.{drop_more}
-use Rattle.taskscript.specs.Lines.{NamedArgumentData, NamedVariableData}
+use Rattle.taskscript.specs.Lines.{NamedVariableData}
 use Rattle.taskscript.specs.Numbering.{labels_of_arguments, variables_of_arguments}
 use Rattle.taskscript.proofs.Turns.{variables_split}
 use Rattle.execcheck.specs.declared.named.NamedArgument.{NamedArgument}

@@ -1,5 +1,5 @@
 -- The first fault of a line, by what the line says.
-use Rattle.std.proofs.Common.{◌≡◌, ℕ, Bool, true, false, not, cond, List, [], ◌∷◌, ◌++◌, Option, Some, None, refl}
+use Rattle.std.proofs.Common.{◌≡◌, ℕ, Bool, true, false, not, cond, List, ◌++◌, Option, Some, None, refl}
 use Rattle.std.specs.List.{list_all}
 use Rattle.taskscript.specs.declared.fault.FileFault.{FileFault}
 use Rattle.taskscript.specs.declared.fault.FileFault.TheVariants.{BadCommand, BadLabel, NotInInterrupt, TooMany}
@@ -7,7 +7,7 @@ use Rattle.taskscript.specs.Code.{command_said, line_faults}
 use Rattle.taskscript.specs.Faults.{check, first}
 use Rattle.taskscript.specs.Interrupting.{Setting, may_stand, names_softints}
 use Rattle.taskscript.specs.Lines.{LineData, NamedCommandData, label_line, command_line}
-use Rattle.taskscript.specs.Numbering.{Names, is_within, labels_of_arguments, variable_in, variables_of}
+use Rattle.taskscript.specs.Numbering.{Names, is_within, variable_in, variables_of}
 use Rattle.execcheck.specs.AllPlaces.{jumps_of}
 use Rattle.execcheck.specs.Lines.{jumps_astray, says_no_command}
 

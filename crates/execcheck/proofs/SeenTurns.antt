@@ -1,10 +1,10 @@
 -- The names that were seen, one variable after another.
-use Rattle.std.proofs.Common.{◌≡◌, ℕ, ◌+◌, ◌<◌, Bool, cond, List, [], ◌∷◌, ◌++◌, length, map, drop, get_or, bytes_eq, refl, sym, ap, ◌∙◌, Bor}
+use Rattle.std.proofs.Common.{◌≡◌, ℕ, ◌+◌, ◌<◌, List, [], ◌∷◌, length, map, drop, get_or, bytes_eq, refl, sym, ap, ◌∙◌, Bor}
 use Rattle.std.specs.List.{list_all, list_any, position_or_len}
-use Rattle.std.proofs.lemmas.List.{drop_more, map_push}
+use Rattle.std.proofs.lemmas.List.{drop_more}
 use Rattle.std.proofs.lemmas.List.Folds.{list_all-map}
 use Rattle.taskscript.specs.Lines.{NamedVariableData}
-use Rattle.taskscript.specs.Numbering.{Names, is_within, names_after, names_with, number_in, seen_after, variable_in}
+use Rattle.taskscript.specs.Numbering.{Names, is_within, names_after, names_with, number_in, variable_in}
 use Rattle.taskscript.proofs.Keys.{list_any-now}
 use Rattle.execcheck.specs.declared.named.NamedVariable.{NamedVariable}
 use Rattle.execcheck.specs.Named.{variable_view}
