@@ -1,8 +1,12 @@
 //! The command `execcheck`: it says what is wrong with a machine file and an event text, and where.
 #![tactic(auto)]
 
+mod checking;
 mod command_line;
+mod failure;
 mod running;
+#[cfg(test)]
+mod tests;
 
 use running::run_on_arguments;
 use std::process::ExitCode;

@@ -1,0 +1,38 @@
+-- The status that comes of the texts at the paths.
+use Rattle.std.specs.Prelude.{◌≡◌, ◌⊎◌, ◌↔◌, ℕ, List, Option, None, Some, IsSome, IsSomeAnd, MatchOption}
+use Rattle.clap.specs.Words.{Text}
+use Rattle.taskscript.specs.File.{file_of}
+use Rattle.taskscript.specs.Events.{script_of}
+use Rattle.execadvice.specs.Findings.{fault_of}
+use Rattle.execrun.specs.Texts.{TextAt, IsTextAt}
+use Rattle.checker.specs.CommandLine.{AreGivenBy}
+use Rattle.checker.specs.declared.command_line.Paths.{Paths}
+
+-- these bytes are a machine file that is refused
+abbrev pub IsRefusedMachine : List ℕ → Type 0
+IsRefusedMachine bytes = IsSome (fault_of (file_of bytes))
+
+-- these bytes are an event text that is refused
+abbrev pub IsRefusedScript : List ℕ → Type 0
+IsRefusedScript bytes = IsSome (fault_of (script_of bytes))
+
+-- The event text at a path was read, as far as it is told what stands there, and the status is 1 just where it is refused.
+pub record JudgesEvents (text_at : TextAt) (path : List ℕ) (status : ℕ) : Type 0 where
+  pub events : List ℕ
+  pub events_are : IsTextAt text_at path events
+  pub refused : (status ≡ 1) ↔ IsRefusedScript events
+
+-- The machine file was read, and the event text where there is a path for it: they are those at the paths, as far as it is told what
+-- stands there. The status is 1 just where one of the two is refused.
+pub record JudgesTexts (text_at : TextAt) (paths : Paths) (status : ℕ) : Type 0 where
+  pub machine : List ℕ
+  pub events : Option (List ℕ)
+  pub machine_is : IsTextAt text_at paths.machine.now machine
+  pub events_are : MatchOption paths.events (events ≡ None) (λ path. IsSomeAnd events (IsTextAt text_at path.now))
+  pub refused : (status ≡ 1) ↔ (IsRefusedMachine machine ⊎ IsSomeAnd events IsRefusedScript)
+
+-- The same of the texts whose paths the words give.
+pub record JudgesGiven (text_at : TextAt) (words : List Text) (status : ℕ) : Type 0 where
+  pub paths : Paths
+  pub given : AreGivenBy words paths
+  pub texts : JudgesTexts text_at paths status
