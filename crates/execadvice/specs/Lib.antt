@@ -1,1 +1,4 @@
 pub mod Findings
+pub mod Near
+pub mod Saying
+pub mod Spans

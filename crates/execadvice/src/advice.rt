@@ -31,9 +31,7 @@ fn label_reason(alloc: Global, field: &str) -> Result<String, AllocError> {
 }
 
 /// The text with small letters for capital ones.
-///
-/// Source: own choice.
-pub fn lower_case(alloc: Global, text: &str) -> Result<String, AllocError> {
+fn lower_case(alloc: Global, text: &str) -> Result<String, AllocError> {
     let mut lower = String::new(alloc);
     for c in text.chars() {
         lower.push(c.to_ascii_lowercase())?;

@@ -51,9 +51,11 @@ fn fault_name(fault: FileFault) -> &'static str {
 }
 
 /// The array of what has a body.
-///
-/// Source: own choice.
-pub fn array_of(owner: Owner) -> Array {
+fn array_of(owner: Owner) -> Array
+    ensures softint { owner ≡ Owner.Softint → result ≡ Array.Softint }
+    ensures server { owner ≡ Owner.Server → result ≡ Array.Server }
+    ensures task { owner ≡ Owner.Task → result ≡ Array.Task }
+{
     match owner {
         Owner::Softint => Array::Softint,
         Owner::Server => Array::Server,
