@@ -1,4 +1,8 @@
 //! What a run comes to, as text.
+ghost use Rattle.std.specs.Prelude.{◌≡◌, ◌≢◌, [], IfOk, IfSome};
+ghost use Rattle.std.specs.String.{string_bytes};
+ghost use Rattle.runadvice.specs.Running.{RunsToItsEnd};
+
 use crate::course::{Run, Stage};
 use crate::reasons::{task_text, wait_reason};
 use crate::watch::Watch;
@@ -37,13 +41,15 @@ fn push_end(alloc: Global, out: &mut String, path: &str, run: &Run<'_>) -> Resul
     out.push_str(text.as_str())
 }
 
-/// The run of two texts that are accepted, to its end, and how it ended.
+/// The run of two texts to its end, where both are accepted and no alert ends it.
 fn run_of<'a>(
     alloc: Global,
     file: &'a MachineFile,
     machine: &[u8],
     events: &[u8],
-) -> Result<Option<Run<'a>>, AllocError> {
+) -> Result<Option<Run<'a>>, AllocError>
+    ensures { IfOk result (λ found. IfSome found (λ _. RunsToItsEnd machine.now events.now)) }
+{
     let mut out = WriteSink::new(Watch::new(alloc, Run::new(alloc, file)?));
     match simulate(alloc, machine, events, &mut out) {
         Ok(End::Ran) => Ok(Some(out.into_inner().into_run())),
@@ -71,7 +77,9 @@ pub fn check_run(
     machine: &[u8],
     events_path: &str,
     events: &[u8],
-) -> Result<String, AllocError> {
+) -> Result<String, AllocError>
+    ensures { IfOk result (λ text. string_bytes text ≢ [] → RunsToItsEnd machine.now events.now) }
+{
     let mut out = String::new(alloc);
     let file = match read_machine(alloc, machine) {
         Ok(file) => file,

@@ -1,4 +1,7 @@
 //! How a run goes, as its trace tells line by line: which tasks there are, what each waits for, and whether any task runs.
+ghost use Rattle.std.specs.Prelude.{◌≡◌, All, IfOk, OnOk, false};
+ghost use Rattle.runadvice.specs.Idling.{idle_after};
+
 use crate::fields::{Fields, fields_of};
 use crate::owners::Owners;
 use crate::wait::{Awaited, Wait, awaited_by};
@@ -43,7 +46,10 @@ impl<'a> Run<'a> {
     /// The run of a machine at its start.
     ///
     /// Source: own choice.
-    pub fn new(alloc: Global, file: &'a MachineFile) -> Result<Run<'a>, AllocError> {
+    pub fn new(alloc: Global, file: &'a MachineFile) -> Result<Run<'a>, AllocError>
+        ensures waits { IfOk result (λ run. All (λ task. task.wait ≡ None) run.tasks.items) }
+        ensures begins { IfOk result (λ run. (run.is_idle ≡ false) × (run.has_requests ≡ false)) }
+    {
         let mut tasks = Vec::new(alloc);
         for task in file.tasks() {
             tasks.push(Course {
@@ -71,7 +77,9 @@ impl<'a> Run<'a> {
     }
 
     /// The task of a number from 0 ends.
-    fn end(&mut self, number: usize) {
+    fn end(&mut self, number: usize)
+        ensures { self.new.is_idle ≡ self.old.is_idle }
+    {
         if let Some(task) = self.tasks.get_mut(number) {
             task.stage = Stage::Ended;
             task.wait = None;
@@ -98,8 +106,10 @@ impl<'a> Run<'a> {
     }
 
     /// A semaphore is released; by its last release the task that has waited longest owns it.
-    fn release(&mut self, semaphore: u32) -> Result<(), AllocError> {
-        if self.owners.release(semaphore) {
+    fn release(&mut self, semaphore: u32) -> Result<(), AllocError>
+        ensures { self.new.is_idle ≡ self.old.is_idle }
+    {
+        if self.owners.release(semaphore)? {
             if let Some(next) = self.first_waiter(semaphore) {
                 return self.owners.obtain(semaphore, next);
             }
@@ -108,12 +118,9 @@ impl<'a> Run<'a> {
     }
 
     /// A task has obtained a semaphore, unless that was handed to it while it waited.
-    fn obtain(
-        &mut self,
-        task: usize,
-        semaphore: u32,
-        wait: Option<Wait>,
-    ) -> Result<(), AllocError> {
+    fn obtain(&mut self, task: usize, semaphore: u32, wait: Option<Wait>) -> Result<(), AllocError>
+        ensures { self.new.is_idle ≡ self.old.is_idle }
+    {
         match wait {
             Some(_) => Ok(()),
             None => self.owners.obtain(semaphore, task),
@@ -121,12 +128,9 @@ impl<'a> Run<'a> {
     }
 
     /// A call of the task of a number from 0, which waited in the call `wait` before.
-    fn call(
-        &mut self,
-        task: usize,
-        line: &Fields<'_>,
-        wait: Option<Wait>,
-    ) -> Result<(), AllocError> {
+    fn call(&mut self, task: usize, line: &Fields<'_>, wait: Option<Wait>) -> Result<(), AllocError>
+        ensures { self.new.is_idle ≡ self.old.is_idle }
+    {
         match line.part(1) {
             "RemTask" if line.value(2) == 0 => self.end(task),
             "RemTask" => self.end((line.value(2) as usize).saturating_sub(1)),
@@ -147,10 +151,12 @@ impl<'a> Run<'a> {
         Ok(())
     }
 
-    /// The next line of the trace.
+    /// The next line of the trace. From a line of one part, `idle`, to the next `switch` no task runs.
     ///
     /// Source: own choice.
-    pub fn tell(&mut self, line: &str) -> Result<(), AllocError> {
+    pub fn tell(&mut self, line: &str) -> Result<(), AllocError>
+        ensures { OnOk result (self.new.is_idle ≡ idle_after line.now self.old.is_idle) }
+    {
         let line = fields_of(line);
         if line.count == 1 {
             self.is_idle = true;

@@ -1,48 +1,50 @@
 //! A line of a trace by its parts.
+ghost use Rattle.std.specs.Prelude.{◌≡◌, length};
+ghost use Rattle.taskscript.specs.Lines.{fields};
+ghost use Rattle.runadvice.specs.Parts.{part_of, value_of};
+
 use execcheck::number_of;
 
-/// The most parts of a line that are looked at; a line that is looked for has no more.
-const MOST: usize = 6;
-
-/// The parts of a line between its spaces.
+/// A line, whose parts stand between its spaces.
 #[derive(Clone, Copy)]
 pub struct Fields<'a> {
-    parts: [&'a str; 6],
+    line: &'a str,
     /// How many parts the line has.
     pub count: usize,
+    ghost counted: { count ≡ length (fields line.now) },
 }
 
 /// The parts of a line.
 ///
 /// Source: own choice.
-pub fn fields_of(line: &str) -> Fields<'_> {
-    let mut parts = [""; 6];
-    let mut count = 0usize;
-    for part in line.split(' ') {
-        if count < MOST {
-            parts[count] = part;
-        }
-        count = count.saturating_add(1);
+pub fn fields_of(line: &str) -> Fields<'_>
+    ensures { result.line.now ≡ line.now }
+{
+    Fields {
+        line,
+        count: line.split(' ').count(),
     }
-    Fields { parts, count }
 }
 
 impl<'a> Fields<'a> {
     /// The part of a number from 0; the empty one behind the last.
     ///
     /// Source: own choice.
-    pub fn part(&self, number: usize) -> &'a str {
-        if number < MOST {
-            self.parts[number]
-        } else {
-            ""
+    pub fn part(&self, number: usize) -> &'a str
+        ensures { result.now ≡ part_of self.now.line.now number }
+    {
+        match self.line.split(' ').nth(number) {
+            None => "",
+            Some(part) => part,
         }
     }
 
     /// The word of 32 bits that the part of a number is; 0 where it is none.
     ///
     /// Source: own choice.
-    pub fn value(&self, number: usize) -> u32 {
+    pub fn value(&self, number: usize) -> u32
+        ensures { result ≡ value_of self.now.line.now number }
+    {
         number_of(self.part(number).as_bytes()).unwrap_or(0)
     }
 }

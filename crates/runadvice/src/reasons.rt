@@ -1,4 +1,9 @@
 //! Why a task still waits when the events end, in one sentence.
+ghost use Rattle.std.specs.Prelude.{◌≡◌, ◌+◌, ◌++◌, ◌^◌, ◌<◌, IfOk, codes, is_some};
+ghost use Rattle.std.specs.Fmt.{decimal};
+ghost use Rattle.std.specs.String.{string_bytes};
+ghost use Rattle.runadvice.specs.Waiting.{has_ended, is_known, is_known_of_semaphore, name_of};
+
 use crate::course::{Run, Stage};
 use crate::wait::{Awaited, Wait};
 use std::alloc::{AllocError, Global};
@@ -13,14 +18,24 @@ fn push_value(out: &mut String, value: u32) -> Result<(), AllocError> {
     Ok(())
 }
 
+/// The name of the task of a number from 0, or the empty text.
+fn name_of<'a>(run: &Run<'a>, number: usize) -> &'a str
+    ensures { result.now ≡ name_of run.now number }
+{
+    match run.tasks.get(number) {
+        None => "",
+        Some(task) => task.name,
+    }
+}
+
 /// A task by its number from 1 and its name.
 ///
 /// Source: own choice.
-pub fn task_text(alloc: Global, run: &Run<'_>, number: usize) -> Result<String, AllocError> {
-    let name = match run.tasks.get(number) {
-        None => "",
-        Some(task) => task.name,
-    };
+pub fn task_text(alloc: Global, run: &Run<'_>, number: usize) -> Result<String, AllocError>
+    ensures { number + 1 < 2 ^ 64
+        → IfOk result (λ text. string_bytes text ≡ codes "task " ++ (decimal (number + 1) ++ (codes " (\"" ++ (name_of run.now number ++ codes "\")")))) }
+{
+    let name = name_of(run, number);
     let shown = number.saturating_add(1);
     format!(in alloc; "task {shown} (\"{name}\")")
 }
@@ -39,7 +54,9 @@ fn awaited_text(alloc: Global, wait: Wait) -> Result<String, AllocError> {
 }
 
 /// Whether the task of a number from 0 has ended.
-fn has_ended(run: &Run<'_>, number: usize) -> bool {
+fn has_ended(run: &Run<'_>, number: usize) -> bool
+    ensures { result ≡ has_ended run.now number }
+{
     match run.tasks.get(number) {
         None => false,
         Some(task) => task.stage == Stage::Ended,
@@ -52,7 +69,9 @@ fn semaphore_reason(
     run: &Run<'_>,
     semaphore: u32,
     awaited: &str,
-) -> Result<Option<String>, AllocError> {
+) -> Result<Option<String>, AllocError>
+    ensures { IfOk result (λ reason. is_some reason ≡ is_known_of_semaphore run.now semaphore) }
+{
     let Some(owner) = run.owners.owner(semaphore) else {
         return Ok(None);
     };
@@ -70,7 +89,8 @@ fn semaphore_reason(
     Ok(None)
 }
 
-/// Why a task that waits in a call is not ready when the events end, where that is known. `is_alone` says that no interrupt of the machine
+/// Why a task that waits in a call is not ready when the events end, where that is known: it waits for no signal at all, for a semaphore whose
+/// owner has ended or waits too, or for something else while no task runs. `is_alone` says that no interrupt of the machine
 /// does anything.
 ///
 /// Source: own choice.
@@ -79,7 +99,9 @@ pub fn wait_reason(
     run: &Run<'_>,
     wait: Wait,
     is_alone: bool,
-) -> Result<Option<String>, AllocError> {
+) -> Result<Option<String>, AllocError>
+    ensures { IfOk result (λ reason. is_some reason ≡ is_known run.now wait) }
+{
     if wait.kind == Awaited::Signals && wait.of == 0 {
         return Ok(Some(format!(in alloc; "waits for ever: Wait 0 waits for no signal")?));
     }

@@ -1,4 +1,7 @@
 //! What a task waits for, as the line of its call tells it.
+ghost use Rattle.std.specs.Prelude.{◌≡◌};
+ghost use Rattle.runadvice.specs.Awaiting.{awaited_by, awaited_by_word};
+
 use crate::fields::Fields;
 
 /// The kind of a call that waits.
@@ -24,18 +27,29 @@ pub struct Wait {
     pub since: u64,
 }
 
-/// What a line `NAME WORD VALUE waits` waits for.
-///
-/// Source: own choice.
-pub fn awaited_by(line: &Fields<'_>) -> Option<Awaited> {
-    if line.count != 4 || line.part(3) != "waits" {
-        return None;
-    }
-    match line.part(1) {
+/// What a call of that word waits for, if it may wait.
+fn awaited_by_word(word: &str) -> Option<Awaited>
+    ensures { result ≡ awaited_by_word word.now }
+{
+    match word {
         "Wait" => Some(Awaited::Signals),
         "WaitPort" => Some(Awaited::Message),
         "ObtainSemaphore" => Some(Awaited::Semaphore),
-        "DoIO" | "WaitIO" => Some(Awaited::Request),
+        "DoIO" => Some(Awaited::Request),
+        "WaitIO" => Some(Awaited::Request),
         _ => None,
+    }
+}
+
+/// What a line `NAME WORD VALUE waits` waits for.
+///
+/// Source: own choice.
+pub fn awaited_by(line: &Fields<'_>) -> Option<Awaited>
+    ensures { result ≡ awaited_by line.now.line.now }
+{
+    if line.count == 4 && line.part(3) == "waits" {
+        awaited_by_word(line.part(1))
+    } else {
+        None
     }
 }

@@ -1,4 +1,6 @@
 //! A writer that takes a trace and tells its lines to a run.
+ghost use Rattle.std.specs.Prelude.{◌≡◌, []};
+
 use crate::course::Run;
 use std::alloc::Global;
 use std::io;
@@ -17,7 +19,10 @@ impl<'a> Watch<'a> {
     /// Watches a run from its first line on.
     ///
     /// Source: own choice.
-    pub fn new(alloc: Global, run: Run<'a>) -> Watch<'a> {
+    pub fn new(alloc: Global, run: Run<'a>) -> Watch<'a>
+        ensures run { result.run ≡ run.entry }
+        ensures line { result.line.items ≡ [] }
+    {
         Watch {
             run,
             line: Vec::new(alloc),
@@ -27,7 +32,9 @@ impl<'a> Watch<'a> {
     /// The run, up to its last whole line.
     ///
     /// Source: own choice.
-    pub fn into_run(self) -> Run<'a> {
+    pub fn into_run(self) -> Run<'a>
+        ensures { result ≡ self.entry.run }
+    {
         let Watch { run, line: _ } = self;
         run
     }
