@@ -3,6 +3,7 @@ ghost use Rattle.std.specs.Prelude.{bytes_eq, codes, None, Some, if◌then◌els
 
 use crate::running::run_on_texts;
 use execrun::Texts;
+use std::alloc::Global;
 use std::io;
 use std::io::ErrorKind;
 use std::process::Abort;
@@ -49,17 +50,23 @@ impl<'a> Texts for Told<'a> {
 }
 
 /// Runs the program on two texts, and compares its status and what stands on its two streams then.
-fn expect_run(rt: &HostRuntime, texts: (&str, &str), words: &[&str], expected: (u8, &str, &str)) {
+fn expect_run(
+    rt: &impl Abort,
+    alloc: Global,
+    texts: (&str, &str),
+    words: &[&str],
+    expected: (u8, &str, &str),
+) {
     let (machine, events) = texts;
     let (status, on_out, on_err) = expected;
     let told = Told {
         machine: machine.as_bytes(),
         events: events.as_bytes(),
     };
-    let mut out = Vec::new(rt.alloc());
-    let mut err = Vec::new(rt.alloc());
+    let mut out = Vec::new(alloc);
+    let mut err = Vec::new(alloc);
     assert_eq!(rt;
-        run_on_texts(&told, rt.alloc(), words, &mut out, &mut err),
+        run_on_texts(&told, alloc, words, &mut out, &mut err),
         status,
         "{words:?}: the status"
     );
@@ -76,21 +83,24 @@ fn expect_run(rt: &HostRuntime, texts: (&str, &str), words: &[&str], expected: (
 #[test]
 fn the_status_says_whether_a_text_is_refused(rt: HostRuntime) {
     let both = ["machine", "events"];
-    expect_run(&rt, (ONE_TASK, "run 2\n"), &both, (0, "", ""));
+    expect_run(&rt, rt.alloc(), (ONE_TASK, "run 2\n"), &both, (0, "", ""));
     expect_run(
         &rt,
+        rt.alloc(),
         (WRONG_WORD, "run 2\n"),
         &both,
         (1, WRONG_WORD_FOUND, ""),
     );
     expect_run(
         &rt,
+        rt.alloc(),
         (ONE_TASK, "tic 1\n"),
         &both,
         (1, WRONG_EVENT_FOUND, ""),
     );
     expect_run(
         &rt,
+        rt.alloc(),
         (UNSET_VARIABLE, "run 2\n"),
         &both,
         (3, UNSET_VARIABLE_FOUND, ""),
@@ -100,9 +110,10 @@ fn the_status_says_whether_a_text_is_refused(rt: HostRuntime) {
 #[test]
 fn a_machine_file_is_checked_alone(rt: HostRuntime) {
     let alone = ["machine"];
-    expect_run(&rt, (ONE_TASK, "tic 1\n"), &alone, (0, "", ""));
+    expect_run(&rt, rt.alloc(), (ONE_TASK, "tic 1\n"), &alone, (0, "", ""));
     expect_run(
         &rt,
+        rt.alloc(),
         (WRONG_WORD, "tic 1\n"),
         &alone,
         (1, WRONG_WORD_FOUND, ""),
@@ -114,12 +125,14 @@ fn a_mistake_of_the_machine_file_is_told_before_the_event_text_is_read(rt: HostR
     let unread = "execcheck: cannot read none\n";
     expect_run(
         &rt,
+        rt.alloc(),
         (WRONG_WORD, "run 2\n"),
         &["machine", "none"],
         (4, WRONG_WORD_FOUND, unread),
     );
     expect_run(
         &rt,
+        rt.alloc(),
         (WRONG_WORD, "run 2\n"),
         &["none", "events"],
         (4, "", unread),
