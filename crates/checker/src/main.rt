@@ -5,8 +5,6 @@ mod checking;
 mod command_line;
 mod failure;
 mod running;
-#[cfg(test)]
-mod tests;
 
 use running::run_on_arguments;
 use std::process::ExitCode;

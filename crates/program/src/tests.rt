@@ -1,23 +1,19 @@
-//! The program from its words to its status, over files in memory and over the system's.
+//! The program from its words to its status, over files in memory. Over the system's `.ci/program` runs it.
 mod doubles;
 
 use self::doubles::{Broken, Shelf, Told};
-use execrun::{Ending, FILE_LIMIT, Fault, Status, report, run, run_on_arguments, run_on_texts};
+use execrun::{Ending, Fault, Status, report, run, run_on_arguments, run_on_texts};
 use execsim::SimFault;
 use std::alloc::Global;
 use std::io::BufWriter;
 use std::process::Abort;
 use std::rt::Files;
 use std::test::Fail;
-use std::{env, fs, process};
 use taskscript::{EventFault, FileFault};
 
 const ONE_TASK: &str = "[[task]]\nname = \"a\"\npri = 0\ncode = [\"Print 1\"]\n";
 
 const ONE_TASK_TRACE: &str = "switch a\na Print $00000001\na RemTask $00000000\nidle\n";
-
-const SAME_NAMES: &str =
-    "[[task]]\nname = \"a\"\npri = 0\ncode = [\"Print 1\"]\n\n[[task]]\nname = \"a\"\npri = 0\ncode = [\"Print 1\"]\n";
 
 const SIGNALS_NO_TASK: &str = "[[task]]\nname = \"a\"\npri = 0\ncode = [\"Signal 3 $1000\"]\n";
 
@@ -53,15 +49,6 @@ fn expect_run<R: Files>(
 }
 
 #[test]
-fn a_run_ends_with_0_and_an_alert_with_3(rt: HostRuntime) {
-    let words = ["machine", "events"];
-    let ran = Shelf::new(ONE_TASK, "run 2\n");
-    expect_run(&rt, rt.alloc(), &ran, &words, (0, ONE_TASK_TRACE, ""));
-    let alerted = Shelf::new(SIGNALS_NO_TASK, "run 1\n");
-    expect_run(&rt, rt.alloc(), &alerted, &words, (3, ALERT_TRACE, ""));
-}
-
-#[test]
 fn texts_in_memory_are_run_as_files_are(rt: HostRuntime) {
     let alloc = rt.alloc();
     let told = Told {
@@ -74,30 +61,6 @@ fn texts_in_memory_are_run_as_files_are(rt: HostRuntime) {
     assert_eq!(rt; run_on_texts(&told, alloc, &words, &mut out, &mut err), 0);
     assert!(rt; out.as_slice() == ONE_TASK_TRACE.as_bytes());
     assert!(rt; err.is_empty());
-}
-
-#[test]
-fn a_faulty_text_ends_with_1_and_its_name(rt: HostRuntime) {
-    let cases = [
-        ("?", "run 2\n", "execsim: machine: NotToml\n"),
-        (SAME_NAMES, "run 1\n", "execsim: machine: NameTwice\n"),
-        (ONE_TASK, "# one\n\nrun 0\n", "execsim: events: BadLine 3\n"),
-        (
-            ONE_TASK,
-            "run 1000000\nrun 1\n",
-            "execsim: events: TooMany\n",
-        ),
-    ];
-    for (machine, events, message) in cases {
-        let files = Shelf::new(machine, events);
-        expect_run(
-            &rt,
-            rt.alloc(),
-            &files,
-            &["machine", "events"],
-            (1, "", message),
-        );
-    }
 }
 
 #[test]
@@ -115,62 +78,6 @@ fn a_file_that_is_not_read_ends_with_4(rt: HostRuntime) {
         let files = Shelf::new("?", "run 2\n");
         expect_run(&rt, rt.alloc(), &files, &words, (4, "", message));
     }
-}
-
-/// A path for a file of this process's own.
-fn scratch_path(rt: &HostRuntime, name: &str) -> Result<String, Fail> {
-    let folder = env::temp_dir(rt)?;
-    let id = process::id(rt.process());
-    let folder = folder.as_str();
-    Ok(format!(in rt.alloc(); "{folder}/execsim-{id}-{name}")?)
-}
-
-/// Runs the program with this path as the machine file, and as the event text, where it cannot be read.
-fn expect_unread<R: Abort + Files + AllocGlobal>(
-    rt: &R,
-    machine: &str,
-    unread: &str,
-) -> Result<(), Fail> {
-    let alloc = rt.alloc();
-    let fault = format!(in alloc; "execsim: cannot read {unread}\n")?;
-    expect_run(rt, alloc, rt, &[unread, machine], (4, "", fault.as_str()));
-    expect_run(rt, alloc, rt, &[machine, unread], (4, "", fault.as_str()));
-    Ok(())
-}
-
-#[test]
-fn a_folder_and_a_missing_file_are_not_read(rt: HostRuntime) -> Result<(), Fail> {
-    let machine = scratch_path(&rt, "one-task")?;
-    fs::write(&rt, machine.as_str(), ONE_TASK)?;
-    expect_unread(
-        &rt,
-        machine.as_str(),
-        scratch_path(&rt, "missing")?.as_str(),
-    )?;
-    expect_unread(&rt, machine.as_str(), env::temp_dir(&rt)?.as_str())?;
-    fs::remove_file(&rt, machine.as_str())?;
-    Ok(())
-}
-
-#[test]
-fn a_file_is_read_up_to_its_limit(rt: HostRuntime) -> Result<(), Fail> {
-    let alloc = rt.alloc();
-    let machine = scratch_path(&rt, "limit")?;
-    let long = scratch_path(&rt, "long")?;
-    fs::write(&rt, machine.as_str(), ONE_TASK)?;
-    let mut text = vec![in alloc; b'\n'; FILE_LIMIT]?;
-    fs::write(&rt, long.as_str(), text.as_slice())?;
-    let mut out = Vec::new(alloc);
-    let mut err = Vec::new(alloc);
-    let words = [machine.as_str(), long.as_str()];
-    assert_eq!(rt; run(&rt, alloc, &words, &mut out, &mut err), 0);
-
-    text.push(b'\n')?;
-    fs::write(&rt, long.as_str(), text.as_slice())?;
-    expect_unread(&rt, machine.as_str(), long.as_str())?;
-    fs::remove_file(&rt, machine.as_str())?;
-    fs::remove_file(&rt, long.as_str())?;
-    Ok(())
 }
 
 #[test]
