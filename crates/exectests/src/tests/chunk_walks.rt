@@ -14,23 +14,12 @@ const REGION: Region = Region {
     pri: 0,
 };
 
-/// The address of the block of a number.
-fn address_of(number: u8) -> u32 {
-    4096 + 16 * u32::from(number)
-}
-
-/// Takes the block of a number, in their order.
-fn takes(rt: &impl Abort, memory: &mut MemList, number: u8)
+/// Takes the next block, which lies at this address.
+fn takes(rt: &impl Abort, memory: &mut MemList, wanted: u32)
     ensures { memory.new.regions ≡ memory.old.regions }
 {
     let address = memory.alloc_mem(16, 0, 0);
-    same(
-        rt,
-        "taken",
-        usize::from(number),
-        address,
-        Some(address_of(number)),
-    );
+    same(rt, "taken", wanted as usize, address, Some(wanted));
 }
 
 /// The chain of chunks is this one, of which each has its address and its size.
@@ -54,32 +43,37 @@ fn has_chain(rt: &impl Abort, memory: &MemList, freed: usize, chunks: &[(u32, u3
     same(rt, "the end after block", freed, address, 0);
 }
 
-/// Frees the block of a number, which leaves these chunks.
-fn frees(rt: &impl Abort, memory: &mut MemList, number: u8, chunks: &[(u32, u32)])
+/// Frees the block at an address, which leaves these chunks.
+fn frees(rt: &impl Abort, memory: &mut MemList, address: u32, chunks: &[(u32, u32)])
     requires { 0 < length memory.old.regions }
     ensures { memory.new.regions ≡ memory.old.regions }
 {
-    let is_freed = memory.free_mem(address_of(number), 16).is_ok();
-    same(rt, "freed", usize::from(number), is_freed, true);
-    has_chain(rt, memory, usize::from(number), chunks);
+    let is_freed = memory.free_mem(address, 16).is_ok();
+    same(rt, "freed", address as usize, is_freed, true);
+    has_chain(rt, memory, address as usize, chunks);
 }
 
 #[test]
 fn a_block_is_linked_behind_the_chunk_below_it(rt: HostRuntime) -> Result<(), Fail> {
     let mut memory = MemList::new(rt.alloc(), &[REGION], REGION.size)?;
-    takes(&rt, &mut memory, 0);
-    takes(&rt, &mut memory, 1);
-    takes(&rt, &mut memory, 2);
-    takes(&rt, &mut memory, 3);
-    takes(&rt, &mut memory, 4);
-    takes(&rt, &mut memory, 5);
-    takes(&rt, &mut memory, 6);
-    frees(&rt, &mut memory, 3, &[(4144, 16)]);
-    frees(&rt, &mut memory, 0, &[(4096, 16), (4144, 16)]);
-    frees(&rt, &mut memory, 4, &[(4096, 16), (4144, 32)]);
-    frees(&rt, &mut memory, 6, &[(4096, 16), (4144, 32), (4192, 16)]);
-    frees(&rt, &mut memory, 5, &[(4096, 16), (4144, 64)]);
-    frees(&rt, &mut memory, 2, &[(4096, 16), (4128, 80)]);
-    frees(&rt, &mut memory, 1, &[(4096, 112)]);
+    takes(&rt, &mut memory, 4096);
+    takes(&rt, &mut memory, 4112);
+    takes(&rt, &mut memory, 4128);
+    takes(&rt, &mut memory, 4144);
+    takes(&rt, &mut memory, 4160);
+    takes(&rt, &mut memory, 4176);
+    takes(&rt, &mut memory, 4192);
+    frees(&rt, &mut memory, 4144, &[(4144, 16)]);
+    frees(&rt, &mut memory, 4096, &[(4096, 16), (4144, 16)]);
+    frees(&rt, &mut memory, 4160, &[(4096, 16), (4144, 32)]);
+    frees(
+        &rt,
+        &mut memory,
+        4192,
+        &[(4096, 16), (4144, 32), (4192, 16)],
+    );
+    frees(&rt, &mut memory, 4176, &[(4096, 16), (4144, 64)]);
+    frees(&rt, &mut memory, 4128, &[(4096, 16), (4128, 80)]);
+    frees(&rt, &mut memory, 4112, &[(4096, 112)]);
     Ok(())
 }

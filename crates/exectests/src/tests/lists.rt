@@ -93,23 +93,13 @@ impl<S: ListSpace> Driver<S> {
             Head => self.space.add_head(h, n),
             Tail => self.space.add_tail(h, n),
             Place::First => self.space.insert(h, n, None),
-            After(pred) => return self.put_after(h, n, pred),
+            After(pred) if pred < self.nodes && self.space.home(pred) == Some(h) => {
+                self.space.insert(h, n, Some(pred));
+            }
+            After(_) => return Refused,
             ByPriority => self.space.enqueue(h, n),
         }
         Done
-    }
-
-    /// Puts an unlinked node after one of the header.
-    fn put_after(&mut self, h: HeaderId, n: NodeId, pred: NodeId) -> Answer {
-        if h < self.headers && n < self.nodes && pred < self.nodes && self.space.home(n).is_none() {
-            if let Some(k) = self.space.home(pred) {
-                if k == h {
-                    self.space.insert(h, n, Some(pred));
-                    return Done;
-                }
-            }
-        }
-        Refused
     }
 
     /// Makes a call that changes the space.

@@ -297,8 +297,9 @@ fn holds_words(rt: &impl Abort, name: &str, code: &[Command], words: &[Word]) {
 fn holds_libraries(rt: &impl Abort, name: &str, found: &[LibraryRecord], wanted: &[Library]) {
     same_at(rt, name, "libraries", found.len(), wanted.len());
     for (library, (text, version, size)) in found.iter().zip(wanted) {
-        let shown = (library.name.as_str(), library.version, library.size);
-        same_at(rt, name, "library", shown, (*text, *version, *size));
+        same_at(rt, name, "library", library.name.as_str(), *text);
+        let shown = (library.version, library.size);
+        same_at(rt, name, "library", shown, (*version, *size));
     }
 }
 

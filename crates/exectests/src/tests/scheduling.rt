@@ -38,6 +38,12 @@ enum Call {
     AllocSignal(i32),
     NextSignal,
     SetSignal(u32, u32),
+    /// Signals are posted to its own in the loan of them.
+    Post(u32),
+    /// The signals that it has received, as the loan of them tells.
+    Received,
+    /// Forbid, in the loan of its nesting.
+    Nest,
     Forbid,
     Permit,
     Disable,
@@ -163,6 +169,12 @@ impl<S: ListSpace> Driver<S> {
             AllocSignal(n) => Allocated(self.schedule.alloc_signal(n)),
             NextSignal => Next(self.schedule.next_signal()),
             SetSignal(new, mask) => Had(self.schedule.set_signal(new, mask)),
+            Post(mask) => {
+                self.schedule.sigs().post(mask);
+                Done
+            }
+            Received => Had(self.schedule.sigs().received()),
+            Nest => Is(self.schedule.nest().forbid().is_ok()),
             Forbid => Is(self.schedule.forbid().is_ok()),
             Permit => Is(self.schedule.permit().is_ok()),
             Disable => Is(self.schedule.disable().is_ok()),
@@ -181,14 +193,15 @@ struct Case {
     steps: &'static [(Call, Answer)],
 }
 
+/// A task of a name and a priority.
+fn task(name: &str, pri: i8) -> TaskInit {
+    let name = Name::from(name).unwrap_or_default();
+    TaskInit { name, pri }
+}
+
 /// Takes the steps of a case.
 fn on_three<S: ListSpace>(rt: &impl Abort, alloc: Global, case: &Case) -> Result<(), Fail> {
-    let [a, b, c] = ["a", "b", "c"].map(|text| Name::from(text).unwrap_or_default());
-    let tasks = [
-        TaskInit { name: a, pri: 0 },
-        TaskInit { name: b, pri: 0 },
-        TaskInit { name: c, pri: 1 },
-    ];
+    let tasks = [task("a", 0), task("b", 0), task("c", 1)];
     let mut d: Driver<S> = Driver::new(alloc, &tasks, case.quantum)?;
     for t in 0..case.added {
         same(rt, case.name, t, d.call(Add(t)), Is(true));
@@ -360,7 +373,7 @@ static TURNS: [Case; 9] = [
 ];
 
 /// What a task waits for, the signals of each task, and the nesting of one that waits.
-static WAITS: [Case; 6] = [
+static WAITS: [Case; 7] = [
     Case {
         name: "wait takes only the signals of its mask",
         quantum: 4,
@@ -469,6 +482,21 @@ static WAITS: [Case; 6] = [
             (Wait(0xf000), Came(Some(0x4000))),
         ],
     },
+    Case {
+        name: "what is left in a loan is the running task's",
+        quantum: 4,
+        added: 1,
+        steps: &[
+            (Reschedule, TO_A),
+            (Post(0x3000), Done),
+            (Nest, Is(true)),
+            (MaySwitch, Is(false)),
+            (MayInterrupt, Is(true)),
+            (Wait(0x1000), Came(Some(0x1000))),
+            (Received, Had(0x2000)),
+            (Running, Task(Some(A))),
+        ],
+    },
 ];
 
 /// Who waits for a semaphore, and until when.
@@ -566,30 +594,5 @@ fn each_call_answers_as_its_case_says(rt: HostRuntime) -> Result<(), Fail> {
             on_three::<PlainSpace>(&rt, rt.alloc(), case)?;
         }
     }
-    Ok(())
-}
-
-#[test]
-fn what_is_left_in_a_loan_is_the_running_tasks(rt: HostRuntime) -> Result<(), Fail> {
-    let name = Name::from("a").unwrap_or_default();
-    let tasks = [TaskInit { name, pri: 0 }];
-    let mut schedule: Sched<PlainSpace> = Sched::new(rt.alloc(), &tasks, 4)?;
-    schedule.add(A);
-    same(&rt, "loans", 0, schedule.reschedule(), Some(Switch::To(A)));
-    if schedule.running().is_some() {
-        schedule.sigs().post(0x3000);
-    }
-    if schedule.running().is_some() {
-        same(&rt, "loans", 1, schedule.nest().forbid().is_ok(), true);
-    }
-    same(&rt, "loans", 2, schedule.may_switch(), false);
-    same(&rt, "loans", 3, schedule.may_interrupt(), true);
-    if schedule.running().is_some() {
-        same(&rt, "loans", 4, schedule.wait(0x1000), Some(0x1000));
-    }
-    if schedule.running().is_some() {
-        same(&rt, "loans", 5, schedule.sigs().received(), 0x2000);
-    }
-    same(&rt, "loans", 6, schedule.running(), Some(A));
     Ok(())
 }

@@ -136,15 +136,20 @@ impl<S: ListSpace> Driver<S> {
     }
 }
 
+/// The text of a name, if there is one.
+fn text_of(name: &Option<Name>) -> Option<&str> {
+    match name {
+        Some(name) => Some(name.as_str()),
+        None => None,
+    }
+}
+
 /// Takes a step.
 fn take<S: ListSpace>(rt: &impl Abort, d: &mut Driver<S>, case: &str, number: usize, step: Step) {
     match step {
         HasState(t, wanted) => same(rt, case, number, d.state(t), wanted),
         HasPri(t, wanted) => same(rt, case, number, d.pri(t), wanted),
-        HasName(t, wanted) => {
-            let name = d.name(t);
-            same(rt, case, number, name.as_ref().map(|n| n.as_str()), wanted);
-        }
+        HasName(t, wanted) => same(rt, case, number, text_of(&d.name(t)), wanted),
         MakesReady(t, wanted) => same(rt, case, number, d.make_ready(t), wanted),
         Picks(wanted) => same(rt, case, number, d.queue.pick(), wanted),
         RunsNext(wanted) => same(rt, case, number, d.run_next(), wanted),
