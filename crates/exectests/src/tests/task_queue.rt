@@ -231,14 +231,15 @@ static CASES: [Case; 4] = [
     },
 ];
 
+/// A task of a name and a priority.
+fn task(name: &str, pri: i8) -> TaskInit {
+    let name = Name::from(name).unwrap_or_default();
+    TaskInit { name, pri }
+}
+
 /// Takes the steps of a case.
 fn on_three<S: ListSpace>(rt: &impl Abort, alloc: Global, case: &Case) -> Result<(), Fail> {
-    let [a, b, c] = ["a", "b", "c"].map(|text| Name::from(text).unwrap_or_default());
-    let tasks = [
-        TaskInit { name: a, pri: 0 },
-        TaskInit { name: b, pri: 0 },
-        TaskInit { name: c, pri: 1 },
-    ];
+    let tasks = [task("a", 0), task("b", 0), task("c", 1)];
     let mut d: Driver<S> = Driver::new(alloc, &tasks)?;
     for t in 0..case.ready {
         same(rt, "made ready", t, d.make_ready(t), true);
