@@ -97,21 +97,29 @@ impl Part {
     }
 }
 
+/// A task of this name.
+fn task(name: &str) -> TaskInit {
+    let name = Name::from(name).unwrap_or_default();
+    TaskInit { name, pri: 0 }
+}
+
 /// Two tasks.
 fn tasks() -> [TaskInit; 2] {
-    ["a", "b"].map(|name| TaskInit {
+    [task("a"), task("b")]
+}
+
+/// A library of this name.
+fn library(name: &str) -> LibInit {
+    LibInit {
         name: Name::from(name).unwrap_or_default(),
-        pri: 0,
-    })
+        version: 37,
+        size: 16,
+    }
 }
 
 /// Two libraries.
 fn libraries() -> [LibInit; 2] {
-    ["x.library", "y.library"].map(|name| LibInit {
-        name: Name::from(name).unwrap_or_default(),
-        version: 37,
-        size: 16,
-    })
+    [library("x.library"), library("y.library")]
 }
 
 /// Makes a list space of the type S, and lets it go.
