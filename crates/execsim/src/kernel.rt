@@ -4,12 +4,12 @@ ghost use Rattle.std.specs.Option.{option_map};
 ghost use Rattle.exectrace.specs.Short.{short_argument};
 ghost use Rattle.scheduler.specs.Schedule.{name_of, task_count};
 ghost use Rattle.execmodel.specs.State.{program_of, shared_variables};
-ghost use Rattle.execmodel.specs.Calls.{content, evaluated, stored, goes_on, keeps, call_of};
+ghost use Rattle.execmodel.specs.Calls.{content, evaluated, stored, goes_on, keeps};
 ghost use Rattle.execmodel.specs.Signals.{is_task};
-ghost use Rattle.execsim.specs.Views.{IsFor, call_view, operand_view, slot_view, small_view};
+ghost use Rattle.execsim.specs.Views.{IsFor, call_view, operand_view, slot_view};
 
 use crate::bodies::Bodies;
-use crate::command::{Call, Operand, Slot, SmallCommand};
+use crate::command::{Call, Operand, Slot};
 use crate::program::Program;
 use execheap::Heap;
 use execlist::space::ListSpace;
@@ -133,34 +133,22 @@ impl<S: ListSpace> Kernel<S> {
         }
     }
 
-    /// The values of so many arguments of a command for task t; what stands past them is unused.
-    fn evaluate_all(&self, t: TaskId, operands: &[Operand; 4], count: usize) -> [ShortArg; 4]
+    /// Puts the values of so many arguments of a command for task t where they are to stand; what stands past them is unused.
+    #[inline(always)]
+    pub(crate) fn evaluate_all(
+        &self,
+        t: TaskId,
+        operands: &[Operand; 4],
+        count: usize,
+        values: &mut [ShortArg; 4],
+    )
         requires known { t < length self.now.scripts.programs }
         requires few { count ≤ 4 }
-        ensures { (name : List ℕ) → map (short_argument name) (take count result)
+        ensures { (name : List ℕ) → map (short_argument name) (take count values.new)
             ≡ map (λ a. evaluated t self.now.scripts (operand_view name a)) (take count operands.now) }
     {
-        let mut values = [ShortArg::Value(0); 4];
         for k in 0..count {
             values[k] = self.evaluate(t, operands[k]);
-        }
-        values
-    }
-
-    /// The call that a command is for task t, where the next command stands at that place.
-    #[inline(always)]
-    pub(crate) fn call_of(&self, t: TaskId, next: usize, command: &SmallCommand) -> Call
-        requires { t < length self.now.scripts.programs }
-        ensures { call_view result ≡ call_of t next (small_view command.now) self.now.scripts }
-    {
-        Call {
-            word: command.word,
-            target: command.target,
-            arguments: self.evaluate_all(t, &command.operands, command.count),
-            count: command.count,
-            quoted: command.name,
-            next,
-            awaited: 0,
         }
     }
 

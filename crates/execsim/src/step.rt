@@ -23,7 +23,7 @@ use execlist::space::ListSpace;
 use exectrace::lines::CallOutcome;
 use exectrace::printing::{put_call, put_idle, put_switch};
 use exectrace::sinks::written;
-use exectrace::{Arg, Sink};
+use exectrace::{Arg, ShortArg, Sink};
 use scheduler::Switch;
 use softint::source::Source;
 use taskq::TaskId;
@@ -69,6 +69,7 @@ impl<S: ListSpace> Kernel<S> {
         }
     }
 
+    #[inline(always)]
     fn serve_and_switch<W: Sink>(&mut self, out: &mut W)
         ensures { Follows (andthen interrupts (unless_stopped switches)) self.old self.new (W.tape out.old) (W.tape out.new) }
     {
@@ -77,6 +78,7 @@ impl<S: ListSpace> Kernel<S> {
     }
 
     /// What follows each action; a stopped machine stays as it is.
+    #[inline(always)]
     pub(crate) fn settle<W: Sink>(&mut self, out: &mut W)
         ensures { Follows settle self.old self.new (W.tape out.old) (W.tape out.new) }
     {
@@ -165,7 +167,16 @@ impl<S: ListSpace> Kernel<S> {
             }
             None => match program.command() {
                 Some(command) => {
-                    let call = self.call_of(t, program.next(), command);
+                    let mut call = Call {
+                        word: command.word,
+                        target: command.target,
+                        arguments: [ShortArg::Value(0); 4],
+                        count: command.count,
+                        quoted: command.name,
+                        next: program.next(),
+                        awaited: 0,
+                    };
+                    self.evaluate_all(t, &command.operands, command.count, &mut call.arguments);
                     self.make(t, &call, out);
                 }
                 None => self.make_none(t, out),
