@@ -1,6 +1,6 @@
 -- How the machine follows the causing, the requests and the serving of interrupts.
 use Rattle.std.proofs.Common.{◌≡◌, ℕ, zero, suc, ◌+◌, ◌≤◌, Bool, true, false, cond, not, ◌&&◌, ◌||◌, ◌==◌, nat_lt, List, [], ◌∷◌, length, drop, Option, None, Some, refl, ap, sym, ◌∙◌, subst, arith}
-use Rattle.std.specs.Prelude.{ℤ, if◌then◌else◌, slice_get}
+use Rattle.std.specs.Prelude.{ℤ, if◌then◌else◌, is_some, slice_get}
 use Rattle.std.specs.List.{list_any}
 use Rattle.std.proofs.lemmas.Bool.{ne_eqb}
 use Rattle.exectrace.specs.Sink.{Tape, Puts}
@@ -259,3 +259,12 @@ module _ {m n : Seen} (left : ℕ) where
   source_served asks is next serves others = follows_as {g = andthen (λ s. served asks (on_pending (with_latch_of asks false) s)) (unless_stopped (servings left))}
       (λ s e. suc_servings left s (Some asks) (source_same s e ∙ sym is))
       (follows_then (follows_change (moves_latch asks false next) serves) others)
+
+-- nothing asks
+unasked : (allowed : Bool) (asks : Option Source) → is_some asks ≡ false → None ≡ (if allowed then asks else None)
+unasked true None e = refl
+unasked true (Some a) e = absurd cc
+unasked false asks e = refl
+
+pub nothing_asks : (m : Seen) (t : Tape) → is_some (highest m.pending.latches) ≡ false → Follows interrupts m m t t
+nothing_asks m t none = all_served (nothing_served 2 t (unasked (allows_interrupts m.schedule) (highest m.pending.latches) none) refl)

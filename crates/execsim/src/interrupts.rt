@@ -1,6 +1,7 @@
 //! Interrupts: how they are caused and requested, and how they run, software interrupts one a step, the servers of a source where it is
 //! served (RKM Libraries, Exec Interrupts).
-ghost use Rattle.std.specs.Prelude.{◌≡◌, true, slice_get};
+ghost use Rattle.std.specs.Prelude.{◌≡◌, is_some, true, slice_get};
+ghost use Rattle.softint.specs.Sources.{highest};
 ghost use Rattle.execmodel.specs.Interrupts.{chain_of, counted, interrupts, runs_chain, runs_server, text_of_source};
 ghost use Rattle.execmodel.specs.Pending.{softint_named, source_named, with_latch_of};
 ghost use Rattle.execsim.specs.Actions.{caused, served, softint_body, softint_seen, source_seen, without_request, without_softint};
@@ -165,8 +166,16 @@ impl<S: ListSpace> Kernel<S> {
         self.run_chain(source, out);
     }
 
+    /// Whether any source asks to be served.
+    fn any_asks(&self) -> bool
+        ensures { result ≡ is_some (highest self.now.pending.latches) }
+    {
+        self.ints.any_raised()
+    }
+
     /// All that asks is served, where interrupts are allowed: there are three sources, and no serving sets a latch.
-    pub(crate) fn interrupt<W: Sink>(&mut self, out: &mut W)
+    #[inline(never)]
+    fn serve_all<W: Sink>(&mut self, out: &mut W)
         ensures { Follows interrupts self.old self.new (W.tape out.old) (W.tape out.new) }
     {
         for _turn in 0..SOURCES {
@@ -179,6 +188,16 @@ impl<S: ListSpace> Kernel<S> {
                     }
                 }
             }
+        }
+    }
+
+    /// All that asks is served, where interrupts are allowed. Mostly nothing asks, and nothing else is looked at then.
+    #[inline(always)]
+    pub(crate) fn interrupt<W: Sink>(&mut self, out: &mut W)
+        ensures { Follows interrupts self.old self.new (W.tape out.old) (W.tape out.new) }
+    {
+        if self.any_asks() {
+            self.serve_all(out);
         }
     }
 }

@@ -127,6 +127,13 @@ impl<S: ListSpace> Ints<S> {
         self.latches = self.latches.with(source, true);
     }
 
+    /// Answers whether any source asks to be served. Own choice: Exec tells it by the interrupt that it asks for.
+    pub fn any_raised(&self) -> bool
+        ensures { result ≡ is_some (highest self.now.latches) }
+    {
+        self.latches.any()
+    }
+
     /// Clears the latch of the source of highest level among those that ask to be served and answers the source, or answers none.
     /// RKM Libraries, Exec Interrupts: the order of their priorities.
     pub fn serve(&mut self) -> Option<Source>

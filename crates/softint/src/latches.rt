@@ -1,5 +1,5 @@
 //! The latches of the sources.
-ghost use Rattle.std.specs.Prelude.{◌≡◌};
+ghost use Rattle.std.specs.Prelude.{◌≡◌, is_some};
 ghost use Rattle.softint.specs.Sources.{highest, with_latch, no_latches};
 
 use crate::source::Source;
@@ -41,6 +41,15 @@ impl Latches {
         } else {
             None
         }
+    }
+
+    /// Answers whether any source asks to be served.
+    ///
+    /// Source: own choice.
+    pub fn any(self) -> bool
+        ensures { result ≡ is_some (highest self) }
+    {
+        self.exter || self.vertb || self.ports
     }
 
     /// Answers the latches with that of one source set or cleared.

@@ -2,7 +2,7 @@ use Rattle.std.proofs.Common.{◌≡◌, ℕ, ◌+◌}
 use Rattle.exectrace.specs.Sink.{Tape}
 use Rattle.execmodel.specs.Interrupts.{servings}
 use Rattle.execsim.specs.Agreement.{Follows, Seen}
-use Rattle.execsim.proofs.kernel.Kernel.interrupt.Given as goal
+use Rattle.execsim.proofs.kernel.Kernel.serve_all.Given as goal
 
 -- what the servings that are left do ends what all of them do
 abbrev pub invariant-loop-turn : goal.invariant-loop-turn
