@@ -2,7 +2,7 @@
 use Rattle.std.proofs.Common.{◌≡◌, ℕ, List, true, false, map, ap, refl, sym, ◌∙◌}
 use Rattle.std.specs.Prelude.{Some, None, Option, if◌then◌else◌, IsSome, unwrap_or, ◌==◌, ◌++◌}
 use Rattle.std.specs.List.{list_any}
-use Rattle.execlist.specs.Lists.{home, is_at, sequence, times}
+use Rattle.execlist.specs.Lists.{home, is_at, sequence, times, key_at}
 use Rattle.execlist.specs.Pool.{slot}
 use Rattle.msgport.specs.Ports.{messages_of, port_at}
 use Rattle.timerdev.specs.Timing.{Waiting, is_waiting}
@@ -10,7 +10,7 @@ use Rattle.execmodel.specs.State.{ListHead, MsgPort}
 use Rattle.execheap.specs.declared.kind.Kind.{Kind}
 use Rattle.execheap.specs.declared.kind.Kind.TheVariants as variant
 use Rattle.execheap.specs.Table.{Tabled, slots_of}
-use Rattle.execheap.specs.Numbered.{Numbered, address_in, key_at, object_of, places, shown_public, shown_timer, shown_waiting}
+use Rattle.execheap.specs.Numbered.{Numbered, address_in, object_of, places, shown_public, shown_timer, shown_waiting}
 use Rattle.execheap.proofs.Mapped.{map_agree, members, stands_by_times}
 use Rattle.execheap.proofs.Waits.{waiting_members}
 

@@ -96,21 +96,21 @@ module _ (s : Numbered) (held : sems.IsSound s.sems) (t : ℕ) where
 
 module _ (s : Numbered) (n semaphore : ℕ) (found : number_at variant.Semaphore semaphore s.table ≡ Some n) (told : Tells s semaphore variant.Semaphore n)
     (live : IsTrue (sems.is_sem n s.sems)) (known : n < length s.sems.queues) (t : ℕ) where
-  queued_heap : shown_heap (on_semaphores (sems.queued n t) s) ≡ model.queued t semaphore (shown_heap s)
+  queued_heap : shown_heap (on_semaphores (sems.queued n t) s) ≡ model.queued semaphore t (shown_heap s)
   unfolding model.queued
   queued_heap =
       queue_heap s n semaphore found told known (waiters_of n s.sems ++ t ∷ []) (slice_set s.sems.places t (Some n))
       ∙ (λ i. model.with_semaphore semaphore (sym (sem_shown s semaphore n found) i) (sym (waiters_shown s semaphore n found) i ++ t ∷ []) (shown_heap s))
 
-  pub obtained_heap : shown_heap (on_semaphores (sems.obtained n t) s) ≡ model.obtained t semaphore (shown_heap s)
+  pub obtained_heap : shown_heap (on_semaphores (sems.obtained n t) s) ≡ model.obtained semaphore t (shown_heap s)
   unfolding model.obtained
   obtained_heap =
-      either (sems.is_open n t s.sems)
-      ∙ ap (λ sem. if model.is_open t sem then model.entered t semaphore (shown_heap s) else model.queued t semaphore (shown_heap s))
+      either (sems.is_open t (sems.sem_at n s.sems))
+      ∙ ap (λ sem. if sems.is_open t sem then model.entered semaphore t (shown_heap s) else model.queued semaphore t (shown_heap s))
       (sym (sem_shown s semaphore n found))
     where
       either : (b : Bool) → shown_heap (on_semaphores (λ m. if b then sems.entered n t m else sems.queued n t m) s)
-          ≡ (if b then model.entered t semaphore (shown_heap s) else model.queued t semaphore (shown_heap s))
+          ≡ (if b then model.entered semaphore t (shown_heap s) else model.queued semaphore t (shown_heap s))
       either true = entered_heap s n semaphore found told live t
       either false = queued_heap
 
@@ -153,12 +153,12 @@ module _ {s : Numbered} (sound : IsSound s) (held : sems.IsSound s.sems) (formed
     has_queue : n < length s.sems.queues
     has_queue = omega (arith, held.each_queue, item_known s.sems.sems.slots n live)
 
-    pub obtained_shown : (t : ℕ) → shown_memory (on_semaphores (sems.obtained n t) s) ≡ on_heap (model.obtained t semaphore) (shown_memory s)
-    obtained_shown t = heap_owned s (sems.obtained n t s.sems) (model.obtained t semaphore (shown_heap s))
+    pub obtained_shown : (t : ℕ) → shown_memory (on_semaphores (sems.obtained n t) s) ≡ on_heap (model.obtained semaphore t) (shown_memory s)
+    obtained_shown t = heap_owned s (sems.obtained n t s.sems) (model.obtained semaphore t (shown_heap s))
         (obtained_heap s n semaphore begins just_there live has_queue t)
 
-    pub attempted_shown : (t : ℕ) → shown_memory (on_semaphores (sems.attempted n t) s) ≡ on_heap (model.attempted t semaphore) (shown_memory s)
-    attempted_shown t = heap_owned s (sems.attempted n t s.sems) (model.attempted t semaphore (shown_heap s))
+    pub attempted_shown : (t : ℕ) → shown_memory (on_semaphores (sems.attempted n t) s) ≡ on_heap (model.attempted semaphore t) (shown_memory s)
+    attempted_shown t = heap_owned s (sems.attempted n t s.sems) (model.attempted semaphore t (shown_heap s))
         (attempted_heap s n semaphore begins just_there live t)
 
     pub released_shown : shown_memory (on_semaphores (sems.let_go n) s) ≡ on_heap (model.released semaphore) (shown_memory s)

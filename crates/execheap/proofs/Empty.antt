@@ -17,7 +17,7 @@ use Rattle.execheap.specs.declared.kind.Kind.{Kind}
 use Rattle.execheap.specs.declared.kind.Kind.TheVariants as variant
 use Rattle.execheap.specs.Table as table
 use Rattle.execheap.specs.Table.{pool_of}
-use Rattle.execheap.specs.Numbered.{Fits, IsInTime, IsKept, is_way_at, most_tasks, own_shape, shape, shown_heap, shown_library, shown_memory, shown_public}
+use Rattle.execheap.specs.Numbered.{Fits, IsInTime, IsKept, is_way_at, own_shape, shape, shown_heap, shown_library, shown_memory, shown_public}
 use Rattle.execheap.specs.Changes.{reserved, unused}
 use Rattle.execheap.proofs.Reserved.{IsReserved, all_reserved, front_new, reserved_beside}
 use Rattle.execheap.proofs.Stepping.{shape_new}
@@ -41,8 +41,8 @@ nowhere pool m = ap (λ (q : MessagePorts). home q.places m) (ports_unused pool)
 none_held : (pool m : ℕ) → is_held m (reserved pool (no_ports pool (pool + pool))) ≡ false
 none_held pool m = ap (λ (q : MessagePorts). is_held m q) (ports_unused pool)
 
-in_time_unused : (regions : List Region) (pool : ℕ) (known : List Description) (asks : Bool) (tick_micros : ℕ) → IsInTime (unused regions pool known asks tick_micros)
-in_time_unused regions pool known asks tick_micros = record {
+in_time_unused : (regions : List Region) (pool tasks : ℕ) (known : List Description) (asks : Bool) (tick_micros : ℕ) → IsInTime (unused regions pool tasks known asks tick_micros)
+in_time_unused regions pool tasks known asks tick_micros = record {
   each_message = (made_unused pool).size;
   each_time = refl;
   made = λ r small. (made_unused pool).there (pool + r) (omega arith) (omega (arith, small));
@@ -55,8 +55,8 @@ in_time_unused regions pool known asks tick_micros = record {
   near = omega arith;
 }
 
-pub kept_unused : (regions : List Region) (pool : ℕ) (known : List Description) (asks : Bool) (tick_micros : ℕ) → IsKept (unused regions pool known asks tick_micros)
-kept_unused regions pool known asks tick_micros = record {
+pub kept_unused : (regions : List Region) (pool tasks : ℕ) (known : List Description) (asks : Bool) (tick_micros : ℕ) → IsKept (unused regions pool tasks known asks tick_micros)
+kept_unused regions pool tasks known asks tick_micros = record {
   live_nodes = λ n linked. (let bad : false ≡ true = ap is_some (sym (slot_new ℕ pool n)) ∙ linked in cc);
   live_lists = λ n h linked. (let bad : false ≡ true = ap is_some (sym (slot_new ℕ pool n) ∙ linked) in cc);
   each_list = length-replicate pool [] ∙ sym (length-replicate {A = Option ℕ} pool None);
@@ -65,11 +65,11 @@ kept_unused regions pool known asks tick_micros = record {
   apt = record {
     own_signals = λ p lives. (let bad : false ≡ true = ap is_some
         (sym (ap (λ (q : MessagePorts). slot q.ports.slots p) (ports_unused pool) ∙ slot_new Port pool p)) ∙ lives in cc);
-    each_task = length-replicate {A = Option ℕ} most_tasks None;
+    each_task = length-replicate {A = Option ℕ} tasks None;
   };
-  in_time = in_time_unused regions pool known asks tick_micros;
+  in_time = in_time_unused regions pool tasks known asks tick_micros;
 } where
-  in_step : (k : Kind) → Fits (own_shape k (unused regions pool known asks tick_micros)) (pool_of k (table.unused regions pool known asks))
+  in_step : (k : Kind) → Fits (own_shape k (unused regions pool tasks known asks tick_micros)) (pool_of k (table.unused regions pool known asks))
   in_step variant.Port = ap (λ (q : MessagePorts). shape q.ports) (ports_unused pool) ∙ shape_new Port pool
   in_step variant.Message = front_new pool (reserved pool (no_ports pool (pool + pool))).messages (made_unused pool)
   in_step variant.Semaphore = shape_new Sem pool
@@ -77,23 +77,25 @@ kept_unused regions pool known asks tick_micros = record {
   in_step variant.List = tt
   in_step variant.Node = tt
 
-pub unused_shown : (regions : List Region) (pool : ℕ) (known : List Description) (asks : Bool) (tick_micros : ℕ) → shown_memory (unused regions pool known asks tick_micros)
+pub unused_shown : (regions : List Region) (pool tasks : ℕ) (known : List Description) (asks : Bool) (tick_micros : ℕ) → shown_memory (unused regions pool tasks known asks tick_micros)
     ≡ record {
       regions = regions;
       libraries = map shown_library known;
       asks = asks;
       pool = pool;
+      tasks = tasks;
       heap = [];
       public = [];
       timer = new_timer tick_micros;
     }
 unfolding shown_heap
-unused_shown regions pool known asks tick_micros = λ i. record {
+unused_shown regions pool tasks known asks tick_micros = λ i. record {
   regions = regions;
   libraries = map shown_library known;
   asks = asks;
   pool = pool;
+  tasks = tasks;
   heap = [];
-  public = map (shown_public (unused regions pool known asks tick_micros)) (ports_unused pool i).public;
+  public = map (shown_public (unused regions pool tasks known asks tick_micros)) (ports_unused pool i).public;
   timer = new_timer tick_micros;
 }

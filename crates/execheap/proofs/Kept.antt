@@ -53,7 +53,7 @@ module _ {s : Numbered} (sound : IsSound s.table) (formed : IsWellFormed s.table
 
     -- where what holds the objects of other kinds gives the same numbers, and that of this kind gives one as the table does
     pub kept_made : (u : Numbered) → u.table ≡ made → u.sequences ≡ s.sequences → u.homes ≡ s.homes
-        → ((k : Kind) → kind_code k ≢ kind_code kind → own_shape k u ≡ own_shape k s) → Fits (own_shape kind u) (pool_of kind made) → IsApt u.ports u.sems → IsAlong s u → IsKept u
+        → ((k : Kind) → kind_code k ≢ kind_code kind → own_shape k u ≡ own_shape k s) → Fits (own_shape kind u) (pool_of kind made) → IsApt u.ports u.sems u.tasks → IsAlong s u → IsKept u
     kept_made u is sequences homes same own apt along = record {
       live_nodes = λ n linked. ap (λ t. is_some (slot (slots_of variant.Node t) n)) is
           ∙ lives_on variant.Node n (kept.live_nodes n (ap (λ hs. is_some (home hs n)) (sym homes) ∙ linked));
@@ -99,7 +99,7 @@ module _ {s : Numbered} (sound : IsSound s.table) (formed : IsWellFormed s.table
         → ((k : Kind) → kind_code k ≢ kind_code kind → own_shape k u ≡ own_shape k s) → Fits (own_shape kind u) (pool_of kind without)
         → ((n : ℕ) → IsSome (home s.homes n) → variant.Node ≡ kind → n ≢ number)
         → ((n h : ℕ) → home s.homes n ≡ Some h → variant.List ≡ kind → h ≢ number)
-        → IsApt u.ports u.sems → IsAlong s u → IsAbout s u → IsKept u
+        → IsApt u.ports u.sems u.tasks → IsAlong s u → IsAbout s u → IsKept u
     kept_freed u is sequences homes same own nodes lists apt along about = record {
       live_nodes = λ n linked. let was : IsSome (home s.homes n) = ap (λ hs. is_some (home hs n)) (sym homes) ∙ linked in
           ap (λ t. is_some (slot (slots_of variant.Node t) n)) is

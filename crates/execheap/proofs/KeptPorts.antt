@@ -8,7 +8,7 @@ use Rattle.execlist.proofs.Pools.{item_of, slot_known, slot_other, slot_same}
 use Rattle.msgport.proofs.Linking.{left_home}
 use Rattle.msgport.specs.declared.fault.PortFault.{PortFault}
 use Rattle.msgport.specs.declared.message.Message.{Message}
-use Rattle.msgport.specs.Faults.{fault_or, kept_or}
+use Rattle.execlist.specs.Answers.{fault_or, kept_or}
 use Rattle.msgport.specs.Port.{Port, new_port}
 use Rattle.msgport.specs.Ports.{MessagePorts, is_message, is_port, taken_off, with_message, with_port}
 use Rattle.execheap.specs.declared.kind.Kind.{Kind}

@@ -7,7 +7,7 @@ use Rattle.execlist.specs.Pool.{Pooled, slot}
 use Rattle.execlist.proofs.Pools.{item_of, slot_known, slot_other, slot_same}
 use Rattle.iorequest.specs.declared.request.Request.{Request as TimerRequest}
 use Rattle.iorequest.specs.declared.fault.ReqFault.TheVariants.{InUse}
-use Rattle.iorequest.specs.Faults.{kept_or}
+use Rattle.execlist.specs.Answers.{kept_or}
 use Rattle.iorequest.specs.Request.{asks_time, begun, done_state, finished, idle_request, is_under_way, is_way, reply_port, second}
 use Rattle.iorequest.specs.Requests.{in_use_fault, is_request, request_at, with_request}
 use Rattle.msgport.specs.Port.{Port}

@@ -5,8 +5,8 @@ use Rattle.std.proofs.lemmas.List.{length-set}
 use Rattle.execlist.specs.Order.{first}
 use Rattle.sigsem.specs.declared.fault.SemFault.{SemFault}
 use Rattle.sigsem.specs.declared.semaphore.Sem.{Sem}
-use Rattle.sigsem.specs.Faults.{fault_or, kept_or}
-use Rattle.sigsem.specs.Semaphores.{Semaphores, attempted, dropped, dropped_from, entered, free_sem, handed_on, is_last, is_open, is_sem, let_go, obtained, owned_by, queued, sem_at, waiters_of, waits_at, with_sem}
+use Rattle.execlist.specs.Answers.{fault_or, kept_or}
+use Rattle.sigsem.specs.Semaphores.{Semaphores, attempted, dropped, dropped_from, entered, free_sem, handed_on, is_last, is_open, is_sem, let_go, obtained, once_less, once_more, owned_by, queued, sem_at, waiters_of, waits_at, with_sem}
 use Rattle.execheap.specs.declared.kind.Kind.{Kind}
 use Rattle.execheap.specs.declared.kind.Kind.TheVariants as variant
 use Rattle.execheap.specs.Table.{pool_of}
@@ -35,15 +35,15 @@ pub kept_queued : (n t : ℕ) (m : Semaphores) → IsAlike m (queued n t m)
 kept_queued n t m = record { same = refl; each_task = length-set m.places t (Some n) }
 
 pub kept_attempted : (n t : ℕ) (m : Semaphores) → IsTrue (is_sem n m) → IsAlike m (attempted n t m)
-kept_attempted n t m lives = by_case (is_open n t m) where
+kept_attempted n t m lives = by_case (is_open t (sem_at n m)) where
   by_case : (b : Bool) → IsAlike m (if b then entered n t m else m)
-  by_case true = kept_written n (record { owner = Some t; count = (sem_at n m).count + 1 }) m lives
+  by_case true = kept_written n (once_more t (sem_at n m)) m lives
   by_case false = kept_same m
 
 pub kept_obtained : (n t : ℕ) (m : Semaphores) → IsTrue (is_sem n m) → IsAlike m (obtained n t m)
-kept_obtained n t m lives = by_case (is_open n t m) where
+kept_obtained n t m lives = by_case (is_open t (sem_at n m)) where
   by_case : (b : Bool) → IsAlike m (if b then entered n t m else queued n t m)
-  by_case true = kept_written n (record { owner = Some t; count = (sem_at n m).count + 1 }) m lives
+  by_case true = kept_written n (once_more t (sem_at n m)) m lives
   by_case false = kept_queued n t m
 
 kept_handed : (n : ℕ) (o : Option ℕ) (m : Semaphores) → IsTrue (is_sem n m) → IsAlike m (handed_on n o m)
@@ -54,9 +54,9 @@ kept_handed n (Some t) m lives = record {
 }
 
 pub kept_let_go : (n : ℕ) (m : Semaphores) → IsTrue (is_sem n m) → IsAlike m (let_go n m)
-kept_let_go n m lives = by_case (is_last n m) where
+kept_let_go n m lives = by_case (is_last (sem_at n m)) where
   less : Sem
-  less = record (sem_at n m) { count = (sem_at n m).count - 1 }
+  less = once_less (sem_at n m)
 
   by_case : (b : Bool) → IsAlike m (if b then handed_on n (first (waiters_of n m)) m else with_sem n less m)
   by_case true = kept_handed n (first (waiters_of n m)) m lives

@@ -199,6 +199,7 @@ module _ (s : Numbered) (sound : IsSound s.table) (formed : IsWellFormed s.table
     libraries = map shown_library s.table.libs.known;
     asks = s.table.libs.asks;
     pool = s.table.pool;
+    tasks = s.tasks;
     heap = heap_is k;
     public = map (shown_public s) s.ports.public;
     timer = shown_timer s;
@@ -228,6 +229,7 @@ module _ (s : Numbered) (sound : IsSound s.table) (formed : IsWellFormed s.table
     libraries = map shown_library s.table.libs.known;
     asks = s.table.libs.asks;
     pool = s.table.pool;
+    tasks = s.tasks;
     heap = (
         sym (put_shown (shown_block new) a (round size, library_tag i) s.table.memory.blocks)
         ∙ ap (λ o. put nat_cmp a (record { size = round size; object = o }) (map (shown_entry new) s.table.memory.blocks))
@@ -257,6 +259,7 @@ module _ (s : Numbered) (sound : IsSound s.table) (formed : IsWellFormed s.table
     libraries = map shown_library s.table.libs.known;
     asks = s.table.libs.asks;
     pool = s.table.pool;
+    tasks = s.tasks;
     heap = (
         map_same (shown_entry new) (shown_entry s) (without_block a s.table.memory).blocks (all_but s.table.memory.blocks sound.matched.tagged)
         ∙ sym (where_key_shown (shown_block s) (λ other. not (nat_eq other a)) s.table.memory.blocks)) k;

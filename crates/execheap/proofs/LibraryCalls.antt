@@ -43,10 +43,10 @@ module _ {s : Numbered} (kept : IsKept s) (sound : IsSound s.table) (formed : Is
 
   pub to_open_shown : (name : List ℕ) (version : ℕ) → model.library_to_open name version (shown_memory s) ≡ library_to_open name version s.table.libs
   to_open_shown name version =
-      ap (option_and_then (model.only_if (model.can_open version (shown_memory s)))) (position_map (λ (l : LibraryData). bytes_eq l.name name) 0 s.table.libs.known)
+      ap (option_and_then (library.only_if (model.can_open version (shown_memory s)))) (position_map (λ (l : LibraryData). bytes_eq l.name name) 0 s.table.libs.known)
       ∙ by_number (number_of name s.table.libs)
     where
-      by_number : (o : Option ℕ) → option_and_then (model.only_if (model.can_open version (shown_memory s))) o
+      by_number : (o : Option ℕ) → option_and_then (library.only_if (model.can_open version (shown_memory s))) o
           ≡ option_and_then (library.only_if (λ i. library.can_open version i s.table.libs)) o
       by_number None = refl
       by_number (Some i) = ap (λ b. cond b (Some i) None) (can_open_shown version i)

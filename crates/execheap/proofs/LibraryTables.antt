@@ -11,7 +11,7 @@ use Rattle.memlist.specs.Memory.{IsWellFormed, Memory, allocated, without_block}
 use Rattle.memlist.proofs.Addresses.{fitted_fresh}
 use Rattle.memlist.proofs.Answered.{cases_eq, key_same, nat_eq-other}
 use Rattle.execlib.specs.declared.library.Loaded.{Loaded}
-use Rattle.execlib.specs.Faults.{kept_or}
+use Rattle.execlist.specs.Answers.{kept_or}
 use Rattle.execlib.specs.Libraries as library
 use Rattle.execlib.specs.Libraries.{Libraries, base_of, base_or_fit, close_fault, count_of, entered, expunged, is_delayed, is_loaded, leaves_by_close, leaves_by_removal, library_tag, loaded_at, loads, memory_without, opened_base, public_memory, with_loaded}
 use Rattle.execheap.specs.Tags.{is_plain, library_in, tagged}

@@ -6,7 +6,7 @@ use Rattle.std.specs.List.{AllByRecursion}
 use Rattle.std.proofs.lemmas.Simd.{map-map}
 use Rattle.std.proofs.lemmas.List.{map-append}
 use Rattle.execlist.specs.Order.{enqueue, first, without}
-use Rattle.execlist.specs.Lists.{Key, home, is_at, is_named, last, name_is, part_after, part_before, part_from, pri_of, put_after, sequence}
+use Rattle.execlist.specs.Lists.{Key, home, is_at, is_named, last, name_is, part_after, part_before, part_from, pri_of, put_after, sequence, key_at}
 use Rattle.memlist.specs.Memory.{IsWellFormed}
 use Rattle.execmodel.specs.State.{Object, ListHead, Block, Heap, on_heap}
 use Rattle.execmodel.specs.Lists.{added_head, added_tail, enqueued, found_node, first_of, has_name, inserted, key_of, last_of, left_by, nodes_of, or_none, pred_of, predecessor, removed_head, removed_tail, searched, succ_of, unlinked, with_nodes}
@@ -16,7 +16,7 @@ use Rattle.execheap.specs.declared.kind.Kind.TheVariants as variant
 use Rattle.execheap.specs.declared.tag.Tagged.{Tagged}
 use Rattle.execheap.specs.declared.tag.Tagged.TheVariants as tag
 use Rattle.execheap.specs.Tags.{tagged}
-use Rattle.execheap.specs.Numbered.{IsSound, IsSpace, Numbered, address_in, key_at, object_of, places, shown_entry, shown_heap, shown_library, shown_memory, shown_public, shown_tagged, shown_timer}
+use Rattle.execheap.specs.Numbered.{IsSound, IsSpace, Numbered, address_in, object_of, places, shown_entry, shown_heap, shown_library, shown_memory, shown_public, shown_tagged, shown_timer}
 use Rattle.execheap.specs.Changes as numbered
 use Rattle.execheap.proofs.Entries.{all_then}
 use Rattle.execheap.proofs.Mapped.{all_of_part_after, enqueue-map, find-map, first-map, last-map, members, part_after-map, part_before-map, put_after-map, without-map, without_absent, without_first-map, without_last-map}
@@ -37,6 +37,7 @@ heap_set s sequences homes heap is = λ i. record {
   libraries = map shown_library s.table.libs.known;
   asks = s.table.libs.asks;
   pool = s.table.pool;
+  tasks = s.tasks;
   heap = is i;
   public = map (shown_public s) s.ports.public;
   timer = shown_timer s;

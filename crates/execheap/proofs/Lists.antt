@@ -45,7 +45,7 @@ module _ {s : Numbered} (kept : IsKept s) (stands : Stands s) (sound : IsSound s
       → t ≡ with_object variant.List (Some (n, a)) s.table
       → shown_memory (record s { table = t }) ≡ placed 14 (ListHead []) (Some a) (shown_memory s)
   list_made_shown n a t stocked made is =
-      made_shown {u = record s { table = t }} sound variant.List n a (ListHead []) is beside small here
+      made_shown {u = record s { table = t }} sound variant.List n a (ListHead []) is refl beside small here
       (public_kept s (record s { table = t }) (apart_from variant.Port (omega arith)) refl refl)
       (timer_kept s (record s { table = t }) (apart_from variant.Request (omega arith)) refl) where
         new : IsNew (next_number (pool_of variant.List s.table)) (fit s.table.memory.regions s.table.memory.blocks (size_of variant.List) 1) n a
@@ -67,7 +67,7 @@ module _ {s : Numbered} (kept : IsKept s) (stands : Stands s) (sound : IsSound s
 
   pub list_freed_shown : (h a : ℕ) (t : Tabled) → slot (slots_of variant.List s.table) h ≡ Some a → t ≡ without_object variant.List h a s.table
       → shown_memory (record s { table = t }) ≡ freed a (shown_memory s)
-  list_freed_shown h a t live is = freed_shown {u = record s { table = t }} sound variant.List h a formed live is beside
+  list_freed_shown h a t live is = freed_shown {u = record s { table = t }} sound variant.List h a formed live is refl beside
       (public_kept s (record s { table = t }) (apart_from variant.Port (omega arith)) refl refl)
       (timer_kept s (record s { table = t }) (apart_from variant.Request (omega arith)) refl)
     where

@@ -66,7 +66,7 @@ module _ {s : Numbered} (kept : IsKept s) (sound : IsSound s.table) (formed : Is
         ((λ i. shape (front (is i).pool (is_ports i).messages)) ∙ ap shape (front_given s.table.pool (new_message reply word) s.ports.messages)
         ∙ shape_given (pool_of variant.Message s.table) (own_messages kept) step a (new_message reply word)
         ∙ ap shape (sym (pool_made sound variant.Message n a)))
-        (subst (λ r. numbered.IsApt r s.sems) (sym is_ports) (record { own_signals = kept.apt.own_signals; each_task = kept.apt.each_task }))
+        (subst (λ r. numbered.IsApt r s.sems s.tasks) (sym is_ports) (record { own_signals = kept.apt.own_signals; each_task = kept.apt.each_task }))
         (along_message n (Some (new_message reply word)) small slots (ap (λ (r : MessagePorts). r.places) is_ports) (ap (λ (r : MessagePorts). r.holding) is_ports) refl refl)
 
     vacant : slot s.ports.messages.slots n ≡ None
@@ -79,7 +79,7 @@ module _ {s : Numbered} (kept : IsKept s) (sound : IsSound s.table) (formed : Is
     known = omega (arith, small, kept.in_time.each_message)
 
     pub message_made_shown : ports.IsSound s.ports → shown_memory new ≡ placed 24 (Message (new_message reply word)) (Some a) (shown_memory s)
-    message_made_shown held = made_shown {u = new} sound variant.Message n a (Message (new_message reply word)) is beside
+    message_made_shown held = made_shown {u = new} sound variant.Message n a (Message (new_message reply word)) is refl beside
         (omega (arith, next_known sound formed variant.Message n a stocked parts.number parts.address, sound.each variant.Message, sound.small)) here
         (public_kept s new (apart_from variant.Port (omega arith)) (ap (λ (r : MessagePorts). r.keys) is_ports) (ap (λ (r : MessagePorts). r.public) is_ports))
         (timer_kept s new (apart_from variant.Request (omega arith)) refl)
@@ -128,7 +128,7 @@ module _ {s : Numbered} (kept : IsKept s) (sound : IsSound s.table) (formed : Is
           ∙ shape_released (pool_of variant.Message s.table) (own_messages kept) (message_step kept) n ∙ ap shape (sym (pool_freed sound variant.Message n a)))
           (λ m linked e. let code : kind_code variant.Node ≡ kind_code variant.Message = ap kind_code e in absurd (omega (arith, code)))
           (λ m h linked e. let code : kind_code variant.List ≡ kind_code variant.Message = ap kind_code e in absurd (omega (arith, code)))
-          (subst (λ r. numbered.IsApt r s.sems) (sym is_ports) (record { own_signals = kept.apt.own_signals; each_task = kept.apt.each_task }))
+          (subst (λ r. numbered.IsApt r s.sems s.tasks) (sym is_ports) (record { own_signals = kept.apt.own_signals; each_task = kept.apt.each_task }))
           (along_message n None below (ap (λ (r : MessagePorts). r.messages.slots) is_ports) (ap (λ (r : MessagePorts). r.places) is_ports)
           (ap (λ (r : MessagePorts). r.holding) is_ports) refl refl)
           (about_other sound formed kept variant.Message n a live (omega arith) (omega arith) without is)
@@ -139,7 +139,7 @@ module _ {s : Numbered} (kept : IsKept s) (sound : IsSound s.table) (formed : Is
           left _ ne = refl
 
       pub message_freed_shown : ports.IsSound s.ports → home s.ports.places n ≡ None → shown_memory without ≡ freed a (shown_memory s)
-      message_freed_shown held loose = freed_shown {u = without} sound variant.Message n a formed live is beside
+      message_freed_shown held loose = freed_shown {u = without} sound variant.Message n a formed live is refl beside
           (public_kept s without (apart_from variant.Port (omega arith)) (ap (λ (r : MessagePorts). r.keys) is_ports) (ap (λ (r : MessagePorts). r.public) is_ports))
           (timer_kept s without (apart_from variant.Request (omega arith)) refl)
         where

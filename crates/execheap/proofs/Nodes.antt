@@ -62,7 +62,7 @@ module _ {s : Numbered} (kept : IsKept s) (stands : Stands s) (sound : IsSound s
     pub node_made_shown : (t : Tabled) (key : Key) → length s.keys ≡ length s.homes → t ≡ with_object variant.Node (Some (n, a)) s.table
         → shown_memory (record s { table = t; keys = slice_set s.keys n key }) ≡ placed 14 (Node key) (Some a) (shown_memory s)
     node_made_shown t key keyed is =
-        made_shown {u = record s { table = t; keys = slice_set s.keys n key }} sound variant.Node n a (Node key) is beside
+        made_shown {u = record s { table = t; keys = slice_set s.keys n key }} sound variant.Node n a (Node key) is refl beside
         (omega (arith, known, sound.each variant.Node, sound.small))
         (ap Node (get_or-set_same s.keys n key blank (omega (arith, node_known, keyed))))
         (public_kept s (record s { table = t; keys = slice_set s.keys n key }) (apart_from variant.Port (omega arith)) refl refl)
@@ -86,7 +86,7 @@ module _ {s : Numbered} (kept : IsKept s) (stands : Stands s) (sound : IsSound s
     linked_other m linked same = let bad : true ≡ false = sym linked ∙ ap (λ r. is_some (home s.homes r)) same ∙ ap is_some none in cc
 
     pub node_freed_shown : shown_memory (record s { table = t }) ≡ freed a (shown_memory s)
-    node_freed_shown = freed_shown {u = record s { table = t }} sound variant.Node n a formed live is beside
+    node_freed_shown = freed_shown {u = record s { table = t }} sound variant.Node n a formed live is refl beside
         (public_kept s (record s { table = t }) (apart_from variant.Port (omega arith)) refl refl)
         (timer_kept s (record s { table = t }) (apart_from variant.Request (omega arith)) refl) where
           apart_from : (k : Kind) → kind_code k ≢ kind_code variant.Node → slots_of k t ≡ places k s

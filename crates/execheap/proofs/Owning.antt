@@ -26,6 +26,7 @@ heap_owned s q heap is = λ i. record {
   libraries = map shown_library s.table.libs.known;
   asks = s.table.libs.asks;
   pool = s.table.pool;
+  tasks = s.tasks;
   heap = is i;
   public = map (shown_public s) s.ports.public;
   timer = shown_timer s;
@@ -78,28 +79,28 @@ module _ (s : Numbered) (n semaphore : ℕ) (found : number_at variant.Semaphore
         with_semaphore_shown s (with_sem n sem s.sems) n semaphore sem (waiters_of n s.sems)
         (written_at s.sems.sems.slots n sem free_sem (item_known s.sems.sems.slots n live)) (same_at (λ m. waiters_of m s.sems) n) told
 
-    pub entered_heap : (t : ℕ) → shown_heap (on_semaphores (sems.entered n t) s) ≡ model.entered t semaphore (shown_heap s)
+    pub entered_heap : (t : ℕ) → shown_heap (on_semaphores (sems.entered n t) s) ≡ model.entered semaphore t (shown_heap s)
     unfolding model.entered
     entered_heap t =
-        sem_heap (record { owner = Some t; count = (sem_at n s.sems).count + 1 })
-        ∙ (λ i. model.with_semaphore semaphore (record { owner = Some t; count = (sym sem_is i).count + 1 }) (sym waiters_are i) (shown_heap s))
+        sem_heap (sems.once_more t (sem_at n s.sems))
+        ∙ (λ i. model.with_semaphore semaphore (sems.once_more t (sym sem_is i)) (sym waiters_are i) (shown_heap s))
 
-    released_once_heap : shown_heap (on_semaphores (with_sem n (record (sem_at n s.sems) { count = (sem_at n s.sems).count - 1 })) s)
+    released_once_heap : shown_heap (on_semaphores (with_sem n (sems.once_less (sem_at n s.sems))) s)
         ≡ model.released_once semaphore (shown_heap s)
     unfolding model.released_once
     released_once_heap =
-        sem_heap (record (sem_at n s.sems) { count = (sem_at n s.sems).count - 1 })
-        ∙ (λ i. model.with_semaphore semaphore (record (sym sem_is i) { count = (sym sem_is i).count - 1 }) (sym waiters_are i) (shown_heap s))
+        sem_heap (sems.once_less (sem_at n s.sems))
+        ∙ (λ i. model.with_semaphore semaphore (sems.once_less (sym sem_is i)) (sym waiters_are i) (shown_heap s))
 
     -- a task that may have the semaphore has it, and else nothing changes
-    pub attempted_heap : (t : ℕ) → shown_heap (on_semaphores (sems.attempted n t) s) ≡ model.attempted t semaphore (shown_heap s)
+    pub attempted_heap : (t : ℕ) → shown_heap (on_semaphores (sems.attempted n t) s) ≡ model.attempted semaphore t (shown_heap s)
     unfolding model.attempted
     attempted_heap t =
-        either (sems.is_open n t s.sems)
-        ∙ ap (λ sem. if model.is_open t sem then model.entered t semaphore (shown_heap s) else shown_heap s) (sym sem_is)
+        either (sems.is_open t (sem_at n s.sems))
+        ∙ ap (λ sem. if sems.is_open t sem then model.entered semaphore t (shown_heap s) else shown_heap s) (sym sem_is)
       where
         either : (b : Bool) → shown_heap (on_semaphores (λ m. if b then sems.entered n t m else m) s)
-            ≡ (if b then model.entered t semaphore (shown_heap s) else shown_heap s)
+            ≡ (if b then model.entered semaphore t (shown_heap s) else shown_heap s)
         either true = entered_heap t
         either false = refl
 
@@ -108,7 +109,7 @@ module _ (s : Numbered) (n semaphore : ℕ) (found : number_at variant.Semaphore
     module _ (known : n < length s.sems.queues) where
       -- the first waiter is the owner, or no task is
       handed_to : (o : Option ℕ) → first (waiters_of n s.sems) ≡ o → shown_heap (on_semaphores (sems.handed_on n o) s)
-          ≡ model.with_semaphore semaphore (model.owned_next o) (drop 1 (waiters_of n s.sems)) (shown_heap s)
+          ≡ model.with_semaphore semaphore (sems.owned_next o) (drop 1 (waiters_of n s.sems)) (shown_heap s)
       handed_to None none =
           sem_heap free_sem ∙ ap (λ queue. model.with_semaphore semaphore free_sem queue (shown_heap s)) (none_left (waiters_of n s.sems) none)
       handed_to (Some t) is =
@@ -120,16 +121,16 @@ module _ (s : Numbered) (n semaphore : ℕ) (found : number_at variant.Semaphore
       unfolding model.handed_on
       handed_on_heap =
           handed_to (first (waiters_of n s.sems)) refl
-          ∙ (λ i. model.with_semaphore semaphore (model.owned_next (first (sym waiters_are i))) (drop 1 (sym waiters_are i)) (shown_heap s))
+          ∙ (λ i. model.with_semaphore semaphore (sems.owned_next (first (sym waiters_are i))) (drop 1 (sym waiters_are i)) (shown_heap s))
 
       pub released_heap : shown_heap (on_semaphores (sems.let_go n) s) ≡ model.released semaphore (shown_heap s)
       unfolding model.released
       released_heap =
-          either (sems.is_last n s.sems)
-          ∙ ap (λ sem. if model.is_last sem then model.handed_on semaphore (shown_heap s) else model.released_once semaphore (shown_heap s)) (sym sem_is)
+          either (sems.is_last (sem_at n s.sems))
+          ∙ ap (λ sem. if sems.is_last sem then model.handed_on semaphore (shown_heap s) else model.released_once semaphore (shown_heap s)) (sym sem_is)
         where
           either : (b : Bool)
-              → shown_heap (on_semaphores (λ m. if b then sems.handed_on n (first (waiters_of n m)) m else with_sem n (record (sem_at n m) { count = (sem_at n m).count - 1 }) m) s)
+              → shown_heap (on_semaphores (λ m. if b then sems.handed_on n (first (waiters_of n m)) m else with_sem n (sems.once_less (sem_at n m)) m) s)
               ≡ (if b then model.handed_on semaphore (shown_heap s) else model.released_once semaphore (shown_heap s))
           either true = handed_on_heap
           either false = released_once_heap

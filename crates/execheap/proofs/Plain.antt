@@ -84,7 +84,7 @@ pub plain_placed : (s : Numbered) (size : ℕ) (place : Option ℕ)
 unfolding shown_heap
 plain_placed s size None = refl
 plain_placed s size (Some address) =
-    ap (λ heap. record { regions = s.table.memory.regions; libraries = map shown_library s.table.libs.known; asks = s.table.libs.asks; pool = s.table.pool; heap = heap; public = map (shown_public s) s.ports.public; timer = shown_timer s })
+    ap (λ heap. record { regions = s.table.memory.regions; libraries = map shown_library s.table.libs.known; asks = s.table.libs.asks; pool = s.table.pool; tasks = s.tasks; heap = heap; public = map (shown_public s) s.ports.public; timer = shown_timer s })
     (entries_same s (allocated size 0 (Some address) s.table.memory) (allocated size 0 (Some address) s.table.memory).blocks
     ∙ sym (put_shown (shown_block s) address (round size, 0) s.table.memory.blocks)
     ∙ ap (λ o. put nat_cmp address (record { size = round size; object = o }) (map (shown_entry s) s.table.memory.blocks)) (ap (shown_tagged s) read_plain))
@@ -94,7 +94,7 @@ pub plain_freed : (s : Numbered) (address : ℕ)
     → shown_memory (record s { table = record s.table { memory = without_block address s.table.memory } }) ≡ freed address (shown_memory s)
 unfolding shown_heap
 plain_freed s address =
-    ap (λ heap. record { regions = s.table.memory.regions; libraries = map shown_library s.table.libs.known; asks = s.table.libs.asks; pool = s.table.pool; heap = heap; public = map (shown_public s) s.ports.public; timer = shown_timer s })
+    ap (λ heap. record { regions = s.table.memory.regions; libraries = map shown_library s.table.libs.known; asks = s.table.libs.asks; pool = s.table.pool; tasks = s.tasks; heap = heap; public = map (shown_public s) s.ports.public; timer = shown_timer s })
     (entries_same s (without_block address s.table.memory) (without_block address s.table.memory).blocks
     ∙ sym (where_key_shown (shown_block s) (λ other. not (nat_eq other address)) s.table.memory.blocks))
 

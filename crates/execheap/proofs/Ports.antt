@@ -5,7 +5,7 @@ use Rattle.std.specs.List.{list_any}
 use Rattle.memlist.specs.Fit.{fit}
 use Rattle.memlist.specs.Memory.{IsWellFormed}
 use Rattle.memlist.proofs.Headers.{from_eq}
-use Rattle.execlist.specs.Lists.{home, is_at, sequence}
+use Rattle.execlist.specs.Lists.{home, is_at, sequence, key_at}
 use Rattle.execlist.specs.Pool.{IsStocked, given_at, next_number, slot}
 use Rattle.execlist.proofs.Pools.{slot_known, slot_other, slot_same}
 use Rattle.msgport.proofs.Linking.{nobody_at}
@@ -19,7 +19,6 @@ use Rattle.execheap.specs.declared.kind.Kind.{Kind}
 use Rattle.execheap.specs.declared.kind.Kind.TheVariants as variant
 use Rattle.execheap.specs.Tags.{kind_code, size_of}
 use Rattle.execheap.specs.Table.{Tabled, IsSound, object_at_next, pool_of, slots_of, with_object, without_object}
-use Rattle.execheap.specs.Numbered as numbered
 use Rattle.execheap.specs.Numbered.{Numbered, IsKept, address_in, object_of, own_shape, message_places, places, shape, shown_memory, shown_public, message_of_request}
 use Rattle.execheap.proofs.Beside.{timer_kept}
 use Rattle.execheap.proofs.Kept.{kept_freed, kept_made, pool_freed, pool_made, slots_freed, slots_made, about_freed}
@@ -42,7 +41,7 @@ public_beside : (s u : Numbered) → u.ports.keys ≡ s.ports.keys → u.ports.p
 public_beside s u keys public same =
     ap (map (shown_public u)) public
     ∙ map_agree (shown_public u) (shown_public s) s.ports.public (members (λ q. shown_public u q ≡ shown_public s q) s.ports.public
-    (λ q there. λ i. record { port = unwrap_or (same q there i) 0; key = numbered.key_at (keys i) q }))
+    (λ q there. λ i. record { port = unwrap_or (same q there i) 0; key = key_at (keys i) q }))
 
 no_fault : (there has public : Bool) → IsTrue there → IsTrue (not has) → IsTrue (not public)
     → (if not there then Some Unknown else (if has then Some NotEmpty else (if public then Some Link else None))) ≡ None
@@ -119,7 +118,7 @@ module _ {s : Numbered} (kept : IsKept s) (sound : IsSound s.table) (formed : Is
         (ap (λ (r : MessagePorts). r.holding) is_ports) refl refl)
 
     pub port_made_shown : ports.IsSound s.ports → shown_memory new ≡ placed 34 (MsgPort (new_port task bit) []) (Some a) (shown_memory s)
-    port_made_shown held = made_shown {u = new} sound variant.Port n a (MsgPort (new_port task bit) []) is beside
+    port_made_shown held = made_shown {u = new} sound variant.Port n a (MsgPort (new_port task bit) []) is refl beside
         (omega (arith, next_known sound formed variant.Port n a stocked parts.number parts.address, sound.each variant.Port, sound.small)) here
         (public_beside s new (ap (λ (r : MessagePorts). r.keys) is_ports) (ap (λ (r : MessagePorts). r.public) is_ports) (λ p stands.
         ap (λ u. slot (slots_of variant.Port u) p) is
@@ -191,7 +190,7 @@ module _ {s : Numbered} (kept : IsKept s) (sound : IsSound s.table) (formed : Is
           left _ ne = refl
 
       pub port_freed_shown : ports.IsSound s.ports → IsTrue (not (ports.is_public n s.ports)) → shown_memory without ≡ freed a (shown_memory s)
-      port_freed_shown held private = freed_shown {u = without} sound variant.Port n a formed live is beside
+      port_freed_shown held private = freed_shown {u = without} sound variant.Port n a formed live is refl beside
           (public_beside s without (ap (λ (r : MessagePorts). r.keys) is_ports) (ap (λ (r : MessagePorts). r.public) is_ports) (λ p stands.
           ap (λ u. slot (slots_of variant.Port u) p) is
           ∙ freed_beside sound formed variant.Port n a live variant.Port p (λ e. no_public {s = s} (record { table = sound; kept = kept }) held n private p stands)))

@@ -36,8 +36,8 @@ use Rattle.execheap.proofs.Tagging.{either_number}
 
 pub heap_beside : (s : Numbered) (q : MessagePorts) (heap : Heap) {public : List _} → shown_heap (record s { ports = q }) ≡ heap
     → map (shown_public (record s { ports = q })) q.public ≡ public
-    → shown_memory (record s { ports = q }) ≡ record { regions = s.table.memory.regions; libraries = map shown_library s.table.libs.known; asks = s.table.libs.asks; pool = s.table.pool; heap = heap; public = public; timer = shown_timer s }
-heap_beside s q heap is listed = λ i. record { regions = s.table.memory.regions; libraries = map shown_library s.table.libs.known; asks = s.table.libs.asks; pool = s.table.pool; heap = is i; public = listed i; timer = shown_timer s }
+    → shown_memory (record s { ports = q }) ≡ record { regions = s.table.memory.regions; libraries = map shown_library s.table.libs.known; asks = s.table.libs.asks; pool = s.table.pool; tasks = s.tasks; heap = heap; public = public; timer = shown_timer s }
+heap_beside s q heap is listed = λ i. record { regions = s.table.memory.regions; libraries = map shown_library s.table.libs.known; asks = s.table.libs.asks; pool = s.table.pool; tasks = s.tasks; heap = is i; public = listed i; timer = shown_timer s }
 
 module _ (s : Numbered) (q : MessagePorts) where
   abbrev beside : Numbered

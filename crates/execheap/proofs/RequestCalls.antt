@@ -9,7 +9,7 @@ use Rattle.iorequest.specs.declared.fault.ReqFault.{ReqFault}
 use Rattle.iorequest.specs.declared.request.Begun.{Begun}
 use Rattle.iorequest.specs.declared.request.Begun.TheVariants.{Finish, NewTime, Queue, Until}
 use Rattle.iorequest.specs.declared.request.Request.{Request as TimerRequest}
-use Rattle.iorequest.specs.Faults.{fault_or, kept_or}
+use Rattle.execlist.specs.Answers.{fault_or, kept_or}
 use Rattle.iorequest.specs.Request.{adds, asks_time, begun, due_of, finished, is_to_wait, is_under_way, is_until, outcome, reply_port, sets_time, time_of}
 use Rattle.iorequest.specs.Requests.{is_request, request_at, with_request}
 use Rattle.msgport.specs.Ports.{MessagePorts}

@@ -111,7 +111,7 @@ module _ {s : Numbered} (kept : IsKept s) (sound : IsSound s.table) (formed : Is
         ∙ ap shape (sym (pool_made sound variant.Request n a))) kept.apt along
 
     pub request_made_shown : ports.IsSound s.ports → shown_memory new ≡ placed 40 (Request (idle_request port)) (Some a) (shown_memory s)
-    request_made_shown held = made_shown {u = new} sound variant.Request n a (Request (idle_request port)) is beside
+    request_made_shown held = made_shown {u = new} sound variant.Request n a (Request (idle_request port)) is refl beside
         (omega (arith, next_known sound formed variant.Request n a stocked parts.number parts.address, sound.each variant.Request, sound.small))
         (ap (λ o. Request (unwrap_or o (idle_request 0))) here)
         (public_kept s new (apart_from variant.Port (omega arith)) refl refl)
@@ -183,7 +183,7 @@ module _ {s : Numbered} (kept : IsKept s) (sound : IsSound s.table) (formed : Is
         (λ r p there e. let code : kind_code variant.Port ≡ kind_code variant.Request = ap kind_code e in absurd (omega (arith, code))))
 
     pub request_freed_shown : ports.IsSound s.ports → shown_memory without ≡ freed a (shown_memory s)
-    request_freed_shown held = freed_shown {u = without} sound variant.Request n a formed live is beside
+    request_freed_shown held = freed_shown {u = without} sound variant.Request n a formed live is refl beside
         (public_kept s without (apart_from variant.Port (omega arith)) refl refl)
         (timer_beside s without refl (λ r there. ap (λ u. slot (slots_of variant.Request u) r) is
         ∙ freed_beside sound formed variant.Request n a live variant.Request r (λ e. not_waiting r there)))

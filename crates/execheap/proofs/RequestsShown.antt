@@ -58,12 +58,13 @@ use Rattle.execheap.proofs.Ticked.{timing_beside}
 
 pub memory_is : (u : Numbered) {heap : Heap} {public : List PublicPort} {timer : Timer} → shown_heap u ≡ heap → map (shown_public u) u.ports.public ≡ public
     → shown_timer u ≡ timer
-    → shown_memory u ≡ record { regions = u.table.memory.regions; libraries = map shown_library u.table.libs.known; asks = u.table.libs.asks; pool = u.table.pool; heap = heap; public = public; timer = timer }
+    → shown_memory u ≡ record { regions = u.table.memory.regions; libraries = map shown_library u.table.libs.known; asks = u.table.libs.asks; pool = u.table.pool; tasks = u.tasks; heap = heap; public = public; timer = timer }
 memory_is u heap public timer = λ i. record {
   regions = u.table.memory.regions;
   libraries = map shown_library u.table.libs.known;
   asks = u.table.libs.asks;
   pool = u.table.pool;
+  tasks = u.tasks;
   heap = heap i;
   public = public i;
   timer = timer i;

@@ -2,6 +2,7 @@
 use Rattle.std.proofs.Common.{◌≡◌, ℕ, zero, suc, ◌+◌, ◌-◌, ◌<◌, ◌≤◌, List, [], ◌∷◌, ◌++◌, true, false, length, replicate, slice_set, refl, ap, ◌∙◌, subst, arith}
 use Rattle.std.specs.Prelude.{Some, None, Option, is_some, is_ok, take, IsTrue}
 use Rattle.std.specs.List.{range_with_len}
+use Rattle.std.specs.Option.{ok_or}
 use Rattle.std.proofs.Math.Seq.{take-append_seam}
 use Rattle.std.proofs.lemmas.List.{length-append, length-replicate, length-set, length-take-le}
 use Rattle.execlist.specs.Lists.{last}
@@ -10,7 +11,7 @@ use Rattle.execlist.proofs.PlainLemmas.{last-push}
 use Rattle.execlist.proofs.Pools.{slot_new, slot_other, slot_same}
 use Rattle.memlist.proofs.Answered.{cases_eq}
 use Rattle.msgport.specs.declared.message.Message.{Message}
-use Rattle.msgport.specs.Faults.{number_or_full}
+use Rattle.msgport.specs.declared.fault.PortFault.TheVariants.{PoolFull}
 use Rattle.msgport.specs.Ports.{MessagePorts, new_message, no_ports}
 use Rattle.execheap.specs.Changes.{reserved}
 use Rattle.execheap.specs.Numbered.{shape}
@@ -40,11 +41,11 @@ numbers_left (suc n) ports few =
           (last_there (reserved n ports).messages.free (omega (arith, few, before))) (omega (arith, few, before)),
     )
 
-not_full : (o : Option ℕ) → is_some o ≡ true → IsTrue (is_ok (number_or_full o))
+not_full : (o : Option ℕ) → is_some o ≡ true → IsTrue (is_ok (ok_or o PoolFull))
 not_full None is = let bad : false ≡ true = is in cc
 not_full (Some n) is = refl
 
-pub one_left : (n : ℕ) (ports : MessagePorts) → n < length ports.messages.free → IsTrue (is_ok (number_or_full (next_number (reserved n ports).messages)))
+pub one_left : (n : ℕ) (ports : MessagePorts) → n < length ports.messages.free → IsTrue (is_ok (ok_or (next_number (reserved n ports).messages) PoolFull))
 one_left n ports few = not_full (next_number (reserved n ports).messages)
     (last_there (reserved n ports).messages.free (omega (arith, few, numbers_left n ports (omega (arith, few)))))
 

@@ -5,11 +5,11 @@ use Rattle.execlist.specs.Order.{first}
 use Rattle.execlist.specs.Pool.{slot}
 use Rattle.sigsem.specs.declared.fault.SemFault.{SemFault}
 use Rattle.sigsem.specs.declared.fault.SemFault.TheVariants.{NotOwner, TooDeep}
-use Rattle.sigsem.specs.Faults.{fault_or, kept_or}
+use Rattle.execlist.specs.Answers.{fault_or, kept_or}
 use Rattle.sigsem.specs.Semaphores as sems
-use Rattle.sigsem.specs.Semaphores.{deep_fault, release_fault}
+use Rattle.sigsem.specs.Semaphores.{deep_fault, release_fault, is_last, is_owned, is_owner, is_too_deep}
 use Rattle.execmodel.specs.State.{Heap}
-use Rattle.execmodel.specs.Semaphores.{free_sem_alert, heir, is_last, is_owned, is_owner, is_semaphore_at, is_too_deep, obtain_alert, release_alert, sem_of, semaphore_alert}
+use Rattle.execmodel.specs.Semaphores.{free_sem_alert, heir, is_semaphore_at, obtain_alert, release_alert, sem_of, semaphore_alert}
 use Rattle.execheap.specs.declared.kind.Kind.TheVariants as variant
 use Rattle.execheap.specs.Refusals.{alert_of, told}
 use Rattle.execheap.specs.Numbered.{Numbered, IsSound, shown_heap, places}
@@ -66,7 +66,7 @@ module _ {s : Numbered} (sound : IsSound s) (n semaphore : ℕ) (here : slot (pl
   unfolding heir
   heir_shown = λ i. if is_last (sem_of_shown i) then first (waiters_shown s semaphore n begins i) else None
 
-  pub free_found : {owned : Bool} → sems.is_owned n s.sems ≡ owned → free_sem_alert semaphore (shown_heap s) ≡ sem_if owned
+  pub free_found : {owned : Bool} → is_owned (sems.sem_at n s.sems) ≡ owned → free_sem_alert semaphore (shown_heap s) ≡ sem_if owned
   unfolding free_sem_alert
   free_found is =
       ap (λ b. handle_unless b (sem_if (is_owned (sem_of semaphore (shown_heap s))))) there

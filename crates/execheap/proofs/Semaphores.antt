@@ -67,7 +67,7 @@ module _ {s : Numbered} (kept : IsKept s) (sound : IsSound s.table) (formed : Is
     slots = ap (λ (r : sems.Semaphores). r.sems.slots) is_sems ∙ ap (λ o. (given_at o free_sem s.sems.sems).slots) sem_next
 
     pub sem_made_shown : sems.IsSound s.sems → shown_memory new ≡ placed 46 (Semaphore free_sem []) (Some a) (shown_memory s)
-    sem_made_shown held = made_shown {u = new} sound variant.Semaphore n a (Semaphore free_sem []) is beside
+    sem_made_shown held = made_shown {u = new} sound variant.Semaphore n a (Semaphore free_sem []) is refl beside
         (omega (arith, next_known sound formed variant.Semaphore n a stocked parts.number parts.address, sound.each variant.Semaphore, sound.small)) here
         (public_kept s new (apart_from variant.Port (omega arith)) refl refl) (timer_kept s new (apart_from variant.Request (omega arith)) refl)
       where
@@ -110,7 +110,7 @@ module _ {s : Numbered} (kept : IsKept s) (sound : IsSound s.table) (formed : Is
 
     pub sem_freed_shown : (t : Tabled) (q : sems.Semaphores) → t ≡ without_object variant.Semaphore n a s.table → q ≡ sem_freed n s.sems
         → shown_memory (record s { table = t; sems = q }) ≡ freed a (shown_memory s)
-    sem_freed_shown t q is is_sems = freed_shown {u = record s { table = t; sems = q }} sound variant.Semaphore n a formed live is beside
+    sem_freed_shown t q is is_sems = freed_shown {u = record s { table = t; sems = q }} sound variant.Semaphore n a formed live is refl beside
         (public_kept s (record s { table = t; sems = q }) (apart_from variant.Port (omega arith)) refl refl)
         (timer_kept s (record s { table = t; sems = q }) (apart_from variant.Request (omega arith)) refl) where
           apart_from : (k : Kind) → kind_code k ≢ kind_code variant.Semaphore → slots_of k t ≡ places k s

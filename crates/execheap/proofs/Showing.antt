@@ -179,17 +179,18 @@ place_shown s sound kind stocked =
 -- ---- an object of any kind made or freed, where the others keep what they hold
 
 module _ {s u : Numbered} (sound : IsSound s.table) (kind : Kind) (number a : ℕ) where
-  pub made_shown : (object : Object) → u.table ≡ with_object kind (Some (number, a)) s.table
+  pub made_shown : (object : Object) → u.table ≡ with_object kind (Some (number, a)) s.table → u.tasks ≡ s.tasks
       → ((k : Kind) (m b : ℕ) → slot (slots_of k s.table) m ≡ Some b → object_of k m u ≡ object_of k m s)
       → number < 1024 → object_of kind number u ≡ object → map (shown_public u) u.ports.public ≡ map (shown_public s) s.ports.public
       → shown_timer u ≡ shown_timer s
       → shown_memory u ≡ placed (size_of kind) object (Some a) (shown_memory s)
   unfolding shown_heap
-  made_shown object is beside small here public timer = λ i. record {
+  made_shown object is tasks beside small here public timer = λ i. record {
     regions = (is i).memory.regions;
     libraries = map shown_library (is i).libs.known;
     asks = (is i).libs.asks;
     pool = (is i).pool;
+    tasks = tasks i;
     heap = (
         ap (λ (t : Tabled). map (shown_entry u) t.memory.blocks) is
         ∙ sym (put_shown (shown_block u) a (round (size_of kind), tag_of kind number) s.table.memory.blocks)
@@ -207,16 +208,17 @@ module _ {s u : Numbered} (sound : IsSound s.table) (kind : Kind) (number a : �
     same (tag.Object k m) b told = beside k m b told
 
   pub freed_shown : IsWellFormed s.table.memory.regions s.table.memory.blocks → slot (slots_of kind s.table) number ≡ Some a
-      → u.table ≡ without_object kind number a s.table
+      → u.table ≡ without_object kind number a s.table → u.tasks ≡ s.tasks
       → ((k : Kind) (m b : ℕ) → (k ≡ kind → m ≢ number) → slot (slots_of k s.table) m ≡ Some b → object_of k m u ≡ object_of k m s)
       → map (shown_public u) u.ports.public ≡ map (shown_public s) s.ports.public → shown_timer u ≡ shown_timer s
       → shown_memory u ≡ freed a (shown_memory s)
   unfolding shown_heap
-  freed_shown formed live is beside public timer = λ i. record {
+  freed_shown formed live is tasks beside public timer = λ i. record {
     regions = (is i).memory.regions;
     libraries = map shown_library (is i).libs.known;
     asks = (is i).libs.asks;
     pool = (is i).pool;
+    tasks = tasks i;
     heap = (
         ap (λ (t : Tabled). map (shown_entry u) t.memory.blocks) is
         ∙ map_same (shown_entry u) (shown_entry s) (without_block a s.table.memory).blocks (all_but s.table.memory.blocks sound.matched.tagged)

@@ -3,7 +3,7 @@ use Rattle.std.proofs.Common.{◌≡◌, ◌≢◌, ℕ, false, map, refl, ap, s
 use Rattle.std.specs.Prelude.{Some, is_some, nat_eq}
 use Rattle.std.specs.Option.{option_map}
 use Rattle.std.specs.List.{AllByRecursion}
-use Rattle.execlist.specs.Lists.{sequence}
+use Rattle.execlist.specs.Lists.{sequence, key_at}
 use Rattle.execlist.specs.Pool.{slot}
 use Rattle.memlist.specs.Blocks.{block_at}
 use Rattle.memlist.specs.Memory.{IsWellFormed}
@@ -20,7 +20,7 @@ use Rattle.execheap.specs.declared.tag.Tagged.{Tagged}
 use Rattle.execheap.specs.declared.tag.Tagged.TheVariants as tag
 use Rattle.execheap.specs.Tags.{tag_of, tagged}
 use Rattle.execheap.specs.Table.{Tabled, IsSound, IsTagged, number_at, place_of, slots_of}
-use Rattle.execheap.specs.Numbered.{Numbered, address_in, key_at, message_places, places, shown_heap}
+use Rattle.execheap.specs.Numbered.{Numbered, address_in, message_places, places, shown_heap}
 use Rattle.execheap.proofs.Entries.{IsFound, all_found, all_with, some_same}
 use Rattle.execheap.proofs.Matching.{number_small}
 use Rattle.execheap.proofs.Showing.{kind_shown, object_numbered}

@@ -38,6 +38,7 @@ times_shown f s timer = λ i. record {
   libraries = map shown_library s.table.libs.known;
   asks = s.table.libs.asks;
   pool = s.table.pool;
+  tasks = s.tasks;
   heap = timing_beside s (on_held f s.timing) i;
   public = map (shown_public s) s.ports.public;
   timer = timer i;

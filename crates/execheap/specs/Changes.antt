@@ -9,24 +9,26 @@ use Rattle.execlist.specs.Pool.{all_free}
 use Rattle.timerdev.specs.Timing.{new_timer}
 use Rattle.sigsem.specs.Semaphores.{Semaphores, no_sems}
 use Rattle.execheap.specs.Table as table
-use Rattle.execheap.specs.Numbered.{Numbered, most_tasks}
+use Rattle.execheap.specs.Numbered.{Numbered}
 
 -- so many messages are made, one for each request
 abbrev pub reserved : ℕ → MessagePorts → MessagePorts
 reserved zero ports = ports
 reserved (suc n) ports = message_made 0 0 (reserved n ports)
 
--- no block, no object of a pool of so many of each kind, none of these libraries loaded, and a clock at 0 with ticks of so many microseconds
-abbrev pub unused : List Region → ℕ → List Description → Bool → ℕ → Numbered
-unused regions pool known asks tick_micros = record {
+-- no block, no object of a pool of so many of each kind, so many tasks that may wait at semaphores, none of these libraries loaded, and a
+-- clock at 0 with ticks of so many microseconds
+abbrev pub unused : List Region → (pool tasks : ℕ) → List Description → Bool → ℕ → Numbered
+unused regions pool tasks known asks tick_micros = record {
   table = table.unused regions pool known asks;
   sequences = replicate pool [];
   homes = replicate pool None;
   keys = replicate pool blank;
   ports = reserved pool (no_ports pool (pool + pool));
-  sems = no_sems pool most_tasks;
+  sems = no_sems pool tasks;
   requests = all_free pool;
   timing = record { room = pool; timer = new_timer tick_micros };
+  tasks = tasks;
 }
 
 -- the key of a node with that priority, and that name or none

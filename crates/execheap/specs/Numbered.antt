@@ -1,6 +1,6 @@
 -- Objects by number, and the memory that they stand for: the objects by address.
 use Rattle.std.specs.Prelude.{◌≡◌, ℕ, ◌+◌, ◌^◌, ◌<◌, ◌≤◌, ◌&&◌, ◌++◌, false, take, if◌then◌else◌, Bool, IsSome, IsTrue, is_some, List, length, map, slice_index_or, Option, None, Some, unwrap_or}
-use Rattle.execlist.specs.Lists.{Key, blank, sequence, home, is_at, times}
+use Rattle.execlist.specs.Lists.{Key, sequence, home, is_at, times, key_at}
 use Rattle.execlist.specs.Pool.{Pooled, slot}
 use Rattle.execlib.specs.Libraries.{Description, count_of, is_delayed}
 use Rattle.memlist.specs.Memory.{IsWellFormed}
@@ -37,6 +37,7 @@ pub record Numbered : Type 0 where
   pub sems : Semaphores
   pub requests : Pooled TimerRequest
   pub timing : Held
+  pub tasks : ℕ
 
 -- the addresses of the objects of a kind, by number
 abbrev pub places : Kind → Numbered → List (Option ℕ)
@@ -56,10 +57,6 @@ message_places s = places variant.Message s ++ places variant.Request s
 -- the number of request r as a message
 abbrev pub message_of_request : ℕ → Numbered → ℕ
 message_of_request r s = s.table.pool + r
-
--- the key of a node, by its number
-abbrev pub key_at : List Key → ℕ → Key
-key_at keys n = slice_index_or keys n blank
 
 -- the object of a kind and a number
 abbrev pub object_of : Kind → ℕ → Numbered → Object
@@ -115,6 +112,7 @@ shown_memory s = record {
   libraries = map shown_library s.table.libs.known;
   asks = s.table.libs.asks;
   pool = s.table.pool;
+  tasks = s.tasks;
   heap = shown_heap s;
   public = map (shown_public s) s.ports.public;
   timer = shown_timer s;
@@ -146,14 +144,10 @@ abbrev pub Fits : Option Shape → Pooled ℕ → Type 0
 Fits None pool = Unit {0}
 Fits (Some own) pool = own ≡ shape pool
 
--- the most tasks that a machine has
-abbrev pub most_tasks : ℕ
-most_tasks = 4096
-
--- each port has a signal of its task's own, and there is room for the most tasks that a machine has to wait at semaphores
-pub record IsApt (ports : MessagePorts) (sems : Semaphores) : Type 0 where
+-- each port has a signal of its task's own, and there is room for so many tasks to wait at semaphores
+pub record IsApt (ports : MessagePorts) (sems : Semaphores) (tasks : ℕ) : Type 0 where
   pub own_signals : (p : ℕ) → IsTrue (is_port p ports) → 16 ≤ (port_at p ports).bit
-  pub each_task : length sems.places ≡ most_tasks
+  pub each_task : length sems.places ≡ tasks
 
 -- Each request has its message from the beginning on. Just a request that is under way is held as a message and waits for the timer; one whose
 -- reply is queued lives, and the port that has it is its reply port. The clock has room for the longest time of a request, and system time
@@ -178,7 +172,7 @@ pub record IsKept (s : Numbered) : Type 0 where
   pub each_list : length s.sequences ≡ length (places variant.List s)
   pub each_node : length s.homes ≡ length (places variant.Node s)
   pub in_step : (kind : Kind) → Fits (own_shape kind s) (pool_of kind s.table)
-  pub apt : IsApt s.ports s.sems
+  pub apt : IsApt s.ports s.sems s.tasks
   pub in_time : IsInTime s
 
 -- that, and that a number stands for one object and an object for one block

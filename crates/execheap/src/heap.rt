@@ -48,8 +48,9 @@ impl<S: ListSpace> Model for Heap<S> {
 
 impl<S: ListSpace> Heap<S> {
     /// The memory of these regions with nothing allocated, and these libraries, at most 32, none of them loaded, which are asked to give way
-    /// where memory is lacking if `asks` says so. Of each kind as many objects may live as `pool` says, and clock and system time stand at 0
-    /// and gain `tick_micros` microseconds at each tick. An error means that memory of the host is lacking, or that `check_regions` refuses
+    /// where memory is lacking if `asks` says so. Of each kind as many objects may live as `pool` says, there are so many tasks, at most
+    /// 4,096, numbered from 0, for each of which there is room to wait for a semaphore, and clock and system time stand at 0 and gain
+    /// `tick_micros` microseconds at each tick. An error means that memory of the host is lacking, or that `check_regions` refuses
     /// the regions, which no machine file's are.
     ///
     /// Source: own choice.
@@ -57,15 +58,17 @@ impl<S: ListSpace> Heap<S> {
         alloc: Global,
         regions: &[Region],
         pool: u32,
+        tasks: usize,
         libraries: &[LibInit],
         asks: bool,
         tick_micros: u32,
     ) -> Result<Self, AllocError>
         requires pool { pool ≤ 1024 }
+        requires tasks { tasks ≤ 4096 }
         requires few { length libraries.now ≤ 32 }
-        ensures { IfOk result (λ h. h ≡ record { regions = regions.now; libraries = map shown_library (map description_of libraries.now); asks = asks; pool = pool; heap = []; public = []; timer = new_timer tick_micros }) }
+        ensures { IfOk result (λ h. h ≡ record { regions = regions.now; libraries = map shown_library (map description_of libraries.now); asks = asks; pool = pool; tasks = tasks; heap = []; public = []; timer = new_timer tick_micros }) }
     {
-        let objects = Objects::new(alloc, regions, pool, libraries, asks, tick_micros)?;
+        let objects = Objects::new(alloc, regions, pool, tasks, libraries, asks, tick_micros)?;
         Ok(Heap { objects })
     }
 

@@ -35,9 +35,6 @@ use std::alloc::{AllocError, Global};
 use std::marker::Model;
 use timerdev::timer::Timer;
 
-/// The most tasks that a machine has: each may wait at a semaphore.
-const MOST_TASKS: usize = 4096;
-
 /// The blocks of a memory, and the objects that live in them by number. The table tells where each object is; the list space, the ports,
 /// the semaphores and the requests keep what they hold, and give the numbers that the table gives; the timer knows which requests wait.
 /// Each request is a message of the ports too, from the beginning on: their numbers stand behind those of the messages.
@@ -49,6 +46,8 @@ pub struct Objects<S: ListSpace> {
     sems: Sems<S>,
     requests: Requests,
     timer: Timer<S>,
+    // How many tasks may wait at the semaphores.
+    tasks: usize,
 }
 
 impl<S: ListSpace> Model for Objects<S> {
@@ -65,6 +64,7 @@ impl<S: ListSpace> Model for Objects<S> {
       sems = o.sems;
       requests = o.requests;
       timing = o.timer;
+      tasks = o.tasks;
     } };
 
     ghost invariant = { λ o. IsKept (record {
@@ -76,31 +76,35 @@ impl<S: ListSpace> Model for Objects<S> {
       sems = o.sems;
       requests = o.requests;
       timing = o.timer;
+      tasks = o.tasks;
     }) };
 }
 
 impl<S: ListSpace> Objects<S> {
-    /// Memory of these regions in which nothing is allocated, room for so many objects of each kind, these libraries, none of them loaded,
-    /// which are asked to give way or not, and a clock at 0 that gains so many microseconds at each tick.
+    /// Memory of these regions in which nothing is allocated, room for so many objects of each kind and for so many tasks to wait at
+    /// semaphores, these libraries, none of them loaded, which are asked to give way or not, and a clock at 0 that gains so many microseconds
+    /// at each tick.
     ///
     /// Source: own choice.
     pub fn new(
         alloc: Global,
         regions: &[Region],
         pool: u32,
+        tasks: usize,
         libraries: &[LibInit],
         asks: bool,
         tick_micros: u32,
     ) -> Result<Self, AllocError>
         requires pool { pool ≤ 1024 }
+        requires tasks { tasks ≤ 4096 }
         requires few { length libraries.now ≤ 32 }
-        ensures { IfOk result (λ o. o ≡ unused regions.now pool (map description_of libraries.now) asks tick_micros) }
+        ensures { IfOk result (λ o. o ≡ unused regions.now pool tasks (map description_of libraries.now) asks tick_micros) }
     {
         let pool = pool as usize;
         let table = Table::new(alloc, regions, pool, libraries, asks)?;
         let space = S::new(alloc, pool, pool)?;
         let ports = requests::with_requests(Ports::new(alloc, pool, pool + pool)?, pool);
-        let sems = Sems::new(alloc, pool, MOST_TASKS)?;
+        let sems = Sems::new(alloc, pool, tasks)?;
         let held = Requests::new(alloc, pool)?;
         let timer = Timer::new(alloc, pool, tick_micros)?;
         Ok(Objects {
@@ -110,6 +114,7 @@ impl<S: ListSpace> Objects<S> {
             sems,
             requests: held,
             timer,
+            tasks,
         })
     }
 

@@ -1,3 +1,4 @@
+pub mod Answers
 pub mod Order
 pub mod Lists
 pub mod Keys
@@ -7,5 +8,6 @@ pub mod Links
 pub mod Chains
 pub mod Ownership
 pub mod Places
+pub mod Disciplines
 pub mod Digest
 pub mod DigestKeys

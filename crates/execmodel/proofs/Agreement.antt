@@ -4,7 +4,8 @@ use Rattle.std.specs.Prelude.{not, ◌&&◌, cond, if◌then◌else◌, nat_eq, 
 use Rattle.std.proofs.lemmas.List.{get_or-set_same, get_or-set_other}
 use Rattle.memlist.proofs.Answered.{nat_eq-same, nat_eq-other, cases_eq}
 use Rattle.execlist.specs.Lists.{is_at}
-use Rattle.taskq.specs.Tasks.{state_at, is_ready, is_live, pri_at}
+use Rattle.taskq.specs.Tasks.{state_at, is_ready, is_live}
+use Rattle.execlist.specs.Disciplines.{pri_at, by_arrival}
 use Rattle.taskq.specs.declared.TaskState.{TaskState}
 use Rattle.taskq.specs.declared.TaskState.TheVariants.{Absent, Ready, Running, Waiting, Removed}
 use Rattle.taskq.specs.declared.Why.TheVariants.{Signals, Sem}
@@ -12,7 +13,7 @@ use Rattle.scheduler.specs.Schedule.{Schedule, status_of, signals_of, is_absent,
 use Rattle.scheduler.specs.declared.Switch.TheVariants.{To, Idle}
 use Rattle.execlist.specs.Order.{without, chosen, chosen_or, is_lower}
 use Rattle.signals.specs.Signals.{after_post}
-use Rattle.execmodel.specs.Scheduling.{arrives, added, displaced, after_switch, switch_of, rescheduled, signalled}
+use Rattle.scheduler.specs.Dispatch.{arrives, added, displaced, after_switch, switch_of, rescheduled, signalled}
 use Rattle.execmodel.specs.Agreement.{once_if, StandsInOne, Agrees}
 use Rattle.scheduler.specs.Sound.{is_running}
 use Rattle.execlist.specs.Lists.{times}
@@ -211,27 +212,27 @@ no_more t k q apart =
 -- a task that neither runs nor is ready, and stands in no queue any more
 pub arrives_agrees : (k : ℕ) (s : Schedule) (q p : ℕ → List ℕ) (x : TaskState) → status_of s k ≡ x → k < length s.queue.states
     → is_running x ≡ false → is_ready x ≡ false → StandsInOne false k p → ((j a : ℕ) → j ≢ k → times j (p a) ≡ times j (q a))
-    → AllAgree s q → AllAgree (arrives k s) p
+    → AllAgree s q → AllAgree (arrives by_arrival k s) p
 unfolding arrives
 arrives_agrees k s q p x status range idle unready none others old t =
     cases_eq t k
-    (λ here. subst (λ j. Agrees j (arrives k s) p) (sym here)
-    (stands k (arrives k s) p Ready (set_here s.queue.states k Ready range) (runs_at k s q x status (old k) ∙ idle)
+    (λ here. subst (λ j. Agrees j (arrives by_arrival k s) p) (sym here)
+    (stands k (arrives by_arrival k s) p Ready (set_here s.queue.states k Ready range) (runs_at k s q x status (old k) ∙ idle)
     (one_time k s.queue.ready (ready_at k s q x status (old k) ∙ ap once_if unready)) none))
-    (λ apart. untouched t s (arrives k s) q p (set_there s.queue.states k t Ready apart) refl (no_more t k s.queue.ready apart)
+    (λ apart. untouched t s (arrives by_arrival k s) q p (set_there s.queue.states k t Ready apart) refl (no_more t k s.queue.ready apart)
     (λ a. others t a apart) (old t))
 
 -- a ready task that arrives anew
 pub rearrives_agrees : (k : ℕ) (s : Schedule) (q : ℕ → List ℕ) → is_ready (status_of s k) ≡ true → AllAgree s q
-    → AllAgree (arrives k (departs k s)) q
+    → AllAgree (arrives by_arrival k (departs k s)) q
 unfolding arrives
 rearrives_agrees k s q e old t =
     let status = ready_is (status_of s k) e in
     cases_eq t k
-    (λ here. subst (λ j. Agrees j (arrives k (departs k s)) q) (sym here)
-    (stands k (arrives k (departs k s)) q Ready (set_here s.queue.states k Ready (range_of k s Ready status refl)) (runs_at k s q Ready status (old k))
+    (λ here. subst (λ j. Agrees j (arrives by_arrival k (departs k s)) q) (sym here)
+    (stands k (arrives by_arrival k (departs k s)) q Ready (set_here s.queue.states k Ready (range_of k s Ready status refl)) (runs_at k s q Ready status (old k))
     (one_time k (without k s.queue.ready) (times_gone k s.queue.ready)) (waits_at k s q Ready status (old k))))
-    (λ apart. untouched t s (arrives k (departs k s)) q q (set_there s.queue.states k t Ready apart) refl
+    (λ apart. untouched t s (arrives by_arrival k (departs k s)) q q (set_there s.queue.states k t Ready apart) refl
     (no_more t k (without k s.queue.ready) apart ∙ times_others t k s.queue.ready apart) (λ a. refl) (old t))
 
 -- a task that was not added yet stands nowhere
@@ -255,11 +256,11 @@ stops_agrees t x s r q p runs states ready none idle unready queues others old j
     (ap (λ o. is_at o j) none ∙ sym (not_running t j s runs apart)) (ap (λ l. times j l) ready) (λ a. others j a apart) (old j))
 
 -- the running task is displaced, and none runs yet
-displaced_agrees : (r : ℕ) (s : Schedule) (q : ℕ → List ℕ) → s.running ≡ Some r → AllAgree s q → AllAgree (arrives r (record s { running = None })) q
+displaced_agrees : (r : ℕ) (s : Schedule) (q : ℕ → List ℕ) → s.running ≡ Some r → AllAgree s q → AllAgree (arrives by_arrival r (record s { running = None })) q
 unfolding arrives
 displaced_agrees r s q runs old j =
     let status = running_state r s q runs (old r) in
-    let next = arrives r (record s { running = None }) in
+    let next = arrives by_arrival r (record s { running = None }) in
     cases_eq j r
     (λ here. subst (λ k. Agrees k next q) (sym here)
     (stands r next q Ready (set_here s.queue.states r Ready (range_of r s Running status refl)) refl
@@ -313,12 +314,12 @@ chosen_stands key [] t e = let bad : None ≡ Some t = e in cc
 chosen_stands key (x ∷ xs) t e = one_stands key x t xs (chosen key xs) (chosen_stands key xs t) e
 
 to_agrees : (running : Option ℕ) (t : ℕ) (s : Schedule) (q : ℕ → List ℕ) → s.running ≡ running → 0 < times t s.queue.ready → AllAgree s q
-    → AllAgree (begins t (displaced running s)) q
+    → AllAgree (begins t (displaced by_arrival running s)) q
 unfolding arrives begins
 to_agrees None t s q none h old =
     begins_agrees t s q none (stands_there (is_ready (status_of s t)) (times t s.queue.ready) (old t).ready h) old
 to_agrees (Some r) t s q runs h old =
-    let next = arrives r (record s { running = None }) in
+    let next = arrives by_arrival r (record s { running = None }) in
     let agree = displaced_agrees r s q runs old in
     let more = times_last t r s.queue.ready in
     begins_agrees t next q refl
@@ -332,34 +333,34 @@ renewed_agrees (Some r) s q old = either (is_switching_allowed (Some r) s && is_
     either true = alike_agrees s (record s { left = s.quantum }) q q refl refl refl (λ a. refl) old
     either false = old
 
-idle_agrees : (b : Bool) (s : Schedule) (q : ℕ → List ℕ) → AllAgree s q → AllAgree (after_switch (if b then None else Some Idle) s) q
+idle_agrees : (b : Bool) (s : Schedule) (q : ℕ → List ℕ) → AllAgree s q → AllAgree (after_switch by_arrival (if b then None else Some Idle) s) q
 idle_agrees true s q old = renewed_agrees s.running s q old
 idle_agrees false s q old = alike_agrees s (record s { idle = true }) q q refl refl refl (λ a. refl) old
 
 tested_agrees : (b : Bool) (t : ℕ) (s : Schedule) (q : ℕ → List ℕ) → 0 < times t s.queue.ready → AllAgree s q
-    → AllAgree (after_switch (if b then Some (To t) else None) s) q
+    → AllAgree (after_switch by_arrival (if b then Some (To t) else None) s) q
 tested_agrees true t s q h old = to_agrees s.running t s q refl h old
 tested_agrees false t s q h old = renewed_agrees s.running s q old
 
 switched_agrees : (running choice : Option ℕ) (s : Schedule) (q : ℕ → List ℕ) → chosen (pri_at s.queue.pris) s.queue.ready ≡ choice → AllAgree s q
-    → AllAgree (after_switch (switch_for running choice s) s) q
+    → AllAgree (after_switch by_arrival (switch_for running choice s) s) q
 switched_agrees None None s q e old = idle_agrees s.idle s q old
 switched_agrees None (Some t) s q e old = tested_agrees true t s q (chosen_stands (pri_at s.queue.pris) s.queue.ready t e) old
 switched_agrees (Some r) None s q e old = renewed_agrees s.running s q old
 switched_agrees (Some r) (Some t) s q e old =
     tested_agrees (is_switching_allowed (Some r) s && takes_over t r s) t s q (chosen_stands (pri_at s.queue.pris) s.queue.ready t e) old
 
-pub rescheduled_agrees : (s : Schedule) (q : ℕ → List ℕ) → AllAgree s q → AllAgree (rescheduled s) q
+pub rescheduled_agrees : (s : Schedule) (q : ℕ → List ℕ) → AllAgree s q → AllAgree (rescheduled by_arrival s) q
 unfolding rescheduled switch_of
 rescheduled_agrees s q old = switched_agrees s.running (chosen (pri_at s.queue.pris) s.queue.ready) s q refl old
 
 -- ---- tasks that are added, signalled, removed
 
-pub added_agrees : (k : ℕ) (s : Schedule) (q : ℕ → List ℕ) → k < length s.queue.states → AllAgree s q → AllAgree (added k s) q
+pub added_agrees : (k : ℕ) (s : Schedule) (q : ℕ → List ℕ) → k < length s.queue.states → AllAgree s q → AllAgree (added by_arrival k s) q
 unfolding added
 added_agrees k s q range old = either (is_absent (status_of s k)) refl
   where
-    either : (b : Bool) → is_absent (status_of s k) ≡ b → AllAgree (if b then arrives k s else s) q
+    either : (b : Bool) → is_absent (status_of s k) ≡ b → AllAgree (if b then arrives by_arrival k s else s) q
     either true e =
         let status = absent_is (status_of s k) e in
         arrives_agrees k s q q Absent status range refl refl (waits_at k s q Absent status (old k)) (λ j a apart. refl) old
@@ -369,7 +370,7 @@ added_agrees k s q range old = either (is_absent (status_of s k)) refl
 abbrev pub got : ℕ → ℕ → Schedule → Schedule
 got k mask s = with_signals k (after_post mask (signals_of s k)) s
 
-pub signalled_agrees : (k mask : ℕ) (s : Schedule) (q : ℕ → List ℕ) → AllAgree s q → AllAgree (signalled k mask s) q
+pub signalled_agrees : (k mask : ℕ) (s : Schedule) (q : ℕ → List ℕ) → AllAgree s q → AllAgree (signalled by_arrival k mask s) q
 unfolding signalled
 signalled_agrees k mask s q old = live (is_live (status_of s k))
   where
@@ -377,7 +378,7 @@ signalled_agrees k mask s q old = live (is_live (status_of s k))
     agree = alike_agrees s (got k mask s) q q refl refl refl (λ a. refl) old
 
     come : (b : Bool) → awaits (status_of s k) (signals_of (got k mask s) k).received ≡ b
-        → AllAgree (if b then arrives k (got k mask s) else got k mask s) q
+        → AllAgree (if b then arrives by_arrival k (got k mask s) else got k mask s) q
     come true e =
         let is = awaiting_is (status_of s k) (signals_of (got k mask s) k).received e in
         arrives_agrees k (got k mask s) q q (Waiting (Signals is.0)) is.1 (range_of k s (Waiting (Signals is.0)) is.1 refl) refl refl
@@ -386,7 +387,7 @@ signalled_agrees k mask s q old = live (is_live (status_of s k))
 
     live : (b : Bool)
         → AllAgree (if not b then s
-        else (if awaits (status_of s k) (signals_of (got k mask s) k).received then arrives k (got k mask s) else got k mask s)) q
+        else (if awaits (status_of s k) (signals_of (got k mask s) k).received then arrives by_arrival k (got k mask s) else got k mask s)) q
     live true = come (awaits (status_of s k) (signals_of (got k mask s) k).received) refl
     live false = old
 
@@ -459,7 +460,7 @@ once_there false t q a one = let none = one a in omega (arith, none)
 
 -- the first of the tasks that wait is made the owner, and ready
 pub wakes_agrees : (semaphore owner : ℕ) (s : Schedule) (q p : ℕ → List ℕ)
-    → ((a : ℕ) → Follows (q a) (turn_at a semaphore (Served owner) ++ []) (p a)) → AllAgree s q → AllAgree (arrives owner s) p
+    → ((a : ℕ) → Follows (q a) (turn_at a semaphore (Served owner) ++ []) (p a)) → AllAgree s q → AllAgree (arrives by_arrival owner s) p
 wakes_agrees semaphore owner s q p follows old =
     let status = at_semaphore_is (status_of s owner) (waits_there (is_at_semaphore (status_of s owner)) owner q semaphore (old owner).waits first) in
     arrives_agrees owner s q p (Waiting Sem) status (range_of owner s (Waiting Sem) status refl) refl refl none others old

@@ -18,7 +18,7 @@ use Rattle.execlist.specs.Lists.{times}
 use Rattle.execmodel.specs.Laws.{times_waiting}
 use Rattle.execmodel.proofs.Heaps.{true_is_not_false}
 use Rattle.execmodel.proofs.Agreement.{times_last, times_gone, times_others, first_stands, later_stands}
-use Rattle.execmodel.proofs.Commands.{none_some, IsCalm, Reaches, performed_reaches, performed_memory, performed_scripts}
+use Rattle.execmodel.proofs.Commands.{none_some, IsCalm, Reaches, performed_reaches, performed_memory, performed_scripts, settings_of}
 use Rattle.execmodel.proofs.Queues.{IsAway}
 use Rattle.execmodel.proofs.Posts.{Post, ARequest, post_at, messages_at, asked_at, is_a_port, may_stand, IsTidy, messages_are, request_is, port_is, request_there, request_from, under_way_there, post_elsewhere, post_here}
 
@@ -330,10 +330,10 @@ reply_calm None request = λ p. refl
 reply_calm (Some port) request = λ p. refl
 
 -- what comes of that: the blocks and the requests that wait, the schedule; and the regions, whether libraries are asked, the clock and
--- system time, and how many programs there are, stay
+-- system time, and how many tasks and programs there are, stay
 pub record Finishing (s : State) (marks : List Mark) (r : State) : Type 0 where
   pub regions : r.memory.regions ≡ s.memory.regions
-  pub version : r.memory.asks ≡ s.memory.asks
+  pub settings : settings_of r.memory ≡ settings_of s.memory
   pub clock : r.memory.timer.clock ≡ s.memory.timer.clock
   pub system : r.memory.timer.system ≡ s.memory.timer.system
   pub tick_micros : r.memory.timer.tick_micros ≡ s.memory.timer.tick_micros
@@ -353,7 +353,7 @@ finishing request s waits =
     (subst (λ r. Finishing s (reply_marks found request) r) (sym (state_of found request o))
     (record {
       regions = ap (λ (m : Memory). m.regions) (performed_memory act next) ∙ unfold ended in refl;
-      version = ap (λ (m : Memory). m.asks) (performed_memory act next) ∙ unfold ended in refl;
+      settings = ap settings_of (performed_memory act next) ∙ unfold ended in refl;
       clock = ap (λ (m : Memory). m.timer.clock) (performed_memory act next) ∙ unfold ended in refl;
       system = ap (λ (m : Memory). m.timer.system) (performed_memory act next) ∙ unfold ended in refl;
       tick_micros = ap (λ (m : Memory). m.timer.tick_micros) (performed_memory act next) ∙ unfold ended in refl;

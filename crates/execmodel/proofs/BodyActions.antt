@@ -3,6 +3,7 @@ use Rattle.std.proofs.Common.{◌≡◌, ℕ, zero, suc, ℤ, pos, Bool, true, f
 use Rattle.std.specs.Prelude.{◌-◌, not, ◌&&◌, if◌then◌else◌, nat_eq, nat_lt, length, unwrap_or}
 use Rattle.exectrace.specs.Trace.{TraceLine, Call as CallLine, Server, Softint, Alert, Timer}
 use Rattle.execlist.specs.Order.{first}
+use Rattle.execlist.specs.Disciplines.{by_arrival}
 use Rattle.forbid.specs.Nesting.{Nesting}
 use Rattle.taskq.specs.Tasks.{is_live}
 use Rattle.scheduler.specs.Schedule.{Schedule, status_of, awaits}
@@ -20,8 +21,9 @@ use Rattle.taskscript.specs.declared.word.ports.PortWord.TheVariants as ports
 use Rattle.taskscript.specs.declared.word.interrupts.InterruptWord.{InterruptWord}
 use Rattle.taskscript.specs.declared.word.interrupts.InterruptWord.TheVariants as interrupts
 use Rattle.taskscript.specs.Commands.{CommandData}
+use Rattle.taskscript.specs.File.{SoftintData}
 use Rattle.execmodel.specs.State.{Call, Pending, State, Timer as Clock, Outcome, quiet, says, andthen, unless_stopped, on_schedule, on_memory, on_timer, on_pending}
-use Rattle.execmodel.specs.Scheduling.{arrives, signalled}
+use Rattle.scheduler.specs.Dispatch.{arrives, signalled}
 use Rattle.execmodel.specs.Calls.{ByBody, argument, name_argument, unless_by, call_in_body}
 use Rattle.execmodel.specs.Signals.{signal_alert}
 use Rattle.execmodel.specs.Pending.{arrived, is_caused, causes, softint_named, taken_off}
@@ -96,25 +98,25 @@ either_stands : (a : Option ℕ × List Nesting) (test : Bool) (r s : Schedule) 
 either_stands a true r s one other = one
 either_stands a false r s one other = other
 
-signalled_stands : (t mask : ℕ) (s : Schedule) → standing (signalled t mask s) ≡ standing s
+signalled_stands : (t mask : ℕ) (s : Schedule) → standing (signalled by_arrival t mask s) ≡ standing s
 unfolding signalled arrives
 signalled_stands t mask s =
     either_stands _ (not (is_live (status_of s t))) _ _ refl
     (either_stands _ (awaits (status_of s t) _) _ _ refl refl)
 
-signalled_steady : (t mask : ℕ) (s : State) → steady (on_schedule (signalled t mask) s) ≡ steady s
+signalled_steady : (t mask : ℕ) (s : State) → steady (on_schedule (signalled by_arrival t mask) s) ≡ steady s
 signalled_steady t mask s =
     ap (λ (p : Option ℕ × List Nesting). (p.0, p.1, s.pending.latches)) (signalled_stands t mask s.schedule)
 
-same_latches : (test : Bool) (i : ℕ) (pending : Pending) → (if test then arrived i pending else pending).latches ≡ pending.latches
-same_latches true i pending = refl
-same_latches false i pending = refl
+same_latches : (test : Bool) (i : ℕ) (softints : List SoftintData) (pending : Pending) → (if test then arrived by_arrival i softints pending else pending).latches ≡ pending.latches
+same_latches true i softints pending = refl
+same_latches false i softints pending = refl
 
 caused_steady : (i : ℕ) (s : State) → steady (causes i s) ≡ steady s
 unfolding causes
 caused_steady i s =
     ap (λ (latches : Latches). (s.schedule.running, s.schedule.nestings, latches))
-    (same_latches (nat_lt i (length s.bodies.softints) && not (is_caused i s.pending)) i s.pending)
+    (same_latches (nat_lt i (length s.bodies.softints) && not (is_caused i s.pending)) i s.bodies.softints s.pending)
 
 performed_steady : (act : Action) (s : State) → steady (performed act s) ≡ steady s
 performed_steady (action.Signal task mask) s = signalled_steady task mask s

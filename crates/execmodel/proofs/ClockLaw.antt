@@ -3,6 +3,7 @@ use Rattle.std.proofs.Common.{◌≡◌, ℕ, zero, suc, ◌+◌, ◌*◌, ◌�
 use Rattle.std.specs.Prelude.{if◌then◌else◌, sum_by}
 use Rattle.std.proofs.Math.Nat.{add-mul}
 use Rattle.std.proofs.lemmas.List.Sums.{sum_by-cons}
+use Rattle.execlist.specs.Disciplines.{by_arrival}
 use Rattle.softint.specs.declared.source.Source.{Source}
 use Rattle.softint.specs.declared.source.Source.TheVariants.{Vertb}
 use Rattle.taskscript.specs.declared.word.Word.{Word}
@@ -12,7 +13,7 @@ use Rattle.taskscript.specs.declared.event.Event.TheVariants.{Run, Tick, Irq}
 use Rattle.taskscript.specs.Events.{ticks as event_ticks}
 use Rattle.taskscript.specs.File.{MachineData}
 use Rattle.execmodel.specs.State.{Call, Timer, State, Outcome, quiet, andthen, booted, on_schedule}
-use Rattle.execmodel.specs.Scheduling.{rescheduled}
+use Rattle.scheduler.specs.Dispatch.{rescheduled}
 use Rattle.execmodel.specs.Pending.{source_named}
 use Rattle.execmodel.specs.Keeping.{beside_plain, beside_signals, beside_nestings, beside_memory, beside_ports, beside_requests, beside_interrupts, beside_semaphores, beside_tasks}
 use Rattle.execmodel.specs.Plain.{does_plain}
@@ -79,7 +80,7 @@ stands = record {
     finishing = λ request s waits. ((finishing request s waits).clock, (finishing request s waits).tick_micros);
     looking = λ s. (refl, refl);
     ticking = λ s. (refl, refl);
-    switching = λ s. quietly Stands s (switches s) (on_schedule rescheduled s) (switches_quiet s) (refl, refl);
+    switching = λ s. quietly Stands s (switches s) (on_schedule (rescheduled by_arrival) s) (switches_quiet s) (refl, refl);
   };
   adding = λ t s less. (refl, refl);
   calling = λ t call s runs is. word_stands call.word t call s;

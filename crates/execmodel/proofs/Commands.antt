@@ -4,6 +4,7 @@ use Rattle.std.proofs.Common.{◌≡◌, ℕ, Bool, true, false, List, [], ◌�
 use Rattle.std.specs.Prelude.{◌-◌, not, if◌then◌else◌, nat_eq, is_some}
 use Rattle.std.proofs.lemmas.List.{length-set}
 use Rattle.execlist.specs.Order.{first}
+use Rattle.execlist.specs.Disciplines.{by_arrival}
 use Rattle.scheduler.specs.Schedule.{Schedule, signals_of}
 use Rattle.msgport.specs.Port.{acting}
 use Rattle.msgport.specs.Ports.{nt_message, nt_replymsg}
@@ -24,7 +25,7 @@ use Rattle.taskscript.specs.declared.word.ports.PortWord.TheVariants as ports
 use Rattle.taskscript.specs.declared.word.interrupts.InterruptWord.{InterruptWord}
 use Rattle.taskscript.specs.declared.word.interrupts.InterruptWord.TheVariants as interrupts
 use Rattle.execmodel.specs.State.{Call, Scripts, Heap, Memory, Mark, put, got, State, Outcome, leaving}
-use Rattle.execmodel.specs.Scheduling.{signalled}
+use Rattle.scheduler.specs.Dispatch.{signalled}
 use Rattle.execmodel.specs.Calls.{Caller, ByTask, ByBody, argument, call_in_body, stored, stored_shared, goes_on, done, answered, silent, alerted, done_by, answered_by, silent_by, unless_by}
 use Rattle.execmodel.specs.Signals.{signal_alert, does_signal_by}
 use Rattle.execmodel.specs.Pending.{causes}
@@ -60,12 +61,17 @@ same s = record { states = refl; ready = refl; running = refl; received = λ k. 
 -- what a call may make of the schedule, where it leaves no mark at a semaphore: nothing, or a task gets signals
 pub data Reaches (marks : List Mark) (s r : Schedule) : Type 0 where
   rests : IsCalm marks → IsAlike s r → Reaches marks s r
-  posts : (k mask : ℕ) → IsCalm marks → r ≡ signalled k mask s → Reaches marks s r
+  posts : (k mask : ℕ) → IsCalm marks → r ≡ signalled by_arrival k mask s → Reaches marks s r
 
--- That is what a call makes of a state; and the regions, whether libraries are asked, the timer, and how many programs there are, stay.
+-- whether libraries are asked, and how many tasks there are, which nothing changes
+abbrev pub settings_of : Memory → Bool × ℕ
+settings_of memory = (memory.asks, memory.tasks)
+
+-- That is what a call makes of a state; and the regions, whether libraries are asked, the timer, and how many tasks and programs there are,
+-- stay.
 pub record Alters (s : State) (marks : List Mark) (r : State) : Type 0 where
   pub regions : r.memory.regions ≡ s.memory.regions
-  pub version : r.memory.asks ≡ s.memory.asks
+  pub settings : settings_of r.memory ≡ settings_of s.memory
   pub timer : r.memory.timer ≡ s.memory.timer
   pub blocks : Touches s.memory.heap marks r.memory.heap
   pub programs : length r.scripts.programs ≡ length s.scripts.programs
@@ -148,26 +154,26 @@ shared_count (Some (Shared k)) value scripts = refl
 -- ---- how a call ends
 
 pub rested : (s : State) → Alters s [] s
-rested s = record { regions = refl; version = refl; timer = refl; blocks = remains; programs = refl; tasks = rests (λ p. refl) (same s.schedule) }
+rested s = record { regions = refl; settings = refl; timer = refl; blocks = remains; programs = refl; tasks = rests (λ p. refl) (same s.schedule) }
 
 -- the call of a caller ends after its effect; where it leaves a mark, that comes first
 done_alters : (c : Caller) (call : Call) (s r : State) → Alters s [] r → IsAltered s (done_by c call r)
 unfolding done
 done_alters (ByTask t) call s r a =
-    record { regions = a.regions; version = a.version; timer = a.timer; blocks = a.blocks; programs = goes_count t call.next r.scripts ∙ a.programs; tasks = a.tasks }
+    record { regions = a.regions; settings = a.settings; timer = a.timer; blocks = a.blocks; programs = goes_count t call.next r.scripts ∙ a.programs; tasks = a.tasks }
 done_alters (ByBody name) call s r a = a
 
 done_marked : (c : Caller) (call : Call) (mark : Mark) (s r : State) → Alters s (mark ∷ []) r → IsAltered s (leaving mark (done_by c call r))
 unfolding done
 done_marked (ByTask t) call mark s r a =
-    record { regions = a.regions; version = a.version; timer = a.timer; blocks = a.blocks; programs = goes_count t call.next r.scripts ∙ a.programs; tasks = a.tasks }
+    record { regions = a.regions; settings = a.settings; timer = a.timer; blocks = a.blocks; programs = goes_count t call.next r.scripts ∙ a.programs; tasks = a.tasks }
 done_marked (ByBody name) call mark s r a = a
 
 answered_alters : (c : Caller) (call : Call) (value : ℕ) (s r : State) → Alters s [] r → IsAltered s (answered_by c call value r)
 unfolding answered
 answered_alters (ByTask t) call value s r a = record {
   regions = a.regions;
-  version = a.version;
+  settings = a.settings;
   timer = a.timer;
   blocks = a.blocks;
   programs = answered_count t call.next call.target value r.scripts ∙ a.programs;
@@ -175,7 +181,7 @@ answered_alters (ByTask t) call value s r a = record {
 }
 answered_alters (ByBody name) call value s r a = record {
   regions = a.regions;
-  version = a.version;
+  settings = a.settings;
   timer = a.timer;
   blocks = a.blocks;
   programs = shared_count call.target value r.scripts ∙ a.programs;
@@ -187,7 +193,7 @@ answered_marked : (c : Caller) (call : Call) (value : ℕ) (mark : Mark) (s r : 
 unfolding answered
 answered_marked (ByTask t) call value mark s r a = record {
   regions = a.regions;
-  version = a.version;
+  settings = a.settings;
   timer = a.timer;
   blocks = a.blocks;
   programs = answered_count t call.next call.target value r.scripts ∙ a.programs;
@@ -195,7 +201,7 @@ answered_marked (ByTask t) call value mark s r a = record {
 }
 answered_marked (ByBody name) call value mark s r a = record {
   regions = a.regions;
-  version = a.version;
+  settings = a.settings;
   timer = a.timer;
   blocks = a.blocks;
   programs = shared_count call.target value r.scripts ∙ a.programs;
@@ -206,7 +212,7 @@ silent_alters : (c : Caller) (call : Call) (value : ℕ) (s : State) → IsAlter
 unfolding silent
 silent_alters (ByTask t) call value s = record {
   regions = refl;
-  version = refl;
+  settings = refl;
   timer = refl;
   blocks = remains;
   programs = answered_count t call.next call.target value s.scripts;
@@ -214,7 +220,7 @@ silent_alters (ByTask t) call value s = record {
 }
 silent_alters (ByBody name) call value s = record {
   regions = refl;
-  version = refl;
+  settings = refl;
   timer = refl;
   blocks = remains;
   programs = shared_count call.target value s.scripts;
@@ -231,9 +237,9 @@ unless_alters : (c : Caller) (call : Call) (s : State) (alert : Option (List ℕ
 unfolding alerted
 unless_alters c call s None effect alters = alters refl
 unless_alters (ByTask t) call s (Some code) effect alters =
-    record { regions = refl; version = refl; timer = refl; blocks = remains; programs = refl; tasks = rests (λ p. refl) (same s.schedule) }
+    record { regions = refl; settings = refl; timer = refl; blocks = remains; programs = refl; tasks = rests (λ p. refl) (same s.schedule) }
 unless_alters (ByBody name) call s (Some code) effect alters =
-    record { regions = refl; version = refl; timer = refl; blocks = remains; programs = refl; tasks = rests (λ p. refl) (same s.schedule) }
+    record { regions = refl; settings = refl; timer = refl; blocks = remains; programs = refl; tasks = rests (λ p. refl) (same s.schedule) }
 
 -- ---- the words of a body
 
@@ -241,18 +247,18 @@ pub signal_alters : (c : Caller) (call : Call) (s : State) → IsAltered s (does
 signal_alters c call s =
     unless_alters c call s (signal_alert (argument 0 call) (argument 1 call) s.scripts) _
     (λ none. done_alters c call s _
-    (record { regions = refl; version = refl; timer = refl; blocks = remains; programs = refl; tasks = posts (argument 0 call - 1) (argument 1 call) (λ p. refl) refl }))
+    (record { regions = refl; settings = refl; timer = refl; blocks = remains; programs = refl; tasks = posts (argument 0 call - 1) (argument 1 call) (λ p. refl) refl }))
 
 -- what is done for a message that has arrived
 performed_alters : (act : Action) (s : State) (marks : List Mark) (memory : Memory) → memory.regions ≡ s.memory.regions
-    → memory.asks ≡ s.memory.asks → memory.timer ≡ s.memory.timer → Touches s.memory.heap marks memory.heap → IsCalm marks → Alters s marks (performed act (record s { memory = memory }))
+    → settings_of memory ≡ settings_of s.memory → memory.timer ≡ s.memory.timer → Touches s.memory.heap marks memory.heap → IsCalm marks → Alters s marks (performed act (record s { memory = memory }))
 unfolding causes
-performed_alters (action.Signal task mask) s marks memory regions version timer blocks calm =
-    record { regions = regions; version = version; timer = timer; blocks = blocks; programs = refl; tasks = posts task mask calm refl }
-performed_alters (action.Cause i) s marks memory regions version timer blocks calm =
-    record { regions = regions; version = version; timer = timer; blocks = blocks; programs = refl; tasks = rests calm (same s.schedule) }
-performed_alters action.Nothing s marks memory regions version timer blocks calm =
-    record { regions = regions; version = version; timer = timer; blocks = blocks; programs = refl; tasks = rests calm (same s.schedule) }
+performed_alters (action.Signal task mask) s marks memory regions settings timer blocks calm =
+    record { regions = regions; settings = settings; timer = timer; blocks = blocks; programs = refl; tasks = posts task mask calm refl }
+performed_alters (action.Cause i) s marks memory regions settings timer blocks calm =
+    record { regions = regions; settings = settings; timer = timer; blocks = blocks; programs = refl; tasks = rests calm (same s.schedule) }
+performed_alters action.Nothing s marks memory regions settings timer blocks calm =
+    record { regions = regions; settings = settings; timer = timer; blocks = blocks; programs = refl; tasks = rests calm (same s.schedule) }
 
 -- that changes the schedule, and what is caused, alone
 pub performed_reaches : (act : Action) (marks : List Mark) (s : State) → IsCalm marks → Reaches marks s.schedule (performed act s).schedule
@@ -304,7 +310,7 @@ unfolding typed
 replied_alters reply c call message s is loose there =
     either_alters s (nat_eq reply 0) _ _
     (λ none. done_alters c call s _
-    (record { regions = refl; version = refl; timer = refl; blocks = gives message _ s.memory.heap is; programs = refl; tasks = rests (λ p. refl) (same s.schedule) }))
+    (record { regions = refl; settings = refl; timer = refl; blocks = gives message _ s.memory.heap is; programs = refl; tasks = rests (λ p. refl) (same s.schedule) }))
     (λ some. done_marked c call (put reply message) s _ (delivered_alters nt_replymsg reply message s (there some) is loose))
 
 pub reply_alters : (c : Caller) (call : Call) (s : State) → IsAltered s (does_reply_msg_by c call s)
@@ -318,7 +324,7 @@ taken_alters : (port : ℕ) (message : Option ℕ) (c : Caller) (call : Call) (s
 taken_alters port None c call s is e = answered_alters c call 0 s s (rested s)
 taken_alters port (Some message) c call s is e =
     answered_marked c call message (got port message) s _
-    (record { regions = refl; version = refl; timer = refl; blocks = gets port message is e; programs = refl; tasks = rests (λ p. refl) (same s.schedule) })
+    (record { regions = refl; settings = refl; timer = refl; blocks = gets port message is e; programs = refl; tasks = rests (λ p. refl) (same s.schedule) })
 
 pub get_alters : (c : Caller) (call : Call) (s : State) → IsAltered s (does_get_msg_by c call s)
 get_alters c call s =
@@ -329,7 +335,7 @@ get_alters c call s =
 pub cause_alters : (c : Caller) (call : Call) (s : State) → IsAltered s (does_cause_by c call s)
 unfolding causes
 cause_alters c call s =
-    done_alters c call s _ (record { regions = refl; version = refl; timer = refl; blocks = remains; programs = refl; tasks = rests (λ p. refl) (same s.schedule) })
+    done_alters c call s _ (record { regions = refl; settings = refl; timer = refl; blocks = remains; programs = refl; tasks = rests (λ p. refl) (same s.schedule) })
 
 plain_alters : (word : PlainWord) (c : Caller) (call : Call) (s : State) → IsAltered s (does_plain_by word c call s)
 plain_alters plain.Set c call s = silent_alters c call _ s

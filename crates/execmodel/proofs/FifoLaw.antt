@@ -1,10 +1,11 @@
 -- First in, first out: over every stretch of every run.
 use Rattle.std.proofs.Common.{◌≡◌, ℕ, List, [], ◌++◌, refl, sym, ap, subst}
 use Rattle.std.proofs.lemmas.Grind.{flat_map-append}
+use Rattle.execlist.specs.Disciplines.{by_arrival}
 use Rattle.taskscript.specs.File.{MachineData}
 use Rattle.taskscript.specs.declared.event.Event.{Event}
 use Rattle.execmodel.specs.State.{Call, Memory, Mark, State, Outcome, on_schedule, booted, andthen}
-use Rattle.execmodel.specs.Scheduling.{rescheduled}
+use Rattle.scheduler.specs.Dispatch.{rescheduled}
 use Rattle.execmodel.specs.Ports.{messages_of}
 use Rattle.execmodel.specs.Bodies.{body_step}
 use Rattle.execmodel.specs.Step.{switches, ends, starts, events, run}
@@ -69,7 +70,7 @@ ports = record {
     );
     looking = λ s tidy. (tidies.interrupting.looking s tidy, λ port. refl);
     ticking = λ s. rescheduling s _ refl;
-    switching = λ s. quietly Ports s (switches s) (on_schedule rescheduled s) (switches_quiet s) (rescheduling s _ refl);
+    switching = λ s. quietly Ports s (switches s) (on_schedule (rescheduled by_arrival) s) (switches_quiet s) (rescheduling s _ refl);
   };
   adding = λ t s less. rescheduling s _ refl;
   calling = λ t call s runs is tidy. (

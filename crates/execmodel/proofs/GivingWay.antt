@@ -4,7 +4,8 @@ use Rattle.std.specs.Prelude.{not, ◌&&◌, if◌then◌else◌, nat_eq, is_som
 use Rattle.std.specs.List.{range_with_len}
 use Rattle.execmodel.specs.Blocks.{Object, Memory}
 use Rattle.execmodel.specs.Places.{place_for}
-use Rattle.execmodel.specs.Objects.{is_allowed, public_memory}
+use Rattle.execmodel.specs.Objects.{is_allowed}
+use Rattle.execlib.specs.Libraries.{public_memory}
 use Rattle.execmodel.specs.Loaded.{base_of, count_of, removed}
 use Rattle.execmodel.specs.GivingWay.{gives_way_at, gives_way, asked_one, asked_each, after_asking, after_asking_for_object}
 use Rattle.execmodel.specs.Ports.{is_port, port_size, after_asking_for_port}

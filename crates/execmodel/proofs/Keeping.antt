@@ -3,6 +3,7 @@ use Rattle.std.proofs.Common.{◌≡◌, ℕ, zero, suc, ℤ, Bool, true, false,
 use Rattle.std.specs.Prelude.{◌-◌, pos, negsuc, not, ◌&&◌, if◌then◌else◌, nat_eq, nat_lt, length, slice_index_or, unwrap_or}
 use Rattle.std.specs.Int.{cast_signed, w32}
 use Rattle.execlist.specs.Order.{first}
+use Rattle.execlist.specs.Disciplines.{by_arrival}
 use Rattle.signals.specs.Signals.{grant, taken_signals}
 use Rattle.taskq.specs.Tasks.{is_ready, is_live}
 use Rattle.scheduler.specs.Schedule.{Schedule, status_of, signals_of, come_for, nesting_of, is_absent, is_at_semaphore, leaves, removed, waits_at_semaphore, allocates as allocates_signal, frees, sets_signals, awaits, waits_for, takes, after_wait, clears_and_waits}
@@ -21,6 +22,7 @@ use Rattle.taskscript.specs.declared.word.interrupts.InterruptWord.TheVariants a
 use Rattle.taskscript.specs.declared.word.libraries.LibraryWord.TheVariants as libraries
 use Rattle.taskscript.specs.declared.word.requests.RequestWord.{RequestWord}
 use Rattle.taskscript.specs.declared.word.requests.RequestWord.TheVariants as requests
+use Rattle.taskscript.specs.File.{SoftintData}
 use Rattle.exectrace.specs.Trace.{Timer as TimerLine}
 use Rattle.timerdev.specs.Timing.{looked_at, until_next}
 use Rattle.iorequest.specs.declared.request.ReqState.{ReqState}
@@ -37,7 +39,7 @@ use Rattle.execmodel.specs.Pending.{arrived, is_caused, causes, softint_named}
 use Rattle.execmodel.specs.Causing.{does_cause}
 use Rattle.execmodel.specs.Libraries.{base_of, count_of, is_delayed, library_at, library_to_open, ready_to_open, library_opened, entered_or_loaded, opened, closed, removed as library_removed, library_alert, close_alert, does_open_library, does_close_library, does_rem_library, does_lib_open_cnt}
 use Rattle.execmodel.specs.GivingWay.{after_asking, after_asking_for_object}
-use Rattle.execmodel.specs.Scheduling.{arrives, added, reprioritized, signalled}
+use Rattle.scheduler.specs.Dispatch.{arrives, added, reprioritized, signalled}
 use Rattle.execmodel.specs.Calls.{argument, name_argument, stored, goes_on, done, answered, waiting, silent, alerted, unless}
 use Rattle.execmodel.specs.Plain.{does_set, does_add, does_sub, does_and, does_or, jumps, does_jump, does_jump_zero, does_jump_not_zero, does_print}
 use Rattle.execmodel.specs.Signals.{mask_alert, free_signal_alert, signal_alert, waited, does_alloc_signal, does_free_signal, does_set_signal, does_signal, does_wait}
@@ -47,7 +49,8 @@ use Rattle.execmodel.specs.Objects.{place_for_object}
 use Rattle.execmodel.specs.Memory.{allocates, makes_object, placed, place_for, alloc_alert, free_alert, avail_alert, does_alloc_mem, does_free_mem, does_avail_mem}
 use Rattle.execmodel.specs.Lists.{is_list, list_size, is_node, node_size, free_list_alert, new_node_alert, free_node_alert, link_alert, insert_alert, linked_alert, list_alert, find_alert, does_new_list, does_free_list, does_new_node, does_free_node, does_add_head, does_add_tail, does_enqueue, does_insert, does_remove, does_rem_head, does_rem_tail, does_first, does_last, does_succ, does_pred, does_find_name}
 use Rattle.execmodel.specs.Ports.{is_port, is_message, port_size, message_size, after_asking_for_port, port_created, port_alert, message_alert, port_of, loses, messages_of, content_of, delete_alert, add_port_alert, rem_port_alert, reply_port_alert, loose_alert, put_alert, reply_alert, wait_alert, made_public, made_private, replied, delivered, performed, taken, looked, does_create_msg_port, does_delete_msg_port, does_add_port, does_rem_port, does_find_port, does_port_signal, does_port_cause, does_port_ignore, does_new_msg, does_free_msg, does_msg_word, does_set_msg_word, does_msg_type, does_put_msg, does_get_msg, does_wait_port, does_reply_msg}
-use Rattle.execmodel.specs.Semaphores.{awaited_by, free_sem_alert, heir, is_semaphore, is_tried_again, leaving_queue, obtain_alert, obtains, outcome_for, passes, release_alert, sem_of, semaphore_size, does_new_sem, does_free_sem, does_obtain_semaphore, does_attempt_semaphore, does_release_semaphore}
+use Rattle.execmodel.specs.Semaphores.{awaited_by, free_sem_alert, heir, is_semaphore, is_tried_again, leaving_queue, obtain_alert, obtains, passes, release_alert, sem_of, semaphore_size, does_new_sem, does_free_sem, does_obtain_semaphore, does_attempt_semaphore, does_release_semaphore}
+use Rattle.sigsem.specs.Semaphores.{outcome_for}
 use Rattle.execmodel.specs.Requests.{does_requests, finishes, finishes_each, finishes_set, is_request, request_size, request_of, request_alert, resting_alert, delete_request_alert, send_alert, do_alert, wait_io_alert, set_io_alert, answering_port, acting_at, with_reply, ended, outcome_at, timer_begun, begun_at, replying_port, looks_for, aborts, does_create_io_request, does_delete_io_request, does_open_device, does_close_device, does_set_io, does_do_io, does_send_io, does_check_io, does_wait_io, does_abort_io, does_io_secs, does_io_micros, does_io_error, does_io_flags}
 use Rattle.execmodel.specs.Keeping.{Keeps, without_progress, without_progress_of, without_states, without_priorities, without_signals, without_blocks, beside_plain, beside_signals, beside_nestings, beside_memory, beside_ports, beside_interrupts, beside_semaphores, beside_tasks, beside_requests, without_caused, clock_alone, without_blocks_system_and_waiting, PlainWordsChangeScripts, SignalWordsChangeSignalsAndStates, NestingWordsChangeNestings, TaskWordsChangeStatesPrioritiesAndObjects, ListWordsChangeTheMemory, MemoryWordsChangeTheMemory, PortWordsChangePortsSignalsAndStates, SemaphoreWordsChangeStatesAndObjects, InterruptWordsChangeWhatIsCaused, LibraryWordsChangeTheMemory, RequestWordsChangeRequestsPortsSignalsAndStates}
 use Rattle.execmodel.proofs.BodyActions.{finishes_found}
@@ -150,7 +153,7 @@ sets_keeps : (t new mask : ℕ) (s : Schedule) → beside_waits (sets_signals t 
 unfolding sets_signals
 sets_keeps t new mask s = refl
 
-signalled_keeps : (t mask : ℕ) (s : Schedule) → beside_waits (signalled t mask s) ≡ beside_waits s
+signalled_keeps : (t mask : ℕ) (s : Schedule) → beside_waits (signalled by_arrival t mask s) ≡ beside_waits s
 unfolding signalled arrives
 signalled_keeps t mask s =
     either_schedule beside_waits _ (not (is_live (status_of s t))) _ _ refl
@@ -192,7 +195,7 @@ signal_words_change_signals_and_states signals.SetSignal t call s =
     (signals_change (sets_signals t (argument 0 call) (argument 1 call)) s (sets_keeps t (argument 0 call) (argument 1 call) s.schedule))
 signal_words_change_signals_and_states signals.Signal t call s =
     unless_keeps beside_signals (signal_alert (argument 0 call) (argument 1 call) s.scripts) t call _ s refl
-    (signals_change (signalled (argument 0 call - 1) (argument 1 call)) s (signalled_keeps (argument 0 call - 1) (argument 1 call) s.schedule))
+    (signals_change (signalled by_arrival (argument 0 call - 1) (argument 1 call)) s (signalled_keeps (argument 0 call - 1) (argument 1 call) s.schedule))
 signal_words_change_signals_and_states signals.Wait t call s =
     unless_keeps beside_signals (mask_alert (argument 0 call)) t call _ s refl
     (waited_keeps t call (come_for (argument 0 call) (signals_of s.schedule t)) s (on_schedule (after_wait t (argument 0 call)) s)
@@ -281,17 +284,17 @@ port_created_keeps t call (Some bit) None s = refl
 port_created_keeps t call (Some bit) (Some address) s = port_signals_change (allocates_signal t (negsuc 0)) s (allocates_signal_keeps t (negsuc 0) s.schedule)
 
 -- pending interrupts among which one may be caused more
-arrived_keeps : (test : Bool) (i : ℕ) (pending : Pending) → without_caused (if test then arrived i pending else pending) ≡ without_caused pending
-arrived_keeps true i pending = refl
-arrived_keeps false i pending = refl
+arrived_keeps : (test : Bool) (i : ℕ) (softints : List SoftintData) (pending : Pending) → without_caused (if test then arrived by_arrival i softints pending else pending) ≡ without_caused pending
+arrived_keeps true i softints pending = refl
+arrived_keeps false i softints pending = refl
 
 caused_keeps : (i : ℕ) (s : State) → without_caused (causes i s).pending ≡ without_caused s.pending
 unfolding causes
-caused_keeps i s = arrived_keeps (nat_lt i (length s.bodies.softints) && not (is_caused i s.pending)) i s.pending
+caused_keeps i s = arrived_keeps (nat_lt i (length s.bodies.softints) && not (is_caused i s.pending)) i s.bodies.softints s.pending
 
 performed_keeps : (act : Action) (s : State) → beside_ports (performed act s) ≡ beside_ports s
 unfolding causes
-performed_keeps (action.Signal task mask) s = port_signals_change (signalled task mask) s (signalled_keeps task mask s.schedule)
+performed_keeps (action.Signal task mask) s = port_signals_change (signalled by_arrival task mask) s (signalled_keeps task mask s.schedule)
 performed_keeps (action.Cause i) s = ap (λ (pending : Pending). record (beside_ports s) { pending = pending }) (caused_keeps i s)
 performed_keeps action.Nothing s = refl
 
@@ -369,11 +372,11 @@ states_and_priorities_change : (f : Schedule → Schedule) (s : State)
 states_and_priorities_change f s keeps = ap (λ (r : Schedule). record (beside_tasks s) { schedule = r }) keeps
 
 reprioritized_keeps : (t : ℕ) (pri : ℤ) (s : Schedule)
-    → without_priorities (without_states (reprioritized t pri s)) ≡ without_priorities (without_states s)
+    → without_priorities (without_states (reprioritized by_arrival t pri s)) ≡ without_priorities (without_states s)
 unfolding reprioritized arrives
 reprioritized_keeps t pri s = either_schedule (λ r. without_priorities (without_states r)) _ (is_ready (status_of s t)) _ _ refl refl
 
-added_keeps : (t : ℕ) (s : Schedule) → without_priorities (without_states (added t s)) ≡ without_priorities (without_states s)
+added_keeps : (t : ℕ) (s : Schedule) → without_priorities (without_states (added by_arrival t s)) ≡ without_priorities (without_states s)
 unfolding added arrives
 added_keeps t s = either_schedule (λ r. without_priorities (without_states r)) _ (is_absent (status_of s t)) _ _ refl refl
 
@@ -391,11 +394,11 @@ pub task_words_change_states_priorities_and_objects : TaskWordsChangeStatesPrior
 unfolding does_set_task_pri does_add_task does_rem_task does_find_task done answered leaves
 task_words_change_states_priorities_and_objects tasks.SetTaskPri t call s =
     unless_keeps beside_tasks (set_task_pri_alert (argument 0 call) (cast_signed w32 (argument 1 call)) s.scripts s.schedule) t call _ s refl
-    (states_and_priorities_change (reprioritized _ _) s
+    (states_and_priorities_change (reprioritized by_arrival _ _) s
     (reprioritized_keeps (argument 0 call - 1) (cast_signed w32 (argument 1 call)) s.schedule))
 task_words_change_states_priorities_and_objects tasks.AddTask t call s =
     unless_keeps beside_tasks (add_task_alert (argument 0 call) s.scripts) t call _ s refl
-    (states_and_priorities_change (added _) s (added_keeps (argument 0 call - 1) s.schedule))
+    (states_and_priorities_change (added by_arrival _) s (added_keeps (argument 0 call - 1) s.schedule))
 task_words_change_states_priorities_and_objects tasks.RemTask t call s =
     either beside_tasks _ (is_caller t (argument 0 call)) _ _ refl
     (unless_keeps beside_tasks (live_task_alert (argument 0 call) s.scripts s.schedule) t call _ s refl (ended_keeps (argument 0 call - 1) t call s))
@@ -411,7 +414,7 @@ passes_keeps : (owner : Option ℕ) (semaphore t : ℕ) (call : Call) (s r : Sta
     → beside_semaphores (passes owner semaphore t call r).state ≡ beside_semaphores s
 unfolding done arrives
 passes_keeps None semaphore t call s r keeps = keeps
-passes_keeps (Some owner) semaphore t call s r keeps = states_change (arrives owner) r refl ∙ keeps
+passes_keeps (Some owner) semaphore t call s r keeps = states_change (arrives by_arrival owner) r refl ∙ keeps
 
 pub semaphore_words_change_states_and_objects : SemaphoreWordsChangeStatesAndObjects
 unfolding does_new_sem does_free_sem does_obtain_semaphore does_attempt_semaphore does_release_semaphore done answered
@@ -480,7 +483,7 @@ waiting_change f s keeps = ap (λ (memory : Memory). record (beside_requests s) 
 
 acted_keeps : (act : Action) (s : State) → beside_requests (performed act s) ≡ beside_requests s
 unfolding causes
-acted_keeps (action.Signal task mask) s = request_signals_change (signalled task mask) s (signalled_keeps task mask s.schedule)
+acted_keeps (action.Signal task mask) s = request_signals_change (signalled by_arrival task mask) s (signalled_keeps task mask s.schedule)
 acted_keeps (action.Cause i) s = ap (λ (pending : Pending). record (beside_requests s) { pending = pending }) (caused_keeps i s)
 acted_keeps action.Nothing s = refl
 

@@ -6,6 +6,7 @@ use Rattle.std.specs.Ordering.{nat_cmp}
 use Rattle.std.specs.Cmp.{nat_cmp_total}
 use Rattle.std.specs.FinMap.{put as put_entry}
 use Rattle.std.specs.FinMap.Entries.{find-put}
+use Rattle.execlist.specs.Disciplines.{by_arrival}
 use Rattle.memlist.specs.declared.region.Region.{Region}
 use Rattle.memlist.specs.Memory.{IsWellFormed}
 use Rattle.memlist.proofs.Answered.{nat_eq-same, nat_eq-other, cases_eq, key_other}
@@ -13,7 +14,7 @@ use Rattle.iorequest.specs.declared.request.Request.{Request as TimerRequest}
 use Rattle.execmodel.specs.Requests.{is_request, is_request_at, with_request}
 use Rattle.execmodel.specs.State.{Call, Object, Plain, ListHead, Node, MsgPort, Message, Semaphore, Library, Request, Block, Heap, Waiting as Queued, Mark, State, Outcome, quiet, andthen, on_schedule}
 use Rattle.execmodel.specs.Calls.{next_call}
-use Rattle.execmodel.specs.Scheduling.{rescheduled}
+use Rattle.scheduler.specs.Dispatch.{rescheduled}
 use Rattle.execmodel.specs.Pending.{next_softint}
 use Rattle.execmodel.specs.Bodies.{body_step}
 use Rattle.execmodel.specs.Objects.{object_at, is_kind, replaced}
@@ -340,7 +341,7 @@ kept base = record {
       asked_keep s _ (finishes request s).state.memory.heap (finishes request s).state.memory.timer.waiting (finishing request s waits).asks base is;
   looking = λ s is. refl;
   ticking = λ s is. refl;
-  switching = λ s. quietly (Kept base) s (switches s) (on_schedule rescheduled s) (switches_quiet s) (λ is. refl);
+  switching = λ s. quietly (Kept base) s (switches s) (on_schedule (rescheduled by_arrival) s) (switches_quiet s) (λ is. refl);
 }
 
 -- an open library stays in that heap, or is closed for the last time

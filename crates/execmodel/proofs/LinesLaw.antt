@@ -2,6 +2,7 @@
 use Rattle.std.proofs.Common.{◌≡◌, ℕ, zero, suc, lit≤, Bool, true, false, List, [], ◌∷◌, Option, None, Some, length, map, refl, subst, ◌∙◌}
 use Rattle.std.specs.Prelude.{All, IfSome, if◌then◌else◌, codes, slice_index_or}
 use Rattle.std.proofs.lemmas.List.Elements.{All-nil, All-head, All-tail, All-append, All-map, All-weaker}
+use Rattle.execlist.specs.Disciplines.{by_arrival}
 use Rattle.exectrace.specs.Trace.{Value, Done, Switch, Serve, Server, Softint}
 use Rattle.exectrace.specs.Trace as trace
 use Rattle.scheduler.specs.Schedule.{Schedule, name_of, status_of, is_absent, begins, leaves, renewed, ticked as quantum_ticked, ticked_for}
@@ -16,7 +17,7 @@ use Rattle.taskscript.specs.Machines.{IsMachine, IsCode, IsTask, IsSoftint, IsSe
 use Rattle.taskscript.specs.declared.event.Event.{Event}
 use Rattle.taskscript.specs.declared.event.Event.TheVariants.{Run, Tick, Irq}
 use Rattle.execmodel.specs.State.{Call, Scripts, State, Timer as Clock, Outcome, quiet, says, andthen, unless_stopped, no_program, on_schedule, on_memory, on_timer, on_pending, begun, booted}
-use Rattle.execmodel.specs.Scheduling.{arrives, added, displaced, after_switch, rescheduled, switch_of}
+use Rattle.scheduler.specs.Dispatch.{arrives, added, displaced, after_switch, rescheduled, switch_of}
 use Rattle.execmodel.specs.Calls.{next_call, call_in_body}
 use Rattle.execmodel.specs.Pending.{source_named, taken_off, with_latch_of, next_softint, next_source}
 use Rattle.execmodel.specs.Bodies.{body_step, runs_body}
@@ -147,12 +148,12 @@ renewed_names : (running : Option ℕ) (s : Schedule) → (renewed running s).qu
 renewed_names None s = refl
 renewed_names (Some r) s = either_names s.queue.names _ _ s refl refl
 
-displaced_names : (running : Option ℕ) (s : Schedule) → (displaced running s).queue.names ≡ s.queue.names
+displaced_names : (running : Option ℕ) (s : Schedule) → (displaced by_arrival running s).queue.names ≡ s.queue.names
 unfolding arrives
 displaced_names None s = refl
 displaced_names (Some r) s = refl
 
-after_names : (choice : Option Choice) (s : Schedule) → (after_switch choice s).queue.names ≡ s.queue.names
+after_names : (choice : Option Choice) (s : Schedule) → (after_switch by_arrival choice s).queue.names ≡ s.queue.names
 unfolding begins
 after_names None s = renewed_names s.running s
 after_names (Some switch.Idle) s = refl
@@ -167,8 +168,8 @@ announced_says (Some switch.Idle) s has = line_says trace.Idle s idle_short has
 switches_say : (s : State) → Says s (switches s)
 unfolding switches rescheduled
 switches_say s has =
-    announced_says (switch_of s.schedule) (on_schedule rescheduled s)
-    (all_stays s (on_schedule rescheduled s) (named_alike rescheduled s (after_names (switch_of s.schedule) s.schedule)) refl has)
+    announced_says (switch_of by_arrival s.schedule) (on_schedule (rescheduled by_arrival) s)
+    (all_stays s (on_schedule (rescheduled by_arrival) s) (named_alike (rescheduled by_arrival) s (after_names (switch_of by_arrival s.schedule) s.schedule)) refl has)
 
 settle_says : (s : State) → Says s (settle s)
 unfolding settle
@@ -252,12 +253,12 @@ events_say (e ∷ rest) s = then_says (event e) (events rest) s (event_says e s)
 
 -- ---- the start
 
-added_names : (t : ℕ) (s : Schedule) → (added t s).queue.names ≡ s.queue.names
+added_names : (t : ℕ) (s : Schedule) → (added by_arrival t s).queue.names ≡ s.queue.names
 unfolding added arrives
 added_names t s = either_names s.queue.names (is_absent (status_of s t)) _ s refl refl
 
 started_names : (scripts : Scripts) (t : ℕ) (s : Schedule) → (started scripts t s).queue.names ≡ s.queue.names
-started_names scripts t s = either_names s.queue.names _ (added t s) s (added_names t s) refl
+started_names scripts t s = either_names s.queue.names _ (added by_arrival t s) s (added_names t s) refl
 
 all_added_names : (scripts : Scripts) (n : ℕ) (s : Schedule) → (all_added scripts n s).queue.names ≡ s.queue.names
 unfolding all_added

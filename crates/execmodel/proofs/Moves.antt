@@ -15,7 +15,7 @@ use Rattle.scheduler.specs.Schedule.{Schedule, signals_of, nesting_of, come_for,
 use Rattle.msgport.specs.Port.{new_port}
 use Rattle.msgport.specs.declared.action.PortAction.{PortAction}
 use Rattle.sigsem.specs.declared.semaphore.Obtained.TheVariants.{Owner, Waits}
-use Rattle.sigsem.specs.Semaphores.{free_sem}
+use Rattle.sigsem.specs.Semaphores.{free_sem, is_open, is_last, is_owned, is_owner}
 use Rattle.taskscript.specs.declared.word.Word.TheVariants as group
 use Rattle.taskscript.specs.declared.word.plain.PlainWord.{PlainWord}
 use Rattle.taskscript.specs.declared.word.plain.PlainWord.TheVariants as plain
@@ -49,7 +49,7 @@ use Rattle.execmodel.specs.GivingWay.{after_asking, after_asking_for_object}
 use Rattle.execmodel.specs.Memory.{extents, allocates, makes_object, placed, freed, place_for, block_at, is_named, is_plain, alloc_alert, free_alert, avail_alert, does_memory, does_alloc_mem, does_free_mem, does_avail_mem}
 use Rattle.execmodel.specs.Lists.{is_list, list_size, is_node, node_size, is_list_at, is_node_at, with_nodes, unlinked, free_list_alert, new_node_alert, free_node_alert, link_alert, insert_alert, linked_alert, list_alert, find_alert, added_head, added_tail, enqueued, inserted, removed_head, removed_tail, does_lists, does_new_list, does_free_list, does_new_node, does_free_node, does_add_head, does_add_tail, does_enqueue, does_insert, does_remove, does_rem_head, does_rem_tail, does_first, does_last, does_succ, does_pred, does_find_name}
 use Rattle.execmodel.specs.Ports.{is_port, is_message, is_port_at, is_message_at, port_size, message_size, port_created, makes_port, after_asking_for_port, port_alert, message_alert, messages_of, messages_of_object, loses, with_action, with_word, is_queued, is_public, is_awaited_at, delete_alert, add_port_alert, rem_port_alert, reply_port_alert, loose_alert, wait_alert, made_public, made_private, looked, does_ports, does_create_msg_port, does_delete_msg_port, does_add_port, does_rem_port, does_find_port, does_port_signal, does_port_cause, does_port_ignore, does_new_msg, does_free_msg, does_msg_word, does_set_msg_word, does_msg_type, does_put_msg, does_get_msg, does_wait_port, does_reply_msg}
-use Rattle.execmodel.specs.Semaphores.{awaited_by, dropped, entered, queued, handed_on, released_once, obtained, attempted, released, is_open, is_last, is_owned, is_owner, is_semaphore_at, waiters_of, free_sem_alert, heir, is_semaphore, is_tried_again, leaving_queue, obtain_alert, obtains, passes, release_alert, sem_of, sem_of_object, semaphore_size, does_semaphores, does_new_sem, does_free_sem, does_obtain_semaphore, does_attempt_semaphore, does_release_semaphore}
+use Rattle.execmodel.specs.Semaphores.{awaited_by, dropped, entered, queued, handed_on, released_once, obtained, attempted, released, is_semaphore_at, waiters_of, free_sem_alert, heir, is_semaphore, is_tried_again, leaving_queue, obtain_alert, obtains, passes, release_alert, sem_of, sem_of_object, semaphore_size, does_semaphores, does_new_sem, does_free_sem, does_obtain_semaphore, does_attempt_semaphore, does_release_semaphore}
 use Rattle.execmodel.specs.Causing.{does_interrupts, does_cause}
 use Rattle.execmodel.specs.Libraries.{is_library_at, count_of, is_delayed, with_library, base_of, library_at, library_alert, library_to_open, library_opened, ready_to_open, entered_or_loaded, opened, close_alert, closed, removed, does_libraries, does_open_library, does_close_library, does_rem_library, does_lib_open_cnt}
 use Rattle.execmodel.proofs.Heaps.{rid, true_is_not_false}
@@ -106,9 +106,9 @@ pub data Moves (regions : List Region) (t : ℕ) (call : Call) : Heap → List M
   unlinks : {heap : Heap} (node : ℕ) → Moves regions t call heap [] (unlinked node heap)
   sets : {heap : Heap} (act : PortAction) (port : ℕ) → is_port_at port heap ≡ true → Moves regions t call heap [] (with_action act port heap)
   enters : {heap : Heap} (semaphore : ℕ) → is_semaphore_at semaphore heap ≡ true → is_open t (sem_of semaphore heap) ≡ true
-      → Moves regions t call heap [] (entered t semaphore heap)
+      → Moves regions t call heap [] (entered semaphore t heap)
   queues : {heap : Heap} (semaphore : ℕ) → is_semaphore_at semaphore heap ≡ true → is_open t (sem_of semaphore heap) ≡ false
-      → Moves regions t call heap (asked semaphore t ∷ []) (queued t semaphore heap)
+      → Moves regions t call heap (asked semaphore t ∷ []) (queued semaphore t heap)
   hands : {heap : Heap} (semaphore owner : ℕ) → IsRelease t call semaphore heap → is_semaphore_at semaphore heap ≡ true → is_last (sem_of semaphore heap) ≡ true
       → first (waiters_of semaphore heap) ≡ Some owner → Moves regions t call heap (passed semaphore owner ∷ []) (handed_on semaphore heap)
   opens : {heap : Heap} (semaphore : ℕ) → IsRelease t call semaphore heap → is_semaphore_at semaphore heap ≡ true → is_last (sem_of semaphore heap) ≡ true
@@ -565,14 +565,14 @@ is_released_there t semaphore heap none = (passed_first (is_semaphore_at semapho
 obtaining : (test : Bool) (semaphore t : ℕ) (call : Call) (s : State) → is_semaphore_at semaphore s.memory.heap ≡ true
     → is_open t (sem_of semaphore s.memory.heap) ≡ test
     → Makes t call s (obtains (if test then Owner else Waits) semaphore t call
-    (on_memory (on_heap (λ heap. if test then entered t semaphore heap else queued t semaphore heap)) s))
+    (on_memory (on_heap (λ heap. if test then entered semaphore t heap else queued semaphore t heap)) s))
 unfolding done waiting
 obtaining true semaphore t call s is e = (refl, enters semaphore is e)
 obtaining false semaphore t call s is e = (refl, queues semaphore is e)
 
 attempting : (test : Bool) (semaphore t : ℕ) (call : Call) (value : ℕ) (s : State) → is_semaphore_at semaphore s.memory.heap ≡ true
     → is_open t (sem_of semaphore s.memory.heap) ≡ test
-    → Makes t call s (answered t call value (on_memory (on_heap (λ heap. if test then entered t semaphore heap else heap)) s))
+    → Makes t call s (answered t call value (on_memory (on_heap (λ heap. if test then entered semaphore t heap else heap)) s))
 unfolding answered
 attempting true semaphore t call value s is e = (refl, enters semaphore is e)
 attempting false semaphore t call value s is e = (refl, stays)

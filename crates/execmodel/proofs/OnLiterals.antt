@@ -14,7 +14,7 @@ use Rattle.execmodel.specs.Objects.{place_for_object}
 use Rattle.execmodel.specs.Plain.{does_add, does_and, does_jump, does_jump_not_zero, does_jump_zero, does_or, does_print, does_set, does_sub, jumps}
 use Rattle.execmodel.specs.Ports.{add_port_alert, appended, content_of, delete_alert, delivered, does_add_port, does_create_msg_port, does_delete_msg_port, does_find_port, does_free_msg, does_get_msg, does_msg_type, does_msg_word, does_new_msg, does_port_cause, does_port_ignore, does_port_signal, does_put_msg, does_rem_port, does_reply_msg, does_set_msg_word, does_wait_port, found_port, is_awaited_at, is_message_at, is_port_at, is_queued, loose_alert, made_private, made_public, message_alert, messages_of, port_alert, port_of, posted, put_alert, rem_port_alert, reply_alert, reply_port_alert, taken_off, typed, wait_alert, with_action, with_content, with_port, with_word}
 use Rattle.execmodel.specs.Requests.{answering_port, begun_at, closed_device, delete_request_alert, do_alert, does_abort_io, does_check_io, does_close_device, does_create_io_request, does_delete_io_request, does_do_io, does_io_error, does_io_flags, does_io_micros, does_io_secs, does_open_device, does_send_io, does_set_io, does_wait_io, ended, finished_at, finishes, finishes_all_due, finishes_each, finishes_set, is_request_at, opened_for, reply_taken, replying_port, request_alert, request_of, resting_alert, send_alert, set_io_alert, wait_io_alert, with_command, with_request}
-use Rattle.execmodel.specs.Scheduling.{added, arrives, reprioritized, rescheduled, signalled, switch_of}
+use Rattle.scheduler.specs.Dispatch.{added, arrives, reprioritized, rescheduled, signalled, switch_of}
 use Rattle.execmodel.specs.Semaphores.{attempted, does_attempt_semaphore, does_free_sem, does_new_sem, does_obtain_semaphore, does_release_semaphore, dropped, entered, free_sem_alert, handed_on, heir, is_semaphore_at, obtain_alert, obtained, queued, release_alert, released, released_once, sem_of, waiters_of, with_semaphore}
 use Rattle.execmodel.specs.Signals.{does_alloc_signal, does_free_signal, does_set_signal, does_signal, does_wait}
 use Rattle.execmodel.specs.State.{andthen, booted}

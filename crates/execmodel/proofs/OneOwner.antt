@@ -2,6 +2,7 @@
 use Rattle.std.proofs.Common.{◌≡◌, ◌≢◌, ℕ, Bool, true, false, List, Option, None, Some, refl, sym, ◌∙◌, subst}
 use Rattle.std.specs.Prelude.{not, if◌then◌else◌, codes}
 use Rattle.std.specs.Option.{option_map}
+use Rattle.execlist.specs.Disciplines.{by_arrival}
 use Rattle.memlist.specs.Memory.{IsWellFormed}
 use Rattle.memlist.proofs.Tiling.{tiled}
 use Rattle.memlist.proofs.Fitting.{disjoint}
@@ -9,7 +10,7 @@ use Rattle.taskscript.specs.File.{MachineData}
 use Rattle.taskscript.specs.declared.event.Event.{Event}
 use Rattle.execmodel.specs.State.{Call, Object, Plain, ListHead, Node, MsgPort, Message, Semaphore, Library, Request, Block, State, Outcome, booted, andthen, on_schedule}
 use Rattle.execmodel.specs.Calls.{argument, alerted, unless}
-use Rattle.execmodel.specs.Scheduling.{rescheduled}
+use Rattle.scheduler.specs.Dispatch.{rescheduled}
 use Rattle.execmodel.specs.Bodies.{body_step}
 use Rattle.execmodel.specs.Memory.{extents, block_at, is_plain, is_named, does_free_mem}
 use Rattle.execmodel.specs.Step.{switches, ends, starts, run}
@@ -44,7 +45,7 @@ memories = record {
     );
     looking = λ s formed. (formed, refl);
     ticking = λ s formed. (formed, refl);
-    switching = λ s. quietly Memories s (switches s) (on_schedule rescheduled s) (switches_quiet s) (λ formed. (formed, refl));
+    switching = λ s. quietly Memories s (switches s) (on_schedule (rescheduled by_arrival) s) (switches_quiet s) (λ formed. (formed, refl));
   };
   adding = λ t s less formed. (formed, refl);
   calling = λ t call s runs is formed. (

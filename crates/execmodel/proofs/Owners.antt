@@ -16,7 +16,8 @@ use Rattle.execmodel.specs.Objects.{object_at, is_kind, replaced}
 use Rattle.execmodel.specs.Memory.{extents}
 use Rattle.execmodel.specs.Lists.{is_list, is_list_at, with_nodes, unlinked, left_by}
 use Rattle.execmodel.specs.Ports.{is_port, is_message, is_port_at, is_message_at, with_port, with_action, appended, taken_off}
-use Rattle.execmodel.specs.Semaphores.{is_open, is_owned, sem_in, sem_of, sem_of_object, waiters_of, waiters_of_object, owned_next, with_semaphore, left_by_task, entered, queued, dropped, handed_on, released_once}
+use Rattle.execmodel.specs.Semaphores.{sem_in, sem_of, sem_of_object, waiters_of, waiters_of_object, with_semaphore, left_by_task, entered, queued, dropped, handed_on, released_once}
+use Rattle.sigsem.specs.Semaphores.{is_open, is_owned, owned_next}
 use Rattle.execmodel.specs.Libraries.{is_library, is_library_at, with_library}
 use Rattle.execmodel.proofs.Heaps.{rid, filled, instead, object_replaced, object_remade, object_placed_here, object_placed_there, object_rid_here, object_rid_there, true_is_not_false}
 use Rattle.execmodel.proofs.Formed.{placed_fresh, counted_formed, rid_formed}

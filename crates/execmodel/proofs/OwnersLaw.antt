@@ -2,11 +2,12 @@
 use Rattle.std.proofs.Common.{◌⊎◌, inl, inr, ◌≡◌, ℕ, Bool, true, false, Option, None, Some, refl, sym, ap, ◌∙◌, subst}
 use Rattle.std.specs.Prelude.{if◌then◌else◌}
 use Rattle.execlist.specs.Lists.{is_at}
+use Rattle.execlist.specs.Disciplines.{by_arrival}
 use Rattle.memlist.proofs.Answered.{nat_eq-other, cases_eq}
 use Rattle.taskscript.specs.File.{MachineData}
 use Rattle.execmodel.specs.State.{Call, State, Outcome, Memory, quiet, booted, andthen, on_schedule}
 use Rattle.execmodel.specs.Calls.{next_call}
-use Rattle.execmodel.specs.Scheduling.{rescheduled}
+use Rattle.scheduler.specs.Dispatch.{rescheduled}
 use Rattle.execmodel.specs.Pending.{next_softint}
 use Rattle.execmodel.specs.Bodies.{body_step}
 use Rattle.execmodel.specs.Objects.{object_at}
@@ -48,7 +49,7 @@ idle_stays = record {
         asked_idle s _ (finishes request s).state.memory.heap (finishes request s).state.memory.timer.waiting (finishing request s waits).asks;
     looking = λ s idle. idle;
     ticking = λ s idle. idle;
-    switching = λ s. quietly IdleStays s (switches s) (on_schedule rescheduled s) (switches_quiet s) (λ idle. idle);
+    switching = λ s. quietly IdleStays s (switches s) (on_schedule (rescheduled by_arrival) s) (switches_quiet s) (λ idle. idle);
   };
   adding = λ t s less idle. idle;
   calling = λ t call s runs is. called_idle t call s (does_itself t call s) (call_works t call s);
@@ -83,7 +84,7 @@ kept a = record {
       asked_own s _ (finishes request s).state.memory.heap (finishes request s).state.memory.timer.waiting (finishing request s waits).asks a;
   looking = λ s. refl;
   ticking = λ s. refl;
-  switching = λ s. quietly (Kept a) s (switches s) (on_schedule rescheduled s) (switches_quiet s) refl;
+  switching = λ s. quietly (Kept a) s (switches s) (on_schedule (rescheduled by_arrival) s) (switches_quiet s) refl;
 }
 
 -- what an action does to the owner at an address

@@ -2,6 +2,7 @@
 use Rattle.std.proofs.Common.{◌⊎◌, inl, inr, ◌≡◌, ◌≢◌, ℕ, zero, suc, Bool, true, false, List, [], ◌∷◌, Option, None, Some, length, refl, sym, ap, ◌∙◌, subst}
 use Rattle.std.specs.Prelude.{not, ◌&&◌, if◌then◌else◌, nat_eq, bit_and, slice_set, slice_index_or}
 use Rattle.std.proofs.lemmas.List.{get_or-set_other}
+use Rattle.execlist.specs.Disciplines.{by_arrival}
 use Rattle.memlist.proofs.Answered.{nat_eq-other, cases_eq}
 use Rattle.signals.specs.Signals.{SignalSets, initial_sets, after_post, has_signal}
 use Rattle.taskq.specs.Tasks.{state_at, is_live}
@@ -13,7 +14,7 @@ use Rattle.scheduler.specs.declared.Switch.{Switch}
 use Rattle.scheduler.specs.declared.Switch.TheVariants.{To, Idle}
 use Rattle.taskscript.specs.File.{MachineData}
 use Rattle.execmodel.specs.State.{Call, Mark, State, Outcome, quiet, booted, andthen, on_schedule}
-use Rattle.execmodel.specs.Scheduling.{arrives, added, displaced, after_switch, rescheduled, switch_of, signalled}
+use Rattle.scheduler.specs.Dispatch.{arrives, added, displaced, after_switch, rescheduled, switch_of, signalled}
 use Rattle.execmodel.specs.Calls.{next_call}
 use Rattle.execmodel.specs.Pending.{next_softint}
 use Rattle.execmodel.specs.Bodies.{body_step}
@@ -70,9 +71,9 @@ set_silent k x s r silent states others old t =
     (silent_state k r (ap (λ l. is_listening (state_at l k)) states ∙ set_state s.queue.states k x is_listening silent refl)))
     (λ apart. kept t s r (ap (λ l. state_at l t) states ∙ set_there s.queue.states k t x apart) (others t apart) (old t))
 
-arrives_none : (k : ℕ) (s : Schedule) → AllHaveNone s → AllHaveNone (arrives k s)
+arrives_none : (k : ℕ) (s : Schedule) → AllHaveNone s → AllHaveNone (arrives by_arrival k s)
 unfolding arrives is_listening
-arrives_none k s old = set_silent k Ready s (arrives k s) refl refl (λ j apart. refl) old
+arrives_none k s old = set_silent k Ready s (arrives by_arrival k s) refl refl (λ j apart. refl) old
 
 either_none : (b : Bool) (s r : Schedule) → AllHaveNone s → AllHaveNone r → AllHaveNone (if b then s else r)
 either_none true s r one other = one
@@ -100,23 +101,23 @@ awaited_none x bits mask e is = nothing (bit_and bits mask) (ap (λ y. awaits y 
     nothing n e = cases_eq n 0 (λ same. same) (λ apart. true_is_not_false (sym (ap not (nat_eq-other n 0 apart)) ∙ e))
 
 come_none : (b : Bool) (k mask : ℕ) (s : Schedule) → awaits (status_of s k) (received k (got k mask s)) ≡ b → AllHaveNone s
-    → AllHaveNone (if b then arrives k (got k mask s) else got k mask s)
+    → AllHaveNone (if b then arrives by_arrival k (got k mask s) else got k mask s)
 unfolding arrives is_listening
 come_none true k mask s e old =
-    set_silent k Ready s (arrives k (got k mask s)) refl refl (λ j apart. other_received k j _ s apart) old
+    set_silent k Ready s (arrives by_arrival k (got k mask s)) refl refl (λ j apart. other_received k j _ s apart) old
 come_none false k mask s e old = λ t.
     cases_eq t k
     (λ same. subst (λ j. HasNone j (got k mask s)) (sym same) (λ bits status. awaited_none (status_of s k) (received k (got k mask s)) bits e status))
     (λ apart. kept t s (got k mask s) refl (other_received k t _ s apart) (old t))
 
-signalled_none : (k mask : ℕ) (s : Schedule) → AllHaveNone s → AllHaveNone (signalled k mask s)
+signalled_none : (k mask : ℕ) (s : Schedule) → AllHaveNone s → AllHaveNone (signalled by_arrival k mask s)
 unfolding signalled
 signalled_none k mask s old =
     either_none (not (is_live (status_of s k))) s _ old (come_none (awaits (status_of s k) (received k (got k mask s))) k mask s refl old)
 
-added_none : (k : ℕ) (s : Schedule) → AllHaveNone s → AllHaveNone (added k s)
+added_none : (k : ℕ) (s : Schedule) → AllHaveNone s → AllHaveNone (added by_arrival k s)
 unfolding added
-added_none k s old = either_none (is_absent (status_of s k)) (arrives k s) s (arrives_none k s old) old
+added_none k s old = either_none (is_absent (status_of s k)) (arrives by_arrival k s) s (arrives_none k s old) old
 
 leaves_none : (t : ℕ) (s : Schedule) → AllHaveNone s → AllHaveNone (leaves_for_good t s)
 unfolding leaves_for_good is_listening
@@ -178,7 +179,7 @@ shifts_none t call s o (removes other apart heap e) runs old = subst (λ r. AllH
 
 -- ---- the switch, and the ticks
 
-displaced_none : (o : Option ℕ) (s : Schedule) → AllHaveNone s → AllHaveNone (displaced o s)
+displaced_none : (o : Option ℕ) (s : Schedule) → AllHaveNone s → AllHaveNone (displaced by_arrival o s)
 displaced_none None s old = old
 displaced_none (Some r) s old = arrives_none r s old
 
@@ -190,14 +191,14 @@ renewed_none : (o : Option ℕ) (s : Schedule) → AllHaveNone s → AllHaveNone
 renewed_none None s old = old
 renewed_none (Some r) s old = either_none (is_switching_allowed (Some r) s && is_quantum_over s) (record s { left = s.quantum }) s old old
 
-switched_none : (c : Option Switch) (s : Schedule) → AllHaveNone s → AllHaveNone (after_switch c s)
+switched_none : (c : Option Switch) (s : Schedule) → AllHaveNone s → AllHaveNone (after_switch by_arrival c s)
 switched_none None s old = renewed_none s.running s old
 switched_none (Some Idle) s old = old
-switched_none (Some (To t)) s old = begins_none t (displaced s.running s) (displaced_none s.running s old)
+switched_none (Some (To t)) s old = begins_none t (displaced by_arrival s.running s) (displaced_none s.running s old)
 
-rescheduled_none : (s : Schedule) → AllHaveNone s → AllHaveNone (rescheduled s)
+rescheduled_none : (s : Schedule) → AllHaveNone s → AllHaveNone (rescheduled by_arrival s)
 unfolding rescheduled
-rescheduled_none s old = switched_none (switch_of s) s old
+rescheduled_none s old = switched_none (switch_of by_arrival s) s old
 
 ticked_none : (s : Schedule) → AllHaveNone s → AllHaveNone (ticked s)
 unfolding ticked
@@ -262,7 +263,7 @@ Keeps t n s r = has_signal (received t s) n ≡ true → has_signal (received t 
 same_keeps : (t n : ℕ) (s r : Schedule) → received t r ≡ received t s → Keeps t n s r
 same_keeps t n s r same h = ap (λ bits. has_signal bits n) same ∙ h
 
-arrives_keeps : (t n k : ℕ) (s : Schedule) → Keeps t n s (arrives k s)
+arrives_keeps : (t n k : ℕ) (s : Schedule) → Keeps t n s (arrives by_arrival k s)
 unfolding arrives
 arrives_keeps t n k s h = h
 
@@ -274,14 +275,14 @@ got_keeps : (t n k mask : ℕ) (s : Schedule) → Keeps t n s (got k mask s)
 got_keeps t n k mask s h =
     set_received s.signals k t (after_post mask (signals_of s k)) (λ bits. has_signal bits n ≡ true) (λ e. signal_joined (received k s) mask n e) h
 
-signalled_keeps : (t n k mask : ℕ) (s : Schedule) → Keeps t n s (signalled k mask s)
+signalled_keeps : (t n k mask : ℕ) (s : Schedule) → Keeps t n s (signalled by_arrival k mask s)
 unfolding signalled
 signalled_keeps t n k mask s =
     either_keeps t n (not (is_live (status_of s k))) s _ s (λ h. h)
-    (either_keeps t n (awaits (status_of s k) (received k (got k mask s))) (arrives k (got k mask s)) (got k mask s) s
+    (either_keeps t n (awaits (status_of s k) (received k (got k mask s))) (arrives by_arrival k (got k mask s)) (got k mask s) s
     (λ h. arrives_keeps t n k (got k mask s) (got_keeps t n k mask s h)) (got_keeps t n k mask s))
 
-displaced_keeps : (t n : ℕ) (o : Option ℕ) (s : Schedule) → Keeps t n s (displaced o s)
+displaced_keeps : (t n : ℕ) (o : Option ℕ) (s : Schedule) → Keeps t n s (displaced by_arrival o s)
 displaced_keeps t n None s = λ h. h
 displaced_keeps t n (Some r) s = arrives_keeps t n r s
 
@@ -294,14 +295,14 @@ renewed_keeps t n None s = λ h. h
 renewed_keeps t n (Some r) s =
     either_keeps t n (is_switching_allowed (Some r) s && is_quantum_over s) (record s { left = s.quantum }) s s (λ h. h) (λ h. h)
 
-switched_keeps : (t n : ℕ) (c : Option Switch) (s : Schedule) → Keeps t n s (after_switch c s)
+switched_keeps : (t n : ℕ) (c : Option Switch) (s : Schedule) → Keeps t n s (after_switch by_arrival c s)
 switched_keeps t n None s = renewed_keeps t n s.running s
 switched_keeps t n (Some Idle) s = λ h. h
-switched_keeps t n (Some (To k)) s = λ h. begins_keeps t n k (displaced s.running s) (displaced_keeps t n s.running s h)
+switched_keeps t n (Some (To k)) s = λ h. begins_keeps t n k (displaced by_arrival s.running s) (displaced_keeps t n s.running s h)
 
-rescheduled_keeps : (t n : ℕ) (s : Schedule) → Keeps t n s (rescheduled s)
+rescheduled_keeps : (t n : ℕ) (s : Schedule) → Keeps t n s (rescheduled by_arrival s)
 unfolding rescheduled
-rescheduled_keeps t n s = switched_keeps t n (switch_of s) s
+rescheduled_keeps t n s = switched_keeps t n (switch_of by_arrival s) s
 
 ticked_keeps : (t n : ℕ) (s : Schedule) → Keeps t n s (ticked s)
 unfolding ticked
@@ -349,7 +350,7 @@ still t n = record {
       reached_keeps t n (finishes request s).marks s.schedule (finishes request s).state.schedule (finishing request s waits).tasks;
   looking = λ s h. h;
   ticking = λ s. ticked_keeps t n s.schedule;
-  switching = λ s. quietly (Still t n) s (switches s) (on_schedule rescheduled s) (switches_quiet s) (rescheduled_keeps t n s.schedule);
+  switching = λ s. quietly (Still t n) s (switches s) (on_schedule (rescheduled by_arrival) s) (switches_quiet s) (rescheduled_keeps t n s.schedule);
 }
 
 -- signal n that a task had received is there, or the task makes a call that may take it

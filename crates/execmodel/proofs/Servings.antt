@@ -2,6 +2,7 @@
 use Rattle.std.proofs.Common.{◌≡◌, ℕ, zero, suc, ◌+◌, ◌≤◌, Bool, true, false, List, [], ◌∷◌, ◌++◌, Option, None, Some, refl, sym, ap, ◌∙◌, arith}
 use Rattle.std.proofs.lemmas.List.Sums.{sum_by-cons, sum_by-append}
 use Rattle.std.specs.Prelude.{if◌then◌else◌, count_by, slice_index_or}
+use Rattle.execlist.specs.Disciplines.{by_arrival}
 use Rattle.exectrace.specs.Trace.{TraceLine, Switch, Serve}
 use Rattle.forbid.specs.Nesting.{Nesting, initial_nesting, may_interrupt}
 use Rattle.softint.specs.declared.source.Source.{Source}
@@ -12,7 +13,7 @@ use Rattle.scheduler.specs.Schedule.{Schedule, ticked, ticked_for, is_interrupti
 use Rattle.scheduler.specs.declared.Switch.{Switch as Choice}
 use Rattle.scheduler.specs.declared.Switch.TheVariants as switch
 use Rattle.execmodel.specs.State.{State, Outcome, quiet, andthen, unless_stopped, on_schedule, on_pending}
-use Rattle.execmodel.specs.Scheduling.{switch_of, rescheduled}
+use Rattle.scheduler.specs.Dispatch.{switch_of, rescheduled}
 use Rattle.execmodel.specs.Pending.{allows_interrupts, with_latch_of, next_source}
 use Rattle.execmodel.specs.Interrupts.{counted, text_of_source, finishes_for, chain_of, runs_chain, serves, servings, interrupts}
 use Rattle.execmodel.specs.Step.{announced, switches, settle}
@@ -236,7 +237,7 @@ unfolding settle interrupts switches andthen
 three_servings_at_most s =
     let r = (servings 3 s).state in
     let most = (all_served 3 s).counts in
-    let none = announced_serves_none (switch_of r.schedule) (on_schedule rescheduled r) in
-    let last = either_counts 0 r.stopped r (announced (switch_of r.schedule) (on_schedule rescheduled r)) (omega (arith, none)) in
+    let none = announced_serves_none (switch_of by_arrival r.schedule) (on_schedule (rescheduled by_arrival) r) in
+    let last = either_counts 0 r.stopped r (announced (switch_of by_arrival r.schedule) (on_schedule (rescheduled by_arrival) r)) (omega (arith, none)) in
     let all = served_more (servings 3 s).lines (unless_stopped switches r).lines in
     either_counts 3 s.stopped s (andthen interrupts (unless_stopped switches) s) (omega (arith, most, last, all))

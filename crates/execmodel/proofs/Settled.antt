@@ -7,7 +7,7 @@ use Rattle.std.proofs.lemmas.List.Elements.{All-append, All-filter, All-nil}
 use Rattle.execlist.specs.Order.{chosen, chosen_or, is_lower, without, IsEarliestGreatest}
 use Rattle.execlist.proofs.OrderLaws.{chosen_is_earliest}
 use Rattle.forbid.specs.Nesting.{Nesting, may_switch, may_interrupt, not_nested}
-use Rattle.taskq.specs.Tasks.{pri_at}
+use Rattle.execlist.specs.Disciplines.{pri_at, by_arrival}
 use Rattle.scheduler.specs.Schedule.{Schedule, priority_of, nesting_of, switch_for, renewed, begins, is_switching_allowed, is_interrupting_allowed, is_quantum_over, takes_over}
 use Rattle.scheduler.specs.declared.Switch.{Switch}
 use Rattle.scheduler.specs.declared.Switch.TheVariants.{To, Idle}
@@ -15,7 +15,7 @@ use Rattle.taskscript.specs.declared.event.Event.{Event}
 use Rattle.taskscript.specs.declared.event.Event.TheVariants.{Run, Tick, Irq}
 use Rattle.execmodel.specs.State.{State, Outcome, quiet, on_schedule, on_memory, on_timer, on_pending, andthen, unless_stopped, booted}
 use Rattle.timerdev.specs.Timing.{ticked}
-use Rattle.execmodel.specs.Scheduling.{arrives, displaced, after_switch, switch_of, rescheduled}
+use Rattle.scheduler.specs.Dispatch.{arrives, displaced, after_switch, switch_of, rescheduled}
 use Rattle.execmodel.specs.Pending.{source_named, with_latch_of, allows_interrupts}
 use Rattle.execmodel.specs.Interrupts.{interrupts}
 use Rattle.execmodel.specs.Step.{announced, switches, settle, acts, step, steps, request, tick, ticks, starts, all_added, event, events, run}
@@ -64,19 +64,19 @@ begins_running : (t : ℕ) (s : Schedule) → (begins t s).running ≡ Some t
 unfolding begins
 begins_running t s = refl
 
-no_switch_to : (t : ℕ) (s : Schedule) → (after_switch (Some (To t)) s).running ≡ None → ⊥
-no_switch_to t s e = none-some t (sym e ∙ begins_running t (displaced s.running s))
+no_switch_to : (t : ℕ) (s : Schedule) → (after_switch by_arrival (Some (To t)) s).running ≡ None → ⊥
+no_switch_to t s e = none-some t (sym e ∙ begins_running t (displaced by_arrival s.running s))
 
-same_ready : (c : Option Switch) (s : Schedule) → (after_switch c s).running ≡ None → (after_switch c s).queue.ready ≡ s.queue.ready
+same_ready : (c : Option Switch) (s : Schedule) → (after_switch by_arrival c s).running ≡ None → (after_switch by_arrival c s).queue.ready ≡ s.queue.ready
 same_ready None s e = renewed_ready s.running s
 same_ready (Some Idle) s e = refl
 same_ready (Some (To t)) s e = absurd (no_switch_to t s e)
 
-tested : (b : Bool) (r t : ℕ) (s : Schedule) → s.running ≡ Some r → (after_switch (if b then Some (To t) else None) s).running ≡ None → ⊥
+tested : (b : Bool) (r t : ℕ) (s : Schedule) → s.running ≡ Some r → (after_switch by_arrival (if b then Some (To t) else None) s).running ≡ None → ⊥
 tested true r t s h e = no_switch_to t s e
 tested false r t s h e = none-some r (sym e ∙ renewed_running s.running s ∙ h)
 
-no_choice : (running choice : Option ℕ) (s : Schedule) → s.running ≡ running → (after_switch (switch_for running choice s) s).running ≡ None → choice ≡ None
+no_choice : (running choice : Option ℕ) (s : Schedule) → s.running ≡ running → (after_switch by_arrival (switch_for running choice s) s).running ≡ None → choice ≡ None
 no_choice running None s h e = refl
 no_choice None (Some t) s h e = absurd (no_switch_to t s e)
 no_choice (Some r) (Some t) s h e = absurd (tested (is_switching_allowed (Some r) s && takes_over t r s) r t s h e)
@@ -85,7 +85,7 @@ no_choice (Some r) (Some t) s h e = absurd (tested (is_switching_allowed (Some r
 pub none_ready_where_none_runs : (s : State) → (switches s).state.schedule.running ≡ None → (switches s).state.schedule.queue.ready ≡ []
 unfolding switches rescheduled switch_of
 none_ready_where_none_runs s e =
-    let same = announced_state (switch_for s.schedule.running (chosen (pri_at s.schedule.queue.pris) s.schedule.queue.ready) s.schedule) (on_schedule rescheduled s) in
+    let same = announced_state (switch_for s.schedule.running (chosen (pri_at s.schedule.queue.pris) s.schedule.queue.ready) s.schedule) (on_schedule (rescheduled by_arrival) s) in
     let runs = sym (ap (λ (x : State). x.schedule.running) same) ∙ e in
     ap (λ (x : State). x.schedule.queue.ready) same
     ∙ same_ready (switch_for s.schedule.running (chosen (pri_at s.schedule.queue.pris) s.schedule.queue.ready) s.schedule) s.schedule runs
@@ -156,7 +156,7 @@ begins_high t s none r is allowed =
 
 displaced_none : (o : Option ℕ) (t : ℕ) (s : Schedule) → NoneAbove (pri_at s.queue.pris) (priority_of s t) s.queue.ready
     → ((r : ℕ) → o ≡ Some r → priority_of s r ≤ℤ priority_of s t)
-    → NoneAbove (pri_at (displaced o s).queue.pris) (priority_of (displaced o s) t) (displaced o s).queue.ready
+    → NoneAbove (pri_at (displaced by_arrival o s).queue.pris) (priority_of (displaced by_arrival o s) t) (displaced by_arrival o s).queue.ready
 unfolding arrives
 displaced_none None t s none below = none
 displaced_none (Some r) t s none below =
@@ -165,9 +165,9 @@ displaced_none (Some r) t s none below =
 
 -- a switch is made, or not
 tested_high : (b : Bool) (r t : ℕ) (s : Schedule) → s.running ≡ Some r → chosen (pri_at s.queue.pris) s.queue.ready ≡ Some t
-    → (is_switching_allowed (Some r) s && takes_over t r s) ≡ b → IsHigh (after_switch (if b then Some (To t) else None) s)
+    → (is_switching_allowed (Some r) s && takes_over t r s) ≡ b → IsHigh (after_switch by_arrival (if b then Some (To t) else None) s)
 tested_high true r t s is choice e =
-    begins_high t (displaced s.running s)
+    begins_high t (displaced by_arrival s.running s)
     (displaced_none s.running t s (chosen_greatest (pri_at s.queue.pris) s.queue.ready t choice)
     (λ k here. both_true (is_switching_allowed (Some r) s) (takes_over t r s) e
     (λ allowed over. subst (λ j. priority_of s j ≤ℤ priority_of s t) (one_task (sym is ∙ here))
@@ -186,15 +186,15 @@ tested_high false r t s is choice e =
     one_task : {x y : ℕ} → Some x ≡ Some y → x ≡ y
     one_task {x} {y} e = cc
 
-idle_high : (b : Bool) (s : Schedule) → s.running ≡ None → IsHigh (after_switch (if b then None else Some Idle) s)
+idle_high : (b : Bool) (s : Schedule) → s.running ≡ None → IsHigh (after_switch by_arrival (if b then None else Some Idle) s)
 idle_high true s is = renewed_high s.running s (λ r here allowed. absurd (none-some r (sym is ∙ here)))
 idle_high false s is = λ r here allowed. absurd (none-some r (sym is ∙ here))
 
 high_for : (running choice : Option ℕ) (s : Schedule) → s.running ≡ running → chosen (pri_at s.queue.pris) s.queue.ready ≡ choice
-    → IsHigh (after_switch (switch_for running choice s) s)
+    → IsHigh (after_switch by_arrival (switch_for running choice s) s)
 high_for None None s is choice = idle_high s.idle s is
 high_for None (Some t) s is choice =
-    begins_high t (displaced s.running s)
+    begins_high t (displaced by_arrival s.running s)
     (displaced_none s.running t s (chosen_greatest (pri_at s.queue.pris) s.queue.ready t choice)
     (λ k here. absurd (none-some k (sym is ∙ here))))
 high_for (Some r) None s is choice =
@@ -227,12 +227,12 @@ renewed_blocked None s e = e
 renewed_blocked (Some r) s e = left_blocked (is_switching_allowed (Some r) s && is_quantum_over s) s e
 
 tested_blocked : (b : Bool) (t : ℕ) (s : Schedule) → b ≡ false → is_interrupting_allowed s.running s ≡ false
-    → is_interrupting_allowed (after_switch (if b then Some (To t) else None) s).running (after_switch (if b then Some (To t) else None) s) ≡ false
+    → is_interrupting_allowed (after_switch by_arrival (if b then Some (To t) else None) s).running (after_switch by_arrival (if b then Some (To t) else None) s) ≡ false
 tested_blocked true t s untested e = true_is_not_false untested
 tested_blocked false t s untested e = renewed_blocked s.running s e
 
 blocked_for : (running choice : Option ℕ) (s : Schedule) → s.running ≡ running → is_interrupting_allowed s.running s ≡ false
-    → is_interrupting_allowed (after_switch (switch_for running choice s) s).running (after_switch (switch_for running choice s) s) ≡ false
+    → is_interrupting_allowed (after_switch by_arrival (switch_for running choice s) s).running (after_switch by_arrival (switch_for running choice s) s) ≡ false
 blocked_for None choice s is e = true_is_not_false (sym (ap (λ o. is_interrupting_allowed o s) is) ∙ e)
 blocked_for (Some r) None s is e = renewed_blocked s.running s e
 blocked_for (Some r) (Some t) s is e =

@@ -7,6 +7,7 @@ use Rattle.std.proofs.lemmas.List.{length-set, get_or-set_other}
 use Rattle.std.proofs.lemmas.Bool.Decides.{nat_tests}
 use Rattle.memlist.proofs.Answered.{nat_eq-other, cases_eq}
 use Rattle.execlist.specs.Order.{first}
+use Rattle.execlist.specs.Disciplines.{by_arrival}
 use Rattle.signals.specs.Signals.{SignalSets, initial_sets, grant, without, taken_signals, after_free}
 use Rattle.forbid.specs.Nesting.{Nesting, after_forbid, after_permit, after_disable, after_enable}
 use Rattle.taskq.specs.Tasks.{is_live, is_ready}
@@ -42,7 +43,7 @@ use Rattle.iorequest.specs.declared.request.ReqState.TheVariants.{Idle, UnderWay
 use Rattle.iorequest.specs.Request.{is_under_way}
 use Rattle.msgport.specs.declared.action.Action.{Action}
 use Rattle.execmodel.specs.State.{Call, Scripts, Memory, asked, passed, State, Outcome, on_schedule, on_memory, on_heap}
-use Rattle.execmodel.specs.Scheduling.{arrives, added, reprioritized}
+use Rattle.scheduler.specs.Dispatch.{arrives, added, reprioritized}
 use Rattle.execmodel.specs.Calls.{ByTask, argument, done, answered, waiting, silent, alerted, unless, keeps}
 use Rattle.execmodel.specs.Plain.{does_plain, does_set, does_add, does_sub, does_and, does_or, jumps, does_jump, does_jump_zero, does_jump_not_zero, does_print}
 use Rattle.execmodel.specs.Signals.{is_task, mask_alert, free_signal_alert, waited, does_signals, does_alloc_signal, does_free_signal, does_set_signal, does_signal, does_wait}
@@ -52,7 +53,8 @@ use Rattle.execmodel.specs.Objects.{place_for_object}
 use Rattle.execmodel.specs.Memory.{alloc_alert, free_alert, avail_alert, does_memory, does_alloc_mem, does_free_mem, does_avail_mem}
 use Rattle.execmodel.specs.Lists.{free_list_alert, new_node_alert, free_node_alert, link_alert, insert_alert, linked_alert, list_alert, find_alert, does_lists, does_new_list, does_free_list, does_new_node, does_free_node, does_add_head, does_add_tail, does_enqueue, does_insert, does_remove, does_rem_head, does_rem_tail, does_first, does_last, does_succ, does_pred, does_find_name}
 use Rattle.execmodel.specs.Ports.{is_port, port_size, after_asking_for_port, messages_of, port_of, port_created, delete_alert, port_alert, reply_port_alert, loose_alert, message_alert, add_port_alert, rem_port_alert, wait_alert, looked, loses, made_public, made_private, performed, does_ports, does_create_msg_port, does_delete_msg_port, does_add_port, does_rem_port, does_find_port, does_port_signal, does_port_cause, does_port_ignore, does_new_msg, does_free_msg, does_msg_word, does_set_msg_word, does_msg_type, does_put_msg, does_get_msg, does_wait_port, does_reply_msg}
-use Rattle.execmodel.specs.Semaphores.{awaited_by, dropped, sem_of, free_sem_alert, obtain_alert, release_alert, outcome_for, obtains, passes, heir, is_tried_again, leaving_queue, does_semaphores, does_new_sem, does_free_sem, does_obtain_semaphore, does_attempt_semaphore, does_release_semaphore}
+use Rattle.execmodel.specs.Semaphores.{awaited_by, dropped, sem_of, free_sem_alert, obtain_alert, release_alert, obtains, passes, heir, is_tried_again, leaving_queue, does_semaphores, does_new_sem, does_free_sem, does_obtain_semaphore, does_attempt_semaphore, does_release_semaphore}
+use Rattle.sigsem.specs.Semaphores.{outcome_for}
 use Rattle.execmodel.specs.Causing.{does_interrupts, does_cause}
 use Rattle.execmodel.specs.Libraries.{library_alert, close_alert, does_libraries, does_open_library, does_close_library, does_rem_library, does_lib_open_cnt}
 use Rattle.execmodel.specs.Requests.{does_requests, request_of, request_alert, resting_alert, delete_request_alert, send_alert, do_alert, wait_io_alert, set_io_alert, answering_port, acting_at, with_reply, ended, begun_at, replying_port, looks_for, aborts, does_create_io_request, does_delete_io_request, does_open_device, does_close_device, does_set_io, does_do_io, does_send_io, does_check_io, does_wait_io, does_abort_io, does_io_secs, does_io_micros, does_io_error, does_io_flags}
@@ -73,15 +75,15 @@ pub record IsOwn (t : ℕ) (s r : Schedule) : Type 0 where
 -- what a call of task t may make of the schedule, and the marks that it leaves at semaphores
 pub data Shifts (t : ℕ) (call : Call) (s : State) (o : Outcome) : Type 0 where
   reaches : Reaches o.marks s.schedule o.state.schedule → Shifts t call s o
-  rearrives : (k : ℕ) → IsCalm o.marks → is_ready (status_of s.schedule k) ≡ true → IsAlike (arrives k (departs k s.schedule)) o.state.schedule
+  rearrives : (k : ℕ) → IsCalm o.marks → is_ready (status_of s.schedule k) ≡ true → IsAlike (arrives by_arrival k (departs k s.schedule)) o.state.schedule
       → Shifts t call s o
   adds : (k : ℕ) → IsCalm o.marks → k < length s.scripts.programs → is_absent (status_of s.schedule k) ≡ true
-      → o.state.schedule ≡ arrives k s.schedule → Shifts t call s o
+      → o.state.schedule ≡ arrives by_arrival k s.schedule → Shifts t call s o
   takes : IsCalm o.marks → is_own_taking call.word ≡ true → IsOwn t s.schedule o.state.schedule → Shifts t call s o
   sleeps : (mask : ℕ) (q : Schedule) → IsCalm o.marks → is_own_taking call.word ≡ true → IsOwn t s.schedule q
       → bit_and (signals_of q t).received mask ≡ 0 → o.state.schedule ≡ waits_for t mask q → Shifts t call s o
   asks : (semaphore : ℕ) → o.marks ≡ asked semaphore t ∷ [] → o.state.schedule ≡ waits_at_semaphore t s.schedule → Shifts t call s o
-  wakes : (semaphore owner : ℕ) → o.marks ≡ passed semaphore owner ∷ [] → o.state.schedule ≡ arrives owner s.schedule → Shifts t call s o
+  wakes : (semaphore owner : ℕ) → o.marks ≡ passed semaphore owner ∷ [] → o.state.schedule ≡ arrives by_arrival owner s.schedule → Shifts t call s o
   leaves : IsCalm o.marks → o.state.schedule ≡ leaves_for_good t s.schedule → Shifts t call s o
   removes : (other : ℕ) → other ≢ t → o.state.memory.heap ≡ dropped other s.memory.heap → o.state.schedule ≡ removed other s.schedule
       → Shifts t call s o
@@ -236,7 +238,7 @@ nesting_shifts nesting.Enable t call s = counted_shifts t call (after_enable (ne
 
 reprioritized_shifts : (t : ℕ) (call : Call) (value k : ℕ) (pri : ℤ) (test : Bool) (s : State) → is_ready (status_of s.schedule k) ≡ test
     → Shifted t call s (answered t call value
-    (on_schedule (λ r. if test then arrives k (departs k (with_priority k pri r)) else with_priority k pri r) s))
+    (on_schedule (λ r. if test then arrives by_arrival k (departs k (with_priority k pri r)) else with_priority k pri r) s))
 unfolding answered arrives
 reprioritized_shifts t call value k pri true s e = (
   answered_count t call.next call.target value s.scripts,
@@ -253,7 +255,7 @@ number_in_range number count e = grind (arith, nat_tests)
 
 added_shifts : (t : ℕ) (call : Call) (value number : ℕ) (test : Bool) (s : State) → is_task number s.scripts ≡ true
     → is_absent (status_of s.schedule (number - 1)) ≡ test
-    → Shifted t call s (answered t call value (on_schedule (λ r. if test then arrives (number - 1) r else r) s))
+    → Shifted t call s (answered t call value (on_schedule (λ r. if test then arrives by_arrival (number - 1) r else r) s))
 unfolding answered
 added_shifts t call value number true s is e = (
   answered_count t call.next call.target value s.scripts,

@@ -16,7 +16,8 @@ use Rattle.execmodel.specs.Memory.{alloc_bits, can_be_asked, has_only, is_named,
 use Rattle.execmodel.specs.Lists.{is_linked, is_list_at, is_node_at, is_pred_at, is_pred_in, nodes_of, predecessor, free_list_alert, new_node_alert, free_node_alert, link_alert, insert_alert, linked_alert, list_alert, find_alert}
 use Rattle.execmodel.specs.Libraries.{library_alert, close_alert}
 use Rattle.execmodel.specs.Ports.{is_awaited_at, is_message_at, is_port_at, is_public, is_queued, messages_of, port_of, port_alert, message_alert, delete_alert, add_port_alert, rem_port_alert, reply_port_alert, loose_alert, put_alert, content_of, reply_alert, wait_alert}
-use Rattle.execmodel.specs.Semaphores.{is_semaphore_at, is_owned, is_owner, is_too_deep, sem_of, free_sem_alert, obtain_alert, release_alert}
+use Rattle.execmodel.specs.Semaphores.{is_semaphore_at, sem_of, free_sem_alert, obtain_alert, release_alert}
+use Rattle.sigsem.specs.Semaphores.{is_owned, is_owner, is_too_deep}
 use Rattle.execmodel.specs.Requests.{can_begin, is_command, is_request_at, request_of, request_alert, resting_alert, delete_request_alert, begin_alert, send_alert, do_alert, state_alert, wait_io_alert, set_io_alert}
 use Rattle.execmodel.specs.Places.{block_at}
 use Rattle.execmodel.specs.Loaded.{count_of, is_library_at}

@@ -5,6 +5,7 @@ use Rattle.std.proofs.lemmas.List.Elements.{All-nil, All-cons, All-head, All-tai
 use Rattle.exectrace.specs.Trace.{TraceLine, Timer}
 use Rattle.taskscript.specs.Words.{word_text}
 use Rattle.execlist.specs.Order.{first}
+use Rattle.execlist.specs.Disciplines.{by_arrival}
 use Rattle.msgport.specs.declared.action.Action.{Action}
 use Rattle.msgport.specs.declared.action.Action.TheVariants as action
 use Rattle.taskq.specs.Tasks.{is_live}
@@ -21,7 +22,7 @@ use Rattle.taskscript.specs.declared.word.ports.PortWord.TheVariants as ports
 use Rattle.taskscript.specs.declared.word.interrupts.InterruptWord.{InterruptWord}
 use Rattle.taskscript.specs.declared.word.interrupts.InterruptWord.TheVariants as causing
 use Rattle.execmodel.specs.State.{Call, Scripts, Bodies, State, Outcome, quiet, says, andthen, unless_stopped, program_of, on_schedule, on_memory}
-use Rattle.execmodel.specs.Scheduling.{arrives, signalled}
+use Rattle.scheduler.specs.Dispatch.{arrives, signalled}
 use Rattle.execmodel.specs.Calls.{ByBody, argument, call_at, call_after, call_in_body, next_call, unless_by}
 use Rattle.execmodel.specs.Signals.{signal_alert}
 use Rattle.execmodel.specs.Pending.{causes}
@@ -164,7 +165,7 @@ pub either_names : (names : List (List ℕ)) (test : Bool) (r s : Schedule) → 
 either_names names true r s one other = one
 either_names names false r s one other = other
 
-signalled_names : (t mask : ℕ) (s : Schedule) → (signalled t mask s).queue.names ≡ s.queue.names
+signalled_names : (t mask : ℕ) (s : Schedule) → (signalled by_arrival t mask s).queue.names ≡ s.queue.names
 unfolding signalled arrives
 signalled_names t mask s =
     either_names s.queue.names (not (is_live (status_of s t))) _ _ refl
@@ -172,7 +173,7 @@ signalled_names t mask s =
 
 performed_texts : (act : Action) (s : State) → texts_of (performed act s) ≡ texts_of s
 unfolding causes
-performed_texts (action.Signal task mask) s = named_alike (signalled task mask) s (signalled_names task mask s.schedule)
+performed_texts (action.Signal task mask) s = named_alike (signalled by_arrival task mask) s (signalled_names task mask s.schedule)
 performed_texts (action.Cause i) s = refl
 performed_texts action.Nothing s = refl
 
@@ -199,7 +200,7 @@ signals_texts : (word : SignalWord) (name : List ℕ) (call : Call) (s : State)
     → texts_of (does_signals_by word (ByBody name) call s).state ≡ texts_of s
 signals_texts signals.Signal name call s =
     unless_texts (signal_alert (argument 0 call) (argument 1 call) s.scripts) name call _ s
-    (named_alike (signalled (argument 0 call - 1) (argument 1 call)) s (signalled_names (argument 0 call - 1) (argument 1 call) s.schedule))
+    (named_alike (signalled by_arrival (argument 0 call - 1) (argument 1 call)) s (signalled_names (argument 0 call - 1) (argument 1 call) s.schedule))
 signals_texts _ name call s = refl
 
 taken_texts : (port : ℕ) (message : Option ℕ) (name : List ℕ) (call : Call) (s : State)

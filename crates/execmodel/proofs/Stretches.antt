@@ -1,6 +1,7 @@
 -- What holds over every stretch of every run: proved once from what holds of each thing that a machine does.
 use Rattle.std.proofs.Common.{◌≡◌, ℕ, zero, suc, ◌<◌, ◌≤◌, Bool, true, false, List, [], ◌∷◌, ◌++◌, Option, None, Some, refl, arith}
 use Rattle.std.specs.Prelude.{length, if◌then◌else◌}
+use Rattle.execlist.specs.Disciplines.{by_arrival}
 use Rattle.exectrace.specs.Trace.{Serve, Server, Softint, TraceLine}
 use Rattle.taskscript.specs.Commands.{CommandData}
 use Rattle.taskscript.specs.declared.event.Event.{Event}
@@ -9,7 +10,7 @@ use Rattle.scheduler.specs.Schedule.{ticked as quantum_ticked}
 use Rattle.softint.specs.declared.source.Source.{Source}
 use Rattle.softint.specs.declared.source.Source.TheVariants as source
 use Rattle.execmodel.specs.State.{Call, Pending, Timer as Clock, State, Mark, Outcome, quiet, says, andthen, unless_stopped, on_schedule, on_memory, on_timer, on_pending}
-use Rattle.execmodel.specs.Scheduling.{added}
+use Rattle.scheduler.specs.Dispatch.{added}
 use Rattle.execmodel.specs.Calls.{next_call}
 use Rattle.execmodel.specs.Pending.{source_named, taken_off, with_latch_of, next_softint, next_source}
 use Rattle.execmodel.specs.Bodies.{body_step, runs_body}
@@ -48,7 +49,7 @@ pub record HoldsOfInterrupts (R : Relation) : Type 0 where
 -- its end; and that a task is added at the start.
 pub record HoldsOfEach (R : Relation) : Type 0 where
   pub interrupting : HoldsOfInterrupts R
-  pub adding : (t : ℕ) (s : State) → t < length s.scripts.programs → R s [] (on_schedule (added t) s)
+  pub adding : (t : ℕ) (s : State) → t < length s.scripts.programs → R s [] (on_schedule (added by_arrival t) s)
   pub calling : (t : ℕ) (call : Call) (s : State) → s.schedule.running ≡ Some t → next_call t s.scripts ≡ Some call
       → R s (does_itself t call s).marks (does_itself t call s).state
   pub ending : (t : ℕ) (s : State) → s.schedule.running ≡ Some t → R s (ends t s).marks (ends t s).state
@@ -237,7 +238,7 @@ module _ (R : Relation) (each : HoldsOfEach R) where
   of_steps zero s = nothing s
   of_steps (suc n) s = joins (steps n) step (of_steps n) of_step s
 
-  starting : (b : Bool) (t : ℕ) (s : State) → t < length s.scripts.programs → R s [] (on_schedule (λ r. if b then added t r else r) s)
+  starting : (b : Bool) (t : ℕ) (s : State) → t < length s.scripts.programs → R s [] (on_schedule (λ r. if b then added by_arrival t r else r) s)
   starting true t s less = each.adding t s less
   starting false t s less = nothing s
 

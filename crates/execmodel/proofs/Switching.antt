@@ -4,12 +4,12 @@ use Rattle.std.specs.Prelude.{if◌then◌else◌, ◌&&◌, ◌||◌, int_lt, i
 use Rattle.std.proofs.lemmas.Option.{none-some}
 use Rattle.exectrace.specs.Trace.{TraceLine}
 use Rattle.exectrace.specs.Trace as trace
-use Rattle.taskq.specs.Tasks.{pri_at}
+use Rattle.execlist.specs.Disciplines.{pri_at, by_arrival}
 use Rattle.scheduler.specs.Schedule.{Schedule, name_of, priority_of, begins, switch_for, is_switching_allowed, is_quantum_over, takes_over}
 use Rattle.scheduler.specs.declared.Switch.{Switch}
 use Rattle.scheduler.specs.declared.Switch.TheVariants.{To, Idle}
 use Rattle.execmodel.specs.State.{State, on_schedule}
-use Rattle.execmodel.specs.Scheduling.{arrives, displaced, after_switch, switch_of, rescheduled}
+use Rattle.scheduler.specs.Dispatch.{arrives, displaced, after_switch, switch_of, rescheduled}
 use Rattle.execmodel.specs.Step.{announced, switches}
 use Rattle.execmodel.specs.Laws.{SwitchesGoToTheChosen}
 use Rattle.execmodel.proofs.Heaps.{true_is_not_false}
@@ -67,12 +67,12 @@ toward None s name e = true_is_not_false (sym (ap is_switch e))
 toward (Some (To t)) s name e = (t, refl, sym (ap name_in_line e))
 toward (Some Idle) s name e = true_is_not_false (sym (ap is_switch e))
 
-displaced_names : (o : Option ℕ) (s : Schedule) (t : ℕ) → name_of (displaced o s) t ≡ name_of s t
+displaced_names : (o : Option ℕ) (s : Schedule) (t : ℕ) → name_of (displaced by_arrival o s) t ≡ name_of s t
 unfolding arrives
 displaced_names None s t = refl
 displaced_names (Some r) s t = refl
 
-begun_names : (o : Option ℕ) (t k : ℕ) (s : Schedule) → name_of (begins t (displaced o s)) k ≡ name_of s k
+begun_names : (o : Option ℕ) (t k : ℕ) (s : Schedule) → name_of (begins t (displaced by_arrival o s)) k ≡ name_of s k
 unfolding begins
 begun_names o t k s = displaced_names o s k
 
@@ -154,11 +154,11 @@ pub switches_go_to_the_chosen : SwitchesGoToTheChosen
 unfolding switches rescheduled switch_of
 switches_go_to_the_chosen s name e =
     let c = switch_for s.schedule.running (chosen (pri_at s.schedule.queue.pris) s.schedule.queue.ready) s.schedule in
-    let to = toward c (on_schedule rescheduled s) name e in (
+    let to = toward c (on_schedule (rescheduled by_arrival) s) name e in (
       to.0,
-      to.2 ∙ ap (λ d. name_of (after_switch d s.schedule) to.0) to.1 ∙ begun_names s.schedule.running to.0 to.0 s.schedule,
+      to.2 ∙ ap (λ d. name_of (after_switch by_arrival d s.schedule) to.0) to.1 ∙ begun_names s.schedule.running to.0 to.0 s.schedule,
       elected s.schedule.running (chosen (pri_at s.schedule.queue.pris) s.schedule.queue.ready) s.schedule to.0 refl refl to.1,
       ap (λ (r : State). r.schedule.running) (switches_quiet s).1
-          ∙ ap (λ d. (after_switch d s.schedule).running) to.1 ∙ begun_running to.0 (displaced s.schedule.running s.schedule),
+          ∙ ap (λ d. (after_switch by_arrival d s.schedule).running) to.1 ∙ begun_running to.0 (displaced by_arrival s.schedule.running s.schedule),
       λ r runs equal. over_for s.schedule.running (chosen (pri_at s.schedule.queue.pris) s.schedule.queue.ready) s.schedule to.0 r refl runs to.1 equal,
     )

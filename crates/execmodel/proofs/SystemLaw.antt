@@ -2,6 +2,7 @@
 use Rattle.std.proofs.Common.{◌⊎◌, inl, inr, ◌≡◌, ℕ, ◌+◌, Bool, true, false, List, [], Option, None, Some, refl, sym, ap, ◌∙◌, subst, arith}
 use Rattle.std.specs.Prelude.{ℤ, pos, negsuc, ◌-ℤ◌, if◌then◌else◌, nat_eq}
 use Rattle.std.proofs.lemmas.Int.{ints}
+use Rattle.execlist.specs.Disciplines.{by_arrival}
 use Rattle.softint.specs.declared.source.Source.TheVariants.{Vertb}
 use Rattle.msgport.specs.declared.action.Action.{Action}
 use Rattle.iorequest.specs.declared.request.ReqState.{ReqState}
@@ -14,7 +15,7 @@ use Rattle.taskscript.specs.declared.word.requests.RequestWord.{RequestWord}
 use Rattle.taskscript.specs.declared.word.requests.RequestWord.TheVariants as requests
 use Rattle.timerdev.specs.Timing.{offset}
 use Rattle.execmodel.specs.State.{Call, Timer, Memory, State, Outcome, quiet, andthen, on_schedule, on_memory}
-use Rattle.execmodel.specs.Scheduling.{rescheduled}
+use Rattle.scheduler.specs.Dispatch.{rescheduled}
 use Rattle.execmodel.specs.Calls.{argument, done, answered, waiting, alerted, next_call, unless}
 use Rattle.execmodel.specs.Pending.{next_softint}
 use Rattle.execmodel.specs.Plain.{does_plain}
@@ -62,7 +63,7 @@ stands = record {
   finishing = λ request s waits. ((finishing request s waits).clock, (finishing request s waits).system);
   looking = λ s. (refl, refl);
   ticking = λ s. (refl, refl);
-  switching = λ s. quietly Stands s (switches s) (on_schedule rescheduled s) (switches_quiet s) (refl, refl);
+  switching = λ s. quietly Stands s (switches s) (on_schedule (rescheduled by_arrival) s) (switches_quiet s) (refl, refl);
 }
 
 -- ---- a call on requests

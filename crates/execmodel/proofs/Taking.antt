@@ -13,7 +13,8 @@ use Rattle.sigsem.specs.Semaphores.{free_sem}
 use Rattle.iorequest.specs.Request.{is_under_way}
 use Rattle.execmodel.specs.State.{Object, Plain, ListHead, Node, MsgPort, Message, Semaphore, Library, Request, Heap, Memory, State, Outcome, on_memory}
 use Rattle.execmodel.specs.Places.{extents, place_for, freed}
-use Rattle.execmodel.specs.Objects.{is_allowed, public_memory}
+use Rattle.execmodel.specs.Objects.{is_allowed}
+use Rattle.execlib.specs.Libraries.{public_memory}
 use Rattle.execmodel.specs.Loaded.{is_library_at, count_of, with_library, base_of, removed}
 use Rattle.execmodel.specs.GivingWay.{gives_way_at, gives_way, asked_one, asked_each, after_asking, after_asking_for_object}
 use Rattle.execmodel.specs.Ports.{is_port, port_size, after_asking_for_port}

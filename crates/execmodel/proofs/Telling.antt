@@ -36,7 +36,8 @@ use Rattle.execmodel.specs.Objects.{place_for_object}
 use Rattle.execmodel.specs.Memory.{does_memory, alloc_alert, free_alert, avail_alert, does_alloc_mem, does_free_mem, does_avail_mem}
 use Rattle.execmodel.specs.Lists.{does_lists, free_list_alert, new_node_alert, free_node_alert, link_alert, insert_alert, linked_alert, list_alert, find_alert, does_new_list, does_free_list, does_new_node, does_free_node, does_add_head, does_add_tail, does_enqueue, does_insert, does_remove, does_rem_head, does_rem_tail, does_first, does_last, does_succ, does_pred, does_find_name}
 use Rattle.execmodel.specs.Ports.{does_ports, is_port, port_size, after_asking_for_port, port_created, port_alert, message_alert, messages_of, content_of, delete_alert, add_port_alert, rem_port_alert, reply_port_alert, loose_alert, put_alert, reply_alert, wait_alert, looked, does_create_msg_port, does_delete_msg_port, does_add_port, does_rem_port, does_find_port, does_port_signal, does_port_cause, does_port_ignore, does_new_msg, does_free_msg, does_msg_word, does_set_msg_word, does_msg_type, does_put_msg, does_get_msg, does_wait_port, does_reply_msg, delivered, taken_by, replied_by, does_put_msg_by, does_get_msg_by, does_reply_msg_by}
-use Rattle.execmodel.specs.Semaphores.{does_semaphores, awaited_by, free_sem_alert, heir, is_tried_again, leaving_queue, obtain_alert, obtains, outcome_for, passes, release_alert, sem_of, does_new_sem, does_free_sem, does_obtain_semaphore, does_attempt_semaphore, does_release_semaphore}
+use Rattle.execmodel.specs.Semaphores.{does_semaphores, awaited_by, free_sem_alert, heir, is_tried_again, leaving_queue, obtain_alert, obtains, passes, release_alert, sem_of, does_new_sem, does_free_sem, does_obtain_semaphore, does_attempt_semaphore, does_release_semaphore}
+use Rattle.sigsem.specs.Semaphores.{outcome_for}
 use Rattle.execmodel.proofs.Itself.{word_itself}
 use Rattle.exectrace.specs.Trace.{TraceLine, Done, Answers, Alert}
 use Rattle.exectrace.specs.Trace as trace

@@ -1,5 +1,6 @@
 -- In every state of every run the blocks are well formed, and the requests are in order with the ports and the timer.
 use Rattle.std.proofs.Common.{◌≡◌, ℕ, List, [], Option, None, Some, refl, sym, subst}
+use Rattle.execlist.specs.Disciplines.{by_arrival}
 use Rattle.memlist.specs.Memory.{IsWellFormed}
 use Rattle.memlist.proofs.Keeping.{untouched_well_formed}
 use Rattle.scheduler.specs.declared.Switch.{Switch}
@@ -8,7 +9,7 @@ use Rattle.taskscript.specs.File.{MachineData, total_of}
 use Rattle.taskscript.specs.Machines.{IsMachine}
 use Rattle.taskscript.specs.declared.event.Event.{Event}
 use Rattle.execmodel.specs.State.{Call, Heap, Memory, Timer, Waiting as Queued, Mark, State, Outcome, on_schedule, booted, andthen}
-use Rattle.execmodel.specs.Scheduling.{switch_of, rescheduled}
+use Rattle.scheduler.specs.Dispatch.{switch_of, rescheduled}
 use Rattle.execmodel.specs.Memory.{extents}
 use Rattle.execmodel.specs.Bodies.{body_step}
 use Rattle.execmodel.specs.Requests.{finishes}
@@ -29,9 +30,9 @@ announced_quiet None s = (refl, refl)
 announced_quiet (Some (To t)) s = (refl, refl)
 announced_quiet (Some Idle) s = (refl, refl)
 
-pub switches_quiet : (s : State) → ((switches s).marks ≡ []) × ((switches s).state ≡ on_schedule rescheduled s)
+pub switches_quiet : (s : State) → ((switches s).marks ≡ []) × ((switches s).state ≡ on_schedule (rescheduled by_arrival) s)
 unfolding switches
-switches_quiet s = announced_quiet (switch_of s.schedule) (on_schedule rescheduled s)
+switches_quiet s = announced_quiet (switch_of by_arrival s.schedule) (on_schedule (rescheduled by_arrival) s)
 
 -- a relation that holds where nothing happens holds of a switch
 pub quietly : (R : Relation) (s : State) (o : Outcome) (r : State) → (o.marks ≡ []) × (o.state ≡ r) → R s [] r → R s o.marks o.state
@@ -119,7 +120,7 @@ tidies = record {
     };
     looking = λ s tidy. record { formed = tidy.formed; order = tidy.order };
     ticking = λ s. rescheduled_tidy s _ refl;
-    switching = λ s. quietly Tidies s (switches s) (on_schedule rescheduled s) (switches_quiet s) (rescheduled_tidy s _ refl);
+    switching = λ s. quietly Tidies s (switches s) (on_schedule (rescheduled by_arrival) s) (switches_quiet s) (rescheduled_tidy s _ refl);
   };
   adding = λ t s less. rescheduled_tidy s _ refl;
   calling = λ t call s runs is tidy. record {

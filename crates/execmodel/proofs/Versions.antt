@@ -3,6 +3,7 @@ use Rattle.std.proofs.Common.{◌≡◌, ℕ, zero, suc, Bool, true, false, List
 use Rattle.std.specs.Prelude.{negsuc, not, ◌&&◌, if◌then◌else◌, nat_eq, is_some, unwrap_or, length}
 use Rattle.std.specs.List.{range_with_len}
 use Rattle.std.specs.Int.{cast_signed, w32}
+use Rattle.execlist.specs.Disciplines.{by_arrival}
 use Rattle.signals.specs.Signals.{grant}
 use Rattle.scheduler.specs.Schedule.{signals_of}
 use Rattle.taskscript.specs.declared.word.Word.{Word}
@@ -23,10 +24,11 @@ use Rattle.taskscript.specs.declared.event.Event.{Event}
 use Rattle.taskscript.specs.declared.event.Event.TheVariants.{Run, Tick, Irq}
 use Rattle.taskscript.specs.File.{MachineData}
 use Rattle.execmodel.specs.State.{Call, Object, ListHead, Memory, State, Outcome, quiet, andthen, on_schedule, on_memory, booted}
-use Rattle.execmodel.specs.Scheduling.{rescheduled}
+use Rattle.scheduler.specs.Dispatch.{rescheduled}
 use Rattle.execmodel.specs.Calls.{argument, name_argument, answered, unless, next_call}
 use Rattle.execmodel.specs.Pending.{next_softint}
-use Rattle.execmodel.specs.Objects.{is_allowed, public_memory}
+use Rattle.execmodel.specs.Objects.{is_allowed}
+use Rattle.execlib.specs.Libraries.{public_memory}
 use Rattle.execmodel.specs.Loaded.{base_of}
 use Rattle.execmodel.specs.GivingWay.{asked_each, after_asking, after_asking_for_object}
 use Rattle.execmodel.specs.Memory.{place_for, alloc_alert, takes_block, makes_object, does_alloc_mem}
@@ -43,7 +45,7 @@ use Rattle.execmodel.proofs.Heaps.{true_is_not_false}
 use Rattle.execmodel.proofs.Itself.{word_itself}
 use Rattle.execmodel.proofs.Stretches.{Relation, HoldsOfEach, of_event, of_events, of_starts, of_steps}
 use Rattle.execmodel.proofs.Keeping.{plain_words_change_scripts, signal_words_change_signals_and_states, nesting_words_change_nestings, task_words_change_states_priorities_and_objects, list_words_change_the_memory, memory_words_change_the_memory, port_words_change_ports_signals_and_states, semaphore_words_change_states_and_objects, interrupt_words_change_what_is_caused, library_words_change_the_memory, request_words_keep}
-use Rattle.execmodel.proofs.Commands.{body_alters}
+use Rattle.execmodel.proofs.Commands.{body_alters, settings_of}
 use Rattle.execmodel.proofs.Asking.{finishing}
 use Rattle.execmodel.proofs.GivingWay.{asking_keeps, asking_for_object_keeps, ready_keeps}
 use Rattle.execmodel.proofs.TidyLaw.{quietly, switches_quiet}
@@ -143,16 +145,20 @@ unasked_words_take_memory_as_it_is t call s e =
 
 -- ---- whole runs
 
--- whether libraries are asked stays
+-- whether libraries are asked, and how many tasks there are, stays
 abbrev Version : Relation
-Version old marks new = new.memory.asks ≡ old.memory.asks
+Version old marks new = settings_of new.memory ≡ settings_of old.memory
+
+-- the first of the two
+abbrev asked : Bool × ℕ → Bool
+asked p = p.0
 
 -- what a group leaves as it is has that
-left : (part : State → State) → ((x : State) → (part x).memory.asks ≡ x.memory.asks) → (s : State) (o : Outcome) → part o.state ≡ part s
-    → o.state.memory.asks ≡ s.memory.asks
-left part same s o e = sym (same o.state) ∙ ap (λ (x : State). x.memory.asks) e ∙ same s
+left : (part : State → State) → ((x : State) → settings_of (part x).memory ≡ settings_of x.memory) → (s : State) (o : Outcome) → part o.state ≡ part s
+    → settings_of o.state.memory ≡ settings_of s.memory
+left part same s o e = sym (same o.state) ∙ ap (λ (x : State). settings_of x.memory) e ∙ same s
 
-word_keeps : (word : Word) (t : ℕ) (call : Call) (s : State) → (word_itself word t call s).state.memory.asks ≡ s.memory.asks
+pub word_keeps : (word : Word) (t : ℕ) (call : Call) (s : State) → settings_of (word_itself word t call s).state.memory ≡ settings_of s.memory
 word_keeps (group.Plain word) t call s = left (beside_plain t) (λ x. refl) s (word_itself (group.Plain word) t call s)
     (plain_words_change_scripts word t call s)
 word_keeps (group.Signals word) t call s = left beside_signals (λ x. refl) s (word_itself (group.Signals word) t call s)
@@ -182,12 +188,12 @@ versions = record {
   interrupting = record {
     nothing = λ s. refl;
     joined = λ s some r more q first next. next ∙ first;
-    commanding = λ name command s. (body_alters name command s).version;
+    commanding = λ name command s. (body_alters name command s).settings;
     pending = λ f s. refl;
-    finishing = λ request s waits. (finishing request s waits).version;
+    finishing = λ request s waits. (finishing request s waits).settings;
     looking = λ s. refl;
     ticking = λ s. refl;
-    switching = λ s. quietly Version s (switches s) (on_schedule rescheduled s) (switches_quiet s) refl;
+    switching = λ s. quietly Version s (switches s) (on_schedule (rescheduled by_arrival) s) (switches_quiet s) refl;
   };
   adding = λ t s less. refl;
   calling = λ t call s runs is. word_keeps call.word t call s;
@@ -199,12 +205,12 @@ unfolding booted
 booted_asks machine = refl
 
 started_asks : (machine : MachineData) → (starts (booted machine)).state.memory.asks ≡ nat_eq machine.version 2
-started_asks machine = of_starts Version versions (booted machine) ∙ booted_asks machine
+started_asks machine = ap asked (of_starts Version versions (booted machine)) ∙ booted_asks machine
 
 pub libraries_are_asked_in_version_two : LibrariesAreAskedInVersionTwo
 unfolding run andthen
 libraries_are_asked_in_version_two machine list is =
-    of_events Version versions (λ s. refl) list (starts (booted machine)).state ∙ started_asks machine
+    ap asked (of_events Version versions (λ s. refl) list (starts (booted machine)).state) ∙ started_asks machine
 
 -- one action after another, where both do the same
 both_same : (f g next more : State → Outcome) (s : State) → f s ≡ g s → next (f s).state ≡ more (f s).state → andthen f next s ≡ andthen g more s
@@ -328,7 +334,7 @@ unfolding steps earlier_steps
 steps_same zero s e = refl
 steps_same (suc n) s e =
     both_same (steps n) (earlier_steps n) step earlier_step s (steps_same n s e)
-    (step_same (steps n s).state (of_steps Version versions n s ∙ e))
+    (step_same (steps n s).state (ap asked (of_steps Version versions n s) ∙ e))
 
 event_same : (e : Event) (s : State) → s.memory.asks ≡ false → event e s ≡ earlier_event e s
 unfolding event
@@ -341,7 +347,7 @@ unfolding events earlier_events
 events_same [] s unasked = refl
 events_same (e ∷ rest) s unasked =
     both_same (event e) (earlier_event e) (events rest) (earlier_events rest) s (event_same e s unasked)
-    (events_same rest (event e s).state (of_event Version versions (λ s. refl) e s ∙ unasked))
+    (events_same rest (event e s).state (ap asked (of_event Version versions (λ s. refl) e s) ∙ unasked))
 
 pub version_one_is_the_machine_as_it_was : VersionOneIsTheMachineAsItWas
 unfolding run earlier_run

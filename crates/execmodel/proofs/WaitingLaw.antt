@@ -1,7 +1,7 @@
 -- The queues agree with the schedule in every state of every run, and tasks get a semaphore in the order in which they asked.
 use Rattle.std.proofs.Common.{◌≡◌, ℕ, suc, ◌<◌, Bool, true, false, List, [], ◌∷◌, ◌++◌, Option, None, Some, length, refl, sym, ap, ◌∙◌, subst}
 use Rattle.std.specs.Prelude.{not, if◌then◌else◌, ◌&&◌, map, replicate, slice_set}
-use Rattle.std.proofs.lemmas.List.{length-set}
+use Rattle.std.proofs.lemmas.List.{length-set, length-replicate}
 use Rattle.std.proofs.lemmas.Grind.{flat_map-append}
 use Rattle.signals.specs.Signals.{after_post}
 use Rattle.taskq.specs.Tasks.{Tasks, is_live}
@@ -15,7 +15,7 @@ use Rattle.taskscript.specs.File.{MachineData}
 use Rattle.taskscript.specs.Machines.{IsMachine}
 use Rattle.taskscript.specs.declared.event.Event.{Event}
 use Rattle.execmodel.specs.State.{Call, Mark, State, Outcome, on_schedule, begun, booted, andthen}
-use Rattle.execmodel.specs.Scheduling.{arrives, added, displaced, after_switch, rescheduled, switch_of, signalled}
+use Rattle.scheduler.specs.Dispatch.{arrives, added, displaced, after_switch, rescheduled, switch_of, signalled}
 use Rattle.taskscript.specs.Commands.{CommandData}
 use Rattle.execmodel.specs.Calls.{next_call}
 use Rattle.execmodel.specs.Bodies.{body_step}
@@ -23,6 +23,7 @@ use Rattle.execmodel.specs.Semaphores.{waiters_of}
 use Rattle.execmodel.specs.Step.{switches, ends, starts, events, run}
 use Rattle.execmodel.specs.Marks.{semaphore_turn, turns_at_semaphore}
 use Rattle.execlist.specs.Lists.{times}
+use Rattle.execlist.specs.Disciplines.{by_arrival}
 use Rattle.execmodel.specs.Laws.{QueuesAgreeWithTheSchedule, SemaphoresPassInOrder, times_waiting}
 use Rattle.execmodel.proofs.Queues.{Follows, IsOnce, follows_more, follows_once, in_order}
 use Rattle.execmodel.proofs.Itself.{does_itself}
@@ -39,10 +40,11 @@ use Rattle.execmodel.proofs.Passing.{dropped_left, touched_pass, moves_pass, ask
 use Rattle.execmodel.proofs.Shifts.{Shifts, call_shifts, reaches, rearrives, adds, takes, sleeps, asks, wakes, leaves, removes}
 use Rattle.execmodel.proofs.Agreement.{AllAgree, all_absent, absent_agrees, alike_agrees, rearrives_agrees, added_agrees, signalled_agrees, stops_agrees, asks_agrees, wakes_agrees, removed_agrees, rescheduled_agrees, waits_at, running_state}
 use Rattle.execmodel.proofs.Waiting.{waits_at_one, runs_nowhere}
+use Rattle.execmodel.proofs.Versions.{word_keeps}
 
 -- ---- there are as many states as programs
 
-arrives_count : (k : ℕ) (s : Schedule) → length (arrives k s).queue.states ≡ length s.queue.states
+arrives_count : (k : ℕ) (s : Schedule) → length (arrives by_arrival k s).queue.states ≡ length s.queue.states
 unfolding arrives
 arrives_count k s = length-set s.queue.states k _
 
@@ -51,11 +53,11 @@ either_count : (b : Bool) (s r q : Schedule) → length s.queue.states ≡ lengt
 either_count true s r q one other = one
 either_count false s r q one other = other
 
-pub added_count : (k : ℕ) (s : Schedule) → length (added k s).queue.states ≡ length s.queue.states
+pub added_count : (k : ℕ) (s : Schedule) → length (added by_arrival k s).queue.states ≡ length s.queue.states
 unfolding added
-added_count k s = either_count (is_absent (status_of s k)) (arrives k s) s s (arrives_count k s) refl
+added_count k s = either_count (is_absent (status_of s k)) (arrives by_arrival k s) s s (arrives_count k s) refl
 
-displaced_count : (o : Option ℕ) (s : Schedule) → length (displaced o s).queue.states ≡ length s.queue.states
+displaced_count : (o : Option ℕ) (s : Schedule) → length (displaced by_arrival o s).queue.states ≡ length s.queue.states
 displaced_count None s = refl
 displaced_count (Some r) s = arrives_count r s
 
@@ -67,21 +69,21 @@ renewed_count : (o : Option ℕ) (s : Schedule) → length (renewed o s).queue.s
 renewed_count None s = refl
 renewed_count (Some r) s = either_count (is_switching_allowed (Some r) s && is_quantum_over s) (record s { left = s.quantum }) s s refl refl
 
-switched_count : (c : Option Switch) (s : Schedule) → length (after_switch c s).queue.states ≡ length s.queue.states
+switched_count : (c : Option Switch) (s : Schedule) → length (after_switch by_arrival c s).queue.states ≡ length s.queue.states
 switched_count None s = renewed_count s.running s
 switched_count (Some Idle) s = refl
-switched_count (Some (To t)) s = begins_count t (displaced s.running s) ∙ displaced_count s.running s
+switched_count (Some (To t)) s = begins_count t (displaced by_arrival s.running s) ∙ displaced_count s.running s
 
-rescheduled_count : (s : Schedule) → length (rescheduled s).queue.states ≡ length s.queue.states
+rescheduled_count : (s : Schedule) → length (rescheduled by_arrival s).queue.states ≡ length s.queue.states
 unfolding rescheduled
-rescheduled_count s = switched_count (switch_of s) s
+rescheduled_count s = switched_count (switch_of by_arrival s) s
 
-signalled_count : (k mask : ℕ) (s : Schedule) → length (signalled k mask s).queue.states ≡ length s.queue.states
+signalled_count : (k mask : ℕ) (s : Schedule) → length (signalled by_arrival k mask s).queue.states ≡ length s.queue.states
 unfolding signalled
 signalled_count k mask s =
     let got = with_signals k (after_post mask (signals_of s k)) s in
-    either_count (not (is_live (status_of s k))) s (if awaits (status_of s k) (signals_of got k).received then arrives k got else got) s refl
-    (either_count (awaits (status_of s k) (signals_of got k).received) (arrives k got) got s (arrives_count k got) refl)
+    either_count (not (is_live (status_of s k))) s (if awaits (status_of s k) (signals_of got k).received then arrives by_arrival k got else got) s refl
+    (either_count (awaits (status_of s k) (signals_of got k).received) (arrives by_arrival k got) got s (arrives_count k got) refl)
 
 ticked_running : (o : Option ℕ) (s : Schedule) → (ticked_for o s).queue ≡ s.queue
 ticked_running None s = refl
@@ -125,9 +127,9 @@ calmly marks a old new calm follows = subst (λ turns. Follows old turns new) (c
 same_queues : (r : Schedule) (q p : ℕ → List ℕ) → ((a : ℕ) → p a ≡ q a) → AllAgree r q → AllAgree r p
 same_queues r q p same agrees = alike_agrees r r q p refl refl refl same agrees
 
-added_there : (k : ℕ) (s : Schedule) → is_absent (status_of s k) ≡ true → added k s ≡ arrives k s
+added_there : (k : ℕ) (s : Schedule) → is_absent (status_of s k) ≡ true → added by_arrival k s ≡ arrives by_arrival k s
 unfolding added
-added_there k s absent = ap (λ b. if b then arrives k s else s) absent
+added_there k s absent = ap (λ b. if b then arrives by_arrival k s else s) absent
 
 reached_agrees : (marks : List Mark) (s r : Schedule) (q p : ℕ → List ℕ) → Reaches marks s r
     → ((a : ℕ) → Follows (q a) (turns_at_semaphore a marks) (p a)) → AllAgree s q → AllAgree r p
@@ -135,7 +137,7 @@ reached_agrees marks s r q p (rests calm alike) follows old =
     alike_agrees s r q p alike.states alike.ready alike.running (λ a. calmly marks a (q a) (p a) calm (follows a)) old
 reached_agrees marks s r q p (posts k mask calm e) follows old =
     subst (λ x. AllAgree x p) (sym e)
-    (same_queues (signalled k mask s) q p (λ a. calmly marks a (q a) (p a) calm (follows a)) (signalled_agrees k mask s q old))
+    (same_queues (signalled by_arrival k mask s) q p (λ a. calmly marks a (q a) (p a) calm (follows a)) (signalled_agrees k mask s q old))
 
 shifts_agree : (t : ℕ) (call : Call) (s : State) (o : Outcome) → Shifts t call s o → s.schedule.running ≡ Some t
     → length s.scripts.programs ≡ length s.schedule.queue.states
@@ -145,11 +147,11 @@ unfolding waits_for leaves_for_good
 shifts_agree t call s o (reaches how) runs count follows old =
     reached_agrees o.marks s.schedule o.state.schedule (queues_of s) (queues_of o.state) how follows old
 shifts_agree t call s o (rearrives k calm e alike) runs count follows old =
-    alike_agrees (arrives k (departs k s.schedule)) o.state.schedule (queues_of s) (queues_of o.state) alike.states alike.ready alike.running
+    alike_agrees (arrives by_arrival k (departs k s.schedule)) o.state.schedule (queues_of s) (queues_of o.state) alike.states alike.ready alike.running
     (λ a. calmly o.marks a (queues_of s a) (queues_of o.state a) calm (follows a)) (rearrives_agrees k s.schedule (queues_of s) e old)
 shifts_agree t call s o (adds k calm range absent e) runs count follows old =
     subst (λ r. AllAgree r (queues_of o.state)) (added_there k s.schedule absent ∙ sym e)
-    (same_queues (added k s.schedule) (queues_of s) (queues_of o.state)
+    (same_queues (added by_arrival k s.schedule) (queues_of s) (queues_of o.state)
     (λ a. calmly o.marks a (queues_of s a) (queues_of o.state a) calm (follows a))
     (added_agrees k s.schedule (queues_of s) (subst (λ n. k < n) count range) old))
 shifts_agree t call s o (takes calm taking own) runs count follows old =
@@ -183,13 +185,18 @@ shifts_agree t call s o (removes other apart heap e) runs count follows old =
 
 -- ---- every stretch
 
--- what holds in every state: the blocks are well formed and the requests in order, nobody waits for a free semaphore, each program has a task, and the queues agree
--- with the schedule
+-- what holds in every state: the blocks are well formed and the requests in order, nobody waits for a free semaphore, each program has a task,
+-- as many tasks may wait as there are, and the queues agree with the schedule
 pub record IsSound (s : State) : Type 0 where
   pub tidy : IsTidy s
   pub idle : AllIdle s.memory.heap
   pub counted : length s.scripts.programs ≡ length s.schedule.queue.states
+  pub roomy : s.memory.tasks ≡ length s.schedule.queue.states
   pub agrees : StateAgrees s
+
+-- of settings, how many tasks may wait
+abbrev how_many : Bool × ℕ → ℕ
+how_many p = p.1
 
 -- the state stays so, and each queue follows its marks
 abbrev pub Waits : Relation
@@ -216,6 +223,7 @@ rescheduling s f count agrees sound = (
     tidy = rescheduled_tidy s (on_schedule f s) refl sound.tidy;
     idle = sound.idle;
     counted = sound.counted ∙ sym count;
+    roomy = sound.roomy ∙ sym count;
     agrees = agrees sound;
   },
   λ a. refl,
@@ -245,6 +253,7 @@ called t call s runs is sound =
         tidy = tidies.calling t call s runs is sound.tidy;
         idle = called_idle t call s o (call_works t call s) sound.idle;
         counted = shifts.0 ∙ sound.counted ∙ sym (shifts_count t call s o shifts.1);
+        roomy = ap how_many (word_keeps call.word t call s) ∙ sound.roomy ∙ sym (shifts_count t call s o shifts.1);
         agrees = shifts_agree t call s o shifts.1 runs sound.counted follows sound.agrees;
       },
       follows,
@@ -260,6 +269,7 @@ commanded name command s sound =
         tidy = tidies.interrupting.commanding name command s sound.tidy;
         idle = touched_idle s.memory.heap marks r.memory.heap alters.blocks sound.idle;
         counted = alters.programs ∙ sound.counted ∙ sym (reached_count marks s.schedule r.schedule alters.tasks);
+        roomy = ap how_many alters.settings ∙ sound.roomy ∙ sym (reached_count marks s.schedule r.schedule alters.tasks);
         agrees = reached_agrees marks s.schedule r.schedule (queues_of s) (queues_of r) alters.tasks follows sound.agrees;
       },
       follows,
@@ -276,6 +286,7 @@ finished request s waits sound =
         tidy = tidies.interrupting.finishing request s waits sound.tidy;
         idle = asked_idle s marks r.memory.heap r.memory.timer.waiting ends.asks sound.idle;
         counted = ends.programs ∙ sound.counted ∙ sym (reached_count marks s.schedule r.schedule ends.tasks);
+        roomy = ap how_many ends.settings ∙ sound.roomy ∙ sym (reached_count marks s.schedule r.schedule ends.tasks);
         agrees = reached_agrees marks s.schedule r.schedule (queues_of s) (queues_of r) ends.tasks follows sound.agrees;
       },
       follows,
@@ -313,19 +324,19 @@ waits = record {
     joined = joined;
     commanding = commanded;
     pending = λ f s sound. (
-      record { tidy = tidies.interrupting.pending f s sound.tidy; idle = sound.idle; counted = sound.counted; agrees = sound.agrees },
+      record { tidy = tidies.interrupting.pending f s sound.tidy; idle = sound.idle; counted = sound.counted; roomy = sound.roomy; agrees = sound.agrees },
       λ a. refl,
     );
     finishing = finished;
     looking = λ s sound. (
-      record { tidy = tidies.interrupting.looking s sound.tidy; idle = sound.idle; counted = sound.counted; agrees = sound.agrees },
+      record { tidy = tidies.interrupting.looking s sound.tidy; idle = sound.idle; counted = sound.counted; roomy = sound.roomy; agrees = sound.agrees },
       λ a. refl,
     );
     ticking = λ s. rescheduling s ticked (ticked_count s.schedule) (λ sound. ticked_agrees s.schedule (queues_of s) sound.agrees);
-    switching = λ s. quietly Waits s (switches s) (on_schedule rescheduled s) (switches_quiet s)
-        (rescheduling s rescheduled (rescheduled_count s.schedule) (λ sound. rescheduled_agrees s.schedule (queues_of s) sound.agrees));
+    switching = λ s. quietly Waits s (switches s) (on_schedule (rescheduled by_arrival) s) (switches_quiet s)
+        (rescheduling s (rescheduled by_arrival) (rescheduled_count s.schedule) (λ sound. rescheduled_agrees s.schedule (queues_of s) sound.agrees));
   };
-  adding = λ t s less sound. rescheduling s (added t) (added_count t s.schedule)
+  adding = λ t s less sound. rescheduling s (added by_arrival t) (added_count t s.schedule)
       (λ sound. added_agrees t s.schedule (queues_of s) (subst (λ n. t < n) sound.counted less) sound.agrees) sound;
   calling = called;
   ending = λ t s runs. rescheduling s (leaves_for_good t) (ended_count t s.schedule) (ended_agrees t s runs);
@@ -337,6 +348,7 @@ clocked s sound = (
     tidy = record { formed = sound.tidy.formed; order = sound.tidy.order };
     idle = sound.idle;
     counted = sound.counted;
+    roomy = sound.roomy;
     agrees = sound.agrees;
   },
   λ a. refl,
@@ -354,6 +366,7 @@ booted_sound machine is = record {
   tidy = booted_tidy machine is;
   idle = λ a e. refl;
   counted = as_many begun Absent machine.tasks;
+  roomy = sym (length-replicate (length machine.tasks) Absent);
   agrees = λ t.
       absent_agrees t (booted machine).schedule (λ a. []) (all_absent (length machine.tasks) t) refl refl (λ a. refl);
 }

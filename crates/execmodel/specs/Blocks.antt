@@ -48,12 +48,14 @@ pub record PublicPort : Type 0 where
   pub key : Key
 
 -- the regions of memory and the libraries, both in the order of the file, whether libraries are asked to give way where memory is lacking,
--- how many objects of each kind may live, the blocks that are allocated, the public ports in order of arrival, and the timer
+-- how many objects of each kind may live, how many tasks there are, each of which may wait for a semaphore, the blocks that are allocated,
+-- the public ports in order of arrival, and the timer
 pub record Memory : Type 0 where
   pub regions : List Region
   pub libraries : List LibraryData
   pub asks : Bool
   pub pool : ℕ
+  pub tasks : ℕ
   pub heap : Heap
   pub public : List PublicPort
   pub timer : Timer

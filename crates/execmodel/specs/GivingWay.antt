@@ -4,7 +4,8 @@ use Rattle.std.specs.Prelude.{ℕ, Bool, not, ◌&&◌, if◌then◌else◌, nat
 use Rattle.std.specs.List.{range_with_len}
 use Rattle.execmodel.specs.Blocks.{Object, Memory}
 use Rattle.execmodel.specs.Places.{place_for}
-use Rattle.execmodel.specs.Objects.{is_allowed, public_memory}
+use Rattle.execmodel.specs.Objects.{is_allowed}
+use Rattle.execlib.specs.Libraries.{public_memory}
 use Rattle.execmodel.specs.Loaded.{base_of, removed}
 
 -- a library, if it is loaded, gives way as if it were removed: it is freed where it is not open, and else is to be expunged when it is

@@ -3,7 +3,7 @@ use Rattle.std.specs.Prelude.{ℕ, ℤ, zero, suc, pos, false, if◌then◌else�
 use Rattle.std.specs.List.{range_with_len}
 use Rattle.exectrace.specs.Trace.{Serve, Server, Softint}
 use Rattle.execlist.specs.Order.{chosen, without}
-use Rattle.softint.specs.Interrupts.{pri_at}
+use Rattle.execlist.specs.Disciplines.{pri_at}
 use Rattle.softint.specs.Sources.{is_source}
 use Rattle.softint.specs.declared.source.Source.{Source}
 use Rattle.softint.specs.declared.source.Source.TheVariants as source

@@ -8,7 +8,7 @@ use Rattle.memlist.specs.declared.region.Region.{Region}
 use Rattle.memlist.specs.Pieces.{AreDisjoint, IsTiled}
 use Rattle.execlist.specs.Order.{chosen}
 use Rattle.signals.specs.Signals.{has_signal}
-use Rattle.taskq.specs.Tasks.{pri_at}
+use Rattle.execlist.specs.Disciplines.{pri_at}
 use Rattle.taskq.specs.declared.TaskState.TheVariants.{Waiting}
 use Rattle.taskq.specs.declared.Why.TheVariants.{Signals}
 use Rattle.scheduler.specs.Schedule.{Schedule, name_of, priority_of, status_of, signals_of, is_switching_allowed}

@@ -1,6 +1,5 @@
 pub mod Blocks
 pub mod State
-pub mod Scheduling
 pub mod Calls
 pub mod Plain
 pub mod Signals

@@ -9,7 +9,7 @@ use Rattle.taskscript.specs.declared.word.libraries.LibraryWord.TheVariants as w
 use Rattle.execmodel.specs.State.{Call, Library, Heap, Memory, State, Outcome, on_memory, on_heap}
 use Rattle.execmodel.specs.Calls.{argument, name_argument, done, answered, unless}
 use Rattle.execmodel.specs.Places.{freed, place_for, placed}
-use Rattle.execmodel.specs.Objects.{public_memory}
+use Rattle.execlib.specs.Libraries.{public_memory, most_openings, only_if}
 use Rattle.execmodel.specs.GivingWay.{after_asking}
 unfoldable pub use Rattle.execmodel.specs.Loaded.{is_library, is_library_at, number_in, count_in, delayed_in, number_of, count_of, is_delayed, with_library, is_numbered, base_of, removed}
 
@@ -32,10 +32,6 @@ library_at i memory = slice_index_or memory.libraries i no_library
 abbrev pub library_named : List ℕ → Memory → Option ℕ
 library_named name memory = position_from (λ (library : LibraryData). bytes_eq library.name name) 0 memory.libraries
 
--- a library may be open so many times (own choice: lib_OpenCnt is a word of 16 bits)
-abbrev pub most_openings : ℕ
-most_openings = 65535
-
 -- how often library i is open: not at all where it is absent
 abbrev pub openings : ℕ → Memory → ℕ
 openings i memory = option_map_or (λ base. count_of base memory.heap) (base_of i memory.heap) 0
@@ -43,9 +39,6 @@ openings i memory = option_map_or (λ base. count_of base memory.heap) (base_of 
 -- library i has at least that version, and may be opened once more
 abbrev pub can_open : ℕ → Memory → ℕ → Bool
 can_open version memory i = nat_le version (library_at i memory).version && not (nat_eq (openings i memory) most_openings)
-
-abbrev pub only_if : (ℕ → Bool) → ℕ → Option ℕ
-only_if test i = if test i then Some i else None
 
 -- the library that is opened under a name, where there is one and it can be
 abbrev pub library_to_open : List ℕ → ℕ → Memory → Option ℕ

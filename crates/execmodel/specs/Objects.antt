@@ -1,6 +1,7 @@
 -- Objects: what begins at an address, and where a new object goes. An object takes a block of its own, with MEMF_PUBLIC (own choice).
 use Rattle.std.specs.Prelude.{ℕ, Bool, false, if◌then◌else◌, nat_eq, nat_lt, filter, length, Option, None, Some}
 use Rattle.std.specs.Option.{option_map}
+use Rattle.execlib.specs.Libraries.{public_memory}
 use Rattle.execmodel.specs.Blocks.{Object, Block, Heap, Memory}
 use Rattle.execmodel.specs.Places.{block_at, place_for}
 
@@ -16,10 +17,6 @@ is_kind kind (Some object) = kind object
 -- the object that begins at an address becomes another
 abbrev pub replaced : ℕ → Object → ℕ × Block → ℕ × Block
 replaced address object entry = (entry.0, if nat_eq entry.0 address then record entry.1 { object = object } else entry.1)
-
--- MEMF_PUBLIC
-abbrev pub public_memory : ℕ
-public_memory = 1
 
 -- how many objects of a kind live
 abbrev pub live : (Object → Bool) → Heap → ℕ

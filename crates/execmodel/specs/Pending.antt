@@ -1,10 +1,10 @@
--- Pending interrupts (RKM Libraries, Exec Interrupts). The software interrupts that are caused stand in order of arrival, which is never sorted:
--- the one that runs next is the earliest among those of greatest priority. A source asks to be served by a latch: further requests before the
--- serving are the same one.
-use Rattle.std.specs.Prelude.{ℕ, ℤ, Bool, not, ◌&&◌, ◌==◌, if◌then◌else◌, nat_lt, bytes_eq, length, map, List, [], ◌∷◌, ◌++◌, Option, None}
+-- Pending interrupts (RKM Libraries, Exec Interrupts). In the abstract machine the software interrupts that are caused stand in order of
+-- arrival, which is never sorted: the one that runs next is the earliest among those of greatest priority. What arrives and which is next are
+-- said of either discipline. A source asks to be served by a latch: further requests before the serving are the same one.
+use Rattle.std.specs.Prelude.{ℕ, ℤ, Bool, not, ◌&&◌, ◌==◌, if◌then◌else◌, nat_lt, bytes_eq, length, map, List, Option, None}
 use Rattle.std.specs.List.{list_any, position_or_len}
-use Rattle.execlist.specs.Order.{chosen, without}
-use Rattle.softint.specs.Interrupts.{pri_at}
+use Rattle.execlist.specs.Order.{without}
+use Rattle.execlist.specs.Disciplines.{Discipline, by_arrival, pri_at}
 use Rattle.softint.specs.Sources.{with_latch, highest}
 use Rattle.softint.specs.declared.source.Source.{Source}
 use Rattle.softint.specs.declared.source.Source.TheVariants as source
@@ -31,25 +31,29 @@ softint_named name softints = position_or_len (bytes_eq name) (map (λ (s : Soft
 abbrev pub is_caused : ℕ → Pending → Bool
 is_caused i pending = list_any (λ other. other == i) pending.caused
 
--- software interrupt i stands behind those that are caused
-abbrev pub arrived : ℕ → Pending → Pending
-arrived i pending = record pending { caused = pending.caused ++ i ∷ [] }
+-- software interrupt i, of these, stands among those that are caused, as one that arrives
+abbrev pub arrived : Discipline → ℕ → List SoftintData → Pending → Pending
+arrived d i softints pending = record pending { caused = d.arrival (softint_pri softints) pending.caused i }
 
--- software interrupt i, of so many, arrives, unless it is caused already; a number that none has does nothing
-abbrev pub with_caused : ℕ → ℕ → Pending → Pending
-with_caused i count pending = if nat_lt i count && not (is_caused i pending) then arrived i pending else pending
+-- software interrupt i, of these, arrives, unless it is caused already; a number that none has does nothing
+abbrev pub with_caused : Discipline → ℕ → List SoftintData → Pending → Pending
+with_caused d i softints pending =
+    if nat_lt i (length softints) && not (is_caused i pending) then arrived d i softints pending else pending
 
 -- software interrupt i is caused (autodoc exec.library/Cause)
 unfoldable pub causes : ℕ → State → State
-causes i s = on_pending (with_caused i (length s.bodies.softints)) s
+causes i s = on_pending (with_caused by_arrival i s.bodies.softints) s
 
 -- software interrupt i is not caused any more
 abbrev pub taken_off : ℕ → Pending → Pending
 taken_off i pending = record pending { caused = without i pending.caused }
 
--- the software interrupt that runs next, where interrupts are allowed and one is caused
+-- the software interrupt, of these, that runs next, where interrupts are allowed and one is caused
+abbrev pub softint_next : Discipline → List SoftintData → Schedule → Pending → Option ℕ
+softint_next d softints schedule pending = if allows_interrupts schedule then d.choice (softint_pri softints) pending.caused else None
+
 unfoldable pub next_softint : State → Option ℕ
-next_softint s = if allows_interrupts s.schedule then chosen (softint_pri s.bodies.softints) s.pending.caused else None
+next_softint s = softint_next by_arrival s.bodies.softints s.schedule s.pending
 
 -- ---- sources
 

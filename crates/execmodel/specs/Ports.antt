@@ -7,6 +7,7 @@ use Rattle.std.specs.List.{list_any}
 use Rattle.std.specs.Int.{cast_signed, w32}
 use Rattle.execlist.specs.Order.{chosen, first}
 use Rattle.execlist.specs.Lists.{name_is}
+use Rattle.execlist.specs.Disciplines.{by_arrival}
 use Rattle.signals.specs.Signals.{grant}
 use Rattle.scheduler.specs.Schedule.{Schedule, signals_of, allocates, clears_and_waits, frees, sets_signals}
 use Rattle.msgport.specs.declared.action.Action.{Action}
@@ -21,7 +22,7 @@ use Rattle.taskscript.specs.declared.word.ports.PortWord.{PortWord}
 use Rattle.taskscript.specs.declared.word.ports.PortWord.TheVariants as word
 use Rattle.execmodel.specs.State.{Call, Object, MsgPort, Message, Request, Block, Heap, PublicPort, Memory, State, Outcome, put, got, leaving, on_schedule, on_memory, on_heap}
 use Rattle.execmodel.specs.Calls.{Caller, ByTask, argument, name_argument, done, done_by, answered, answered_by, waiting, unless, unless_by}
-use Rattle.execmodel.specs.Scheduling.{signalled}
+use Rattle.scheduler.specs.Dispatch.{signalled}
 use Rattle.execmodel.specs.Pending.{causes, softint_named}
 use Rattle.execmodel.specs.GivingWay.{after_asking_for_object}
 use Rattle.execmodel.specs.Memory.{makes_object, freed, placed}
@@ -332,7 +333,7 @@ posted kind port message heap = appended port message (typed kind message heap)
 
 -- what is to be done for a message that has arrived
 abbrev pub performed : Action → State → State
-performed (action.Signal task mask) s = on_schedule (signalled task mask) s
+performed (action.Signal task mask) s = on_schedule (signalled by_arrival task mask) s
 performed (action.Cause i) s = causes i s
 performed action.Nothing s = s
 

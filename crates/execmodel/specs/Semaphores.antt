@@ -1,21 +1,21 @@
 -- Signal semaphores (RKM Libraries, Exec Semaphores). A semaphore has an owner or none, how often the owner has to release it, and the tasks
 -- that wait for it, in order of request. An address where no semaphore begins is the alert HANDLE; a semaphore that is owned where it must
 -- not be, or not owned by the caller, or obtained too often is the alert SEM (own choice).
-use Rattle.std.specs.Prelude.{ℕ, ◌+◌, ◌-◌, ◌==◌, ◌&&◌, ◌||◌, Bool, true, false, not, if◌then◌else◌, nat_lt, is_some, drop, find, map, codes, List, [], ◌∷◌, ◌++◌, Option, None, Some}
+use Rattle.std.specs.Prelude.{ℕ, ◌==◌, Bool, true, false, not, if◌then◌else◌, is_some, drop, find, map, codes, List, [], ◌∷◌, ◌++◌, Option, None, Some}
 use Rattle.std.specs.List.{list_any}
 use Rattle.std.specs.Option.{option_map}
 use Rattle.execlist.specs.Order.{first, without}
-use Rattle.execlist.specs.Lists.{is_at}
+use Rattle.execlist.specs.Disciplines.{by_arrival}
 use Rattle.scheduler.specs.Schedule.{waits_at_semaphore}
 use Rattle.sigsem.specs.declared.semaphore.Sem.{Sem}
 use Rattle.sigsem.specs.declared.semaphore.Obtained.{Obtained}
 use Rattle.sigsem.specs.declared.semaphore.Obtained.TheVariants.{Owner, Waits}
-use Rattle.sigsem.specs.Semaphores.{deepest, free_sem, owned_by}
+use Rattle.sigsem.specs.Semaphores.{free_sem, is_last, is_open, is_owned, is_owner, is_too_deep, once_less, once_more, outcome_for, owned_next}
 use Rattle.taskscript.specs.declared.word.semaphores.SemaphoreWord.{SemaphoreWord}
 use Rattle.taskscript.specs.declared.word.semaphores.SemaphoreWord.TheVariants as word
 use Rattle.execmodel.specs.State.{Call, Scripts, Object, Semaphore, Block, Heap, State, Outcome, asked, passed, left, leaving, program_of, on_schedule, on_memory, on_heap}
 use Rattle.execmodel.specs.Calls.{argument, done, answered, waiting, unless}
-use Rattle.execmodel.specs.Scheduling.{arrives}
+use Rattle.scheduler.specs.Dispatch.{arrives}
 use Rattle.execmodel.specs.GivingWay.{after_asking_for_object}
 use Rattle.execmodel.specs.Memory.{makes_object, freed}
 use Rattle.execmodel.specs.Objects.{object_at, is_kind, replaced}
@@ -64,30 +64,9 @@ semaphore_alert semaphore heap = if not (is_semaphore_at semaphore heap) then So
 
 -- ---- owners
 
--- some task owns a semaphore
-abbrev pub is_owned : Sem → Bool
-is_owned sem = is_some sem.owner
-
--- task t owns a semaphore
-abbrev pub is_owner : ℕ → Sem → Bool
-is_owner t sem = is_at sem.owner t
-
--- task t may have a semaphore at once: no other task owns it
-abbrev pub is_open : ℕ → Sem → Bool
-is_open t sem = not (is_owned sem) || is_owner t sem
-
--- task t owns a semaphore so often that once more is too often
-abbrev pub is_too_deep : ℕ → Sem → Bool
-is_too_deep t sem = is_owner t sem && nat_lt deepest (sem.count + 1)
-
--- the owner of a semaphore is to release it once more, and no more than that
-abbrev pub is_last : Sem → Bool
-is_last sem = sem.count == 1
-
 -- the task owns the semaphore, and has to release it once more than before
 unfoldable pub entered : ℕ → ℕ → Heap → Heap
-entered t semaphore heap =
-    with_semaphore semaphore (record { owner = Some t; count = (sem_of semaphore heap).count + 1 }) (waiters_of semaphore heap) heap
+entered semaphore t heap = with_semaphore semaphore (once_more t (sem_of semaphore heap)) (waiters_of semaphore heap) heap
 
 -- ---- waiting tasks
 
@@ -101,7 +80,7 @@ dropped t heap = map (λ (entry : ℕ × Block). (entry.0, record entry.1 { obje
 
 -- task t waits for the semaphore, behind those that wait there
 unfoldable pub queued : ℕ → ℕ → Heap → Heap
-queued t semaphore heap = with_semaphore semaphore (sem_of semaphore heap) (waiters_of semaphore heap ++ t ∷ []) heap
+queued semaphore t heap = with_semaphore semaphore (sem_of semaphore heap) (waiters_of semaphore heap ++ t ∷ []) heap
 
 -- a task waits for the semaphore of an entry
 abbrev pub has_waiter : ℕ → ℕ × Block → Bool
@@ -148,13 +127,9 @@ obtain_alert t semaphore heap =
     if not (is_semaphore_at semaphore heap) then Some (codes "HANDLE")
     else (if is_too_deep t (sem_of semaphore heap) then Some (codes "SEM") else None)
 
--- a task that asks for a semaphore owns it, or waits for it
-abbrev pub outcome_for : ℕ → Sem → Obtained
-outcome_for t sem = if is_open t sem then Owner else Waits
-
 -- the semaphore is the task's at once, or the task waits for it
 unfoldable pub obtained : ℕ → ℕ → Heap → Heap
-obtained t semaphore heap = if is_open t (sem_of semaphore heap) then entered t semaphore heap else queued t semaphore heap
+obtained semaphore t heap = if is_open t (sem_of semaphore heap) then entered semaphore t heap else queued semaphore t heap
 
 -- a task that owns the semaphore goes on, and one that does not waits
 abbrev pub obtains : Obtained → ℕ → ℕ → Call → State → Outcome
@@ -173,11 +148,11 @@ does_obtain_semaphore t call s =
     let semaphore = argument 0 call in
     if is_tried_again t s.scripts then done t call s
     else unless (obtain_alert t semaphore s.memory.heap) t call
-    (λ s. obtains (outcome_for t (sem_of semaphore s.memory.heap)) semaphore t call (on_memory (on_heap (obtained t semaphore)) s)) s
+    (λ s. obtains (outcome_for t (sem_of semaphore s.memory.heap)) semaphore t call (on_memory (on_heap (obtained semaphore t)) s)) s
 
 -- the semaphore is the task's at once, or nothing changes
 unfoldable pub attempted : ℕ → ℕ → Heap → Heap
-attempted t semaphore heap = if is_open t (sem_of semaphore heap) then entered t semaphore heap else heap
+attempted semaphore t heap = if is_open t (sem_of semaphore heap) then entered semaphore t heap else heap
 
 -- AttemptSemaphore semaphore: where ObtainSemaphore would make the task the owner this does the same and answers 1; where the task would
 -- have to wait, nothing changes and the answer is 0 (autodoc exec.library/AttemptSemaphore; the alerts: own choice)
@@ -185,7 +160,7 @@ unfoldable pub does_attempt_semaphore : ℕ → Call → State → Outcome
 does_attempt_semaphore t call s =
     let semaphore = argument 0 call in
     unless (obtain_alert t semaphore s.memory.heap) t call
-    (λ s. answered t call (if is_open t (sem_of semaphore s.memory.heap) then 1 else 0) (on_memory (on_heap (attempted t semaphore)) s)) s
+    (λ s. answered t call (if is_open t (sem_of semaphore s.memory.heap) then 1 else 0) (on_memory (on_heap (attempted semaphore t)) s)) s
 
 -- ---- releasing
 
@@ -199,11 +174,6 @@ release_alert t semaphore heap =
 unfoldable pub heir : ℕ → Heap → Option ℕ
 heir semaphore heap = if is_last (sem_of semaphore heap) then first (waiters_of semaphore heap) else None
 
--- a semaphore whose owner is that task, which has to release it once, or which no task owns
-abbrev pub owned_next : Option ℕ → Sem
-owned_next None = free_sem
-owned_next (Some t) = owned_by t
-
 -- the semaphore is the first waiter's, which waits no more, or is owned by no task where none waits
 unfoldable pub handed_on : ℕ → Heap → Heap
 handed_on semaphore heap =
@@ -211,8 +181,7 @@ handed_on semaphore heap =
 
 -- the owner has to release the semaphore once less
 unfoldable pub released_once : ℕ → Heap → Heap
-released_once semaphore heap =
-    with_semaphore semaphore (record (sem_of semaphore heap) { count = (sem_of semaphore heap).count - 1 }) (waiters_of semaphore heap) heap
+released_once semaphore heap = with_semaphore semaphore (once_less (sem_of semaphore heap)) (waiters_of semaphore heap) heap
 
 -- the last release hands the semaphore on
 unfoldable pub released : ℕ → Heap → Heap
@@ -221,7 +190,7 @@ released semaphore heap = if is_last (sem_of semaphore heap) then handed_on sema
 -- the new owner, if there is one, becomes ready
 abbrev pub passes : Option ℕ → ℕ → ℕ → Call → State → Outcome
 passes None semaphore t call s = done t call s
-passes (Some owner) semaphore t call s = leaving (passed semaphore owner) (done t call (on_schedule (arrives owner) s))
+passes (Some owner) semaphore t call s = leaving (passed semaphore owner) (done t call (on_schedule (arrives by_arrival owner) s))
 
 -- ReleaseSemaphore semaphore: the owner has to release the semaphore once less. The last release hands it on: the first of the tasks that
 -- wait there is the owner with the count 1, and ready; where none waits, no task owns it (autodoc exec.library/ReleaseSemaphore; the

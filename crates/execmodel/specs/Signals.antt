@@ -1,12 +1,13 @@
 -- Signals of tasks (RKM Libraries, Exec Signals).
 use Rattle.std.specs.Prelude.{ℕ, ◌-◌, Bool, not, ◌&&◌, if◌then◌else◌, nat_eq, nat_lt, nat_le, bit_and, length, codes, List, Option, None, Some}
 use Rattle.std.specs.Int.{cast_signed, cast_unsigned, w32}
+use Rattle.execlist.specs.Disciplines.{by_arrival}
 use Rattle.signals.specs.Signals.{grant, grant_number, is_own_signal}
 use Rattle.scheduler.specs.Schedule.{signals_of, come_for, after_wait, allocates, frees, sets_signals}
 use Rattle.taskscript.specs.declared.word.task_signals.SignalWord.{SignalWord}
 use Rattle.taskscript.specs.declared.word.task_signals.SignalWord.TheVariants as word
 use Rattle.execmodel.specs.State.{Call, Scripts, State, Outcome, on_schedule}
-use Rattle.execmodel.specs.Scheduling.{signalled}
+use Rattle.scheduler.specs.Dispatch.{signalled}
 use Rattle.execmodel.specs.Calls.{Caller, ByTask, argument, done, done_by, answered, waiting, unless, unless_by}
 
 -- there is a task of that number; the first one is 1
@@ -62,7 +63,7 @@ does_signal_by c call s =
     let other = argument 0 call in
     let mask = argument 1 call in
     unless_by (signal_alert other mask s.scripts) c call
-    (λ s. done_by c call (on_schedule (signalled (other - 1) mask) s)) s
+    (λ s. done_by c call (on_schedule (signalled by_arrival (other - 1) mask) s)) s
 
 unfoldable pub does_signal : ℕ → Call → State → Outcome
 does_signal t call s = does_signal_by (ByTask t) call s

@@ -153,6 +153,7 @@ booted machine = record {
     libraries = machine.libraries;
     asks = nat_eq machine.version 2;
     pool = machine.pool;
+    tasks = length machine.tasks;
     heap = [];
     public = [];
     timer = new_timer machine.tick_micros;

@@ -1,5 +1,6 @@
 -- Steps, settling and whole runs: all interleaving comes from the list of events.
 use Rattle.std.specs.Prelude.{ℕ, zero, suc, true, if◌then◌else◌, List, [], ◌∷◌, Option, None, Some, codes, length}
+use Rattle.execlist.specs.Disciplines.{by_arrival}
 use Rattle.exectrace.specs.Trace.{Value, Done, Switch, Idle}
 use Rattle.exectrace.specs.Trace as trace
 use Rattle.taskscript.specs.declared.word.Word.{Word}
@@ -11,7 +12,7 @@ use Rattle.scheduler.specs.Schedule.{Schedule, name_of, leaves}
 use Rattle.scheduler.specs.declared.Switch.{Switch as Choice}
 use Rattle.scheduler.specs.declared.Switch.TheVariants as switch
 use Rattle.execmodel.specs.State.{Call, Scripts, State, Outcome, quiet, says, andthen, unless_stopped, program_of, on_schedule, on_memory, on_pending, on_timer, booted}
-use Rattle.execmodel.specs.Scheduling.{switch_of, rescheduled, added}
+use Rattle.scheduler.specs.Dispatch.{switch_of, rescheduled, added}
 use Rattle.execmodel.specs.Pending.{source_named, with_latch_of, next_softint}
 use Rattle.execmodel.specs.Interrupts.{interrupts, runs_softint}
 use Rattle.execmodel.specs.Calls.{next_call}
@@ -40,7 +41,7 @@ announced (Some switch.Idle) s = says Idle s
 
 -- the switch to another task, or to being idle
 unfoldable pub switches : State → Outcome
-switches s = announced (switch_of s.schedule) (on_schedule rescheduled s)
+switches s = announced (switch_of by_arrival s.schedule) (on_schedule (rescheduled by_arrival) s)
 
 -- what follows each action: what is requested is served, and then there is at most one switch; a stopped machine stays as it is
 unfoldable pub settle : State → Outcome
@@ -116,7 +117,7 @@ ticks (suc n) s = andthen (ticks n) tick s
 
 -- task t is added, if it is to start with the machine
 abbrev pub started : Scripts → ℕ → Schedule → Schedule
-started scripts t s = if (program_of scripts t).starts then added t s else s
+started scripts t s = if (program_of scripts t).starts then added by_arrival t s else s
 
 -- so many tasks are added, in the order of the file
 unfoldable pub all_added : Scripts → ℕ → Schedule → Schedule

@@ -1,12 +1,13 @@
 -- How tasks are begun and ended, and their priorities (RKM Libraries, Exec Tasks).
 use Rattle.std.specs.Prelude.{ℕ, ◌+◌, ◌-◌, ℤ, pos, negsuc, Bool, not, ◌&&◌, ◌||◌, if◌then◌else◌, nat_eq, int_le, codes, List, Option, None, Some}
 use Rattle.std.specs.Int.{cast_signed, cast_unsigned, w32}
+use Rattle.execlist.specs.Disciplines.{by_arrival}
 use Rattle.taskq.specs.Tasks.{is_live}
 use Rattle.scheduler.specs.Schedule.{Schedule, status_of, priority_of, is_absent, leaves, removed, found}
 use Rattle.taskscript.specs.declared.word.tasks.TaskWord.{TaskWord}
 use Rattle.taskscript.specs.declared.word.tasks.TaskWord.TheVariants as word
 use Rattle.execmodel.specs.State.{Call, Scripts, State, Outcome, on_schedule, on_memory, on_heap}
-use Rattle.execmodel.specs.Scheduling.{added, reprioritized}
+use Rattle.scheduler.specs.Dispatch.{added, reprioritized}
 use Rattle.execmodel.specs.Calls.{argument, name_argument, done, answered, unless}
 use Rattle.execmodel.specs.Signals.{is_task}
 use Rattle.execmodel.specs.Semaphores.{awaited_by, dropped, leaving_queue}
@@ -38,7 +39,7 @@ does_set_task_pri t call s =
     unless (set_task_pri_alert number pri s.scripts s.schedule) t call
     (λ s.
     let old = priority_of s.schedule (number - 1) in
-    answered t call (cast_unsigned w32 old) (on_schedule (reprioritized (number - 1) pri) s)) s
+    answered t call (cast_unsigned w32 old) (on_schedule (reprioritized by_arrival (number - 1) pri) s)) s
 
 -- the alert of AddTask: there is a task of that number
 abbrev pub add_task_alert : ℕ → Scripts → Option (List ℕ)
@@ -52,7 +53,7 @@ does_add_task t call s =
     unless (add_task_alert number s.scripts) t call
     (λ s.
     let begun = if is_absent (status_of s.schedule (number - 1)) then number else 0 in
-    answered t call begun (on_schedule (added (number - 1)) s)) s
+    answered t call begun (on_schedule (added by_arrival (number - 1)) s)) s
 
 -- the number names the caller: 0, or its own
 abbrev pub is_caller : ℕ → ℕ → Bool

@@ -1,5 +1,5 @@
 -- The machine of a file agrees with the first state.
-use Rattle.std.proofs.Common.{◌≡◌, List, [], false, length, map, refl, sym, ◌∙◌, subst}
+use Rattle.std.proofs.Common.{◌≡◌, List, [], false, length, map, refl, ap, sym, ◌∙◌, subst}
 use Rattle.std.specs.Prelude.{nat_eq}
 use Rattle.std.proofs.lemmas.List.{length-map}
 use Rattle.execlist.specs.Order.{order}
@@ -36,7 +36,7 @@ unfolding booted order
 booted-pending machine = refl
 
 booted-memory : (machine : MachineData)
-    → record { regions = machine.regions; libraries = machine.libraries; asks = nat_eq machine.version 2; pool = machine.pool; heap = []; public = []; timer = new_timer machine.tick_micros } ≡ queues_in_order (booted machine).memory
+    → record { regions = machine.regions; libraries = machine.libraries; asks = nat_eq machine.version 2; pool = machine.pool; tasks = length machine.tasks; heap = []; public = []; timer = new_timer machine.tick_micros } ≡ queues_in_order (booted machine).memory
 unfolding booted order
 booted-memory machine = refl
 
@@ -44,14 +44,15 @@ booted-memory machine = refl
 pub boots : {seen : Seen} (machine : MachineData) (tasks : List TaskRecord) → map task_view tasks ≡ machine.tasks
     → seen.schedule ≡ unstarted (length tasks) (map (λ (t : TaskRecord). t.pri) tasks) (map (λ (t : TaskRecord). t.name.bytes) tasks) machine.quantum
     → seen.scripts ≡ (booted (record machine { tasks = map task_view tasks })).scripts
-    → seen.memory ≡ record { regions = machine.regions; libraries = machine.libraries; asks = nat_eq machine.version 2; pool = machine.pool; heap = []; public = []; timer = new_timer machine.tick_micros }
+    → seen.memory ≡ record { regions = machine.regions; libraries = machine.libraries; asks = nat_eq machine.version 2; pool = machine.pool; tasks = length machine.tasks; heap = []; public = []; timer = new_timer machine.tick_micros }
     → seen.bodies ≡ record { softints = machine.softints; servers = machine.servers } → seen.pending ≡ record { caused = []; latches = no_latches }
     → seen.stopped ≡ false → Agrees seen (booted machine)
 boots {seen} machine tasks states schedule scripts memory bodies pending going =
     subst (λ (ts : List TaskData). Agrees seen (booted (record machine { tasks = ts }))) states (record {
       schedule = schedule ∙ sym (booted-schedule machine tasks) ∙ sym (booted-in_order (record machine { tasks = map task_view tasks }));
       scripts = scripts;
-      memory = memory ∙ booted-memory (record machine { tasks = map task_view tasks });
+      memory = memory ∙ ap (λ (ts : List TaskData). record { regions = machine.regions; libraries = machine.libraries; asks = nat_eq machine.version 2; pool = machine.pool; tasks = length ts; heap = []; public = []; timer = new_timer machine.tick_micros }) (sym states)
+          ∙ booted-memory (record machine { tasks = map task_view tasks });
       bodies = bodies ∙ booted-bodies (record machine { tasks = map task_view tasks });
       pending = pending ∙ booted-pending (record machine { tasks = map task_view tasks });
       stopped = going ∙ booted-going (record machine { tasks = map task_view tasks });

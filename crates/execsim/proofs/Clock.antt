@@ -3,6 +3,7 @@ use Rattle.std.proofs.Common.{◌≡◌, ℕ, zero, suc, ◌+◌, ◌*◌, ◌^�
 use Rattle.std.specs.Prelude.{sum_by}
 use Rattle.std.proofs.lemmas.List.Sums.{sum_by-cons, sum_by_more_le}
 use Rattle.std.proofs.lemmas.Nat.{mul-le}
+use Rattle.execlist.specs.Disciplines.{by_arrival}
 use Rattle.exectrace.specs.Sink.{Tape}
 use Rattle.exectrace.specs.declared.sinks.SinkState.TheVariants.{Good}
 use Rattle.taskscript.specs.Events.{ticks as ticks_of}
@@ -14,11 +15,11 @@ use Rattle.softint.specs.declared.source.Source.{Source}
 use Rattle.softint.specs.declared.source.Source.TheVariants.{Vertb}
 use Rattle.scheduler.specs.declared.Switch.{Switch as Choice}
 use Rattle.scheduler.specs.declared.Switch.TheVariants as switch
+use Rattle.scheduler.specs.Dispatch.{switch_of, rescheduled}
 use Rattle.execmodel.specs.State.{Bodies, Call, Mark, Memory, State, Outcome, Timer as Clock, andthen, quiet, on_memory, on_schedule, on_timer}
 use Rattle.execmodel.specs.Keeping.{clock_alone}
 use Rattle.execmodel.specs.Pending.{source_named}
 use Rattle.execmodel.specs.Step.{ends, switches, announced, steps, request, tick, ticks, starts, event, events}
-use Rattle.execmodel.specs.Scheduling.{rescheduled, switch_of}
 use Rattle.timerdev.specs.Timing.{ticked}
 use Rattle.execmodel.proofs.Itself.{does_itself, word_itself}
 use Rattle.execmodel.proofs.Keeping as words
@@ -65,7 +66,7 @@ announced_state (Some switch.Idle) s = refl
 
 switched_stands : (s : State) → clock_alone (switches s).state.memory.timer ≡ clock_alone s.memory.timer
 unfolding switches
-switched_stands s = ap (λ (x : State). clock_alone x.memory.timer) (announced_state (switch_of s.schedule) (on_schedule rescheduled s))
+switched_stands s = ap (λ (x : State). clock_alone x.memory.timer) (announced_state (switch_of by_arrival s.schedule) (on_schedule (rescheduled by_arrival) s))
 
 interrupts_stand : HoldsOfInterrupts Stands
 interrupts_stand = record {

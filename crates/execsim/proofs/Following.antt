@@ -1,6 +1,7 @@
 -- Actions that follow one another, and the actions of one layer.
 use Rattle.std.proofs.Common.{◌≡◌, ◌≢◌, ℕ, List, [], ◌++◌, append_assoc, length, ◌⊎◌, inl, inr, refl, Bool, true, false, ap, sym, ◌∙◌, subst, append-nil}
 use Rattle.std.proofs.lemmas.Grind.{flat_map-append}
+use Rattle.execlist.specs.Disciplines.{by_arrival, by_priority}
 use Rattle.exectrace.specs.Sink.{Tape, Puts}
 use Rattle.exectrace.specs.declared.sinks.SinkState.{SinkState}
 use Rattle.exectrace.specs.declared.sinks.SinkState.TheVariants.{Good, Empty, Failed}
@@ -10,7 +11,7 @@ use Rattle.scheduler.specs.Schedule.{Schedule}
 use Rattle.execmodel.specs.State.{State, Bodies, Scripts, Memory, Pending, Outcome, Mark, leaving, quiet, says, andthen, unless_stopped, on_schedule, on_scripts, on_memory, on_pending}
 use Rattle.execmodel.specs.Pending.{causes, taken_off, with_caused, with_latch_of}
 use Rattle.softint.specs.declared.source.Source.{Source}
-use Rattle.execsim.specs.Actions.{caused, with_caused as seen_with_caused}
+use Rattle.execsim.specs.Actions.{caused}
 use Rattle.execsim.specs.Agreement.{Seen, Agrees, Follows, FollowsWhileGood, Moves, in_order, queues_in_order, caused_in_order}
 use Rattle.execsim.proofs.Ordering.{caused-in_order, taken_off-in_order}
 
@@ -113,7 +114,7 @@ moves_pending {m} next seen commutes is = record {
 
 pub moves_caused : {m n : Seen} (i : ℕ) → n ≡ caused i m → Moves (causes i) m n
 unfolding causes
-moves_caused {m} i is = moves_pending (λ b. with_caused i (length b.softints)) (seen_with_caused i m.bodies.softints) (caused-in_order i m.bodies.softints) is
+moves_caused {m} i is = moves_pending (λ b. with_caused by_arrival i b.softints) (with_caused by_priority i m.bodies.softints) (caused-in_order i m.bodies.softints) is
 
 pub moves_taken_off : {m n : Seen} (i : ℕ) → n ≡ record m { pending = taken_off i m.pending } → Moves (on_pending (taken_off i)) m n
 moves_taken_off {m} i is = moves_pending (λ b. taken_off i) (taken_off i) (taken_off-in_order i m.bodies.softints) is

@@ -4,7 +4,8 @@ use Rattle.std.specs.Prelude.{◌&&◌, is_some, length, nat_eq, not}
 use Rattle.std.specs.List.{range_with_len}
 use Rattle.execmodel.specs.State.{Memory, Object, on_heap}
 use Rattle.execmodel.specs.Places.{freed, place_for}
-use Rattle.execmodel.specs.Objects.{is_allowed, public_memory}
+use Rattle.execmodel.specs.Objects.{is_allowed}
+use Rattle.execlib.specs.Libraries.{public_memory}
 use Rattle.execmodel.specs.Loaded.{base_of, count_of, removed, with_library}
 use Rattle.execmodel.specs.GivingWay.{after_asking, after_asking_for_object, asked_each, asked_one, gives_way, gives_way_at}
 use Rattle.execsim.specs.Agreement.{queues_in_order}

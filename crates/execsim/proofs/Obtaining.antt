@@ -2,10 +2,11 @@
 use Rattle.std.proofs.Common.{◌≡◌, ℕ, Bool, true, false, List, [], Option, None, Some, refl, ap, sym}
 use Rattle.std.specs.Prelude.{Result, Ok, Err, IfOk, OnOk, OnErr, if◌then◌else◌}
 use Rattle.std.specs.Option.{unwrap_or}
+use Rattle.execlist.specs.Disciplines.{by_arrival, by_priority}
 use Rattle.exectrace.specs.Sink.{Tape}
-use Rattle.scheduler.specs.Dispatch as dispatch
 use Rattle.scheduler.specs.Schedule.{Schedule, waits_at_semaphore}
-use Rattle.sigsem.specs.Semaphores.{free_sem}
+use Rattle.scheduler.specs.Dispatch.{arrives}
+use Rattle.sigsem.specs.Semaphores.{free_sem, is_open, outcome_for}
 use Rattle.sigsem.specs.declared.semaphore.Obtained.{Obtained}
 use Rattle.sigsem.specs.declared.semaphore.Obtained.TheVariants.{Waits}
 use Rattle.execmodel.specs.State.{Call, Heap, Memory, State, Outcome, Semaphore, asked, passed, on_schedule, on_memory, on_heap}
@@ -13,9 +14,8 @@ use Rattle.execmodel.specs.Calls.{unless, argument, done, answered, waiting, ale
 use Rattle.execmodel.specs.Memory.{placed}
 use Rattle.execmodel.specs.GivingWay.{after_asking_for_object}
 use Rattle.execmodel.specs.Objects.{place_for_object}
-use Rattle.execmodel.specs.Scheduling.{arrives}
 use Rattle.execmodel.specs.Semaphores as model
-use Rattle.execmodel.specs.Semaphores.{attempted, heir, is_open, is_semaphore, is_tried_again, obtain_alert, obtained, obtains, outcome_for, passes, release_alert, released, sem_of, semaphore_size}
+use Rattle.execmodel.specs.Semaphores.{attempted, heir, is_semaphore, is_tried_again, obtain_alert, obtained, obtains, passes, release_alert, released, sem_of, semaphore_size}
 use Rattle.execheap.specs.declared.refusal.Refusal.{Refusal}
 use Rattle.execheap.specs.Refusals.{alert_of, code_of}
 use Rattle.execsim.specs.Actions.{obtains_or_alerted, passes_or_alerted}
@@ -70,7 +70,7 @@ module _ {m o : Seen} {a b : Tape} (t : ℕ) (call : Call) where
   pub obtain_tried : (x : Memory) (result : Result Obtained Refusal) → is_tried_again t m.scripts ≡ false
       → alert_of result ≡ obtain_alert t (argument 0 call) m.memory.heap
       → IfOk result (λ how. how ≡ outcome_for t (sem_of (argument 0 call) m.memory.heap))
-      → OnOk result (x ≡ on_heap (obtained t (argument 0 call)) m.memory) → OnErr result (x ≡ m.memory)
+      → OnOk result (x ≡ on_heap (obtained (argument 0 call) t) m.memory) → OnErr result (x ≡ m.memory)
       → Follows (obtains_or_alerted result (argument 0 call) t call) (record m { memory = x }) o a b
       → Follows (model.does_obtain_semaphore t call) m o a b
   unfolding model.does_obtain_semaphore
@@ -82,29 +82,29 @@ module _ {m o : Seen} {a b : Tape} (t : ℕ) (call : Call) where
     where
       effect : State → Outcome
       effect s = obtains (outcome_for t (sem_of (argument 0 call) s.memory.heap)) (argument 0 call) t call
-          (on_memory (on_heap (obtained t (argument 0 call))) s)
+          (on_memory (on_heap (obtained (argument 0 call) t)) s)
 
       by_result : (result : Result Obtained Refusal) → alert_of result ≡ obtain_alert t (argument 0 call) m.memory.heap
           → IfOk result (λ how. how ≡ outcome_for t (sem_of (argument 0 call) m.memory.heap))
-          → OnOk result (x ≡ on_heap (obtained t (argument 0 call)) m.memory) → OnErr result (x ≡ m.memory)
+          → OnOk result (x ≡ on_heap (obtained (argument 0 call) t) m.memory) → OnErr result (x ≡ m.memory)
           → Follows (obtains_or_alerted result (argument 0 call) t call) (record m { memory = x }) o a b
           → Follows (λ s. unless (obtain_alert t (argument 0 call) s.memory.heap) t call effect s) m o a b
       by_result (Ok how) says is changed kept follows =
           goes_on_as t call (obtain_alert t (argument 0 call)) (λ heap. outcome_for t (sem_of (argument 0 call) heap))
-          (λ how. obtains how (argument 0 call) t call) (obtained t (argument 0 call)) x how says is changed follows
+          (λ how. obtains how (argument 0 call) t call) (obtained (argument 0 call) t) x how says is changed follows
       by_result (Err why) says is changed kept follows =
           follows_refused t call (λ memory. obtain_alert t (argument 0 call) memory.heap) (λ y. refl) effect why says (rw kept at follows)
 
   -- ---- attempting
 
   pub attempt_made : (x : Memory) (has : Bool) → None ≡ obtain_alert t (argument 0 call) m.memory.heap
-      → has ≡ is_open t (sem_of (argument 0 call) m.memory.heap) → x ≡ on_heap (attempted t (argument 0 call)) m.memory
+      → has ≡ is_open t (sem_of (argument 0 call) m.memory.heap) → x ≡ on_heap (attempted (argument 0 call) t) m.memory
       → Follows (answered t call (if has then 1 else 0)) (record m { memory = x }) o a b
       → Follows (model.does_attempt_semaphore t call) m o a b
   unfolding model.does_attempt_semaphore
   attempt_made x has says is changed follows =
       goes_on_as t call (obtain_alert t (argument 0 call)) (λ heap. is_open t (sem_of (argument 0 call) heap))
-      (λ has. answered t call (if has then 1 else 0)) (attempted t (argument 0 call)) x has says is changed follows
+      (λ has. answered t call (if has then 1 else 0)) (attempted (argument 0 call) t) x has says is changed follows
 
   pub attempt_refused : (x : Memory) (why : Refusal) → Some (code_of why) ≡ obtain_alert t (argument 0 call) m.memory.heap → x ≡ m.memory
       → Follows (alerted (code_of why) t call) (record m { memory = x }) o a b → Follows (model.does_attempt_semaphore t call) m o a b
@@ -127,8 +127,8 @@ module _ {m o : Seen} {a b : Tape} (t : ℕ) (call : Call) where
       follows_refused t call (λ memory. release_alert t (argument 0 call) memory.heap) (λ y. refl) _ why says (rw kept at follows)
 
 -- the new owner becomes ready, and then the call is done
-pub passed_on : {m n o : Seen} {a b : Tape} (t : ℕ) (call : Call) (semaphore owner : ℕ) → n ≡ record m { schedule = dispatch.arrives owner m.schedule }
+pub passed_on : {m n o : Seen} {a b : Tape} (t : ℕ) (call : Call) (semaphore owner : ℕ) → n ≡ record m { schedule = arrives by_priority owner m.schedule }
     → Follows (done t call) n o a b → Follows (passes_or_alerted (Ok (Some owner)) semaphore t call) m o a b
 passed_on t call semaphore owner is follows =
-    follows_leaving {f = λ s. done t call (on_schedule (arrives owner) s)} (λ s. passed semaphore owner)
-    (follows_change (moves_schedule (arrives owner) (dispatch.arrives owner) (arrives-in_order owner) is) follows)
+    follows_leaving {f = λ s. done t call (on_schedule (arrives by_arrival owner) s)} (λ s. passed semaphore owner)
+    (follows_change (moves_schedule (arrives by_arrival owner) (arrives by_priority owner) (arrives-in_order owner) is) follows)

@@ -6,7 +6,7 @@ use Rattle.exectrace.specs.Sink.{Tape}
 use Rattle.execmodel.specs.State.{Call, Library, Memory, on_memory}
 use Rattle.execmodel.specs.Calls.{argument, name_argument, answered, done, unless}
 use Rattle.execmodel.specs.Memory.{place_for}
-use Rattle.execmodel.specs.Objects.{public_memory}
+use Rattle.execlib.specs.Libraries.{public_memory}
 use Rattle.execmodel.specs.Libraries.{base_of, base_opened, base_or_place, close_alert, closed, count_of, does_close_library, does_open_library, entered_or_loaded, is_delayed, library_at, library_opened, library_to_open, opened, opening, ready_to_load, ready_to_open}
 use Rattle.execheap.specs.declared.refusal.Refusal.{Refusal}
 use Rattle.execheap.specs.Refusals.{alert_of}

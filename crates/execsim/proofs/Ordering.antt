@@ -8,30 +8,29 @@ use Rattle.std.proofs.lemmas.List.{get_or-set_other}
 use Rattle.execlist.specs.Lists.{times}
 use Rattle.execlist.specs.Order.{order, first, enqueue, is_lower}
 use Rattle.execlist.proofs.OrderLaws.{order_takes, order_leaves_out, first_of_order, order_reads_keys, order_rekeyed}
-use Rattle.taskq.specs.Tasks.{pri_at, is_ready, is_live}
+use Rattle.taskq.specs.Tasks.{is_ready, is_live}
+use Rattle.execlist.specs.Disciplines.{pri_at, by_arrival, by_priority}
 use Rattle.signals.specs.Signals.{after_post}
 use Rattle.scheduler.specs.Schedule.{Schedule, status_of, signals_of, with_priority, with_signals, switch_for, renewed, begins, is_absent, leaves, departs, removed, awaits, is_interrupting_allowed, ticked_for, ticked}
-use Rattle.scheduler.specs.Dispatch as dispatch
 use Rattle.scheduler.specs.declared.Switch.{Switch}
 use Rattle.scheduler.specs.declared.Switch.TheVariants.{To, Idle}
+use Rattle.scheduler.specs.Dispatch.{arrives, switch_of, displaced, after_switch, rescheduled, added, reprioritized, signalled}
 use Rattle.taskscript.specs.File.{SoftintData}
 use Rattle.softint.specs.declared.source.Source.{Source}
 use Rattle.softint.specs.declared.source.Source.TheVariants as source
 use Rattle.execmodel.specs.State.{Pending}
-use Rattle.execmodel.specs.Scheduling as model
 use Rattle.execmodel.specs.Interrupts.{counted}
 use Rattle.execmodel.specs.Pending as pending
-use Rattle.execmodel.specs.Pending.{is_caused, softint_pri}
-use Rattle.execsim.specs.Actions.{with_caused}
+use Rattle.execmodel.specs.Pending.{is_caused, softint_pri, with_caused}
 use Rattle.execsim.specs.Agreement.{caused_in_order, in_order}
 
 -- a schedule with other ready tasks
 abbrev with_ready : List ℕ → Schedule → Schedule
 with_ready ready s = record s { queue = record s.queue { ready = ready } }
 
-pub arrives-in_order : (t : ℕ) (y : Schedule) → dispatch.arrives t (in_order y) ≡ in_order (model.arrives t y)
-unfolding dispatch.arrives model.arrives
-arrives-in_order t y = ap (λ ready. record y { queue = record y.queue { states = (model.arrives t y).queue.states; ready = ready } })
+pub arrives-in_order : (t : ℕ) (y : Schedule) → arrives by_priority t (in_order y) ≡ in_order (arrives by_arrival t y)
+unfolding arrives
+arrives-in_order t y = ap (λ ready. record y { queue = record y.queue { states = (arrives by_arrival t y).queue.states; ready = ready } })
     (sym (order_takes ℕ (pri_at y.queue.pris) y.queue.ready t))
 
 pub begins-in_order : (t : ℕ) (y : Schedule) → begins t (in_order y) ≡ in_order (begins t y)
@@ -44,13 +43,13 @@ switch_for-in_order None (Some t) y = refl
 switch_for-in_order (Some r) None y = refl
 switch_for-in_order (Some r) (Some t) y = refl
 
-pub switch_of-in_order : (y : Schedule) → dispatch.switch_of (in_order y) ≡ model.switch_of y
-unfolding dispatch.switch_of model.switch_of
+pub switch_of-in_order : (y : Schedule) → switch_of by_priority (in_order y) ≡ switch_of by_arrival y
+unfolding switch_of
 switch_of-in_order y =
     switch_for-in_order y.running (first (order (pri_at y.queue.pris) y.queue.ready)) y
     ∙ ap (λ c. switch_for y.running c y) (first_of_order ℕ (pri_at y.queue.pris) y.queue.ready)
 
-displaced-in_order : (running : Option ℕ) (y : Schedule) → dispatch.displaced running (in_order y) ≡ in_order (model.displaced running y)
+displaced-in_order : (running : Option ℕ) (y : Schedule) → displaced by_priority running (in_order y) ≡ in_order (displaced by_arrival running y)
 displaced-in_order None y = refl
 displaced-in_order (Some r) y = arrives-in_order r y
 
@@ -64,26 +63,26 @@ renewed-in_order : (running : Option ℕ) (y : Schedule) → renewed running (in
 renewed-in_order None y = refl
 renewed-in_order (Some r) y = by_test _ (record y { left = y.quantum }) y _ _ refl refl
 
-after_switch-in_order : (switch : Option Switch) (y : Schedule) → dispatch.after_switch switch (in_order y) ≡ in_order (model.after_switch switch y)
+after_switch-in_order : (switch : Option Switch) (y : Schedule) → after_switch by_priority switch (in_order y) ≡ in_order (after_switch by_arrival switch y)
 after_switch-in_order None y = renewed-in_order y.running y
 after_switch-in_order (Some Idle) y = refl
-after_switch-in_order (Some (To t)) y = ap (begins t) (displaced-in_order y.running y) ∙ begins-in_order t (model.displaced y.running y)
+after_switch-in_order (Some (To t)) y = ap (begins t) (displaced-in_order y.running y) ∙ begins-in_order t (displaced by_arrival y.running y)
 
-pub rescheduled-in_order : (y : Schedule) → dispatch.rescheduled (in_order y) ≡ in_order (model.rescheduled y)
-unfolding dispatch.rescheduled model.rescheduled
+pub rescheduled-in_order : (y : Schedule) → rescheduled by_priority (in_order y) ≡ in_order (rescheduled by_arrival y)
+unfolding rescheduled
 rescheduled-in_order y =
-    ap (λ s. dispatch.after_switch s (in_order y)) (switch_of-in_order y) ∙ after_switch-in_order (model.switch_of y) y
+    ap (λ s. after_switch by_priority s (in_order y)) (switch_of-in_order y) ∙ after_switch-in_order (switch_of by_arrival y) y
 
-pub added-in_order : (t : ℕ) (y : Schedule) → dispatch.added t (in_order y) ≡ in_order (model.added t y)
-unfolding dispatch.added model.added
-added-in_order t y = by_test (is_absent (status_of y t)) (model.arrives t y) y _ _ (arrives-in_order t y) refl
+pub added-in_order : (t : ℕ) (y : Schedule) → added by_priority t (in_order y) ≡ in_order (added by_arrival t y)
+unfolding added
+added-in_order t y = by_test (is_absent (status_of y t)) (arrives by_arrival t y) y _ _ (arrives-in_order t y) refl
 
-pub signalled-in_order : (t mask : ℕ) (y : Schedule) → dispatch.signalled t mask (in_order y) ≡ in_order (model.signalled t mask y)
-unfolding dispatch.signalled model.signalled
+pub signalled-in_order : (t mask : ℕ) (y : Schedule) → signalled by_priority t mask (in_order y) ≡ in_order (signalled by_arrival t mask y)
+unfolding signalled
 signalled-in_order t mask y =
     let got = with_signals t (after_post mask (signals_of y t)) y in
-    by_test (not (is_live (status_of y t))) y (if awaits (status_of y t) (signals_of got t).received then model.arrives t got else got) _ _ refl
-    (by_test (awaits (status_of y t) (signals_of got t).received) (model.arrives t got) got _ _ (arrives-in_order t got) refl)
+    by_test (not (is_live (status_of y t))) y (if awaits (status_of y t) (signals_of got t).received then arrives by_arrival t got else got) _ _ refl
+    (by_test (awaits (status_of y t) (signals_of got t).received) (arrives by_arrival t got) got _ _ (arrives-in_order t got) refl)
 
 -- An end, and another priority.
 
@@ -146,13 +145,13 @@ same_order pris n pri xs none = order_reads_keys ℕ (pri_at pris) (pri_at (slic
 
 pub reprioritized-in_order : (t : ℕ) (pri : ℤ) (y : Schedule)
     → ((n : ℕ) → times n (in_order y).queue.ready ≡ (if is_ready (status_of y n) then 1 else 0))
-    → dispatch.reprioritized t pri (in_order y) ≡ in_order (model.reprioritized t pri y)
-unfolding dispatch.reprioritized model.reprioritized dispatch.arrives model.arrives
+    → reprioritized by_priority t pri (in_order y) ≡ in_order (reprioritized by_arrival t pri y)
+unfolding reprioritized arrives
 reprioritized-in_order t pri y stand = by_case (is_ready (status_of y t)) (stand t) where
   by_case : (ready : Bool) → times t (in_order y).queue.ready ≡ cond ready 1 0
-      → cond ready (dispatch.arrives t (departs t (with_priority t pri (in_order y)))) (with_priority t pri (in_order y))
-      ≡ in_order (cond ready (model.arrives t (departs t (with_priority t pri y))) (with_priority t pri y))
-  by_case true there = ap (λ ready. with_ready ready (model.arrives t (departs t (with_priority t pri y))))
+      → cond ready (arrives by_priority t (departs t (with_priority t pri (in_order y)))) (with_priority t pri (in_order y))
+      ≡ in_order (cond ready (arrives by_arrival t (departs t (with_priority t pri y))) (with_priority t pri y))
+  by_case true there = ap (λ ready. with_ready ready (arrives by_arrival t (departs t (with_priority t pri y))))
       (sym (order_rekeyed (pri_at y.queue.pris) (pri_at (slice_set y.queue.pris t pri)) t y.queue.ready
       (λ m other. get_or-set_other y.queue.pris t m pri (pos 0) other)))
   by_case false there = ap (λ ready. with_ready ready (with_priority t pri y)) (sym (same_order y.queue.pris t pri y.queue.ready (none_in_order (pri_at y.queue.pris) t y.queue.ready there)))
@@ -209,7 +208,7 @@ unfolding order
 any_in_order key test xs = any_all_put key test [] xs
 
 pub caused-in_order : (i : ℕ) (softints : List SoftintData) (y : Pending)
-    → with_caused i softints (caused_in_order softints y) ≡ caused_in_order softints (pending.with_caused i (length softints) y)
+    → with_caused by_priority i softints (caused_in_order softints y) ≡ caused_in_order softints (with_caused by_arrival i softints y)
 caused-in_order i softints y =
     ap (λ (b : Bool). put (nat_lt i (length softints) && not b)) (any_in_order (softint_pri softints) (λ other. other == i) y.caused)
     ∙ by_case (nat_lt i (length softints) && not (is_caused i y))
@@ -217,7 +216,7 @@ caused-in_order i softints y =
     put : Bool → Pending
     put b = cond b (record y { caused = enqueue (softint_pri softints) (order (softint_pri softints) y.caused) i }) (caused_in_order softints y)
 
-    by_case : (b : Bool) → put b ≡ caused_in_order softints (cond b (pending.arrived i y) y)
+    by_case : (b : Bool) → put b ≡ caused_in_order softints (cond b (pending.arrived by_arrival i softints y) y)
     by_case true = ap (λ caused. record y { caused = caused }) (sym (order_takes ℕ (softint_pri softints) y.caused i))
     by_case false = refl
 

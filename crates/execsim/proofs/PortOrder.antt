@@ -6,6 +6,7 @@ use Rattle.std.specs.List.{list_any}
 use Rattle.std.proofs.lemmas.List.{get_or_past}
 use Rattle.execlist.specs.Order.{order, enqueue, is_lower}
 use Rattle.execlist.proofs.OrderLaws.{order_takes, order_leaves_out, found_in_order}
+use Rattle.execlist.specs.Disciplines.{by_priority}
 use Rattle.taskq.specs.Tasks.{is_live}
 use Rattle.taskq.specs.declared.TaskState.TheVariants.{Absent}
 use Rattle.scheduler.specs.Schedule.{Schedule, status_of, frees}
@@ -89,7 +90,7 @@ rem_port_alert-in_order port y = rw (is_public-in_order port y) refl
 not_live : (t : ℕ) (s : Schedule) → length s.queue.states ≤ t → is_live (status_of s t) ≡ false
 not_live t s past = ap is_live (get_or_past s.queue.states t Absent past)
 
-pub signalled_past : (t mask : ℕ) (s : Schedule) → length s.queue.states ≤ t → signalled t mask s ≡ s
+pub signalled_past : (t mask : ℕ) (s : Schedule) → length s.queue.states ≤ t → signalled by_priority t mask s ≡ s
 unfolding signalled
 signalled_past t mask s past = rw (not_live t s past) refl
 

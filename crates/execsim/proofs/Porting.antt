@@ -5,8 +5,10 @@ use Rattle.std.specs.Int.{cast_signed, w32}
 use Rattle.memlist.proofs.Answered.{nat_eq-other}
 use Rattle.exectrace.specs.Sink.{Tape}
 use Rattle.execlist.specs.Order.{first}
+use Rattle.execlist.specs.Disciplines.{by_arrival, by_priority}
 use Rattle.signals.specs.Signals.{grant}
 use Rattle.scheduler.specs.Schedule.{Schedule, signals_of, allocates, clears_and_waits, frees, sets_signals, takes, waits_for}
+use Rattle.scheduler.specs.Dispatch.{signalled}
 use Rattle.msgport.specs.declared.action.Action.{Action}
 use Rattle.msgport.specs.declared.action.Action.TheVariants as action
 use Rattle.msgport.specs.declared.action.PortAction.TheVariants.{Cause}
@@ -27,8 +29,6 @@ use Rattle.execheap.specs.Listing.{listed, replied_by, replying}
 use Rattle.execheap.specs.Refusals.{alert_of, code_of}
 use Rattle.execsim.specs.Actions.{given_back_or_alerted, performed, performed_or_alerted_by}
 use Rattle.execsim.specs.Agreement.{Seen, Follows, Moves, in_order}
-use Rattle.scheduler.specs.Dispatch.{signalled}
-use Rattle.execmodel.specs.Scheduling.{signalled as model_signalled}
 use Rattle.execsim.specs.Endings.{answered_or_alerted_by, done_or_alerted}
 use Rattle.execsim.proofs.Following.{reads_schedule, reads_memory, reads_bodies, moves_schedule, moves_caused, moves_nowhere, moves_memory, follows_as, follows_change, follows_leaving}
 use Rattle.execsim.proofs.GivingWay.{asking_for_object-in_order}
@@ -241,7 +241,7 @@ module _ {m o : Seen} {a b : Tape} (t : ℕ) (call : Call) where
 -- ---- putting and replying
 
 pub performed_moves : {m n : Seen} (act : Action) → n ≡ performed act m → Moves (model.performed act) m n
-performed_moves (action.Signal task mask) is = moves_schedule (model_signalled task mask) (signalled task mask) (signalled-in_order task mask) is
+performed_moves (action.Signal task mask) is = moves_schedule (signalled by_arrival task mask) (signalled by_priority task mask) (signalled-in_order task mask) is
 performed_moves (action.Cause i) is = moves_caused i is
 performed_moves {m} action.Nothing is = rw is (moves_nowhere m)
 

@@ -1,5 +1,5 @@
 -- What holds of each state that a machine comes to, and so of what the machine shows.
-use Rattle.std.proofs.Common.{◌≡◌, ℕ, ◌<◌, List, [], ◌∷◌, Option, None, Some, Bool, true, false, refl, ap, sym, ◌∙◌, subst}
+use Rattle.std.proofs.Common.{◌≡◌, ℕ, ◌<◌, ◌≤◌, List, [], ◌∷◌, length, Option, None, Some, Bool, true, false, refl, ap, sym, ◌∙◌, subst, arith}
 use Rattle.std.specs.Prelude.{Result, Ok, Err, IfOk, IfSome, if◌then◌else◌}
 use Rattle.exectrace.specs.Sink.{Tape}
 use Rattle.exectrace.specs.declared.sinks.SinkState.TheVariants.{Good}
@@ -7,20 +7,21 @@ use Rattle.taskscript.specs.declared.event.Event.{Event}
 use Rattle.taskscript.specs.declared.event.Event.TheVariants.{Run, Tick}
 use Rattle.execlist.specs.Lists.{is_at, times}
 use Rattle.execlist.specs.Order.{first}
-use Rattle.taskq.specs.Tasks.{pri_at}
+use Rattle.execlist.specs.Disciplines.{pri_at}
 use Rattle.taskq.specs.declared.TaskState.TheVariants.{Running, Waiting}
 use Rattle.taskq.specs.declared.Why.TheVariants.{Sem}
 use Rattle.scheduler.specs.Schedule.{Schedule, is_at_semaphore, status_of}
-use Rattle.execmodel.specs.State.{Memory, State, andthen}
+use Rattle.execmodel.specs.State.{Memory, Scripts, State, andthen}
 use Rattle.execmodel.specs.Step.{steps, ticks, starts, event, events}
 use Rattle.execmodel.specs.Agreement.{WaitsForNone}
-use Rattle.execmodel.specs.Semaphores.{heir, is_last, sem_of, waiters_of}
+use Rattle.execmodel.specs.Semaphores.{heir, sem_of, waiters_of}
+use Rattle.sigsem.specs.Semaphores.{is_last}
 use Rattle.execmodel.proofs.Stretches.{of_event, of_starts}
 use Rattle.execmodel.proofs.WaitingLaw.{IsSound, Waits, waits, clocked, booted_sound}
 use Rattle.execmodel.proofs.Agreement.{untouched, at_semaphore_is, first_stands, running_state, waits_at as stands_where, waits_there}
 use Rattle.execheap.specs.declared.refusal.Refusal.{Refusal}
 use Rattle.execsim.specs.Agreement.{Seen, Agrees, FollowsWhileGood}
-use Rattle.execsim.specs.Reached.{IsReached, at_boot, after_start, after_event, QueuesAgree}
+use Rattle.execsim.specs.Reached.{IsReached, at_boot, after_start, after_event, QueuesAgree, IsInOrder}
 use Rattle.execsim.specs.Time.{IsKnown}
 use Rattle.execsim.proofs.Following.{good_before}
 use Rattle.execsim.proofs.Ordering.{times_in_order}
@@ -59,14 +60,23 @@ shown_agree m s shows sound t =
     (ap (λ (y : Schedule). times t y.queue.ready) shows.schedule ∙ times_in_order (pri_at s.schedule.queue.pris) t s.schedule.queue.ready)
     (λ a. ap (λ (y : Memory). times t (waiters_of a y.heap)) shows.memory) (sound.agrees t)
 
-pub queues_agree : (m : Seen) → IsKnown m → QueuesAgree m
-queues_agree m known = shown_agree m known.state known.agrees (sound_there known.state known.reached)
+-- as many tasks may wait as there are programs
+shown_room : (m : Seen) (s : State) → Agrees m s → IsSound s → length m.scripts.programs ≤ m.memory.tasks
+shown_room m s shows sound =
+    let programs = ap (λ (x : Scripts). length x.programs) shows.scripts in
+    let tasks = ap (λ (y : Memory). y.tasks) shows.memory in
+    omega (arith, programs, tasks, sound.counted, sound.roomy)
 
--- after some steps of many the queues agree
-pub agree_after_steps : {m n : Seen} {a b : Tape} (i : ℕ) → (a.state ≡ Good → IsKnown m) → FollowsWhileGood (steps i) m n a b → b.state ≡ Good → QueuesAgree n
+pub in_order_there : (m : Seen) → IsKnown m → IsInOrder m
+in_order_there m known =
+    let sound = sound_there known.state known.reached in
+    record { queues = shown_agree m known.state known.agrees sound; room = shown_room m known.state known.agrees sound }
+
+-- after some steps of many that holds
+pub agree_after_steps : {m n : Seen} {a b : Tape} (i : ℕ) → (a.state ≡ Good → IsKnown m) → FollowsWhileGood (steps i) m n a b → b.state ≡ Good → IsInOrder n
 agree_after_steps {n = n} i shown follows good =
     let known = shown (good_before follows good) in
-    queues_agree n (record {
+    in_order_there n (record {
       state = (steps i known.state).state;
       agrees = follows.agrees known.state known.agrees good;
       reached = steps_reached i known.state known.reached;

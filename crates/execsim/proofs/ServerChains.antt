@@ -9,7 +9,8 @@ use Rattle.taskscript.specs.File.{ServerData}
 use Rattle.softint.specs.declared.interrupt.Server.{Server}
 use Rattle.softint.specs.declared.source.Source.{Source}
 use Rattle.softint.specs.declared.source.Source.TheVariants.{Ports}
-use Rattle.softint.specs.Interrupts.{Interrupts, chain, pri_at, serves}
+use Rattle.softint.specs.Interrupts.{Interrupts, chain, serves}
+use Rattle.execlist.specs.Disciplines.{pri_at}
 use Rattle.softint.specs.Sources.{is_source}
 use Rattle.execmodel.specs.State.{Bodies}
 use Rattle.execmodel.specs.Interrupts.{chain_of, no_server, server_pri, servers_of}

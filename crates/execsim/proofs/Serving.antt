@@ -13,11 +13,12 @@ use Rattle.scheduler.specs.Schedule.{Schedule}
 use Rattle.softint.specs.declared.source.Source.{Source}
 use Rattle.softint.specs.Sources.{highest}
 use Rattle.softint.specs.Interrupts as ints
-use Rattle.softint.specs.Interrupts.{Interrupts, pri_at}
+use Rattle.softint.specs.Interrupts.{Interrupts}
+use Rattle.execlist.specs.Disciplines.{pri_at, by_priority}
 use Rattle.execmodel.specs.State.{Bodies, Pending, Timer as Clock, State, Outcome, quiet, says, andthen, unless_stopped, on_pending, on_schedule}
 use Rattle.execmodel.specs.Interrupts.{by_choice, chain_of, counted, finishes_for, interrupts, runs_chain, runs_server, server_at, server_pri, servers_of, serves, servings, text_of_source}
-use Rattle.execmodel.specs.Pending.{allows_interrupts, is_caused, next_softint, next_source, softint_pri, with_latch_of}
-use Rattle.execsim.specs.Actions.{served, softint_seen, source_seen, with_caused}
+use Rattle.execmodel.specs.Pending.{allows_interrupts, is_caused, next_softint, next_source, softint_pri, with_caused, with_latch_of}
+use Rattle.execsim.specs.Actions.{served, softint_seen, source_seen}
 use Rattle.execsim.specs.Agreement.{Seen, Agrees, Follows, Moves}
 use Rattle.execsim.specs.Views.{IsFor}
 use Rattle.execsim.proofs.Following.{follows_as, follows_change, follows_known, follows_nothing, follows_says, follows_then, guarded_going, guarded_stopped, moves_latch, moves_schedule}
@@ -39,7 +40,7 @@ abbrev pub pending_of : Interrupts → Pending
 pending_of m = record { caused = m.caused; latches = m.latches }
 
 pub causes_known : (i : ℕ) (m : Interrupts) (bodies : Bodies) → IsFor bodies m → nat_lt i (length bodies.softints) ≡ true
-    → pending_of (ints.causes i m) ≡ with_caused i bodies.softints (pending_of m)
+    → pending_of (ints.causes i m) ≡ with_caused by_priority i bodies.softints (pending_of m)
 causes_known i m bodies of known =
     by_case (ints.is_caused i m)
     ∙ ap put (ap (λ (b : Bool). b && not (ints.is_caused i m)) (sym known) ∙ ap (λ (b : Bool). nat_lt i (length bodies.softints) && not b) (any_stands i m.caused))
@@ -51,7 +52,7 @@ causes_known i m bodies of known =
     by_case true = refl
     by_case false = ap (λ pris. record { caused = enqueue (pri_at pris) m.caused i; latches = m.latches }) of.priorities
 
-pub causes_unknown : (i : ℕ) (m : Seen) → nat_lt i (length m.bodies.softints) ≡ false → m.pending ≡ with_caused i m.bodies.softints m.pending
+pub causes_unknown : (i : ℕ) (m : Seen) → nat_lt i (length m.bodies.softints) ≡ false → m.pending ≡ with_caused by_priority i m.bodies.softints m.pending
 causes_unknown i m unknown = ap (λ (b : Bool). cond (b && not (is_caused i m.pending)) (record m.pending { caused = enqueue (softint_pri m.bodies.softints) m.pending.caused i }) m.pending) (sym unknown)
 
 -- ---- which one is next

@@ -3,12 +3,12 @@ use Rattle.std.proofs.Common.{◌≡◌, ℕ, ℤ, ◌-◌, true, false, Option,
 use Rattle.std.specs.Prelude.{codes, nat_eq}
 use Rattle.exectrace.specs.Sink.{Tape}
 use Rattle.std.specs.Int.{cast_signed, cast_unsigned, w32}
+use Rattle.execlist.specs.Disciplines.{by_arrival, by_priority}
 use Rattle.signals.specs.Signals.{taken_signals, grant, grant_number, is_own_signal, after_free}
 use Rattle.taskq.specs.Tasks.{is_live}
 use Rattle.scheduler.specs.Schedule.{Schedule, signals_of, come_for, after_wait, waits_for, takes, allocates, frees, sets_signals, status_of, with_signals}
-use Rattle.scheduler.specs.Dispatch as dispatch
+use Rattle.scheduler.specs.Dispatch.{signalled}
 use Rattle.execmodel.specs.State.{Call, on_schedule}
-use Rattle.execmodel.specs.Scheduling.{signalled}
 use Rattle.execmodel.specs.Calls.{Caller, argument, done, done_by, answered, alerted, alerted_by}
 use Rattle.execmodel.specs.Signals.{is_task, is_mask, does_alloc_signal, does_free_signal, does_set_signal, does_signal_by, waited, does_wait}
 use Rattle.execsim.specs.Agreement.{Seen, Follows, in_order}
@@ -87,12 +87,12 @@ module _ {m n : Seen} {a b : Tape} (c : Caller) (call : Call) where
       (λ s e. let same : is_task (argument 0 call) s.scripts ≡ true = reads_scripts (is_task (argument 0 call)) known s e in rw (same, unmasked) refl) follows
 
   pub signal_sent : {o : Seen} → is_task (argument 0 call) m.scripts ≡ true → is_mask (argument 1 call) ≡ true
-      → n ≡ record m { schedule = dispatch.signalled (argument 0 call - 1) (argument 1 call) m.schedule }
+      → n ≡ record m { schedule = signalled by_priority (argument 0 call - 1) (argument 1 call) m.schedule }
       → Follows (done_by c call) n o a b → Follows (does_signal_by c call) m o a b
   signal_sent known masked is follows = follows_as
-      {g = λ s. done_by c call (on_schedule (signalled (argument 0 call - 1) (argument 1 call)) s)}
+      {g = λ s. done_by c call (on_schedule (signalled by_arrival (argument 0 call - 1) (argument 1 call)) s)}
       (λ s e. let same : is_task (argument 0 call) s.scripts ≡ true = reads_scripts (is_task (argument 0 call)) known s e in rw (same, masked) refl)
-      (follows_change (moves_schedule (signalled (argument 0 call - 1) (argument 1 call)) (dispatch.signalled (argument 0 call - 1) (argument 1 call)) (signalled-in_order (argument 0 call - 1) (argument 1 call)) is) follows)
+      (follows_change (moves_schedule (signalled by_arrival (argument 0 call - 1) (argument 1 call)) (signalled by_priority (argument 0 call - 1) (argument 1 call)) (signalled-in_order (argument 0 call - 1) (argument 1 call)) is) follows)
 
 after_wait-in_order : (t mask : ℕ) (y : Schedule) → after_wait t mask (in_order y) ≡ in_order (after_wait t mask y)
 unfolding waits_for takes

@@ -2,6 +2,7 @@
 use Rattle.std.proofs.Common.{◌≡◌, ℕ, suc, ◌+◌, ◌<◌, List, [], ◌∷◌, ◌++◌, length, take, get_or, true, false, Option, None, Some, refl, ap, sym, ◌∙◌, subst, add-one}
 use Rattle.std.proofs.lemmas.List.{take_more}
 use Rattle.std.specs.Prelude.{codes, if◌then◌else◌}
+use Rattle.execlist.specs.Disciplines.{by_arrival, by_priority}
 use Rattle.exectrace.specs.Sink.{Tape, Puts}
 use Rattle.exectrace.specs.Trace.{printed_line, Switch, Idle, Value, Done}
 use Rattle.exectrace.specs.Trace as trace
@@ -10,13 +11,12 @@ use Rattle.taskscript.specs.declared.word.Word.{Word}
 use Rattle.taskscript.specs.declared.word.Word.TheVariants.{Requests}
 use Rattle.taskscript.specs.declared.word.requests.RequestWord.{RequestWord}
 use Rattle.scheduler.specs.Schedule.{name_of, leaves}
-use Rattle.scheduler.specs.Dispatch as dispatch
 use Rattle.scheduler.specs.declared.Switch.{Switch as Choice}
 use Rattle.scheduler.specs.declared.Switch.TheVariants as switch
+use Rattle.scheduler.specs.Dispatch.{switch_of, rescheduled, added}
 use Rattle.softint.specs.declared.source.Source.{Source}
 use Rattle.softint.specs.declared.source.Source.TheVariants.{Vertb}
 use Rattle.execmodel.specs.State.{Call, Scripts, State, quiet, andthen, program_of, on_schedule, on_memory, on_timer, on_pending, unless_stopped}
-use Rattle.execmodel.specs.Scheduling.{rescheduled, added}
 use Rattle.execmodel.specs.Calls.{next_call}
 use Rattle.timerdev.specs.Timing.{ticked}
 use Rattle.execmodel.specs.Interrupts.{interrupts, runs_softint}
@@ -31,14 +31,14 @@ use Rattle.execsim.proofs.Serving.{softint_same}
 
 -- Settle
 
-pub switches_as : {m n o : Seen} {a b : Tape} (choice : Option Choice) → choice ≡ dispatch.switch_of m.schedule
-    → n ≡ record m { schedule = dispatch.rescheduled m.schedule } → Follows (announced choice) n o a b → Follows switches m o a b
+pub switches_as : {m n o : Seen} {a b : Tape} (choice : Option Choice) → choice ≡ switch_of by_priority m.schedule
+    → n ≡ record m { schedule = rescheduled by_priority m.schedule } → Follows (announced choice) n o a b → Follows switches m o a b
 unfolding switches
 switches_as {m} choice due is follows = follows_as
-    {g = λ s. announced choice (on_schedule rescheduled s)}
-    (λ s e. ap (λ c. announced c (on_schedule rescheduled s))
-    (sym (switch_of-in_order s.schedule) ∙ ap dispatch.switch_of (sym e.schedule) ∙ sym due))
-    (follows_change (moves_schedule rescheduled dispatch.rescheduled rescheduled-in_order is) follows)
+    {g = λ s. announced choice (on_schedule (rescheduled by_arrival) s)}
+    (λ s e. ap (λ c. announced c (on_schedule (rescheduled by_arrival) s))
+    (sym (switch_of-in_order s.schedule) ∙ ap (switch_of by_priority) (sym e.schedule) ∙ sym due))
+    (follows_change (moves_schedule (rescheduled by_arrival) (rescheduled by_priority) rescheduled-in_order is) follows)
 
 pub announces_task : {m : Seen} {a b : Tape} (t : ℕ) → Puts a b (printed_line (Switch (name_of m.schedule t))) → Follows (announced (Some (switch.To t))) m m a b
 announces_task {m} t puts = follows_saying (Switch (name_of m.schedule t))
@@ -176,12 +176,12 @@ unfolding all_added
 suc_added scripts i before last = moves_then before last
 
 pub more_added : {m n o : Seen} (scripts : Scripts) (i : ℕ) → Moves (on_schedule (all_added scripts i)) m n → n.scripts ≡ scripts
-    → o ≡ record n { schedule = (if (program_of n.scripts i).starts then dispatch.added i n.schedule else n.schedule) }
+    → o ≡ record n { schedule = (if (program_of n.scripts i).starts then added by_priority i n.schedule else n.schedule) }
     → Moves (on_schedule (all_added scripts (i + 1))) m o
 more_added {n = n} scripts i before same is = rw add-one (suc_added scripts i before
-    (moves_schedule (started scripts i) (λ y. if (program_of scripts i).starts then dispatch.added i y else y)
-    (λ y. by_test (program_of scripts i).starts (added i y) y _ _ (added-in_order i y) refl)
-    (is ∙ ap (λ (x : Scripts). record n { schedule = (if (program_of x i).starts then dispatch.added i n.schedule else n.schedule) }) same)))
+    (moves_schedule (started scripts i) (λ y. if (program_of scripts i).starts then added by_priority i y else y)
+    (λ y. by_test (program_of scripts i).starts (added by_arrival i y) y _ _ (added-in_order i y) refl)
+    (is ∙ ap (λ (x : Scripts). record n { schedule = (if (program_of x i).starts then added by_priority i n.schedule else n.schedule) }) same)))
 
 pub starts_as : {m n o : Seen} {a b : Tape} → Moves (on_schedule (all_added m.scripts (length m.scripts.programs))) m n → Follows settle n o a b → Follows starts m o a b
 unfolding starts

@@ -5,11 +5,11 @@ use Rattle.std.specs.Int.{cast_signed, cast_unsigned, w32}
 use Rattle.exectrace.specs.Sink.{Tape, Puts}
 use Rattle.exectrace.specs.Trace.{printed}
 use Rattle.execlist.specs.Lists.{times}
+use Rattle.execlist.specs.Disciplines.{by_arrival, by_priority}
 use Rattle.taskq.specs.Tasks.{is_ready}
 use Rattle.scheduler.specs.Schedule.{Schedule, status_of, priority_of, is_absent, leaves, removed, found}
-use Rattle.scheduler.specs.Dispatch as dispatch
+use Rattle.scheduler.specs.Dispatch.{added, reprioritized}
 use Rattle.execmodel.specs.State.{Call, State, Outcome, on_schedule, on_heap}
-use Rattle.execmodel.specs.Scheduling.{added, reprioritized}
 use Rattle.execmodel.specs.Calls.{argument, name_argument, done, answered, alerted}
 use Rattle.execmodel.specs.Signals.{is_task}
 use Rattle.execmodel.specs.Semaphores.{awaited_by, dropped, leaving_queue}
@@ -62,19 +62,19 @@ module _ {m n : Seen} {a b : Tape} (t : ℕ) (call : Call) where
 
   pub pri_set : {o : Seen} (old : ℕ) → is_live_task (argument 0 call) m.scripts m.schedule ≡ true → is_priority (cast_signed w32 (argument 1 call)) ≡ true
       → old ≡ cast_unsigned w32 (priority_of m.schedule (argument 0 call - 1))
-      → n ≡ record m { schedule = dispatch.reprioritized (argument 0 call - 1) (cast_signed w32 (argument 1 call)) m.schedule }
+      → n ≡ record m { schedule = reprioritized by_priority (argument 0 call - 1) (cast_signed w32 (argument 1 call)) m.schedule }
       → ((x : ℕ) → times x m.schedule.queue.ready ≡ (if is_ready (status_of m.schedule x) then 1 else 0))
       → Follows (answered t call old) n o a b → Follows (does_set_task_pri t call) m o a b
   unfolding does_set_task_pri
   pri_set old live inside was is stand follows = follows_as
-      {g = λ s. answered t call old (on_schedule (reprioritized (argument 0 call - 1) (cast_signed w32 (argument 1 call))) s)}
+      {g = λ s. answered t call old (on_schedule (reprioritized by_arrival (argument 0 call - 1) (cast_signed w32 (argument 1 call))) s)}
       (λ s e.
       let same : is_live_task (argument 0 call) s.scripts s.schedule ≡ true = live_same (argument 0 call) s e ∙ live in
       let before : cast_unsigned w32 (priority_of s.schedule (argument 0 call - 1)) ≡ old =
       reads_schedule (λ y. cast_unsigned w32 (priority_of y (argument 0 call - 1))) (λ y. refl) (sym was) s e in
       rw (same, inside, before) refl)
-      (follows_change (moves_schedule_seen (reprioritized (argument 0 call - 1) (cast_signed w32 (argument 1 call)))
-      (dispatch.reprioritized (argument 0 call - 1) (cast_signed w32 (argument 1 call)))
+      (follows_change (moves_schedule_seen (reprioritized by_arrival (argument 0 call - 1) (cast_signed w32 (argument 1 call)))
+      (reprioritized by_priority (argument 0 call - 1) (cast_signed w32 (argument 1 call)))
       (λ y e. reprioritized-in_order (argument 0 call - 1) (cast_signed w32 (argument 1 call)) y
       (subst (λ (z : Schedule). (x : ℕ) → times x z.queue.ready ≡ (if is_ready (status_of z x) then 1 else 0)) e stand)) is) follows)
 
@@ -85,17 +85,17 @@ module _ {m n : Seen} {a b : Tape} (t : ℕ) (call : Call) where
 
   pub add_tried : {o : Seen} (answer : ℕ) → is_task (argument 0 call) m.scripts ≡ true
       → answer ≡ (if is_absent (status_of m.schedule (argument 0 call - 1)) then argument 0 call else 0)
-      → n ≡ record m { schedule = dispatch.added (argument 0 call - 1) m.schedule }
+      → n ≡ record m { schedule = added by_priority (argument 0 call - 1) m.schedule }
       → Follows (answered t call answer) n o a b → Follows (does_add_task t call) m o a b
   unfolding does_add_task
   add_tried answer known begun is follows = follows_as
-      {g = λ s. answered t call answer (on_schedule (added (argument 0 call - 1)) s)}
+      {g = λ s. answered t call answer (on_schedule (added by_arrival (argument 0 call - 1)) s)}
       (λ s e.
       let same : is_task (argument 0 call) s.scripts ≡ true = reads_scripts (is_task (argument 0 call)) known s e in
       let tells : (if is_absent (status_of s.schedule (argument 0 call - 1)) then argument 0 call else 0) ≡ answer =
       reads_schedule (λ y. if is_absent (status_of y (argument 0 call - 1)) then argument 0 call else 0) (λ y. refl) (sym begun) s e in
       rw (same, tells) refl)
-      (follows_change (moves_schedule (added (argument 0 call - 1)) (dispatch.added (argument 0 call - 1)) (added-in_order (argument 0 call - 1)) is) follows)
+      (follows_change (moves_schedule (added by_arrival (argument 0 call - 1)) (added by_priority (argument 0 call - 1)) (added-in_order (argument 0 call - 1)) is) follows)
 
   pub rem_caller : {o : Seen} → is_caller t (argument 0 call) ≡ true → n ≡ record m { schedule = leaves t m.schedule }
       → Follows (done t call) n o a b → Follows (does_rem_task t call) m o a b

@@ -2,14 +2,13 @@
 -- the order in which they are to run; how a call on a port or a semaphore ends that has more to do than its change of memory; and which
 -- interrupt runs next.
 use Rattle.std.specs.Int.{cast_unsigned, w32}
-use Rattle.std.specs.Prelude.{ℕ, ◌^◌, false, not, ◌&&◌, if◌then◌else◌, nat_lt, length, List, Option, None, Some, Result, Ok, Err}
+use Rattle.std.specs.Prelude.{ℕ, ◌^◌, false, if◌then◌else◌, length, List, Option, None, Some, Result, Ok, Err}
 use Rattle.exectrace.specs.Trace.{Serve, Softint, Timer}
-use Rattle.execlist.specs.Order.{enqueue, first}
+use Rattle.execlist.specs.Disciplines.{by_priority}
 use Rattle.scheduler.specs.Schedule.{frees}
 use Rattle.scheduler.specs.Dispatch.{signalled}
 use Rattle.msgport.specs.declared.action.Action.{Action}
 use Rattle.msgport.specs.declared.action.Action.TheVariants as action
-use Rattle.taskscript.specs.File.{SoftintData}
 use Rattle.softint.specs.Sources.{highest}
 use Rattle.softint.specs.declared.source.Source.{Source}
 use Rattle.taskscript.specs.Commands.{CommandData}
@@ -18,7 +17,7 @@ use Rattle.execmodel.specs.Bodies.{body_step, runs_body}
 use Rattle.execmodel.specs.Calls.{Caller, ByTask, done, done_by, answered, alerted, alerted_by}
 use Rattle.execmodel.specs.Requests.{finishes_until}
 use Rattle.execmodel.specs.Interrupts.{chain_of, counted, finishes_for, runs_chain, softint_at, text_of_source}
-use Rattle.execmodel.specs.Pending.{allows_interrupts, is_caused, softint_pri, taken_off, with_latch_of}
+use Rattle.execmodel.specs.Pending.{allows_interrupts, softint_next, taken_off, with_caused, with_latch_of}
 use Rattle.execmodel.specs.Ports as model
 use Rattle.execmodel.specs.Semaphores.{obtains, passes}
 use Rattle.execmodel.specs.Step.{task_step}
@@ -29,19 +28,13 @@ use Rattle.execheap.specs.declared.awaited.Awaited.TheVariants as awaited
 use Rattle.execheap.specs.declared.refusal.Refusal.{Refusal}
 use Rattle.execheap.specs.Refusals.{code_of}
 
--- software interrupt i is to run behind the caused ones of its priority, unless it is caused already; a number that none has does nothing
-abbrev pub with_caused : ℕ → List SoftintData → Pending → Pending
-with_caused i softints pending =
-    if nat_lt i (length softints) && not (is_caused i pending)
-    then record pending { caused = enqueue (softint_pri softints) pending.caused i } else pending
-
--- a software interrupt is caused
+-- software interrupt i is caused: it is to run behind the caused ones of its priority
 abbrev pub caused : ℕ → Seen → Seen
-caused i s = record s { pending = with_caused i s.bodies.softints s.pending }
+caused i s = record s { pending = with_caused by_priority i s.bodies.softints s.pending }
 
 -- what is to be done for a message is done
 abbrev pub performed : Action → Seen → Seen
-performed (action.Signal task mask) s = record s { schedule = signalled task mask s.schedule }
+performed (action.Signal task mask) s = record s { schedule = signalled by_priority task mask s.schedule }
 performed (action.Cause i) s = caused i s
 performed action.Nothing s = s
 
@@ -93,7 +86,7 @@ finishes_all_until s = finishes_until (length s.memory.timer.waiting) s
 
 -- the software interrupt that runs next, by what the machine shows
 abbrev pub softint_seen : Seen → Option ℕ
-softint_seen s = if allows_interrupts s.schedule then first s.pending.caused else None
+softint_seen s = softint_next by_priority s.bodies.softints s.schedule s.pending
 
 -- a software interrupt, or none, is not caused any more
 abbrev pub without_softint : Option ℕ → Pending → Pending

@@ -9,7 +9,7 @@ use Rattle.exectrace.specs.Trace as trace
 use Rattle.taskscript.specs.Words.{word_text}
 use Rattle.taskscript.specs.File.{SoftintData}
 use Rattle.execlist.specs.Order.{order}
-use Rattle.taskq.specs.Tasks.{pri_at}
+use Rattle.execlist.specs.Disciplines.{pri_at}
 use Rattle.scheduler.specs.Schedule.{Schedule, name_of}
 use Rattle.execmodel.specs.State.{Bodies, Call, Memory, Pending, State, Scripts, Outcome}
 use Rattle.execmodel.specs.Pending.{softint_pri}

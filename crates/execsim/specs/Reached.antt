@@ -1,5 +1,5 @@
 -- The states that a machine comes to, and that what the machine shows of its semaphores agrees with what it shows of its tasks.
-use Rattle.std.specs.Prelude.{ℕ}
+use Rattle.std.specs.Prelude.{ℕ, ◌≤◌, length}
 use Rattle.taskscript.specs.File.{MachineData}
 use Rattle.taskscript.specs.Machines.{IsMachine}
 use Rattle.taskscript.specs.declared.event.Event.{Event}
@@ -19,3 +19,8 @@ pub data IsReached : State → Type 0 where
 -- semaphore stand in its queue, each in one and once. So the running task waits for none.
 abbrev pub QueuesAgree : Seen → Type 0
 QueuesAgree seen = (t : ℕ) → model.Agrees t seen.schedule (λ semaphore. waiters_of semaphore seen.memory.heap)
+
+-- that, and that there is room for each task to wait for a semaphore
+pub record IsInOrder (seen : Seen) : Type 0 where
+  pub queues : QueuesAgree seen
+  pub room : length seen.scripts.programs ≤ seen.memory.tasks

@@ -172,6 +172,7 @@ fn heap_of<S: ListSpace>(alloc: Global, file: &MachineFile) -> Result<Heap<S>, A
       libraries = file.now.libraries;
       asks = nat_eq file.now.version 2;
       pool = file.now.pool;
+      tasks = length file.now.tasks;
       heap = [];
       public = [];
       timer = new_timer file.now.tick_micros;
@@ -182,6 +183,7 @@ fn heap_of<S: ListSpace>(alloc: Global, file: &MachineFile) -> Result<Heap<S>, A
         alloc,
         file.regions(),
         file.pool(),
+        file.tasks().len(),
         &inits,
         file.version() == 2,
         file.tick_micros(),

@@ -3,8 +3,9 @@
 ghost use Rattle.std.specs.Prelude.{◌≡◌, ◌^◌, ◌<◌, ◌≤◌, negsuc, [], find, length, true, IfOk, IfSome, IsTrue, OnErr, OnOk, None, Some};
 ghost use Rattle.std.specs.Int.{cast_signed, w32};
 ghost use Rattle.std.specs.Option.{option_map, unwrap_or};
-ghost use Rattle.scheduler.specs.Dispatch as dispatch;
+ghost use Rattle.execlist.specs.Disciplines.{by_priority};
 ghost use Rattle.scheduler.specs.Schedule.{clears_and_waits, frees, signals_of};
+ghost use Rattle.scheduler.specs.Dispatch.{signalled};
 ghost use Rattle.signals.specs.Signals.{grant, is_own_signal};
 ghost use Rattle.msgport.specs.Port.{new_port};
 ghost use Rattle.execmodel.specs.State.{MsgPort};
@@ -311,7 +312,7 @@ impl<S: ListSpace> Kernel<S> {
 
     /// A task, if there is one of that number and it is live, receives the signals.
     fn signal_any(&mut self, task: TaskId, mask: u32)
-        ensures { self.new ≡ record self.old { schedule = dispatch.signalled task mask self.old.schedule } }
+        ensures { self.new ≡ record self.old { schedule = signalled by_priority task mask self.old.schedule } }
     {
         if task < self.programs.len() {
             self.signal_task(task, mask);

@@ -1,10 +1,11 @@
 //! Signal semaphores: how they are made and freed, obtained and released. A semaphore is named by the address of its block. The calls of
 //! `Heap` have the effects on memory; which task waits and which is made ready is done here.
 ghost use Rattle.std.specs.Prelude.{◌≡◌, ◌<◌, [], length, if◌then◌else◌, Some, IfOk, IfSome};
+ghost use Rattle.execlist.specs.Disciplines.{by_priority};
 ghost use Rattle.taskq.specs.declared.TaskState.{TaskState};
 ghost use Rattle.taskq.specs.declared.Why.{Why};
-ghost use Rattle.scheduler.specs.Dispatch.{arrives};
 ghost use Rattle.scheduler.specs.Schedule.{status_of, waits_at_semaphore};
+ghost use Rattle.scheduler.specs.Dispatch.{arrives};
 ghost use Rattle.sigsem.specs.Semaphores.{free_sem};
 ghost use Rattle.execmodel.specs.State.{Semaphore};
 ghost use Rattle.execmodel.specs.Calls.{argument};
@@ -16,7 +17,7 @@ ghost use Rattle.execmodel.specs.Semaphores.{does_new_sem, does_free_sem, does_o
 ghost use Rattle.execmodel.specs.Agreement.{WaitsForNone};
 ghost use Rattle.execsim.specs.Actions.{obtains_or_alerted, passes_or_alerted};
 ghost use Rattle.execsim.specs.Agreement.{Follows};
-ghost use Rattle.execsim.specs.Reached.{QueuesAgree};
+ghost use Rattle.execsim.specs.Reached.{IsInOrder, QueuesAgree};
 ghost use Rattle.execsim.specs.Views.{call_view};
 
 use crate::command::Call;
@@ -117,6 +118,7 @@ impl<S: ListSpace> Kernel<S> {
         requires known { t < length self.old.scripts.programs }
         requires runs { self.old.schedule.running ≡ Some t }
         requires stopped { WaitsForNone t self.old.memory.heap }
+        requires room { t < self.old.memory.tasks }
         ensures { Follows (does_obtain_semaphore t (call_view call.now)) self.old self.new (W.tape out.old) (W.tape out.new) }
     {
         if self.is_tried_again(t) {
@@ -147,7 +149,7 @@ impl<S: ListSpace> Kernel<S> {
     /// A task that waits for a semaphore becomes ready.
     fn wake(&mut self, t: TaskId)
         requires { status_of self.old.schedule t ≡ TaskState.Waiting Why.Sem }
-        ensures { self.new ≡ record self.old { schedule = arrives t self.old.schedule } }
+        ensures { self.new ≡ record self.old { schedule = arrives by_priority t self.old.schedule } }
     {
         self.sched.wake_sem(t);
     }
@@ -199,7 +201,7 @@ impl<S: ListSpace> Kernel<S> {
     )
         requires known { t < length self.old.scripts.programs }
         requires runs { self.old.schedule.running ≡ Some t }
-        requires agree { QueuesAgree self.old }
+        requires agree { IsInOrder self.old }
         ensures { Follows (does_semaphores word t (call_view call.now)) self.old self.new (W.tape out.old) (W.tape out.new) }
     {
         match word {

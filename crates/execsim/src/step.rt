@@ -1,18 +1,19 @@
 //! Steps and settling: all interleaving comes from the list of events.
 ghost use Rattle.std.specs.Prelude.{◌≡◌, ◌<◌, length, sum_by, Some, None, IfSome, if◌then◌else◌};
+ghost use Rattle.execlist.specs.Disciplines.{by_priority};
 ghost use Rattle.exectrace.specs.Sink.{Puts};
 ghost use Rattle.exectrace.specs.Trace.{printed_line};
 ghost use Rattle.exectrace.specs.declared.sinks.SinkState.{SinkState};
 ghost use Rattle.taskscript.specs.Events.{ticks as ticks_of};
-ghost use Rattle.scheduler.specs.Dispatch as dispatch;
 ghost use Rattle.scheduler.specs.Schedule.{IsToOneOf};
+ghost use Rattle.scheduler.specs.Dispatch.{switch_of, rescheduled, added};
 ghost use Rattle.execmodel.specs.State.{andthen, on_schedule, program_of, unless_stopped};
 ghost use Rattle.execmodel.specs.Calls.{next_call};
 ghost use Rattle.execmodel.specs.Step.{announced, switches, settle, does, ends, acts, acting, step, steps, request, tick, ticks, starts, all_added, event, events, task_step};
 ghost use Rattle.execmodel.specs.Interrupts.{interrupts};
 ghost use Rattle.execsim.specs.Actions.{running_task_step};
 ghost use Rattle.execsim.specs.Agreement.{Follows, FollowsWhileGood, Moves};
-ghost use Rattle.execsim.specs.Reached.{QueuesAgree};
+ghost use Rattle.execsim.specs.Reached.{IsInOrder};
 ghost use Rattle.execsim.specs.Time.{HasTimeFor, IsInTime, IsKnown};
 ghost use Rattle.execsim.specs.Views.{call_view};
 
@@ -41,8 +42,8 @@ impl<S: ListSpace> Kernel<S> {
     }
 
     fn reschedule(&mut self) -> Option<Switch>
-        ensures answer { result ≡ dispatch.switch_of self.old.schedule }
-        ensures next { self.new ≡ record self.old { schedule = dispatch.rescheduled self.old.schedule } }
+        ensures answer { result ≡ switch_of by_priority self.old.schedule }
+        ensures next { self.new ≡ record self.old { schedule = rescheduled by_priority self.old.schedule } }
         ensures known { IsToOneOf result (length self.new.scripts.programs) }
     {
         self.sched.reschedule()
@@ -95,7 +96,7 @@ impl<S: ListSpace> Kernel<S> {
     fn does<W: Sink>(&mut self, t: TaskId, call: &Call, out: &mut W)
         requires known { t < length self.old.scripts.programs }
         requires runs { self.old.schedule.running ≡ Some t }
-        requires agree { QueuesAgree self.old }
+        requires agree { IsInOrder self.old }
         ensures { Follows (does t (call_view call.now)) self.old self.new (W.tape out.old) (W.tape out.new) }
     {
         match call.word {
@@ -133,7 +134,7 @@ impl<S: ListSpace> Kernel<S> {
     fn make<W: Sink>(&mut self, t: TaskId, call: &Call, out: &mut W)
         requires known { t < length self.old.scripts.programs }
         requires runs { self.old.schedule.running ≡ Some t }
-        requires agree { QueuesAgree self.old }
+        requires agree { IsInOrder self.old }
         requires next { next_call t self.old.scripts ≡ Some (call_view call.now) }
         ensures { Follows (task_step (Some t)) self.old self.new (W.tape out.old) (W.tape out.new) }
     {
@@ -156,7 +157,7 @@ impl<S: ListSpace> Kernel<S> {
     fn make_call<W: Sink>(&mut self, t: TaskId, out: &mut W)
         requires known { t < length self.old.scripts.programs }
         requires runs { self.old.schedule.running ≡ Some t }
-        requires agree { QueuesAgree self.old }
+        requires agree { IsInOrder self.old }
         ensures { Follows (task_step (Some t)) self.old self.new (W.tape out.old) (W.tape out.new) }
     {
         let program = self.program(t);
@@ -188,7 +189,7 @@ impl<S: ListSpace> Kernel<S> {
     fn run_command<W: Sink>(&mut self, t: TaskId, out: &mut W)
         requires known { t < length self.old.scripts.programs }
         requires runs { self.old.schedule.running ≡ Some t }
-        requires agree { QueuesAgree self.old }
+        requires agree { IsInOrder self.old }
         ensures { Follows (task_step (Some t)) self.old self.new (W.tape out.old) (W.tape out.new) }
     {
         match self.next_change(t) {
@@ -199,7 +200,7 @@ impl<S: ListSpace> Kernel<S> {
 
     /// The running task does one command; where none runs, the step is used up.
     fn run_task<W: Sink>(&mut self, out: &mut W)
-        requires { QueuesAgree self.old }
+        requires { IsInOrder self.old }
         ensures { Follows running_task_step self.old self.new (W.tape out.old) (W.tape out.new) }
     {
         match self.running() {
@@ -210,7 +211,7 @@ impl<S: ListSpace> Kernel<S> {
 
     /// A software interrupt that may run does so, or else the running task does one command.
     fn run_one<W: Sink>(&mut self, out: &mut W)
-        requires { QueuesAgree self.old }
+        requires { IsInOrder self.old }
         ensures { Follows acting self.old self.new (W.tape out.old) (W.tape out.new) }
     {
         match self.take_softint() {
@@ -228,7 +229,7 @@ impl<S: ListSpace> Kernel<S> {
 
     /// What a step does before the machine settles; a stopped machine does nothing.
     fn act<W: Sink>(&mut self, out: &mut W)
-        requires { QueuesAgree self.old }
+        requires { IsInOrder self.old }
         ensures { Follows acts self.old self.new (W.tape out.old) (W.tape out.new) }
     {
         if !self.stopped {
@@ -238,7 +239,7 @@ impl<S: ListSpace> Kernel<S> {
 
     /// One step.
     fn step<W: Sink>(&mut self, out: &mut W)
-        requires { QueuesAgree self.old }
+        requires { IsInOrder self.old }
         ensures { Follows step self.old self.new (W.tape out.old) (W.tape out.new) }
     {
         self.act(out);
@@ -247,7 +248,7 @@ impl<S: ListSpace> Kernel<S> {
 
     /// One step, as long as the sink is good; after a failed write nothing more is simulated.
     fn step_while_good<W: Sink>(&mut self, out: &mut W)
-        requires { (W.tape out.old).state ≡ SinkState.Good → QueuesAgree self.old }
+        requires { (W.tape out.old).state ≡ SinkState.Good → IsInOrder self.old }
         ensures { FollowsWhileGood step self.old self.new (W.tape out.old) (W.tape out.new) }
     {
         match written(out) {
@@ -334,7 +335,7 @@ impl<S: ListSpace> Kernel<S> {
         requires { t < length self.old.scripts.programs }
         ensures { self.new ≡ record self.old {
           schedule =
-              (if (program_of self.old.scripts t).starts then dispatch.added t self.old.schedule else self.old.schedule);
+              (if (program_of self.old.scripts t).starts then added by_priority t self.old.schedule else self.old.schedule);
         } }
     {
         if self.programs[t].starts() {

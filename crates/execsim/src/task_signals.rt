@@ -1,8 +1,9 @@
 //! Signals of tasks.
 ghost use Rattle.std.specs.Prelude.{◌≡◌, ◌<◌, ◌-◌, length, Some, true, nat_eq};
 ghost use Rattle.std.specs.Int.{cast_signed, cast_unsigned, w32};
-ghost use Rattle.scheduler.specs.Dispatch.{signalled as signalled_in_order};
+ghost use Rattle.execlist.specs.Disciplines.{by_priority};
 ghost use Rattle.scheduler.specs.Schedule.{signals_of, come_for, after_wait, allocates, frees, sets_signals};
+ghost use Rattle.scheduler.specs.Dispatch.{signalled};
 ghost use Rattle.signals.specs.Signals.{grant, grant_number, is_own_signal};
 ghost use Rattle.execmodel.specs.Signals.{is_mask, does_alloc_signal, does_free_signal, does_set_signal, does_signal_by, does_wait, does_signals};
 ghost use Rattle.execsim.specs.Agreement.{Follows};
@@ -109,7 +110,7 @@ impl<S: ListSpace> Kernel<S> {
     /// Task t of the file, if it is live, receives the signals.
     pub(crate) fn signal_task(&mut self, t: TaskId, mask: u32)
         requires { t < length self.old.scripts.programs }
-        ensures { self.new ≡ record self.old { schedule = signalled_in_order t mask self.old.schedule } }
+        ensures { self.new ≡ record self.old { schedule = signalled by_priority t mask self.old.schedule } }
     {
         self.sched.signal(t, mask);
     }

@@ -1,11 +1,12 @@
 //! How tasks are begun and ended, and their priorities.
-ghost use Rattle.std.specs.Prelude.{◌≡◌, ◌≢◌, ◌<◌, ℕ, length, Some, IsTrue, if◌then◌else◌};
+ghost use Rattle.std.specs.Prelude.{◌≡◌, ◌≢◌, ◌<◌, ◌≤◌, ℕ, length, Some, IsTrue, if◌then◌else◌};
 ghost use Rattle.std.specs.Int.{cast_signed, cast_unsigned, w32};
 ghost use Rattle.std.specs.Option.{option_map};
 ghost use Rattle.execlist.specs.Lists.{times};
+ghost use Rattle.execlist.specs.Disciplines.{by_priority};
 ghost use Rattle.taskq.specs.Tasks.{is_live, is_ready};
-ghost use Rattle.scheduler.specs.Dispatch as dispatch;
 ghost use Rattle.scheduler.specs.Schedule.{status_of, priority_of, is_absent, leaves, removed};
+ghost use Rattle.scheduler.specs.Dispatch.{added, reprioritized};
 ghost use Rattle.execmodel.specs.State.{on_heap};
 ghost use Rattle.execmodel.specs.Semaphores.{dropped};
 ghost use Rattle.execmodel.specs.Tasks.{is_live_task, is_priority, is_caller, found_number, does_set_task_pri, does_add_task, does_rem_task, does_find_task, does_tasks};
@@ -54,7 +55,7 @@ impl<S: ListSpace> Kernel<S> {
         requires known { t < length self.old.scripts.programs }
         requires inside { IsTrue (is_priority (cast_signed w32 word)) }
         ensures answer { result ≡ cast_unsigned w32 (priority_of self.old.schedule t) }
-        ensures next { self.new ≡ record self.old { schedule = dispatch.reprioritized t (cast_signed w32 word) self.old.schedule } }
+        ensures next { self.new ≡ record self.old { schedule = reprioritized by_priority t (cast_signed w32 word) self.old.schedule } }
         ensures ready { (n : ℕ) → times n self.old.schedule.queue.ready ≡ (if is_ready (status_of self.old.schedule n) then 1 else 0) }
     {
         self.sched.facts();
@@ -66,7 +67,7 @@ impl<S: ListSpace> Kernel<S> {
     pub(crate) fn add(&mut self, t: TaskId) -> bool
         requires { t < length self.old.scripts.programs }
         ensures answer { result ≡ is_absent (status_of self.old.schedule t) }
-        ensures next { self.new ≡ record self.old { schedule = dispatch.added t self.old.schedule } }
+        ensures next { self.new ≡ record self.old { schedule = added by_priority t self.old.schedule } }
     {
         self.sched.add(t)
     }
@@ -84,6 +85,7 @@ impl<S: ListSpace> Kernel<S> {
         requires live { IsTrue (is_live (status_of self.old.schedule t)) }
         requires known { t < length self.old.scripts.programs }
         requires stopped { self.old.schedule.running ≢ Some t }
+        requires room { t < self.old.memory.tasks }
         ensures { self.new ≡ record self.old {
           schedule = removed t self.old.schedule;
           memory = on_heap (dropped t) self.old.memory;
@@ -128,6 +130,7 @@ impl<S: ListSpace> Kernel<S> {
     fn rem_task<W: Sink>(&mut self, t: TaskId, call: &Call, out: &mut W)
         requires known { t < length self.old.scripts.programs }
         requires runs { self.old.schedule.running ≡ Some t }
+        requires room { length self.old.scripts.programs ≤ self.old.memory.tasks }
         ensures { Follows (does_rem_task t (call_view call.now)) self.old self.new (W.tape out.old) (W.tape out.new) }
     {
         let other = call.number(0);
@@ -175,6 +178,7 @@ impl<S: ListSpace> Kernel<S> {
     )
         requires known { t < length self.old.scripts.programs }
         requires runs { self.old.schedule.running ≡ Some t }
+        requires room { length self.old.scripts.programs ≤ self.old.memory.tasks }
         ensures { Follows (does_tasks word t (call_view call.now)) self.old self.new (W.tape out.old) (W.tape out.new) }
     {
         match word {

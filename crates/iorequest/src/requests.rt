@@ -2,7 +2,8 @@
 ghost use Rattle.std.specs.Prelude.{◌≡◌, ◌+◌, ◌<◌, ◌^◌, ◌≤◌, take, length, false, Some, IfOk, IsSome, IsTrue};
 ghost use Rattle.std.specs.List.{list_any};
 ghost use Rattle.execlist.specs.Pool.{IsStocked, all_free, next_number};
-ghost use Rattle.iorequest.specs.Faults.{fault_or, kept_or, number_or_full};
+ghost use Rattle.std.specs.Option.{ok_or};
+ghost use Rattle.execlist.specs.Answers.{fault_or, kept_or};
 ghost use Rattle.iorequest.specs.Request.{is_under_way, is_open, time_of, begun, outcome, finished, reply_port};
 ghost use Rattle.iorequest.specs.Requests.{is_request, request_at, request_made, request_freed, with_request, in_use_fault, begin_fault, unit_error, opened, closed, written_with, is_under_way_at};
 
@@ -63,7 +64,7 @@ impl Requests {
     /// The reply port is what the caller calls it by; nothing here looks at it. Answers the request's number, or PoolFull where every
     /// request is in use. Autodoc exec.library/CreateIORequest.
     pub fn create(&mut self, port: u32) -> Result<ReqId, ReqFault>
-        ensures answer { result ≡ number_or_full (next_number self.old) }
+        ensures answer { result ≡ ok_or (next_number self.old) ReqFault.PoolFull }
         ensures next { self.new ≡ request_made port self.old }
         ensures live { IfOk result (λ r. IsTrue (is_request r self.new)) }
     {

@@ -5,7 +5,8 @@ ghost use Rattle.execlist.specs.Lists.{home, is_named};
 ghost use Rattle.execlist.specs.Pool.{IsStocked, next_number};
 ghost use Rattle.msgport.specs.Port.{acting, wait_bit};
 ghost use Rattle.msgport.specs.Ports.{IsSound, is_port, is_message, is_queued, is_held, is_linked, is_public, has_messages, port_at, message_at, messages_of};
-ghost use Rattle.msgport.specs.Faults.{fault_or, kept_or, number_or_full};
+ghost use Rattle.std.specs.Option.{ok_or};
+ghost use Rattle.execlist.specs.Answers.{fault_or, kept_or};
 ghost use Rattle.msgport.specs.Ports.{loose_fault, post_fault, reply_fault, queued_fault, private_fault, public_fault, delete_fault};
 ghost use Rattle.msgport.specs.Ports.{no_ports, port_made, message_made, port_freed, message_freed, with_port, with_message, typed, appended, posted, held, let_go, taken_out, taken_off, made_public, made_private, nt_message, nt_freemsg, nt_replymsg};
 
@@ -105,7 +106,7 @@ impl<S: ListSpace> Ports<S> {
     /// Answers its number, or PoolFull where every port is in use. Autodoc exec.library/CreateMsgPort.
     pub fn create_port(&mut self, task: TaskId, bit: u32) -> Result<PortId, PortFault>
         requires { bit < 32 }
-        ensures answer { result ≡ number_or_full (next_number self.old.ports) }
+        ensures answer { result ≡ ok_or (next_number self.old.ports) PortFault.PoolFull }
         ensures next { self.new ≡ port_made task bit self.old }
         ensures live { IfOk result (λ p. IsTrue (is_port p self.new)) }
         ensures empty { IfOk result (λ p. IsTrue (not (has_messages p self.new))) }
@@ -125,7 +126,7 @@ impl<S: ListSpace> Ports<S> {
     /// The reply port is what the caller calls it by; nothing here looks at it. Answers the message's number, or PoolFull
     /// where every message is in use. Own choice: Exec leaves the making of messages to the program.
     pub fn make_msg(&mut self, reply: u32, word: u32) -> Result<MsgId, PortFault>
-        ensures answer { result ≡ number_or_full (next_number self.old.messages) }
+        ensures answer { result ≡ ok_or (next_number self.old.messages) PortFault.PoolFull }
         ensures next { self.new ≡ message_made reply word self.old }
         ensures live { IfOk result (λ m. IsTrue (is_message m self.new)) }
         ensures loose { IfOk result (λ m. IsTrue (not (is_linked m self.new))) }

@@ -5,7 +5,8 @@ use Rattle.std.proofs.lemmas.Bool.{eq-eqb}
 use Rattle.std.proofs.lemmas.List.{set-get_or}
 use Rattle.execlist.specs.Order.{enqueue, first, without}
 use Rattle.execlist.specs.Lists.{times}
-use Rattle.taskq.specs.Tasks.{Tasks, state_at, pri_at, is_ready}
+use Rattle.taskq.specs.Tasks.{Tasks, state_at, is_ready}
+use Rattle.execlist.specs.Disciplines.{pri_at, by_priority}
 use Rattle.taskq.specs.declared.TaskState.{TaskState}
 use Rattle.taskq.specs.declared.TaskState.TheVariants.{Absent, Ready, Running, Waiting, Removed}
 use Rattle.taskq.specs.declared.Why.TheVariants.{Signals, Sem}
@@ -66,7 +67,7 @@ ready_still (x ∷ xs) (suc r) zero e = e
 ready_still (x ∷ xs) (suc r) (suc t) e = ready_still xs r t e
 
 -- a ready task is ready where the running one, if any, is put back
-pub displaced_ready : (s : Schedule) (running : Option ℕ) (t : ℕ) → status_of s t ≡ Ready → status_of (displaced running s) t ≡ Ready
+pub displaced_ready : (s : Schedule) (running : Option ℕ) (t : ℕ) → status_of s t ≡ Ready → status_of (displaced by_priority running s) t ≡ Ready
 unfolding arrives
 displaced_ready s None t e = e
 displaced_ready s (Some r) t e = ready_still s.queue.states r t e
@@ -74,7 +75,7 @@ displaced_ready s (Some r) t e = ready_still s.queue.states r t e
 -- ---- switches
 
 -- the switch that is due, by what is chosen
-pub switch_of-is : (s : Schedule) (choice : Option ℕ) → first s.queue.ready ≡ choice → switch_of s ≡ switch_for s.running choice s
+pub switch_of-is : (s : Schedule) (choice : Option ℕ) → first s.queue.ready ≡ choice → switch_of by_priority s ≡ switch_for s.running choice s
 unfolding switch_of
 switch_of-is s choice e = ap (λ o. switch_for s.running o s) e
 
@@ -100,9 +101,9 @@ unfolding begins
 begins-vacant t s = refl
 
 -- making the switch that is due is all that `rescheduled` does
-pub rescheduled-is : (s : Schedule) (w : Option Switch) → w ≡ switch_of s → after_switch w s ≡ rescheduled s
+pub rescheduled-is : (s : Schedule) (w : Option Switch) → w ≡ switch_of by_priority s → after_switch by_priority w s ≡ rescheduled by_priority s
 unfolding rescheduled
-rescheduled-is s w e = ap (λ o. after_switch o s) e
+rescheduled-is s w e = ap (λ o. after_switch by_priority o s) e
 
 -- the switch that is due where this task runs
 pub switch_for-is : (s : Schedule) (r t : ℕ) (over : Bool) → s.running ≡ Some r
@@ -125,7 +126,7 @@ tasks_are q ready states pris names a b c d =
 -- the tasks with t ready
 pub arrived : (s : Schedule) (q : Tasks) (t : ℕ)
     → q.ready ≡ enqueue (pri_at s.queue.pris) s.queue.ready t → q.states ≡ slice_set s.queue.states t Ready
-    → q.pris ≡ s.queue.pris → q.names ≡ s.queue.names → record s { queue = q } ≡ arrives t s
+    → q.pris ≡ s.queue.pris → q.names ≡ s.queue.names → record s { queue = q } ≡ arrives by_priority t s
 unfolding arrives
 arrived s q t a b c d = ap (λ queue. record s { queue = queue }) (tasks_are q _ _ _ _ a b c d)
 
@@ -157,9 +158,9 @@ slept_at_semaphore s q t a b c d = ap (λ queue. record s { queue = queue; runni
 pub displaced_is : (s : Schedule) (q : Tasks) (r : ℕ) → s.running ≡ Some r
     → q.ready ≡ enqueue (pri_at s.queue.pris) s.queue.ready r → q.states ≡ slice_set s.queue.states r Ready
     → q.pris ≡ s.queue.pris → q.names ≡ s.queue.names
-    → record s { queue = q; running = None } ≡ record (displaced s.running s) { running = None }
+    → record s { queue = q; running = None } ≡ record (displaced by_priority s.running s) { running = None }
 displaced_is s q r e a b c d =
-    ap (λ (x : Schedule). record x { running = None }) (arrived s q r a b c d ∙ ap (λ o. displaced o s) (sym e))
+    ap (λ (x : Schedule). record x { running = None }) (arrived s q r a b c d ∙ ap (λ o. displaced by_priority o s) (sym e))
 
 -- a task that does not stand among the ready ones leaves them as they are
 without_absent : (t : ℕ) (xs : List ℕ) → times t xs ≡ 0 → without t xs ≡ xs
@@ -203,12 +204,12 @@ ready_again states t e = sym (ap (slice_set states t) (sym (was_ready (state_at 
 pub reprioritized_is : (s : Schedule) (q : Tasks) (t : ℕ) (pri : ℤ)
     → q.ready ≡ cond (is_ready (state_at s.queue.states t)) (enqueue (pri_at q.pris) (without t s.queue.ready) t) s.queue.ready
     → q.states ≡ s.queue.states → q.pris ≡ slice_set s.queue.pris t pri → q.names ≡ s.queue.names
-    → record s { queue = q } ≡ reprioritized t pri s
+    → record s { queue = q } ≡ reprioritized by_priority t pri s
 unfolding reprioritized arrives
 reprioritized_is s q t pri a b c d = by_case (is_ready (state_at s.queue.states t)) refl a where
   by_case : (b : Bool) → is_ready (state_at s.queue.states t) ≡ b
       → q.ready ≡ cond b (enqueue (pri_at q.pris) (without t s.queue.ready) t) s.queue.ready
-      → record s { queue = q } ≡ cond b (arrives t (departs t (with_priority t pri s))) (with_priority t pri s)
+      → record s { queue = q } ≡ cond b (arrives by_priority t (departs t (with_priority t pri s))) (with_priority t pri s)
   by_case true ready order =
       let arrival = order ∙ ap (λ pris. enqueue (pri_at pris) (without t s.queue.ready) t) c in
       ap (λ queue. record s { queue = queue }) (tasks_are q _ _ _ _ arrival (b ∙ ready_again s.queue.states t ready) c d)

@@ -1,8 +1,8 @@
--- How tasks come to run, with the ready ones kept in the order in which they are to run: an arriving task stands behind those of
--- its priority, and the first one is the next to run (RKM Libraries, Exec Tasks: task scheduling).
+-- How tasks come to run (RKM Libraries, Exec Tasks: task scheduling), whichever discipline the ready sequence is kept by: where an
+-- arriving task is put, and which ready one is chosen. A scheduler keeps the sequence by priority, the abstract machine in order of arrival.
 use Rattle.std.specs.Prelude.{ℕ, ℤ, true, not, if◌then◌else◌, Option, None, Some}
-use Rattle.execlist.specs.Order.{enqueue, first}
-use Rattle.taskq.specs.Tasks.{pri_at, is_ready, is_live}
+use Rattle.execlist.specs.Disciplines.{Discipline, pri_at}
+use Rattle.taskq.specs.Tasks.{is_ready, is_live}
 use Rattle.taskq.specs.declared.TaskState.TheVariants.{Ready}
 use Rattle.signals.specs.Signals.{after_post}
 use Rattle.scheduler.specs.Schedule.{Schedule, status_of, signals_of, with_status, with_priority, with_signals, switch_for, renewed, begins, departs, is_absent, awaits}
@@ -11,46 +11,50 @@ use Rattle.scheduler.specs.declared.Switch.TheVariants.{To, Idle}
 
 -- ---- moving between states
 
--- task t becomes ready, behind the ready ones of its priority
-unfoldable pub arrives : ℕ → Schedule → Schedule
-arrives t s = record s { queue = record s.queue { states = (with_status t Ready s).queue.states; ready = enqueue (pri_at s.queue.pris) s.queue.ready t } }
+-- task t stands in the ready sequence, as one that arrives
+abbrev pub stands_ready : Discipline → ℕ → Schedule → Schedule
+stands_ready d t s = record s { queue = record s.queue { ready = d.arrival (pri_at s.queue.pris) s.queue.ready t } }
+
+-- task t becomes ready
+unfoldable pub arrives : Discipline → ℕ → Schedule → Schedule
+arrives d t s = stands_ready d t (with_status t Ready s)
 
 -- ---- the switch of a settle
 
 -- the switch that a settle makes, if any: to another task, or to being idle
-unfoldable pub switch_of : Schedule → Option Switch
-switch_of s = switch_for s.running (first s.queue.ready) s
+unfoldable pub switch_of : Discipline → Schedule → Option Switch
+switch_of d s = switch_for s.running (d.choice (pri_at s.queue.pris) s.queue.ready) s
 
 -- a task that is pre-empted or rotated arrives anew
-abbrev pub displaced : Option ℕ → Schedule → Schedule
-displaced None s = s
-displaced (Some r) s = arrives r s
+abbrev pub displaced : Discipline → Option ℕ → Schedule → Schedule
+displaced d None s = s
+displaced d (Some r) s = arrives d r s
 
-abbrev pub after_switch : Option Switch → Schedule → Schedule
-after_switch None s = renewed s.running s
-after_switch (Some Idle) s = record s { idle = true }
-after_switch (Some (To t)) s = begins t (displaced s.running s)
+abbrev pub after_switch : Discipline → Option Switch → Schedule → Schedule
+after_switch d None s = renewed s.running s
+after_switch d (Some Idle) s = record s { idle = true }
+after_switch d (Some (To t)) s = begins t (displaced d s.running s)
 
-unfoldable pub rescheduled : Schedule → Schedule
-rescheduled s = after_switch (switch_of s) s
+unfoldable pub rescheduled : Discipline → Schedule → Schedule
+rescheduled d s = after_switch d (switch_of d s) s
 
 -- ---- beginning, and another priority
 
 -- a task that never was added becomes ready (autodoc exec.library/AddTask)
-unfoldable pub added : ℕ → Schedule → Schedule
-added t s = if is_absent (status_of s t) then arrives t s else s
+unfoldable pub added : Discipline → ℕ → Schedule → Schedule
+added d t s = if is_absent (status_of s t) then arrives d t s else s
 
 -- task t gets another priority (autodoc exec.library/SetTaskPri); a ready one arrives anew (own choice)
-unfoldable pub reprioritized : ℕ → ℤ → Schedule → Schedule
-reprioritized t pri s =
-    if is_ready (status_of s t) then arrives t (departs t (with_priority t pri s)) else with_priority t pri s
+unfoldable pub reprioritized : Discipline → ℕ → ℤ → Schedule → Schedule
+reprioritized d t pri s =
+    if is_ready (status_of s t) then arrives d t (departs t (with_priority t pri s)) else with_priority t pri s
 
 -- ---- signals
 
 -- Signals join what a live task has received; a task that waits for any of them becomes ready
 -- (RKM Libraries, Exec Signals; autodoc exec.library/Signal). A task that is not live takes none (own choice).
-unfoldable pub signalled : ℕ → ℕ → Schedule → Schedule
-signalled t mask s =
+unfoldable pub signalled : Discipline → ℕ → ℕ → Schedule → Schedule
+signalled d t mask s =
     if not (is_live (status_of s t)) then s
     else (let got = with_signals t (after_post mask (signals_of s t)) s in
-    if awaits (status_of s t) (signals_of got t).received then arrives t got else got)
+    if awaits (status_of s t) (signals_of got t).received then arrives d t got else got)

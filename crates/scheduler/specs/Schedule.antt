@@ -3,7 +3,8 @@
 use Rattle.std.specs.Prelude.{ℕ, ◌-◌, ◌<◌, ℤ, Bool, true, false, not, ◌&&◌, ◌||◌, if◌then◌else◌, nat_eq, int_lt, int_le, bit_and, List, [], length, find, replicate, Option, None, Some, Result, Ok, Err, slice_index_or, slice_set}
 use Rattle.std.specs.List.{range_with_len}
 use Rattle.execlist.specs.Order.{without}
-use Rattle.taskq.specs.Tasks.{Tasks, state_at, pri_at, name_at, is_live, is_live_named}
+use Rattle.taskq.specs.Tasks.{Tasks, state_at, name_at, is_live, is_live_named}
+use Rattle.execlist.specs.Disciplines.{pri_at}
 use Rattle.taskq.specs.declared.TaskState.{TaskState}
 use Rattle.taskq.specs.declared.TaskState.TheVariants.{Absent, Ready, Running, Waiting, Removed}
 use Rattle.taskq.specs.declared.Why.{Why}

@@ -1,5 +1,6 @@
 -- When a schedule is settled: no switch is due, and no quantum begins anew.
 use Rattle.std.specs.Prelude.{ℕ, Bool, true, false, not, ◌&&◌, Option, None, Some}
+use Rattle.execlist.specs.Disciplines.{by_priority}
 use Rattle.scheduler.specs.Schedule.{Schedule, is_switching_allowed, is_quantum_over}
 use Rattle.scheduler.specs.Dispatch.{switch_of}
 use Rattle.scheduler.specs.declared.Switch.{Switch}
@@ -20,4 +21,4 @@ stays w s = is_none w && not (begins_anew s.running s)
 
 -- a reschedule changes nothing
 unfoldable pub is_settled : Schedule → Bool
-is_settled s = stays (switch_of s) s
+is_settled s = stays (switch_of by_priority s) s

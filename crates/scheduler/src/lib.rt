@@ -5,6 +5,7 @@
 ghost use Rattle.std.specs.Prelude.{◌≡◌, ◌≢◌, ℕ, negsuc, ◌<◌, ◌≤◌, length, map, not, nat_eq, if◌then◌else◌, Some, None, IsTrue, IsSome, IfSome, IfOk};
 ghost use Rattle.std.specs.Borrow.{sem};
 ghost use Rattle.execlist.specs.Lists.{times};
+ghost use Rattle.execlist.specs.Disciplines.{by_priority};
 ghost use Rattle.taskq.specs.Tasks.{is_live, is_ready};
 ghost use Rattle.signals.specs.Signals.{taken_signals, after_post, grant, grant_number};
 ghost use Rattle.forbid.specs.Nesting.{may_switch, may_interrupt, after_forbid, after_permit, after_disable, after_enable};
@@ -187,7 +188,7 @@ impl<S: ListSpace> Sched<S> {
     pub fn add(&mut self, t: TaskId) -> bool
         requires { t < task_count self.old }
         ensures answer { result ≡ is_absent (status_of self.old t) }
-        ensures next { self.new ≡ added t self.old }
+        ensures next { self.new ≡ added by_priority t self.old }
         ensures tasks { task_count self.new ≡ task_count self.old }
     {
         if let TaskState::Absent = self.queue.state(t) {
@@ -202,7 +203,7 @@ impl<S: ListSpace> Sched<S> {
     fn arrive(&mut self, t: TaskId)
         requires known { t < task_count self.old }
         requires stopped { IsTrue (is_stopped (status_of self.old t)) }
-        ensures next { self.new ≡ arrives t self.old }
+        ensures next { self.new ≡ arrives by_priority t self.old }
         ensures tasks { task_count self.new ≡ task_count self.old }
     {
         self.settled = false;
@@ -253,7 +254,7 @@ impl<S: ListSpace> Sched<S> {
     pub fn set_pri(&mut self, t: TaskId, pri: i8) -> i8
         requires { t < task_count self.old }
         ensures answer { result ≡ priority_of self.old t }
-        ensures next { self.new ≡ reprioritized t pri self.old }
+        ensures next { self.new ≡ reprioritized by_priority t pri self.old }
         ensures tasks { task_count self.new ≡ task_count self.old }
     {
         self.settled = false;
@@ -273,8 +274,8 @@ impl<S: ListSpace> Sched<S> {
     ///
     /// Source: RKM Libraries, Exec Tasks: task scheduling. Own choice: when a quantum begins.
     pub fn reschedule(&mut self) -> Option<Switch>
-        ensures answer { result ≡ switch_of self.old }
-        ensures next { self.new ≡ rescheduled self.old }
+        ensures answer { result ≡ switch_of by_priority self.old }
+        ensures next { self.new ≡ rescheduled by_priority self.old }
         ensures known { IsToOneOf result (task_count self.new) }
         ensures tasks { task_count self.new ≡ task_count self.old }
     {
@@ -284,8 +285,8 @@ impl<S: ListSpace> Sched<S> {
     // Does what `reschedule` does where something may have changed, and finds out whether that was nothing.
     #[inline(never)]
     fn decide(&mut self) -> Option<Switch>
-        ensures answer { result ≡ switch_of self.old }
-        ensures next { self.new ≡ rescheduled self.old }
+        ensures answer { result ≡ switch_of by_priority self.old }
+        ensures next { self.new ≡ rescheduled by_priority self.old }
         ensures known { IsToOneOf result (task_count self.new) }
         ensures tasks { task_count self.new ≡ task_count self.old }
     {
@@ -317,7 +318,7 @@ impl<S: ListSpace> Sched<S> {
 
     // The switch that is due, if any.
     fn due_switch(&self) -> Option<Switch>
-        ensures value { result ≡ switch_of self.now }
+        ensures value { result ≡ switch_of by_priority self.now }
         ensures ready { IsToReady result self.now.queue.states }
     {
         match self.queue.pick() {
@@ -370,7 +371,7 @@ impl<S: ListSpace> Sched<S> {
     // Makes a switch, or where there is none lets a quantum that has ended begin anew.
     fn turn(&mut self, switch: Option<Switch>)
         requires { IsToReady switch self.old.queue.states }
-        ensures next { self.new ≡ after_switch switch self.old }
+        ensures next { self.new ≡ after_switch by_priority switch self.old }
         ensures tasks { task_count self.new ≡ task_count self.old }
     {
         match switch {
@@ -382,7 +383,7 @@ impl<S: ListSpace> Sched<S> {
     // Makes a switch.
     fn make_switch(&mut self, switch: Switch)
         requires { IsToReady (Some switch) self.old.queue.states }
-        ensures next { self.new ≡ after_switch (Some switch) self.old }
+        ensures next { self.new ≡ after_switch by_priority (Some switch) self.old }
         ensures tasks { task_count self.new ≡ task_count self.old }
     {
         match switch {
@@ -399,7 +400,7 @@ impl<S: ListSpace> Sched<S> {
 
     // Makes the running task ready, if any, so that no task runs.
     fn displace(&mut self)
-        ensures next { self.new ≡ record (displaced self.old.running self.old) { running = None } }
+        ensures next { self.new ≡ record (displaced by_priority self.old.running self.old) { running = None } }
         ensures tasks { task_count self.new ≡ task_count self.old }
     {
         if let Some(r) = self.running {
@@ -527,7 +528,7 @@ impl<S: ListSpace> Sched<S> {
     #[tactic(auto, unfolding(crate::specs::Dispatch::signalled))]
     pub fn signal(&mut self, t: TaskId, mask: u32)
         requires { t < task_count self.old }
-        ensures next { self.new ≡ signalled t mask self.old }
+        ensures next { self.new ≡ signalled by_priority t mask self.old }
         ensures tasks { task_count self.new ≡ task_count self.old }
     {
         if !self.is_live(t) {
@@ -674,7 +675,7 @@ impl<S: ListSpace> Sched<S> {
     /// Source: autodoc exec.library/ReleaseSemaphore.
     pub fn wake_sem(&mut self, t: TaskId)
         requires { status_of self.old t ≡ TaskState.Waiting Why.Sem }
-        ensures next { self.new ≡ arrives t self.old }
+        ensures next { self.new ≡ arrives by_priority t self.old }
         ensures tasks { task_count self.new ≡ task_count self.old }
     {
         // The running task, if any, goes on: no switch is made.

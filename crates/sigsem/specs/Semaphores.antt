@@ -33,6 +33,43 @@ free_sem = record { owner = None; count = 0 }
 abbrev pub owned_by : ℕ → Sem
 owned_by t = record { owner = Some t; count = 1 }
 
+-- some task owns a semaphore
+abbrev pub is_owned : Sem → Bool
+is_owned sem = is_some sem.owner
+
+-- task t owns a semaphore
+abbrev pub is_owner : ℕ → Sem → Bool
+is_owner t sem = is_at sem.owner t
+
+-- task t may have a semaphore at once: no other task owns it
+abbrev pub is_open : ℕ → Sem → Bool
+is_open t sem = not (is_owned sem) || is_owner t sem
+
+-- a task that asks for a semaphore owns it, or waits for it
+abbrev pub outcome_for : ℕ → Sem → Obtained
+outcome_for t sem = if is_open t sem then Owner else Waits
+
+-- task t owns a semaphore so often that once more is too often
+abbrev pub is_too_deep : ℕ → Sem → Bool
+is_too_deep t sem = is_owner t sem && nat_lt deepest (sem.count + 1)
+
+-- task t owns the semaphore, and has to release it once more than before
+abbrev pub once_more : ℕ → Sem → Sem
+once_more t sem = record { owner = Some t; count = sem.count + 1 }
+
+-- the owner of a semaphore is to release it once more, and no more than that
+abbrev pub is_last : Sem → Bool
+is_last sem = sem.count == 1
+
+-- the owner has to release the semaphore once less
+abbrev pub once_less : Sem → Sem
+once_less sem = record sem { count = sem.count - 1 }
+
+-- a semaphore whose owner is that task, which has to release it once, or which no task owns
+abbrev pub owned_next : Option ℕ → Sem
+owned_next None = free_sem
+owned_next (Some t) = owned_by t
+
 -- a free semaphore has the count 0, an owned one a count from 1 to 32767
 abbrev pub IsCounted : Sem → Type 0
 IsCounted sem = MatchOption sem.owner (sem.count ≡ 0) (λ t. (1 ≤ sem.count) × (sem.count ≤ deepest))
@@ -55,45 +92,25 @@ waiters_of s m = sequence m.queues s
 abbrev pub waits_at : ℕ → Semaphores → Option ℕ
 waits_at t m = home m.places t
 
--- some task owns semaphore s
-abbrev pub is_owned : ℕ → Semaphores → Bool
-is_owned s m = is_some (sem_at s m).owner
-
--- task t owns semaphore s
-abbrev pub is_owner : (s t : ℕ) → Semaphores → Bool
-is_owner s t m = is_at (sem_at s m).owner t
-
--- task t may have semaphore s at once: no other task owns it
-abbrev pub is_open : (s t : ℕ) → Semaphores → Bool
-is_open s t m = not (is_owned s m) || is_owner s t m
-
 -- ---- refusals
 
 -- semaphore s is to be owned by no task (own choice: Exec leaves the memory of semaphores to the program)
 abbrev pub free_fault : ℕ → Semaphores → Option SemFault
-free_fault s m = if is_owned s m then Some Busy else None
+free_fault s m = if is_owned (sem_at s m) then Some Busy else None
 
 -- where task t owns semaphore s, one more is not to take the count past the greatest (own choice)
 abbrev pub deep_fault : (s t : ℕ) → Semaphores → Option SemFault
-deep_fault s t m = if is_owner s t m && nat_lt deepest ((sem_at s m).count + 1) then Some TooDeep else None
+deep_fault s t m = if is_too_deep t (sem_at s m) then Some TooDeep else None
 
 -- task t is to own semaphore s (own choice)
 abbrev pub release_fault : (s t : ℕ) → Semaphores → Option SemFault
-release_fault s t m = if is_owner s t m then None else Some NotOwner
+release_fault s t m = if is_owner t (sem_at s m) then None else Some NotOwner
 
 -- ---- answers
 
--- a task that asks for semaphore s is its owner, or waits there
-abbrev pub outcome : (s t : ℕ) → Semaphores → Obtained
-outcome s t m = if is_open s t m then Owner else Waits
-
--- the owner of semaphore s is to release it once more, and no more than that
-abbrev pub is_last : ℕ → Semaphores → Bool
-is_last s m = (sem_at s m).count == 1
-
 -- the task that a release makes owner of semaphore s: the last release the first one that waits, and else none
 abbrev pub heir : ℕ → Semaphores → Option ℕ
-heir s m = if is_last s m then first (waiters_of s m) else None
+heir s m = if is_last (sem_at s m) then first (waiters_of s m) else None
 
 -- ---- changes
 
@@ -115,7 +132,7 @@ with_sem s sem m = record m { sems = written s sem m.sems }
 
 -- task t owns semaphore s, and has to release it once more than before
 abbrev pub entered : (s t : ℕ) → Semaphores → Semaphores
-entered s t m = with_sem s (record { owner = Some t; count = (sem_at s m).count + 1 }) m
+entered s t m = with_sem s (once_more t (sem_at s m)) m
 
 -- task t waits at semaphore s, behind those that wait there
 abbrev pub queued : (s t : ℕ) → Semaphores → Semaphores
@@ -123,11 +140,11 @@ queued s t m = record m { queues = slice_set m.queues s (waiters_of s m ++ t ∷
 
 -- task t has semaphore s at once, or waits for it (autodoc exec.library/ObtainSemaphore)
 abbrev pub obtained : (s t : ℕ) → Semaphores → Semaphores
-obtained s t m = if is_open s t m then entered s t m else queued s t m
+obtained s t m = if is_open t (sem_at s m) then entered s t m else queued s t m
 
 -- task t has semaphore s at once, or nothing changes (autodoc exec.library/AttemptSemaphore)
 abbrev pub attempted : (s t : ℕ) → Semaphores → Semaphores
-attempted s t m = if is_open s t m then entered s t m else m
+attempted s t m = if is_open t (sem_at s m) then entered s t m else m
 
 -- semaphore s is the first waiter's, who waits no more and has to release it once, or free where none waits
 abbrev pub handed_on : ℕ → Option ℕ → Semaphores → Semaphores
@@ -138,7 +155,7 @@ handed_on s (Some t) m = with_sem s (owned_by t)
 -- the owner of semaphore s has to release it once less; the last release hands it on (autodoc exec.library/ReleaseSemaphore)
 abbrev pub let_go : ℕ → Semaphores → Semaphores
 let_go s m =
-    if is_last s m then handed_on s (first (waiters_of s m)) m else with_sem s (record (sem_at s m) { count = (sem_at s m).count - 1 }) m
+    if is_last (sem_at s m) then handed_on s (first (waiters_of s m)) m else with_sem s (once_less (sem_at s m)) m
 
 -- task t waits at the semaphore no more, if it waits at one; the others keep their order (own choice)
 abbrev pub dropped_from : Option ℕ → ℕ → Semaphores → Semaphores
@@ -154,14 +171,14 @@ dropped t m = dropped_from (waits_at t m) t m
 pub record IsHeld (m : Semaphores) : Type 0 where
   pub each_queue : length m.queues ≡ length m.sems.slots
   pub counted : (s : ℕ) → IsCounted (sem_at s m)
-  pub owned : (t s : ℕ) → waits_at t m ≡ Some s → IsTrue (is_owned s m)
+  pub owned : (t s : ℕ) → waits_at t m ≡ Some s → IsTrue (is_owned (sem_at s m))
 
 -- A task that waits stands once in the queue of the semaphore where it waits and in no other, and that semaphore lives and is owned: at a
 -- free one nobody waits. A free semaphore has the count 0, an owned one a count from 1 to 32767.
 pub record IsSound (m : Semaphores) : Type 0 where
   pub stands : (s t : ℕ) → times t (waiters_of s m) ≡ (if is_at (waits_at t m) s then 1 else 0)
   pub live : (t s : ℕ) → waits_at t m ≡ Some s → IsTrue (is_sem s m)
-  pub owned : (t s : ℕ) → waits_at t m ≡ Some s → IsTrue (is_owned s m)
-  pub unwanted : (s : ℕ) → IsTrue (not (is_owned s m)) → waiters_of s m ≡ []
+  pub owned : (t s : ℕ) → waits_at t m ≡ Some s → IsTrue (is_owned (sem_at s m))
+  pub unwanted : (s : ℕ) → IsTrue (not (is_owned (sem_at s m))) → waiters_of s m ≡ []
   pub counted : (s : ℕ) → IsCounted (sem_at s m)
   pub each_queue : length m.queues ≡ length m.sems.slots

@@ -2,9 +2,10 @@
 ghost use Rattle.std.specs.Prelude.{◌≡◌, ◌<◌, ◌≤◌, length, not, is_some, Some, None, IfOk, IfSome, IsTrue};
 ghost use Rattle.execlist.specs.Order.{first};
 ghost use Rattle.execlist.specs.Pool.{IsStocked, next_number};
-ghost use Rattle.sigsem.specs.Faults.{fault_or, kept_or, number_or_full};
-ghost use Rattle.sigsem.specs.Semaphores.{IsSound, is_sem, is_owned, is_owner, is_open, sem_at, waiters_of, waits_at};
-ghost use Rattle.sigsem.specs.Semaphores.{free_fault, deep_fault, release_fault, outcome, heir};
+ghost use Rattle.std.specs.Option.{ok_or};
+ghost use Rattle.execlist.specs.Answers.{fault_or, kept_or};
+ghost use Rattle.sigsem.specs.Semaphores.{IsSound, is_sem, is_owned, is_open, sem_at, waiters_of, waits_at};
+ghost use Rattle.sigsem.specs.Semaphores.{free_fault, deep_fault, release_fault, outcome_for, heir};
 ghost use Rattle.sigsem.specs.Semaphores.{no_sems, sem_made, sem_freed, with_sem, queued, obtained, attempted, handed_on, let_go, dropped};
 
 use crate::fault::SemFault;
@@ -71,10 +72,10 @@ impl<S: ListSpace> Sems<S> {
     ///
     /// Answers its number, or PoolFull where every semaphore is in use. Autodoc exec.library/InitSemaphore; the refusal: own choice.
     pub fn make(&mut self) -> Result<SemId, SemFault>
-        ensures answer { result ≡ number_or_full (next_number self.old.sems) }
+        ensures answer { result ≡ ok_or (next_number self.old.sems) SemFault.PoolFull }
         ensures next { self.new ≡ sem_made self.old }
         ensures live { IfOk result (λ s. IsTrue (is_sem s self.new)) }
-        ensures free { IfOk result (λ s. IsTrue (not (is_owned s self.new))) }
+        ensures free { IfOk result (λ s. IsTrue (not (is_owned (sem_at s self.new)))) }
     {
         match self.next_sem() {
             Some(s) => {
@@ -111,7 +112,7 @@ impl<S: ListSpace> Sems<S> {
         requires live { IsTrue (is_sem s self.old) }
         requires task { t < length self.old.places }
         requires stopped { waits_at t self.old ≡ None }
-        ensures answer { result ≡ fault_or (deep_fault s t self.old) (outcome s t self.old) }
+        ensures answer { result ≡ fault_or (deep_fault s t self.old) (outcome_for t (sem_at s self.old)) }
         ensures next { self.new ≡ kept_or (deep_fault s t self.old) self.old (obtained s t self.old) }
     {
         if self.attempt(s, t)? {
@@ -128,7 +129,7 @@ impl<S: ListSpace> Sems<S> {
     /// Autodoc exec.library/AttemptSemaphore.
     pub fn attempt(&mut self, s: SemId, t: TaskId) -> Result<bool, SemFault>
         requires { IsTrue (is_sem s self.old) }
-        ensures answer { result ≡ fault_or (deep_fault s t self.old) (is_open s t self.old) }
+        ensures answer { result ≡ fault_or (deep_fault s t self.old) (is_open t (sem_at s self.old)) }
         ensures next { self.new ≡ kept_or (deep_fault s t self.old) self.old (attempted s t self.old) }
     {
         let sem = self.sem(s);
@@ -204,7 +205,7 @@ impl<S: ListSpace> Sems<S> {
     /// Answers whether some task owns a semaphore. RKM Libraries, Exec Semaphores: `ss_Owner`.
     pub fn is_owned(&self, s: SemId) -> bool
         requires { IsTrue (is_sem s self.now) }
-        ensures { result ≡ is_owned s self.now }
+        ensures { result ≡ is_owned (sem_at s self.now) }
     {
         self.sem(s).owner.is_some()
     }
@@ -213,7 +214,7 @@ impl<S: ListSpace> Sems<S> {
     pub fn waits_at(&self, t: TaskId) -> Option<SemId>
         requires { t < length self.now.places }
         ensures value { result ≡ waits_at t self.now }
-        ensures owned { IfSome result (λ s. IsTrue (is_owned s self.now)) }
+        ensures owned { IfSome result (λ s. IsTrue (is_owned (sem_at s self.now))) }
     {
         self.waiters.home(t)
     }
@@ -261,7 +262,7 @@ impl<S: ListSpace> Sems<S> {
     // Makes a task that waits nowhere wait at a semaphore that is owned.
     fn append(&mut self, s: SemId, t: TaskId)
         requires live { IsTrue (is_sem s self.old) }
-        requires owned { IsTrue (is_owned s self.old) }
+        requires owned { IsTrue (is_owned (sem_at s self.old)) }
         requires task { t < length self.old.places }
         requires stopped { waits_at t self.old ≡ None }
         ensures { self.new ≡ queued s t self.old }

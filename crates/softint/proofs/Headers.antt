@@ -7,7 +7,8 @@ use Rattle.std.proofs.lemmas.List.{get_or-set_other, get_or-set_same, length-set
 use Rattle.execlist.specs.Order.{enqueue, first, without, is_lower}
 use Rattle.execlist.specs.Lists.{sequence, home, times, is_at}
 use Rattle.softint.specs.declared.interrupt.Soft.{Soft}
-use Rattle.softint.specs.Interrupts.{Interrupts, IsHeld, joined, header_pri, pri_at, causes, taken_off}
+use Rattle.softint.specs.Interrupts.{Interrupts, IsHeld, joined, header_pri, causes, taken_off}
+use Rattle.execlist.specs.Disciplines.{pri_at}
 
 -- ---- how often a number stands
 

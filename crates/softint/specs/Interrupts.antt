@@ -3,6 +3,7 @@
 use Rattle.std.specs.Prelude.{◌≡◌, ℕ, ℤ, pos, negsuc, ◌-ℤ◌, ◌*◌, ◌⊎◌, ◌==◌, Bool, true, false, not, if◌then◌else◌, List, [], ◌∷◌, ◌++◌, length, map, filter, slice_index_or, Option, Some, None, All}
 use Rattle.std.specs.List.{range_with_len}
 use Rattle.execlist.specs.Order.{enqueue, order, without}
+use Rattle.execlist.specs.Disciplines.{pri_at}
 use Rattle.execlist.specs.Lists.{home, times}
 use Rattle.softint.specs.declared.source.Source.{Source}
 use Rattle.softint.specs.declared.source.Source.TheVariants.{Ports, Vertb, Exter}
@@ -26,10 +27,6 @@ pub record Interrupts : Type 0 where
 -- the priorities that a software interrupt may have
 abbrev pub IsPriority : ℤ → Type 0
 IsPriority pri = (pri ≡ pos 32) ⊎ (pri ≡ pos 16) ⊎ (pri ≡ pos 0) ⊎ (pri ≡ negsuc 15) ⊎ (pri ≡ negsuc 31)
-
--- the priority of software interrupt i
-abbrev pub pri_at : List ℤ → ℕ → ℤ
-pri_at priorities i = slice_index_or priorities i (pos 0)
 
 -- software interrupt i is among the caused ones
 abbrev pub is_caused : ℕ → Interrupts → Bool

@@ -2,7 +2,8 @@
 ghost use Rattle.std.specs.Prelude.{◌≡◌, ◌<◌, ◌≤◌, length, slice_get, All, Some, is_some, IfOk, IfSome};
 ghost use Rattle.execlist.specs.Order.{first};
 ghost use Rattle.softint.specs.Sources.{highest};
-ghost use Rattle.softint.specs.Interrupts.{IsPriority, quiet, causes, taken_off, raised, served, chain, header_pri, pri_at};
+ghost use Rattle.softint.specs.Interrupts.{IsPriority, quiet, causes, taken_off, raised, served, chain, header_pri};
+ghost use Rattle.execlist.specs.Disciplines.{pri_at};
 
 use crate::caused::{IntId, PRIORITIES, first_caused, header_of};
 use crate::chain::{ServerId, chain_of, server_at};

@@ -8,7 +8,8 @@ use Rattle.execlist.specs.Order.{enqueue, without}
 use Rattle.execlist.specs.Lists.{Key, pri_of, times, sequence, is_at}
 use Rattle.taskq.specs.declared.TaskState.{TaskState}
 use Rattle.taskq.specs.declared.TaskState.TheVariants.{Absent, Ready, Running, Waiting, Removed}
-use Rattle.taskq.specs.Tasks.{home_for, state_at, pri_at, pris_of, is_ready, is_live}
+use Rattle.taskq.specs.Tasks.{home_for, state_at, pris_of, is_ready, is_live}
+use Rattle.execlist.specs.Disciplines.{pri_at}
 use Rattle.std.proofs.Math.Path.{fun_ext}
 
 -- Homes.

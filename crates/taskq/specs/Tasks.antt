@@ -1,7 +1,7 @@
 -- What calls on the tasks speak of: the state, the priority and the name of each task, by its number,
 -- and the ready tasks: for a `TaskQ` in the order in which they are to run, for the abstract machine in order of arrival.
 -- RKM Libraries, Exec Tasks.
-use Rattle.std.specs.Prelude.{◌≡◌, ℕ, ℤ, pos, length, List, [], Option, Some, None, Bool, true, false, ◌&&◌, ◌==◌, slice_index_or, map}
+use Rattle.std.specs.Prelude.{◌≡◌, ℕ, ℤ, length, List, [], Option, Some, None, Bool, true, false, ◌&&◌, ◌==◌, slice_index_or, map}
 use Rattle.std.specs.Cmp.Lexicographic.{pointwise}
 use Rattle.execlist.specs.Lists.{Key}
 use Rattle.taskq.specs.declared.TaskState.{TaskState}
@@ -17,10 +17,6 @@ pub record Tasks : Type 0 where
 -- the state of task t
 abbrev pub state_at : List TaskState → ℕ → TaskState
 state_at states t = slice_index_or states t Absent
-
--- the priority of task t
-abbrev pub pri_at : List ℤ → ℕ → ℤ
-pri_at pris t = slice_index_or pris t (pos 0)
 
 -- the name of task t
 abbrev pub name_at : List (List ℕ) → ℕ → List ℕ

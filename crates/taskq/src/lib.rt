@@ -6,7 +6,8 @@ ghost use Rattle.std.specs.Prelude.{◌≡◌, ◌≢◌, ℕ, ◌<◌, ◌≤�
 ghost use Rattle.std.specs.List.{range_with_len};
 ghost use Rattle.execlist.specs.Order.{enqueue, first, without};
 ghost use Rattle.execlist.specs.Lists.{times};
-ghost use Rattle.taskq.specs.Tasks.{state_at, pri_at, name_at, is_ready, is_live, is_live_named};
+ghost use Rattle.taskq.specs.Tasks.{state_at, name_at, is_ready, is_live, is_live_named};
+ghost use Rattle.execlist.specs.Disciplines.{pri_at};
 
 use execlist::key::Name;
 use execlist::space::ListSpace;

@@ -2,7 +2,7 @@
 ghost use Rattle.std.specs.Prelude.{◌≡◌, IfOk, IsTrue, Some, not};
 ghost use Rattle.execlist.specs.Pool.{slot};
 ghost use Rattle.execmodel.specs.Semaphores as model;
-ghost use Rattle.sigsem.specs.Semaphores.{is_owned, is_sem};
+ghost use Rattle.sigsem.specs.Semaphores.{is_owned, is_sem, sem_at};
 ghost use Rattle.execheap.specs.declared.kind.Kind.TheVariants as variant;
 ghost use Rattle.execheap.specs.Numbered.{IsKnown, places, shown_heap};
 ghost use Rattle.execheap.specs.Refusals.{alert_of};
@@ -35,7 +35,7 @@ impl<S: ListSpace> Objects<S> {
     pub fn semaphore_to_free(&self, semaphore: u32) -> Result<SemId, Refusal>
         ensures alert { alert_of result ≡ model.free_sem_alert semaphore (shown_heap self.now) }
         ensures found { IfOk result (λ n. slot (places variant.Semaphore self.now) n ≡ Some semaphore) }
-        ensures unowned { IfOk result (λ n. IsTrue (not (is_owned n self.now.sems))) }
+        ensures unowned { IfOk result (λ n. IsTrue (not (is_owned (sem_at n self.now.sems)))) }
         ensures known { IsKnown self.now }
     {
         match self.semaphore_at(semaphore) {

@@ -5,8 +5,8 @@ ghost use Rattle.execmodel.specs.Memory.{freed, placed};
 ghost use Rattle.execmodel.specs.GivingWay.{after_asking_for_object};
 ghost use Rattle.execmodel.specs.Agreement.{WaitsForNone};
 ghost use Rattle.execmodel.specs.Objects.{place_for_object};
-ghost use Rattle.execmodel.specs.Semaphores.{attempted, dropped, free_sem_alert, heir, is_open, is_semaphore, obtain_alert, obtained, outcome_for, release_alert, released, sem_of};
-ghost use Rattle.sigsem.specs.Semaphores.{free_sem};
+ghost use Rattle.execmodel.specs.Semaphores.{attempted, dropped, free_sem_alert, heir, is_semaphore, obtain_alert, obtained, release_alert, released, sem_of};
+ghost use Rattle.sigsem.specs.Semaphores.{free_sem, is_open, outcome_for};
 ghost use Rattle.execheap.specs.Refusals.{alert_of};
 
 use crate::heap::Heap;
@@ -43,16 +43,16 @@ impl<S: ListSpace> Heap<S> {
 
     // ---- obtaining and releasing
 
-    /// Asks for a semaphore for a task (0 to 4,095) that waits for none. A free one is the task's, with the count 1; the owner's count is
+    /// Asks for a semaphore for one of the tasks, which waits for none. A free one is the task's, with the count 1; the owner's count is
     /// one more; any other task waits, behind those that asked before. Answers which of these came of it. It is refused where no semaphore
     /// begins at the address (Handle), and where the count would go past 32767 (Sem).
     /// Autodoc exec.library/ObtainSemaphore; the refusals: own choice.
     pub fn obtain_semaphore(&mut self, task: TaskId, semaphore: u32) -> Result<Obtained, Refusal>
-        requires task { task < 4096 }
+        requires task { task < self.old.tasks }
         requires stopped { WaitsForNone task self.old.heap }
         ensures alert { alert_of result ≡ obtain_alert task semaphore self.old.heap }
         ensures answer { IfOk result (λ how. how ≡ outcome_for task (sem_of semaphore self.old.heap)) }
-        ensures next { OnOk result (self.new ≡ on_heap (obtained task semaphore) self.old) }
+        ensures next { OnOk result (self.new ≡ on_heap (obtained semaphore task) self.old) }
         ensures kept { OnErr result (self.new ≡ self.old) }
     {
         match self.objects.semaphore_at(semaphore) {
@@ -67,7 +67,7 @@ impl<S: ListSpace> Heap<S> {
     pub fn attempt_semaphore(&mut self, task: TaskId, semaphore: u32) -> Result<bool, Refusal>
         ensures alert { alert_of result ≡ obtain_alert task semaphore self.old.heap }
         ensures answer { IfOk result (λ has. has ≡ is_open task (sem_of semaphore self.old.heap)) }
-        ensures next { OnOk result (self.new ≡ on_heap (attempted task semaphore) self.old) }
+        ensures next { OnOk result (self.new ≡ on_heap (attempted semaphore task) self.old) }
         ensures kept { OnErr result (self.new ≡ self.old) }
     {
         match self.objects.semaphore_at(semaphore) {
@@ -96,9 +96,9 @@ impl<S: ListSpace> Heap<S> {
         }
     }
 
-    /// A task (0 to 4,095) waits for no semaphore any more; the others keep their order. Own choice: a task that waits may be removed.
+    /// One of the tasks waits for no semaphore any more; the others keep their order. Own choice: a task that waits may be removed.
     pub fn drop_waiter(&mut self, task: TaskId)
-        requires { task < 4096 }
+        requires { task < self.old.tasks }
         ensures { self.new ≡ on_heap (dropped task) self.old }
     {
         self.objects.facts();

@@ -1,8 +1,8 @@
 //! Semaphores by number, and the blocks in which they live.
 ghost use Rattle.std.specs.Prelude.{◌≡◌, ◌<◌, not, [], None, Some, IsTrue};
 ghost use Rattle.execlist.specs.Pool.{slot};
-ghost use Rattle.sigsem.specs.Faults.{fault_or, kept_or};
-ghost use Rattle.sigsem.specs.Semaphores.{attempted, deep_fault, dropped, free_sem, heir, is_open, is_owned, is_sem, let_go, obtained, outcome, release_fault, waits_at};
+ghost use Rattle.execlist.specs.Answers.{fault_or, kept_or};
+ghost use Rattle.sigsem.specs.Semaphores.{attempted, deep_fault, dropped, free_sem, heir, is_open, is_owned, is_sem, let_go, obtained, outcome_for, release_fault, sem_at, waits_at};
 ghost use Rattle.execmodel.specs.State.{Semaphore};
 ghost use Rattle.execmodel.specs.Memory.{freed, placed};
 ghost use Rattle.execmodel.specs.GivingWay.{after_asking_for_object};
@@ -49,7 +49,7 @@ impl<S: ListSpace> Objects<S> {
     /// Source: own choice.
     pub fn free_semaphore(&mut self, n: SemId, address: u32)
         requires live { slot (places variant.Semaphore self.old) n ≡ Some address }
-        requires unowned { IsTrue (not (is_owned n self.old.sems)) }
+        requires unowned { IsTrue (not (is_owned (sem_at n self.old.sems))) }
         ensures { shown_memory self.new ≡ freed address (shown_memory self.old) }
     {
         self.table.free(Kind::Semaphore, n, address);
@@ -63,7 +63,7 @@ impl<S: ListSpace> Objects<S> {
     /// Source: autodoc exec.library/AttemptSemaphore.
     pub fn attempt(&mut self, n: SemId, t: TaskId) -> Result<bool, SemFault>
         requires { IsTrue (is_sem n self.old.sems) }
-        ensures answer { result ≡ fault_or (deep_fault n t self.old.sems) (is_open n t self.old.sems) }
+        ensures answer { result ≡ fault_or (deep_fault n t self.old.sems) (is_open t (sem_at n self.old.sems)) }
         ensures next { self.new ≡ on_semaphores (λ m. kept_or (deep_fault n t m) m (attempted n t m)) self.old }
     {
         self.sems.attempt(n, t)
@@ -74,9 +74,9 @@ impl<S: ListSpace> Objects<S> {
     /// Source: autodoc exec.library/ObtainSemaphore.
     pub fn obtain(&mut self, n: SemId, t: TaskId) -> Result<Obtained, SemFault>
         requires live { IsTrue (is_sem n self.old.sems) }
-        requires task { t < 4096 }
+        requires task { t < self.old.tasks }
         requires stopped { waits_at t self.old.sems ≡ None }
-        ensures answer { result ≡ fault_or (deep_fault n t self.old.sems) (outcome n t self.old.sems) }
+        ensures answer { result ≡ fault_or (deep_fault n t self.old.sems) (outcome_for t (sem_at n self.old.sems)) }
         ensures next { self.new ≡ on_semaphores (λ m. kept_or (deep_fault n t m) m (obtained n t m)) self.old }
     {
         self.sems.obtain(n, t)
@@ -97,7 +97,7 @@ impl<S: ListSpace> Objects<S> {
     ///
     /// Source: own choice.
     pub fn drop_waiter(&mut self, t: TaskId)
-        requires { t < 4096 }
+        requires { t < self.old.tasks }
         ensures { self.new ≡ on_semaphores (dropped t) self.old }
     {
         self.sems.drop_waiter(t);

@@ -23,7 +23,7 @@ fn a_request_waits_until_system_time_is_set(rt: HostRuntime) -> Result<(), Fail>
         attrs: 1,
         pri: 0,
     };
-    let mut heap: Heap<PlainSpace> = Heap::new(rt.alloc(), &[region], 2, &[], false, 20_000)?;
+    let mut heap: Heap<PlainSpace> = Heap::new(rt.alloc(), &[region], 2, 8, &[], false, 20_000)?;
     assert_eq!(&rt; heap.new_port(7, 16), Some(PORT));
     let made = [heap.new_request(PORT), heap.new_request(PORT)];
     assert_eq!(&rt; made, [Ok(Some(WAITS)), Ok(Some(SETS))]);
@@ -61,7 +61,7 @@ fn full_heap(alloc: Global, asks: bool) -> Result<Heap<PlainSpace>, AllocError> 
         version: 1,
         size: 40,
     };
-    Heap::new(alloc, &[region], 2, &[library], asks, 20_000)
+    Heap::new(alloc, &[region], 2, 1, &[library], asks, 20_000)
 }
 
 #[test]

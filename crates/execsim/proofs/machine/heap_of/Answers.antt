@@ -1,12 +1,18 @@
+use Rattle.std.proofs.Common.{◌≡◌, length, sym, ap, ◌∙◌}
+use Rattle.std.proofs.lemmas.List.{length-map}
+use Rattle.taskscript.specs.Records.{task_view}
 use Rattle.execsim.proofs.machine.heap_of.Goals as goal
 
 pub returns : goal.returns
-returns g c = rw (
-  c.deref.ensures.value,
-  c.in_ok-inits.ensures.libraries,
-  c.libraries.ensures.libraries,
-  c.regions.ensures.regions,
-  c.version.ensures.version,
-  c.pool.ensures.pool,
-  c.tick_micros.ensures.tick_micros,
-) at c.new.ensures
+returns g c =
+    let many : length c.tasks.result.now ≡ length c.args.file.now.tasks = sym (length-map c.tasks.result.now task_view) ∙ ap length c.tasks.ensures.tasks in
+    rw (
+      c.deref.ensures.value,
+      c.in_ok-inits.ensures.libraries,
+      c.libraries.ensures.libraries,
+      c.regions.ensures.regions,
+      c.version.ensures.version,
+      c.pool.ensures.pool,
+      many,
+      c.tick_micros.ensures.tick_micros,
+    ) at c.new.ensures

@@ -1,5 +1,6 @@
 -- The running task is one of the file, and the tasks with it ready are those of `displaced`.
 use Rattle.std.proofs.Common.{ap, ◌∙◌, None}
+use Rattle.execlist.specs.Disciplines.{by_priority}
 use Rattle.scheduler.specs.Schedule.{Schedule}
 use Rattle.scheduler.specs.Dispatch.{displaced}
 use Rattle.scheduler.proofs.ScheduleLemmas.{runner_known, displaced_is}
@@ -12,4 +13,4 @@ pub returns-in-Some-clause-next : goal.returns-in-Some-clause-next
 returns-in-Some-clause-next g c =
     let e = c.make_ready.ensures in
     displaced_is _ c.make_ready.new.self c.in-Some.r c.in-Some.is e.ready e.states e.pris e.names
-    ∙ ap (λ (s : Schedule). record (displaced s.running s) { running = None }) c.self.view_is
+    ∙ ap (λ (s : Schedule). record (displaced by_priority s.running s) { running = None }) c.self.view_is

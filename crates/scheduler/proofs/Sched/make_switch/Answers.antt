@@ -1,5 +1,6 @@
 -- A ready task is still ready when the running one is put back, and begins then.
 use Rattle.std.proofs.Common.{ap, sym, ◌∙◌, Some}
+use Rattle.execlist.specs.Disciplines.{by_priority}
 use Rattle.scheduler.specs.Schedule.{begins}
 use Rattle.scheduler.specs.Dispatch.{displaced, after_switch}
 use Rattle.scheduler.proofs.ScheduleLemmas.{to_ready, displaced_ready, begins-vacant}
@@ -15,4 +16,4 @@ pub returns-in-To-clause-next : goal.returns-in-To-clause-next
 returns-in-To-clause-next g c =
     let s = c.args.self.now in
     let t = c.in-To.t in
-    c.begin.ensures.next ∙ ap (begins t) c.displace.ensures.next ∙ begins-vacant t (displaced s.running s) ∙ ap (λ w. after_switch (Some w) s) (sym c.in-To.is)
+    c.begin.ensures.next ∙ ap (begins t) c.displace.ensures.next ∙ begins-vacant t (displaced by_priority s.running s) ∙ ap (λ w. after_switch by_priority (Some w) s) (sym c.in-To.is)

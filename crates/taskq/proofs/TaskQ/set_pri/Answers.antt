@@ -3,7 +3,8 @@ use Rattle.std.proofs.Common.{◌≡◌, ◌<◌, ap, ◌∙◌, sym, arith, len
 use Rattle.std.proofs.lemmas.Bool.{cond-true, cond-false}
 use Rattle.execlist.specs.Order.{enqueue, without}
 use Rattle.execlist.specs.Lists.{home, sequence}
-use Rattle.taskq.specs.Tasks.{home_for, is_ready, state_at, pri_at, pris_of}
+use Rattle.taskq.specs.Tasks.{home_for, is_ready, state_at, pris_of}
+use Rattle.execlist.specs.Disciplines.{pri_at}
 use Rattle.taskq.proofs.TaskLemmas.{arrived, departed, home_read, state_read, is_ready_false}
 use Rattle.taskq.proofs.TaskQ.set_pri.Goals as goal
 

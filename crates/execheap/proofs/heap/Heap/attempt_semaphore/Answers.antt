@@ -2,10 +2,10 @@
 use Rattle.std.proofs.Common.{◌≡◌, ap, sym, subst, ◌∙◌}
 use Rattle.std.specs.Prelude.{IfOk, OnOk}
 use Rattle.execmodel.specs.State.{Memory, on_heap}
-use Rattle.execmodel.specs.Semaphores.{obtain_alert, attempted, is_open, sem_of}
-use Rattle.sigsem.specs.Faults.{fault_or}
+use Rattle.execmodel.specs.Semaphores.{obtain_alert, attempted, sem_of}
+use Rattle.execlist.specs.Answers.{fault_or}
 use Rattle.sigsem.specs.Semaphores as sems
-use Rattle.sigsem.specs.Semaphores.{Semaphores, deep_fault}
+use Rattle.sigsem.specs.Semaphores.{Semaphores, deep_fault, is_open}
 use Rattle.execheap.specs.Refusals.{alert_of, told}
 use Rattle.execheap.specs.Numbered.{shown_heap, shown_memory}
 use Rattle.execheap.proofs.Dropping.{attempted_shown}
@@ -19,14 +19,14 @@ returns-in-Err-clause-alert g c =
 
 -- any refusal by number is told as one
 refusal_told : (g : _) (c : goal.After-told g) → c.told.result
-    ≡ told (fault_or (deep_fault c.in-Ok.n c.args.task c.self.inside.objects.sems) (sems.is_open c.in-Ok.n c.args.task c.self.inside.objects.sems))
+    ≡ told (fault_or (deep_fault c.in-Ok.n c.args.task c.self.inside.objects.sems) (is_open c.args.task (sems.sem_at c.in-Ok.n c.self.inside.objects.sems)))
 refusal_told g c = c.told.ensures ∙ ap told c.attempt.ensures.answer
 
 pub returns-in-Ok-clause-alert : goal.returns-in-Ok-clause-alert
 returns-in-Ok-clause-alert g c =
     let s = c.self.inside.objects in
     ap alert_of (refusal_told g c)
-    ∙ obtain_told c.in-Ok.ensures.known.sound c.in-Ok.n c.args.semaphore c.in-Ok.ensures.found c.args.task (sems.is_open c.in-Ok.n c.args.task s.sems)
+    ∙ obtain_told c.in-Ok.ensures.known.sound c.in-Ok.n c.args.semaphore c.in-Ok.ensures.found c.args.task (is_open c.args.task (sems.sem_at c.in-Ok.n s.sems))
     ∙ ap (λ (m : Memory). obtain_alert c.args.task c.args.semaphore m.heap) c.self.view_is
 
 pub returns-in-Ok-clause-answer : goal.returns-in-Ok-clause-answer
@@ -34,7 +34,7 @@ returns-in-Ok-clause-answer g c =
     let s = c.self.inside.objects in
     let asked = is_open c.args.task (sem_of c.args.semaphore c.args.self.now.heap) in
     subst (λ r. IfOk r (λ has. has ≡ asked)) (sym (refusal_told g c))
-    (told_answer (deep_fault c.in-Ok.n c.args.task s.sems) (sems.is_open c.in-Ok.n c.args.task s.sems) asked
+    (told_answer (deep_fault c.in-Ok.n c.args.task s.sems) (is_open c.args.task (sems.sem_at c.in-Ok.n s.sems)) asked
     (ap (is_open c.args.task) (sym (sem_of_shown c.in-Ok.ensures.known.sound c.in-Ok.n c.args.semaphore c.in-Ok.ensures.found))
     ∙ ap (λ (m : Memory). is_open c.args.task (sem_of c.args.semaphore m.heap)) c.self.view_is))
 
@@ -43,9 +43,9 @@ returns-in-Ok-clause-next g c =
     let f = c.in-Ok.ensures.known in
     let s = c.self.inside.objects in
     let e = c.in-Ok.ensures in
-    subst (λ r. OnOk r (shown_memory c.attempt.new.self ≡ on_heap (attempted c.args.task c.args.semaphore) c.args.self.now))
+    subst (λ r. OnOk r (shown_memory c.attempt.new.self ≡ on_heap (attempted c.args.semaphore c.args.task) c.args.self.now))
     (sym (refusal_told g c))
-    (told_next (deep_fault c.in-Ok.n c.args.task s.sems) (sems.is_open c.in-Ok.n c.args.task s.sems) s.sems (sems.attempted c.in-Ok.n c.args.task s.sems)
+    (told_next (deep_fault c.in-Ok.n c.args.task s.sems) (is_open c.args.task (sems.sem_at c.in-Ok.n s.sems)) s.sems (sems.attempted c.in-Ok.n c.args.task s.sems)
     (λ done. ap shown_memory c.attempt.ensures.next ∙ ap (λ (m : Semaphores). shown_memory (record s { sems = m })) done
     ∙ attempted_shown f.sound f.sems f.memory c.in-Ok.n c.args.semaphore e.found e.live c.args.task
-    ∙ ap (on_heap (attempted c.args.task c.args.semaphore)) c.self.view_is))
+    ∙ ap (on_heap (attempted c.args.semaphore c.args.task)) c.self.view_is))

@@ -3,10 +3,10 @@ use Rattle.std.proofs.Common.{◌≡◌, ap, sym, subst, ◌∙◌}
 use Rattle.std.specs.Prelude.{IfOk, OnOk}
 use Rattle.execmodel.specs.State.{Memory, on_heap}
 use Rattle.execlist.specs.Lists.{times}
-use Rattle.execmodel.specs.Semaphores.{obtain_alert, obtained, outcome_for, sem_of, waiters_of}
-use Rattle.sigsem.specs.Faults.{fault_or}
+use Rattle.execmodel.specs.Semaphores.{obtain_alert, obtained, sem_of, waiters_of}
+use Rattle.execlist.specs.Answers.{fault_or}
 use Rattle.sigsem.specs.Semaphores as sems
-use Rattle.sigsem.specs.Semaphores.{Semaphores, deep_fault, outcome}
+use Rattle.sigsem.specs.Semaphores.{Semaphores, deep_fault, outcome_for}
 use Rattle.execheap.specs.Refusals.{alert_of, told}
 use Rattle.execheap.specs.Numbered.{shown_heap, shown_memory}
 use Rattle.execheap.proofs.Dropping.{obtained_shown, waits_at_none}
@@ -26,14 +26,14 @@ obtain-requires-clause-stopped g c =
 
 -- any refusal by number is told as one
 refusal_told : (g : _) (c : goal.After-told g) → c.told.result
-    ≡ told (fault_or (deep_fault c.in-Ok.n c.args.task c.self.inside.objects.sems) (outcome c.in-Ok.n c.args.task c.self.inside.objects.sems))
+    ≡ told (fault_or (deep_fault c.in-Ok.n c.args.task c.self.inside.objects.sems) (outcome_for c.args.task (sems.sem_at c.in-Ok.n c.self.inside.objects.sems)))
 refusal_told g c = c.told.ensures ∙ ap told c.obtain.ensures.answer
 
 pub returns-in-Ok-clause-alert : goal.returns-in-Ok-clause-alert
 returns-in-Ok-clause-alert g c =
     let s = c.self.inside.objects in
     ap alert_of (refusal_told g c)
-    ∙ obtain_told c.in-Ok.ensures.known.sound c.in-Ok.n c.args.semaphore c.in-Ok.ensures.found c.args.task (outcome c.in-Ok.n c.args.task s.sems)
+    ∙ obtain_told c.in-Ok.ensures.known.sound c.in-Ok.n c.args.semaphore c.in-Ok.ensures.found c.args.task (outcome_for c.args.task (sems.sem_at c.in-Ok.n s.sems))
     ∙ ap (λ (m : Memory). obtain_alert c.args.task c.args.semaphore m.heap) c.self.view_is
 
 pub returns-in-Ok-clause-answer : goal.returns-in-Ok-clause-answer
@@ -41,7 +41,7 @@ returns-in-Ok-clause-answer g c =
     let s = c.self.inside.objects in
     let asked = outcome_for c.args.task (sem_of c.args.semaphore c.args.self.now.heap) in
     subst (λ r. IfOk r (λ how. how ≡ asked)) (sym (refusal_told g c))
-    (told_answer (deep_fault c.in-Ok.n c.args.task s.sems) (outcome c.in-Ok.n c.args.task s.sems) asked
+    (told_answer (deep_fault c.in-Ok.n c.args.task s.sems) (outcome_for c.args.task (sems.sem_at c.in-Ok.n s.sems)) asked
     (ap (outcome_for c.args.task) (sym (sem_of_shown c.in-Ok.ensures.known.sound c.in-Ok.n c.args.semaphore c.in-Ok.ensures.found))
     ∙ ap (λ (m : Memory). outcome_for c.args.task (sem_of c.args.semaphore m.heap)) c.self.view_is))
 
@@ -50,9 +50,9 @@ returns-in-Ok-clause-next g c =
     let f = c.in-Ok.ensures.known in
     let s = c.self.inside.objects in
     let e = c.in-Ok.ensures in
-    subst (λ r. OnOk r (shown_memory c.obtain.new.self ≡ on_heap (obtained c.args.task c.args.semaphore) c.args.self.now))
+    subst (λ r. OnOk r (shown_memory c.obtain.new.self ≡ on_heap (obtained c.args.semaphore c.args.task) c.args.self.now))
     (sym (refusal_told g c))
-    (told_next (deep_fault c.in-Ok.n c.args.task s.sems) (outcome c.in-Ok.n c.args.task s.sems) s.sems (sems.obtained c.in-Ok.n c.args.task s.sems)
+    (told_next (deep_fault c.in-Ok.n c.args.task s.sems) (outcome_for c.args.task (sems.sem_at c.in-Ok.n s.sems)) s.sems (sems.obtained c.in-Ok.n c.args.task s.sems)
     (λ done. ap shown_memory c.obtain.ensures.next ∙ ap (λ (m : Semaphores). shown_memory (record s { sems = m })) done
     ∙ obtained_shown f.sound f.sems f.memory c.in-Ok.n c.args.semaphore e.found e.live c.args.task
-    ∙ ap (on_heap (obtained c.args.task c.args.semaphore)) c.self.view_is))
+    ∙ ap (on_heap (obtained c.args.semaphore c.args.task)) c.self.view_is))

@@ -3,7 +3,7 @@ use Rattle.std.proofs.Common.{◌≡◌, ap, sym, subst, ◌∙◌}
 use Rattle.std.specs.Prelude.{IfOk, OnOk}
 use Rattle.execmodel.specs.State.{Memory, on_heap}
 use Rattle.execmodel.specs.Semaphores.{heir, release_alert, released}
-use Rattle.sigsem.specs.Faults.{fault_or}
+use Rattle.execlist.specs.Answers.{fault_or}
 use Rattle.sigsem.specs.Semaphores as sems
 use Rattle.sigsem.specs.Semaphores.{Semaphores, let_go, release_fault}
 use Rattle.execheap.specs.Refusals.{alert_of, told}

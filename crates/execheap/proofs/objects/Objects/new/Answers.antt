@@ -25,7 +25,7 @@ invariant_of-result g c =
       made.unlinked,
       made.blank,
     )
-    (kept_unused c.args.regions.now c.args.pool (map description_of c.args.libraries.now) c.args.asks c.args.tick_micros)
+    (kept_unused c.args.regions.now c.args.pool c.args.tasks (map description_of c.args.libraries.now) c.args.asks c.args.tick_micros)
 
 pub returns : goal.returns
 returns g c =
@@ -41,4 +41,4 @@ returns g c =
       made.unlinked,
       made.blank,
     )
-    (refl {a = unused c.args.regions.now c.args.pool (map description_of c.args.libraries.now) c.args.asks c.args.tick_micros})
+    (refl {a = unused c.args.regions.now c.args.pool c.args.tasks (map description_of c.args.libraries.now) c.args.asks c.args.tick_micros})

@@ -1,8 +1,9 @@
 -- There is a number for each message, since the ports have so many free.
 use Rattle.std.proofs.Common.{◌≡◌, ◌+◌, ◌<◌, length, suc, ap, ◌∙◌, arith}
 use Rattle.std.specs.Prelude.{is_ok}
+use Rattle.std.specs.Option.{ok_or}
 use Rattle.execlist.specs.Pool.{next_number}
-use Rattle.msgport.specs.Faults.{number_or_full}
+use Rattle.msgport.specs.declared.fault.PortFault.TheVariants.{PoolFull}
 use Rattle.msgport.specs.Ports.{MessagePorts, message_made}
 use Rattle.execheap.specs.Changes.{reserved}
 use Rattle.execheap.proofs.Reserved.{one_left}
@@ -12,7 +13,7 @@ pub unwrap-requires : goal.unwrap-requires
 unwrap-requires g c =
     let there = c.loop-made-test.true in
     let few : c.loop-made._made < length c.args.ports.messages.free = omega (arith, there) in
-    ap is_ok c.make_msg.ensures.answer ∙ ap (λ (q : MessagePorts). is_ok (number_or_full (next_number q.messages))) c.loop-made.invariant
+    ap is_ok c.make_msg.ensures.answer ∙ ap (λ (q : MessagePorts). is_ok (ok_or (next_number q.messages) PoolFull)) c.loop-made.invariant
     ∙ one_left c.loop-made._made c.args.ports few
 
 pub loop-made-preserved : goal.loop-made-preserved

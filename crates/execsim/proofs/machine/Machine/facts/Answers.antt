@@ -1,9 +1,9 @@
 use Rattle.std.proofs.Common.{ap, subst, ◌∙◌}
 use Rattle.execsim.specs.Headline.{Shown}
 use Rattle.execsim.specs.Reached.{QueuesAgree}
-use Rattle.execsim.proofs.Reached.{queues_agree}
+use Rattle.execsim.proofs.Reached.{in_order_there}
 use Rattle.execsim.proofs.machine.Machine.facts.Goals as goal
 
 pub returns : goal.returns
 returns g c = λ going. subst (λ (x : Shown). QueuesAgree x.seen) c.self.view_is
-    (queues_agree c.self.inside.kernel (c.self.invariant (ap (λ (x : Shown). x.failed) c.self.view_is ∙ going)))
+    (in_order_there c.self.inside.kernel (c.self.invariant (ap (λ (x : Shown). x.failed) c.self.view_is ∙ going))).queues

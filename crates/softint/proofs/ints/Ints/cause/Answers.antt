@@ -5,7 +5,8 @@ use Rattle.std.proofs.lemmas.List.{length-map}
 use Rattle.execlist.specs.Order.{first}
 use Rattle.execlist.specs.Lists.{home}
 use Rattle.softint.specs.declared.interrupt.Soft.{Soft}
-use Rattle.softint.specs.Interrupts.{Interrupts, pri_at, joined}
+use Rattle.softint.specs.Interrupts.{Interrupts, joined}
+use Rattle.execlist.specs.Disciplines.{pri_at}
 use Rattle.softint.proofs.Headers.{loose, present, arrival, arrival_held, first_arrived, caused_more, caused_still}
 use Rattle.softint.proofs.ints.Ints.cause.Goals as goal
 
