@@ -162,6 +162,7 @@ pub(crate) fn make(alloc: Global, part: Part) -> Result<(), Unmade> {
             alloc,
             &REGIONS,
             8,
+            8,
             &libraries(),
             true,
             20_000,
