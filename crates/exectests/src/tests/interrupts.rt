@@ -31,6 +31,8 @@ enum Step {
     Any(bool),
     /// The latch of a source is set.
     Raises(Source),
+    /// Whether a source asks to be served.
+    Asks(bool),
     /// The source that is served.
     Serves(Option<Source>),
     /// The server at a place of a source's chain.
@@ -73,7 +75,7 @@ static SERVERS: [Server; 5] = [
 ];
 
 /// The greatest priority goes first, then the one caused first; the highest level is served first; equal servers run in the order given.
-static STEPS: [Step; 38] = [
+static STEPS: [Step; 41] = [
     Next(None),
     Any(false),
     Causes(4),
@@ -95,7 +97,9 @@ static STEPS: [Step; 38] = [
     Any(false),
     Next(None),
     Serves(None),
+    Asks(false),
     Raises(Source::Ports),
+    Asks(true),
     Raises(Source::Vertb),
     Raises(Source::Exter),
     Raises(Source::Vertb),
@@ -104,6 +108,7 @@ static STEPS: [Step; 38] = [
     Raises(Source::Vertb),
     Serves(Some(Source::Vertb)),
     Serves(Some(Source::Ports)),
+    Asks(false),
     Serves(None),
     Server(Source::Ports, 0, Some(3)),
     Server(Source::Ports, 1, Some(1)),
@@ -136,6 +141,7 @@ fn take(rt: &impl Abort, d: &mut Driver, number: usize, step: Step) {
         Next(wanted) => same(rt, "interrupts", number, d.ints.next(), wanted),
         Any(wanted) => same(rt, "interrupts", number, d.ints.any_caused(), wanted),
         Raises(source) => d.ints.raise(source),
+        Asks(wanted) => same(rt, "interrupts", number, d.ints.any_raised(), wanted),
         Serves(wanted) => same(rt, "interrupts", number, d.ints.serve(), wanted),
         Server(source, k, wanted) => {
             same(rt, "interrupts", number, d.ints.server(source, k), wanted)
