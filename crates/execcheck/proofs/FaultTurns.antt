@@ -4,7 +4,8 @@ use Rattle.std.specs.List.{list_all}
 use Rattle.taskscript.specs.declared.fault.FileFault.{FileFault}
 use Rattle.taskscript.specs.declared.fault.FileFault.TheVariants.{BadCommand, BadLabel, NotInInterrupt, TooMany}
 use Rattle.taskscript.specs.Code.{command_said, line_faults}
-use Rattle.taskscript.specs.Faults.{check, first}
+use Rattle.execlist.specs.Order.{first}
+use Rattle.taskscript.specs.Faults.{check}
 use Rattle.taskscript.specs.Interrupting.{Setting, may_stand, names_softints}
 use Rattle.taskscript.specs.Lines.{LineData, NamedCommandData, label_line, command_line}
 use Rattle.taskscript.specs.Numbering.{Names, is_within, variable_in, variables_of}

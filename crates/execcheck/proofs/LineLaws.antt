@@ -8,7 +8,8 @@ use Rattle.toml.specs.Data.{Items, no_items, item, Members}
 use Rattle.taskscript.specs.declared.fault.FileFault.{FileFault}
 use Rattle.taskscript.specs.declared.fault.FileFault.TheVariants.{BadCommand, BadLabel, NotInInterrupt, TooMany}
 use Rattle.taskscript.specs.Code.{body_faults, command_said, commands_of, jump_faults, labels_of, line_faults, lines_faults, names_of, shared_after}
-use Rattle.taskscript.specs.Faults.{check, first}
+use Rattle.execlist.specs.Order.{first}
+use Rattle.taskscript.specs.Faults.{check}
 use Rattle.taskscript.specs.File.{bodies_faults, code_lines, faults, item_names, lines_of_all_faults, servers_in, setting_of, shared_after_servers, shared_after_softints, softints_in, tasks_in}
 use Rattle.taskscript.specs.Interrupting.{Setting, may_stand, names_softints}
 use Rattle.taskscript.specs.Lines.{NamedCommandData, LineData, label_line, command_line}

@@ -10,7 +10,8 @@ use Rattle.toml.specs.declared.value.Value.{Value}
 use Rattle.taskscript.specs.declared.fault.FileFault.{FileFault}
 use Rattle.taskscript.specs.declared.fault.FileFault.TheVariants.{BadLabel, TooMany}
 use Rattle.taskscript.specs.Code.{command_said, commands_of, label_said, labels_of, line_faults, line_in, lines_in, names_of, shared_after}
-use Rattle.taskscript.specs.Faults.{check, first}
+use Rattle.execlist.specs.Order.{first}
+use Rattle.taskscript.specs.Faults.{check}
 use Rattle.taskscript.specs.File.{code_lines, servers_in, setting_of, shared_after_bodies, shared_after_servers, shared_after_softints, softints_in, tasks_in}
 use Rattle.taskscript.specs.Interrupting.{Setting}
 use Rattle.taskscript.specs.Lines.{NamedCommandData, NamedVariableData, LineData, label_line, command_line}

@@ -8,7 +8,8 @@ use Rattle.memlist.specs.Regions.{regions_fault}
 use Rattle.toml.specs.Data.{Data, string, integer, float, boolean, datetime, array, table, Items, no_items, item, Members, get_member}
 use Rattle.taskscript.specs.declared.fault.FileFault.{FileFault}
 use Rattle.taskscript.specs.declared.fault.FileFault.TheVariants.{UnknownKey, TooMany, BadRegions}
-use Rattle.taskscript.specs.Faults.{check, first}
+use Rattle.execlist.specs.Order.{first}
+use Rattle.taskscript.specs.Faults.{check}
 use Rattle.taskscript.specs.File.{faults, libraries_faults, library_faults, lines_of_all_faults, name_of, named_faults, names_before_servers, names_before_tasks, owners_faults, region_faults, regions_faults, regions_in, server_faults, settings_faults, softint_faults, task_faults, top_keys as file_keys, total_of, version_of}
 use Rattle.taskscript.specs.Tree.{array_faults, count_items, items_faults, keys_are_among, optional, table_faults}
 use Rattle.execcheck.specs.declared.rules.Array.{Array}

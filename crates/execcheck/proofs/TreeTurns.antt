@@ -9,7 +9,8 @@ use Rattle.toml.specs.View.{view, items_view}
 use Rattle.toml.specs.declared.value.Value.{Value}
 use Rattle.taskscript.specs.declared.fault.FileFault.{FileFault}
 use Rattle.taskscript.specs.declared.fault.FileFault.TheVariants.{UnknownKey}
-use Rattle.taskscript.specs.Faults.{first, check}
+use Rattle.execlist.specs.Order.{first}
+use Rattle.taskscript.specs.Faults.{check}
 use Rattle.taskscript.specs.File.{item_names, name_of}
 use Rattle.taskscript.specs.Tree.{keys_are_among}
 use Rattle.taskscript.proofs.OwnerTurns.{next_item}

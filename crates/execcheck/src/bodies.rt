@@ -2,7 +2,7 @@
 ghost use Rattle.std.specs.Prelude.{◌≡◌, IfNone, IfOk};
 ghost use Rattle.toml.specs.View.{table_view, view, items_view};
 ghost use Rattle.taskscript.specs.Code.{lines_in};
-ghost use Rattle.taskscript.specs.Faults.{first};
+ghost use Rattle.execlist.specs.Order.{first};
 ghost use Rattle.taskscript.specs.File.{code_lines, item_names, shared_after_bodies};
 ghost use Rattle.execcheck.specs.AllPlaces.{bodies_placed, lines_in_file};
 ghost use Rattle.execcheck.specs.Places.{setting};

@@ -3,7 +3,7 @@ ghost use Rattle.std.specs.Prelude.{◌≡◌, ◌++◌, ◌∷◌, [], IfNone, 
 ghost use Rattle.std.specs.List.{flat_map};
 ghost use Rattle.toml.specs.View.{items_view};
 ghost use Rattle.taskscript.specs.Code.{commands_of, labels_of, lines_in, names_of, shared_after};
-ghost use Rattle.taskscript.specs.Faults.{first};
+ghost use Rattle.execlist.specs.Order.{first};
 ghost use Rattle.taskscript.specs.Meaning.{says};
 ghost use Rattle.taskscript.specs.Numbering.{names_after, variables_of};
 ghost use Rattle.execcheck.specs.AllPlaces.{array_of, body_placed, code_place, jumps_placed, line_at, lines_placed};

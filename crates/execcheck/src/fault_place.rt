@@ -1,7 +1,7 @@
 //! The place of the fault of a machine file.
 ghost use Rattle.std.specs.Prelude.{◌≡◌, IfOk};
 ghost use Rattle.toml.specs.View.{table_view};
-ghost use Rattle.taskscript.specs.Faults.{first};
+ghost use Rattle.execlist.specs.Order.{first};
 ghost use Rattle.execcheck.specs.AllPlaces.{file_places};
 ghost use Rattle.execcheck.specs.FilePlaces.{place_of};
 

@@ -1,7 +1,7 @@
 //! The first faulty place of the tree of a machine file.
 ghost use Rattle.std.specs.Prelude.{◌≡◌, ◌++◌, [], IfOk};
 ghost use Rattle.toml.specs.View.{table_view};
-ghost use Rattle.taskscript.specs.Faults.{first};
+ghost use Rattle.execlist.specs.Order.{first};
 ghost use Rattle.taskscript.specs.File.{regions_faults, total_of, version_of};
 ghost use Rattle.execcheck.specs.TreePlaces.{array_in, owners_found, regions_found, tree_found};
 ghost use Rattle.execcheck.specs.declared.rules.Array.TheVariants as array;

@@ -2,7 +2,7 @@
 ghost use Rattle.std.specs.Prelude.{◌≡◌, ◌++◌, [], bytes_eq, option_map};
 ghost use Rattle.std.specs.List.{list_any};
 ghost use Rattle.toml.specs.View.{table_view, view, items_view};
-ghost use Rattle.taskscript.specs.Faults.{first};
+ghost use Rattle.execlist.specs.Order.{first};
 ghost use Rattle.taskscript.specs.File.{item_names};
 ghost use Rattle.execcheck.specs.Names.{names_before};
 ghost use Rattle.execcheck.specs.Rules.{array_key, arrays, key_text, rule_faults};

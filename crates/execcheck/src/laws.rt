@@ -1,7 +1,7 @@
 //! The laws of places: the fault of the first faulty place is that of the file. The functions do nothing; their contracts are the laws.
 ghost use Rattle.std.specs.Prelude.{◌≡◌, ◌++◌, Some, option_map};
 ghost use Rattle.toml.specs.Data.{Members};
-ghost use Rattle.taskscript.specs.Faults.{first};
+ghost use Rattle.execlist.specs.Order.{first};
 ghost use Rattle.taskscript.specs.declared.fault.FileFault.TheVariants as FileFault;
 ghost use Rattle.taskscript.specs.File.{faults, lines_of_all_faults};
 ghost use Rattle.execcheck.specs.TreePlaces.{faults_of, tree_found};

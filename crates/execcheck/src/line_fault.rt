@@ -3,7 +3,8 @@ ghost use Rattle.std.specs.Prelude.{◌≡◌, ◌++◌, [], IfOk, bytes_eq, map
 ghost use Rattle.std.specs.List.{list_all, list_any};
 ghost use Rattle.toml.specs.View.{items_view};
 ghost use Rattle.taskscript.specs.Code.{line_faults};
-ghost use Rattle.taskscript.specs.Faults.{check, first};
+ghost use Rattle.execlist.specs.Order.{first};
+ghost use Rattle.taskscript.specs.Faults.{check};
 ghost use Rattle.taskscript.specs.File.{item_names};
 ghost use Rattle.taskscript.specs.Interrupting.{may_stand};
 ghost use Rattle.taskscript.specs.Meaning.{says};

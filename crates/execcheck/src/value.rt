@@ -1,7 +1,7 @@
 //! What a key may hold, judged by itself.
 ghost use Rattle.std.specs.Prelude.{◌≡◌};
 ghost use Rattle.toml.specs.View.{view, items_view};
-ghost use Rattle.taskscript.specs.Faults.{first};
+ghost use Rattle.execlist.specs.Order.{first};
 ghost use Rattle.taskscript.specs.Tree.{are_strings, boolean_faults, code_faults, integer_faults, is_softint_pri, name_faults, softint_pri_faults, source_faults};
 ghost use Rattle.execcheck.specs.Names.{names_before};
 ghost use Rattle.execcheck.specs.Rules.{value_faults};

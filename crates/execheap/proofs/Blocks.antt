@@ -4,11 +4,12 @@ use Rattle.std.proofs.Math.Path.{fun_ext}
 use Rattle.std.specs.Prelude.{None, ◌&&◌, nat_eq, if◌then◌else◌, is_some}
 use Rattle.std.specs.Option.{option_map, option_and_then}
 use Rattle.std.specs.List.{filter, flat_map, sum_by}
+use Rattle.execlist.specs.Order.{chosen}
 use Rattle.memlist.specs.declared.gap.Gap.{Gap}
 use Rattle.memlist.specs.declared.region.Region.{Region}
 use Rattle.memlist.specs.Regions.{region_end, total_size}
 use Rattle.memlist.specs.Blocks.{Blocks, blocks_in, is_in, gaps_between, gaps, stretch}
-use Rattle.memlist.specs.Fit.{fit, avail, round, asks, chosen, is_suitable, lowest_gap, greatest}
+use Rattle.memlist.specs.Fit.{fit, avail, round, asks, is_suitable, lowest_gap, greatest, region_pri}
 use Rattle.execmodel.specs.Memory.{extents, place_for}
 use Rattle.execheap.specs.Numbered.{Numbered, shown_entry, shown_heap, shown_memory}
 use Rattle.execheap.proofs.Entries.{where_key_shown}
@@ -42,7 +43,7 @@ unfolding fit
 fit_bare regions blocks size reqs =
     ap (λ (of : Region → List Gap). if nat_eq size 0 then None
     else option_and_then (λ region. option_map (λ (gap : Gap). gap.address) (lowest_gap (round size) (of region)))
-    (chosen (filter (λ region. is_suitable reqs region && is_some (lowest_gap (round size) (of region))) regions))) (fun_ext (gaps_bare blocks))
+    (chosen region_pri (filter (λ region. is_suitable reqs region && is_some (lowest_gap (round size) (of region))) regions))) (fun_ext (gaps_bare blocks))
 
 avail_bare : (regions : List Region) (blocks : Blocks) (reqs : ℕ) → avail regions (bare blocks) reqs ≡ avail regions blocks reqs
 unfolding avail

@@ -5,10 +5,11 @@ use Rattle.std.specs.List.{AllByRecursion, filter, flat_map, sum_by}
 use Rattle.std.proofs.lemmas.Bool.Decides.{nat_tests}
 use Rattle.std.proofs.lemmas.List.Sums.{sum_by-append, sum_by-cons}
 use Rattle.std.proofs.lemmas.Option.{slice_get-get_or}
+use Rattle.execlist.specs.Order.{chosen, chosen_or}
 use Rattle.memlist.specs.declared.gap.Gap.{Gap}
 use Rattle.memlist.specs.declared.memory.Offer.{Offer}
 use Rattle.memlist.specs.declared.region.Region.{Region}
-use Rattle.memlist.specs.Fit.{better, chosen, greatest, is_suitable, lowest_gap}
+use Rattle.memlist.specs.Fit.{greatest, is_suitable, lowest_gap, region_pri}
 use Rattle.memlist.specs.Areas.{Area, area_gaps, regions_of}
 use Rattle.memlist.specs.Choice.{IsLowest, IsOffer, chosen_of, free_of, is_below, is_outranked, largest_of, offers, sizes_of, suitable_of}
 
@@ -29,10 +30,10 @@ lowest_nowhere size (x ∷ xs) all =
 -- The chosen region
 
 chosen_without : (size reqs : ℕ) (area : Area) (rest : List Area) → offers size reqs area ≡ false → chosen_of size reqs (area ∷ rest) ≡ chosen_of size reqs rest
-chosen_without size reqs area rest e = ap (λ b. chosen (regions_of (cond b (area ∷ filter (offers size reqs) rest) (filter (offers size reqs) rest)))) e
+chosen_without size reqs area rest e = ap (λ b. chosen region_pri (regions_of (cond b (area ∷ filter (offers size reqs) rest) (filter (offers size reqs) rest)))) e
 
-chosen_with : (size reqs : ℕ) (area : Area) (rest : List Area) → offers size reqs area ≡ true → chosen_of size reqs (area ∷ rest) ≡ better area.region (chosen_of size reqs rest)
-chosen_with size reqs area rest e = ap (λ b. chosen (regions_of (cond b (area ∷ filter (offers size reqs) rest) (filter (offers size reqs) rest)))) e
+chosen_with : (size reqs : ℕ) (area : Area) (rest : List Area) → offers size reqs area ≡ true → chosen_of size reqs (area ∷ rest) ≡ chosen_or region_pri area.region (chosen_of size reqs rest)
+chosen_with size reqs area rest e = ap (λ b. chosen region_pri (regions_of (cond b (area ∷ filter (offers size reqs) rest) (filter (offers size reqs) rest)))) e
 
 same_offer : (areas : List Area) (size reqs : ℕ) (some other : List Area) (offer : Offer) → chosen_of size reqs other ≡ chosen_of size reqs some
     → IsOffer areas size reqs some (Some offer) → IsOffer areas size reqs other (Some offer)
@@ -53,7 +54,7 @@ outranked_by areas size reqs area rest some offer None is h below = cc
 outranked_by areas size reqs area rest some offer (Some other) is h below =
     ap (chosen_of size reqs) is
     ∙ elim (offers size reqs area) as (λ b. offers size reqs area ≡ b → chosen_of size reqs (area ∷ rest) ≡ chosen_of size reqs rest) [
-      | true ↦ λ e. chosen_with size reqs area rest e ∙ ap (better area.region) h.0 ∙ ap (λ b. cond b (Some other.region) (Some area.region)) below ∙ sym h.0
+      | true ↦ λ e. chosen_with size reqs area rest e ∙ ap (chosen_or region_pri area.region) h.0 ∙ ap (λ b. cond b (Some other.region) (Some area.region)) below ∙ sym h.0
       | false ↦ λ e. chosen_without size reqs area rest e
     ] refl
 
@@ -67,13 +68,13 @@ offer_outranked areas size reqs place area rest some (Some offer) is at below h 
 -- an area that offers a gap is chosen unless it is outranked
 better_than : (size reqs : ℕ) (area : Area) (rest : List Area) (gap : ℕ) (other : Option Area)
     → IsSomeAnd other (λ area. (chosen_of size reqs rest ≡ Some area.region) × IsLowest size (area_gaps area) (Some gap)) → is_below (Some area) other ≡ false
-    → better area.region (chosen_of size reqs rest) ≡ Some area.region
+    → chosen_or region_pri area.region (chosen_of size reqs rest) ≡ Some area.region
 better_than size reqs area rest gap None h above = absurd h
-better_than size reqs area rest gap (Some other) h above = ap (better area.region) h.0 ∙ ap (λ b. cond b (Some other.region) (Some area.region)) above
+better_than size reqs area rest gap (Some other) h above = ap (chosen_or region_pri area.region) h.0 ∙ ap (λ b. cond b (Some other.region) (Some area.region)) above
 
 pub offer_chosen : (areas : List Area) (size reqs place : ℕ) (area : Area) (rest some : List Area) (later : Option Offer) → some ≡ area ∷ rest → slice_get areas place ≡ Some area
     → is_outranked areas place later ≡ false → offers size reqs area ≡ true → IsOffer areas size reqs rest later → chosen_of size reqs some ≡ Some area.region
-offer_chosen areas size reqs place area rest some None is at above e h = ap (chosen_of size reqs) is ∙ chosen_with size reqs area rest e ∙ ap (better area.region) h
+offer_chosen areas size reqs place area rest some None is at above e h = ap (chosen_of size reqs) is ∙ chosen_with size reqs area rest e ∙ ap (chosen_or region_pri area.region) h
 offer_chosen areas size reqs place area rest some (Some offer) is at above e h =
     let over : is_below (Some area) (slice_get areas offer.header) ≡ false = ap (λ o. is_below o (slice_get areas offer.header)) (sym at) ∙ above in
     ap (chosen_of size reqs) is ∙ chosen_with size reqs area rest e ∙ better_than size reqs area rest offer.before (slice_get areas offer.header) h over

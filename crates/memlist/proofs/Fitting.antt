@@ -1,21 +1,22 @@
 -- What a fit is: the chosen region, its lowest large enough gap, and a memory that stays well formed.
-use Rattle.std.proofs.Common.{◌≡◌, ◌≢◌, ℕ, ℤ, zero, suc, ◌+◌, ◌<◌, ◌≤◌, Bool, true, false, cond, List, [], ◌∷◌, ◌++◌, get_or, refl, sym, ◌∙◌, ap, subst, arith, ⊎_elim}
-use Rattle.std.specs.Prelude.{nat_eq, nat_le, int_lt, ◌≤ℤ◌, ◌<ℤ◌, ◌||◌, Option, Some, None, slice_get}
+use Rattle.std.proofs.Common.{◌≡◌, ◌≢◌, ℕ, zero, suc, ◌+◌, ◌<◌, ◌≤◌, Bool, true, false, cond, List, [], ◌∷◌, ◌++◌, get_or, refl, sym, ◌∙◌, ap, subst, arith, ⊎_elim}
+use Rattle.std.specs.Prelude.{MatchOption, nat_eq, nat_le, ◌||◌, Option, Some, None, slice_get}
 use Rattle.std.specs.List.{AllByRecursion, filter}
 use Rattle.std.specs.Option.{option_map, option_and_then}
 use Rattle.std.specs.Ordering.{nat_cmp}
 use Rattle.std.specs.FinMap.{put}
 use Rattle.std.specs.FinMap.Entries.{where_key}
-use Rattle.std.proofs.lemmas.Int.{ints}
 use Rattle.std.proofs.lemmas.Bool.{cases_lt}
 use Rattle.std.proofs.lemmas.Option.{slice_get-get_or, slice_get_within, get_or_from_slice_get}
+use Rattle.execlist.specs.Order.{IsEarliestGreatest, chosen}
+use Rattle.execlist.proofs.OrderLaws.{chosen_is_earliest}
 use Rattle.memlist.specs.declared.gap.Gap.{Gap}
 use Rattle.memlist.specs.declared.region.Region.{Region}
 use Rattle.memlist.specs.Regions.{region_end}
 use Rattle.memlist.specs.Blocks.{Blocks, blocks_in, gaps, gaps_between, is_in}
-use Rattle.memlist.specs.Fit.{better, chosen, fit, front, has_room, lowest_gap, round}
+use Rattle.memlist.specs.Fit.{fit, front, has_room, lowest_gap, region_pri, round}
 use Rattle.memlist.specs.Memory.{IsLaid, IsWellFormed}
-use Rattle.memlist.specs.Pieces.{AreDisjoint, IsEarliestGreatest}
+use Rattle.memlist.specs.Pieces.{AreDisjoint}
 use Rattle.memlist.proofs.Gaps.{taken}
 use Rattle.memlist.proofs.Headers.{IsGapWithin, end_aligned, ends_within, from_le, gaps_within}
 use Rattle.memlist.proofs.Slots.{AllFrom}
@@ -26,82 +27,14 @@ use Rattle.memlist.proofs.Keeping.{are_laid_put, answers_put, from_home, in_some
 
 -- The chosen region
 
-better_some : (region : Region) (o : Option Region) → better region o ≢ None
-better_some region None e = cc
-better_some region (Some later) e = elim (int_lt region.pri later.pri) as (λ b. cond b (Some later) (Some region) ≡ None → ⊥) [ true ↦ λ f. cc | false ↦ λ f. cc ] e
+chosen_one : (regions : List Region) (o : Option Region) → chosen region_pri regions ≡ o → MatchOption o (regions ≡ []) (IsEarliestGreatest region_pri regions)
+chosen_one regions o is = subst (λ o. MatchOption o (regions ≡ []) (IsEarliestGreatest region_pri regions)) is (chosen_is_earliest Region region_pri regions)
 
-pub chosen_none : (regions : List Region) → chosen regions ≡ None → regions ≡ []
-chosen_none [] e = refl
-chosen_none (region ∷ rest) e = absurd (better_some region (chosen rest) e)
+pub chosen_none : (regions : List Region) → chosen region_pri regions ≡ None → regions ≡ []
+chosen_none regions is = chosen_one regions None is
 
-none_at : (regions : List Region) (k : ℕ) (other : Region) → regions ≡ [] → slice_get regions k ≡ Some other → ⊥
-none_at [] k other e at = cc
-none_at (x ∷ rest) k other e at = cc
-
-lt_of : (a b : ℤ) → int_lt a b ≡ true → a <ℤ b
-lt_of a b h = grind (arith, ints)
-
-le_of : (a b : ℤ) → int_lt a b ≡ false → b ≤ℤ a
-le_of a b h = grind (arith, ints)
-
-le_self : (a : ℤ) → a ≤ℤ a
-le_self a = grind (arith, ints)
-
-le_trans_z : (a b c : ℤ) → a ≤ℤ b → b ≤ℤ c → a ≤ℤ c
-le_trans_z a b c h k = grind (arith, ints)
-
-lt_le_z : (a b : ℤ) → a <ℤ b → a ≤ℤ b
-lt_le_z a b h = grind (arith, ints)
-
-first_cases : (region : Region) (rest : List Region) → ((k : ℕ) (other : Region) → slice_get rest k ≡ Some other → other.pri ≤ℤ region.pri)
-    → (k : ℕ) (other : Region) → slice_get (region ∷ rest) k ≡ Some other → other.pri ≤ℤ region.pri
-first_cases region rest others zero other at = let here : region ≡ other = cc in subst (λ (r : Region). r.pri ≤ℤ region.pri) here (le_self region.pri)
-first_cases region rest others (suc k) other at = others k other at
-
--- the first of the regions is chosen
-first_greatest : (region : Region) (rest : List Region) → ((k : ℕ) (other : Region) → slice_get rest k ≡ Some other → other.pri ≤ℤ region.pri) → IsEarliestGreatest (region ∷ rest) region
-first_greatest region rest others = record {
-  place = 0;
-  at = refl;
-  greatest = λ k other at. first_cases region rest others k other at;
-  earliest = λ k other lt at. absurd (omega arith);
-}
-
-later_greatest : (region : Region) (rest : List Region) (later : Region) → region.pri <ℤ later.pri → IsEarliestGreatest rest later
-    → (k : ℕ) (other : Region) → slice_get (region ∷ rest) k ≡ Some other → other.pri ≤ℤ later.pri
-later_greatest region rest later lt g zero other at = let here : region ≡ other = cc in subst (λ (r : Region). r.pri ≤ℤ later.pri) here (lt_le_z region.pri later.pri lt)
-later_greatest region rest later lt g (suc k) other at = g.greatest k other at
-
-later_earliest : (region : Region) (rest : List Region) (later : Region) (place : ℕ) → region.pri <ℤ later.pri
-    → ((k : ℕ) (other : Region) → k < place → slice_get rest k ≡ Some other → other.pri <ℤ later.pri)
-    → (k : ℕ) (other : Region) → k < suc place → slice_get (region ∷ rest) k ≡ Some other → other.pri <ℤ later.pri
-later_earliest region rest later place lt g zero other below at = let here : region ≡ other = cc in subst (λ (r : Region). r.pri <ℤ later.pri) here lt
-later_earliest region rest later place lt g (suc k) other below at = g k other (omega arith) at
-
-chosen_by : (region : Region) (rest : List Region) (o : Option Region) (answer : Region) → chosen rest ≡ o → ((later : Region) → o ≡ Some later → IsEarliestGreatest rest later)
-    → better region o ≡ Some answer → IsEarliestGreatest (region ∷ rest) answer
-chosen_by region rest None answer is later e =
-    let here : region ≡ answer = cc in
-    subst (IsEarliestGreatest (region ∷ rest)) here (first_greatest region rest (λ k other at. absurd (none_at rest k other (chosen_none rest is) at)))
-chosen_by region rest (Some next) answer is later e =
-    let g = later next refl in
-    elim (int_lt region.pri next.pri) as (λ b. int_lt region.pri next.pri ≡ b → cond b (Some next) (Some region) ≡ Some answer → IsEarliestGreatest (region ∷ rest) answer) [
-      | true ↦ λ t f. let here : next ≡ answer = cc in
-          let lt = lt_of region.pri next.pri t in
-          subst (IsEarliestGreatest (region ∷ rest)) here record {
-            place = suc g.place;
-            at = g.at;
-            greatest = later_greatest region rest next lt g;
-            earliest = later_earliest region rest next g.place lt g.earliest;
-          }
-      | false ↦ λ t f. let here : region ≡ answer = cc in
-          subst (IsEarliestGreatest (region ∷ rest)) here
-          (first_greatest region rest (λ k other at. le_trans_z other.pri next.pri region.pri (g.greatest k other at) (le_of region.pri next.pri t)))
-    ] refl e
-
-pub chosen_greatest : (regions : List Region) (region : Region) → chosen regions ≡ Some region → IsEarliestGreatest regions region
-chosen_greatest [] region e = cc
-chosen_greatest (x ∷ rest) region e = chosen_by x rest (chosen rest) region refl (chosen_greatest rest) e
+pub chosen_greatest : (regions : List Region) (region : Region) → chosen region_pri regions ≡ Some region → IsEarliestGreatest region_pri regions region
+chosen_greatest regions region is = chosen_one regions (Some region) is
 
 -- The parts of a fit
 
@@ -170,21 +103,21 @@ fit_gap : (regions : List Region) (blocks : Blocks) (size reqs address : ℕ) (r
 fit_gap regions blocks size reqs address region None some m is e = cc
 fit_gap regions blocks size reqs address region (Some gap) some m is e = record { some = some; region = region; place = m.place; at = m.at; gap = gap; lowest = is; front = some_number gap.address address e }
 
-fit_region : (regions : List Region) (blocks : Blocks) (size reqs address : ℕ) (o : Option Region) → size ≢ 0 → chosen (filter (has_room (round size) reqs blocks) regions) ≡ o
+fit_region : (regions : List Region) (blocks : Blocks) (size reqs address : ℕ) (o : Option Region) → size ≢ 0 → chosen region_pri (filter (has_room (round size) reqs blocks) regions) ≡ o
     → option_and_then (front (round size) blocks) o ≡ Some address → IsFit regions blocks size reqs address
 fit_region regions blocks size reqs address None some is e = cc
 fit_region regions blocks size reqs address (Some region) some is e =
     let g = chosen_greatest (filter (has_room (round size) reqs blocks) regions) region is in
     fit_gap regions blocks size reqs address region (lowest_gap (round size) (gaps region blocks)) some
-    (filtered (has_room (round size) reqs blocks) regions g.place region g.at) refl e
+    (filtered (has_room (round size) reqs blocks) regions g.place region (slice_get-get_or (filter (has_room (round size) reqs blocks) regions) g.place region g.within ∙ ap (λ (r : Region). Some r) (g.there region))) refl e
 
 pub fit_parts : (regions : List Region) (blocks : Blocks) (size reqs address : ℕ) → fit regions blocks size reqs ≡ Some address → IsFit regions blocks size reqs address
 unfolding fit
 fit_parts regions blocks size reqs address e =
-    let inner = option_and_then (front (round size) blocks) (chosen (filter (has_room (round size) reqs blocks) regions)) in
+    let inner = option_and_then (front (round size) blocks) (chosen region_pri (filter (has_room (round size) reqs blocks) regions)) in
     cases_bool (nat_eq size 0)
     (λ t. let bad : None ≡ Some address = ap (λ b. cond b None inner) (sym t) ∙ e in cc)
-    (λ f. fit_region regions blocks size reqs address (chosen (filter (has_room (round size) reqs blocks) regions)) (not_zero size f) refl (ap (λ b. cond b None inner) (sym f) ∙ e))
+    (λ f. fit_region regions blocks size reqs address (chosen region_pri (filter (has_room (round size) reqs blocks) regions)) (not_zero size f) refl (ap (λ b. cond b None inner) (sym f) ∙ e))
 
 pub fitted_well_formed : (regions : List Region) (blocks : Blocks) (size reqs tag address : ℕ) → IsWellFormed regions blocks → fit regions blocks size reqs ≡ Some address
     → IsWellFormed regions (put nat_cmp address (round size, tag) blocks)

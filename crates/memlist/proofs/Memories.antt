@@ -8,6 +8,7 @@ use Rattle.std.specs.FinMap.{put}
 use Rattle.std.proofs.lemmas.List.Elements.{recursion_from_All}
 use Rattle.std.proofs.lemmas.List.Sums.{sum_by-cons}
 use Rattle.std.proofs.lemmas.Option.{slice_get-get_or}
+use Rattle.execlist.specs.Order.{chosen}
 use Rattle.memlist.specs.declared.gap.Gap.{Gap}
 use Rattle.memlist.specs.declared.memory.Offer.{Offer}
 use Rattle.memlist.specs.declared.region.MemFault.{MemFault}
@@ -15,7 +16,7 @@ use Rattle.memlist.specs.declared.region.MemFault.TheVariants.{Misaligned, Overl
 use Rattle.memlist.specs.declared.region.Region.{Region}
 use Rattle.memlist.specs.Regions.{are_apart, are_small, is_aligned, is_in_reach, region_end, regions_fault, total_size}
 use Rattle.memlist.specs.Blocks.{Blocks, block_at, freed, gaps, is_in}
-use Rattle.memlist.specs.Fit.{asks, avail, chosen, fit, free_sizes, front, greatest, has_room, is_suitable, lowest_gap, round}
+use Rattle.memlist.specs.Fit.{asks, avail, fit, free_sizes, front, greatest, has_room, is_suitable, lowest_gap, region_pri, round}
 use Rattle.memlist.specs.Memory.{Memory, without_block}
 use Rattle.memlist.specs.Chain.{IsLinked, first_or}
 use Rattle.memlist.specs.Areas.{Area, AreMemory, IsFreeChain, IsLaidArea, area_gaps, empty_area, greatest_total, memory_of, merged, regions_of}
@@ -222,8 +223,8 @@ fit_nothing regions blocks size reqs e = rw e refl
 pub fit_none : (areas : List Area) (size reqs : ℕ) → AreMemory areas → size ≢ 0 → chosen_of (round size) reqs areas ≡ None → fit (regions_of areas) (merged areas) size reqs ≡ None
 unfolding fit
 fit_none areas size reqs m some none =
-    ap (λ b. cond b None (option_and_then (front (round size) (merged areas)) (chosen (filter (has_room (round size) reqs (merged areas)) (regions_of areas))))) (nat_eq-other size 0 some)
-    ∙ ap (λ rs. option_and_then (front (round size) (merged areas)) (chosen rs)) (rooms areas areas (round size) reqs (shows_gaps areas m))
+    ap (λ b. cond b None (option_and_then (front (round size) (merged areas)) (chosen region_pri (filter (has_room (round size) reqs (merged areas)) (regions_of areas))))) (nat_eq-other size 0 some)
+    ∙ ap (λ rs. option_and_then (front (round size) (merged areas)) (chosen region_pri rs)) (rooms areas areas (round size) reqs (shows_gaps areas m))
     ∙ ap (option_and_then (front (round size) (merged areas))) none
 
 pub fit_some : (areas : List Area) (size reqs place : ℕ) (area : Area) (gap : Gap) → AreMemory areas → size ≢ 0 → slice_get areas place ≡ Some area
@@ -231,8 +232,8 @@ pub fit_some : (areas : List Area) (size reqs place : ℕ) (area : Area) (gap : 
 unfolding fit
 fit_some areas size reqs place area gap m some at choice lowest =
     let shown = gaps_of_area areas place area (apart_memory areas m) m.laid at in
-    ap (λ b. cond b None (option_and_then (front (round size) (merged areas)) (chosen (filter (has_room (round size) reqs (merged areas)) (regions_of areas))))) (nat_eq-other size 0 some)
-    ∙ ap (λ rs. option_and_then (front (round size) (merged areas)) (chosen rs)) (rooms areas areas (round size) reqs (shows_gaps areas m))
+    ap (λ b. cond b None (option_and_then (front (round size) (merged areas)) (chosen region_pri (filter (has_room (round size) reqs (merged areas)) (regions_of areas))))) (nat_eq-other size 0 some)
+    ∙ ap (λ rs. option_and_then (front (round size) (merged areas)) (chosen region_pri rs)) (rooms areas areas (round size) reqs (shows_gaps areas m))
     ∙ ap (option_and_then (front (round size) (merged areas))) choice
     ∙ ap (λ (free : List Gap). option_map (λ (gap : Gap). gap.address) (lowest_gap (round size) free)) shown
     ∙ ap (option_map (λ (gap : Gap). gap.address)) lowest

@@ -1,13 +1,14 @@
 -- How the headers of a memory are searched: for the home of an address, for a gap, and for the sizes of gaps.
 use Rattle.std.specs.Prelude.{◌≡◌, ℕ, Bool, true, false, ◌&&◌, int_lt, List, map, Option, None, Some, is_some, IsSomeAnd, slice_get}
 use Rattle.std.specs.List.{All, filter, flat_map, sum_by}
+use Rattle.execlist.specs.Order.{chosen}
 use Rattle.memlist.specs.declared.gap.Gap.{Gap}
 use Rattle.memlist.specs.declared.memory.Offer.{Offer}
 use Rattle.memlist.specs.declared.region.Region.{Region}
 use Rattle.memlist.specs.Regions.{total_size}
 use Rattle.memlist.specs.Blocks.{is_in}
 use Rattle.memlist.specs.Chain.{IsSpot}
-use Rattle.memlist.specs.Fit.{chosen, greatest, is_suitable, lowest_gap}
+use Rattle.memlist.specs.Fit.{greatest, is_suitable, lowest_gap, region_pri}
 use Rattle.memlist.specs.Areas.{Area, area_gaps, regions_of}
 
 -- the place of the area in whose region an address lies
@@ -26,7 +27,7 @@ offers size reqs area = is_suitable reqs area.region && is_some (lowest_gap size
 
 -- the region that is chosen among those that offer a gap
 abbrev pub chosen_of : ℕ → ℕ → List Area → Option Region
-chosen_of size reqs areas = chosen (regions_of (filter (offers size reqs) areas))
+chosen_of size reqs areas = chosen region_pri (regions_of (filter (offers size reqs) areas))
 
 -- an offer names the chosen region among some of the areas, and its lowest gap
 abbrev pub IsOffer : List Area → ℕ → ℕ → List Area → Option Offer → Type 0

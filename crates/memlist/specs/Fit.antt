@@ -1,7 +1,8 @@
 -- Where AllocMem takes memory, and what AvailMem answers (RKM Libraries, Exec Memory Allocation).
-use Rattle.std.specs.Prelude.{ℕ, ◌+◌, ◌*◌, ◌/◌, ◌^◌, max, Bool, not, ◌&&◌, nat_eq, nat_le, int_lt, if◌then◌else◌, bit_and, List, [], ◌∷◌, map, Option, None, Some, is_some}
+use Rattle.std.specs.Prelude.{ℕ, ℤ, ◌+◌, ◌*◌, ◌/◌, ◌^◌, max, Bool, not, ◌&&◌, nat_eq, nat_le, if◌then◌else◌, bit_and, List, [], ◌∷◌, map, Option, None, is_some}
 use Rattle.std.specs.List.{filter, find, flat_map, sum_by}
 use Rattle.std.specs.Option.{option_map, option_and_then}
+use Rattle.execlist.specs.Order.{chosen}
 use Rattle.memlist.specs.declared.gap.Gap.{Gap}
 use Rattle.memlist.specs.declared.region.Region.{Region}
 use Rattle.memlist.specs.Regions.{total_size}
@@ -23,15 +24,8 @@ lowest_gap size free = find (λ (gap : Gap). nat_le size gap.size) free
 abbrev pub has_room : ℕ → ℕ → Blocks → Region → Bool
 has_room size reqs blocks region = is_suitable reqs region && is_some (lowest_gap size (gaps region blocks))
 
--- a region, unless what is chosen from those after it has a greater priority
-abbrev pub better : Region → Option Region → Option Region
-better region None = Some region
-better region (Some later) = if int_lt region.pri later.pri then Some later else Some region
-
--- the earliest among the regions of greatest priority
-abbrev pub chosen : List Region → Option Region
-chosen [] = None
-chosen (region ∷ rest) = better region (chosen rest)
+abbrev pub region_pri : Region → ℤ
+region_pri region = region.pri
 
 -- the address of the lowest gap of a region that has at least a size
 abbrev pub front : ℕ → Blocks → Region → Option ℕ
@@ -43,7 +37,7 @@ front size blocks region = option_map (λ (gap : Gap). gap.address) (lowest_gap 
 unfoldable pub fit : List Region → Blocks → ℕ → ℕ → Option ℕ
 fit regions blocks size reqs =
     if nat_eq size 0 then None
-    else option_and_then (front (round size) blocks) (chosen (filter (has_room (round size) reqs blocks) regions))
+    else option_and_then (front (round size) blocks) (chosen region_pri (filter (has_room (round size) reqs blocks) regions))
 
 -- the sizes of all gaps of the suitable regions
 abbrev pub free_sizes : List Region → Blocks → ℕ → List ℕ

@@ -1,5 +1,5 @@
 -- Blocks and gaps side by side: what the laws of memory say.
-use Rattle.std.specs.Prelude.{◌≡◌, ◌⊎◌, ◌+◌, ◌%◌, ◌<◌, ◌≤◌, ◌&&◌, ◌++◌, List, Bool, Some, map, nat_le, slice_get, ℕ, ◌≤ℤ◌, ◌<ℤ◌}
+use Rattle.std.specs.Prelude.{◌≡◌, ◌⊎◌, ◌+◌, ◌%◌, ◌<◌, ◌≤◌, ◌&&◌, ◌++◌, List, Bool, map, nat_le, ℕ}
 use Rattle.std.specs.List.{All, AllPairs, Any, count_by, sum_by}
 use Rattle.memlist.specs.declared.gap.Gap.{Gap}
 use Rattle.memlist.specs.declared.region.Region.{Region}
@@ -41,13 +41,6 @@ LiesIn block region = (region.base ≤ block.0) × (block.0 + block.1.0 ≤ regi
 pub record AreDisjoint (regions : List Region) (blocks : Blocks) : Type 0 where
   pub inside : All (λ (block : ℕ × (ℕ × ℕ)). Any (LiesIn block) regions) blocks
   pub apart : AllPairs (λ (block next : ℕ × (ℕ × ℕ)). block.0 + block.1.0 ≤ next.0) blocks
-
--- A region is the earliest among those of greatest priority.
-pub record IsEarliestGreatest (regions : List Region) (region : Region) : Type 0 where
-  pub place : ℕ
-  pub at : slice_get regions place ≡ Some region
-  pub greatest : (k : ℕ) (other : Region) → slice_get regions k ≡ Some other → other.pri ≤ℤ region.pri
-  pub earliest : (k : ℕ) (other : Region) → k < place → slice_get regions k ≡ Some other → other.pri <ℤ region.pri
 
 -- A stretch lies on whole units above the lowest page and below 2 GB, and is not empty.
 pub record IsPlaced (address size : ℕ) : Type 0 where

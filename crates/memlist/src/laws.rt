@@ -1,10 +1,11 @@
 //! Laws of memory: functions without effect whose contracts say what the definitions amount to.
 ghost use Rattle.std.specs.Prelude.{◌≡◌, ◌+◌, ◌%◌, ◌<◌, ◌≤◌, ℕ, List, [], None, Some, slice_get};
+ghost use Rattle.execlist.specs.Order.{IsEarliestGreatest, chosen};
 ghost use Rattle.memlist.specs.Regions.{regions_fault};
 ghost use Rattle.memlist.specs.Blocks.{Blocks, block_at, freed, with_block};
-ghost use Rattle.memlist.specs.Fit.{chosen, fit, round};
+ghost use Rattle.memlist.specs.Fit.{fit, region_pri, round};
 ghost use Rattle.memlist.specs.Memory.{IsWellFormed};
-ghost use Rattle.memlist.specs.Pieces.{AreDisjoint, IsEarliestGreatest, IsPlaced, IsTiled};
+ghost use Rattle.memlist.specs.Pieces.{AreDisjoint, IsPlaced, IsTiled};
 ghost use Rattle.memlist.specs.declared.region.Region.{Region};
 
 use crate::region::MEM_BLOCKSIZE;
@@ -22,8 +23,8 @@ pub fn rounds_up()
 ///
 /// Source: RKM Libraries, Exec Memory Allocation: priorities of regions.
 pub fn chosen_is_earliest_of_greatest()
-    ensures some { (regions : List Region) (region : Region) → chosen regions ≡ Some region → IsEarliestGreatest regions region }
-    ensures none { (regions : List Region) → chosen regions ≡ None → regions ≡ [] }
+    ensures some { (regions : List Region) (region : Region) → chosen region_pri regions ≡ Some region → IsEarliestGreatest region_pri regions region }
+    ensures none { (regions : List Region) → chosen region_pri regions ≡ None → regions ≡ [] }
 {}
 
 /// Blocks and gaps tile each region of a well-formed memory.

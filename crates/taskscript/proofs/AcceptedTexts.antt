@@ -9,7 +9,8 @@ use Rattle.taskscript.specs.declared.fault.EventFault.{EventFault}
 use Rattle.taskscript.specs.declared.fault.EventFault.TheVariants.{TooMany}
 use Rattle.taskscript.specs.declared.fault.FileFault.{FileFault}
 use Rattle.taskscript.specs.Events.{event_of, is_skipped, events_of, is_within, fault_by, line_faults, faults as line_by_line, text_lines, script_of, turns, AreWithin}
-use Rattle.taskscript.specs.Faults.{first, judged}
+use Rattle.execlist.specs.Order.{first}
+use Rattle.execlist.specs.Answers.{fault_or}
 use Rattle.taskscript.specs.File.{MachineData, faults, machine_of, file_of_document, file_of}
 use Rattle.taskscript.specs.Machines.{IsMachine}
 use Rattle.taskscript.specs.Tree.{document_of}
@@ -20,7 +21,7 @@ use Rattle.taskscript.proofs.Machines.{machine_holds}
 
 -- ---- machine files
 
-of_tree : (tree : Members) (m : MachineData) (fault : Option FileFault) → first (faults tree) ≡ fault → judged (machine_of tree) fault ≡ Ok m → IsMachine m
+of_tree : (tree : Members) (m : MachineData) (fault : Option FileFault) → first (faults tree) ≡ fault → fault_or fault (machine_of tree) ≡ Ok m → IsMachine m
 of_tree tree m None none is = let same : machine_of tree ≡ m = cc in subst (λ (x : MachineData). IsMachine x) same (machine_holds tree none)
 of_tree tree m (Some f) some is = absurd cc
 
@@ -52,7 +53,7 @@ after_lines before (line ∷ lines) so_far h =
     let here = after_line (is_skipped line) before line refl so_far (first_left (line_faults before line) _ h) in
     rw (← append_assoc before (line ∷ []) lines) (after_lines (before ++ line ∷ []) lines here (first_right (line_faults before line) _ h))
 
-of_lines : (lines : List (List ℕ)) (events : List Event) (fault : Option EventFault) → first (line_by_line [] lines) ≡ fault → judged (events_of lines) fault ≡ Ok events → AreWithin events
+of_lines : (lines : List (List ℕ)) (events : List Event) (fault : Option EventFault) → first (line_by_line [] lines) ≡ fault → fault_or fault (events_of lines) ≡ Ok events → AreWithin events
 of_lines lines events None none is =
     let same : events_of lines ≡ events = cc in
     let nothing : AreWithin [] = record { some = All-nil (λ e. 1 ≤ turns e); steps = omega arith; ticks = omega arith; count = omega arith } in

@@ -14,7 +14,8 @@ use Rattle.taskscript.specs.declared.fault.FileFault.{FileFault}
 use Rattle.taskscript.specs.declared.fault.FileFault.TheVariants.{BadCommand, NotInInterrupt, BadLabel, TooMany}
 use Rattle.taskscript.specs.Commands as numbered
 use Rattle.taskscript.specs.Commands.{ArgumentData, CommandData, command_view}
-use Rattle.taskscript.specs.Faults.{first, check, Judges}
+use Rattle.execlist.specs.Order.{first}
+use Rattle.taskscript.specs.Faults.{check, Judges}
 use Rattle.taskscript.specs.Interrupting.{Setting, may_stand, names_softints}
 use Rattle.taskscript.specs.Labels.{Mark, place_in, place_at, are_marked, jump_faults_in}
 use Rattle.taskscript.specs.Lines.{NamedVariableData, NamedArgumentData, number, variable, label, quoted, NamedCommandData, LineData, label_line, command_line}

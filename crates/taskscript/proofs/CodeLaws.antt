@@ -12,7 +12,8 @@ use Rattle.taskscript.specs.declared.variable.Variable.{Variable}
 use Rattle.taskscript.specs.declared.variable.Variable.TheVariants.{Private, Shared}
 use Rattle.taskscript.specs.Commands as numbered
 use Rattle.taskscript.specs.Commands.{CommandData, VariableFits, ArgumentFits, CommandFits}
-use Rattle.taskscript.specs.Faults.{first, check}
+use Rattle.execlist.specs.Order.{first}
+use Rattle.taskscript.specs.Faults.{check}
 use Rattle.taskscript.specs.Interrupting.{Setting, may_stand, names_softints}
 use Rattle.taskscript.specs.Lines.{NamedVariableData, NamedArgumentData, number, variable, label, quoted, NamedCommandData, LineData, label_line, command_line}
 use Rattle.taskscript.specs.Numbering.{seen_after, number_in, Names, names_with, names_after, variable_in, argument_in, command_in, is_within, variables_of_target, variables_of_arguments, variables_of, have_room}

@@ -8,7 +8,7 @@ use Rattle.std.proofs.Math.ListN.{get_or-map as default_map}
 use Rattle.taskscript.specs.declared.event.Event.{Event}
 use Rattle.taskscript.specs.declared.fault.EventFault.{EventFault}
 use Rattle.taskscript.specs.declared.fault.EventFault.TheVariants.{BadLine, TooMany, OutOfMemory}
-use Rattle.taskscript.specs.Faults.{first}
+use Rattle.execlist.specs.Order.{first}
 use Rattle.taskscript.specs.Events.{event_of, is_skipped, events_on, events_of, steps, ticks, are_within, is_within, line_faults, faults, text_lines, script_of, JudgesLines, AreWithin}
 use Rattle.taskscript.proofs.EventSizes.{events_some}
 

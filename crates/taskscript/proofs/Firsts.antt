@@ -1,7 +1,8 @@
 -- The first of the faults of two places, one after the other.
 use Rattle.std.proofs.Common.{◌≡◌, List, [], ◌∷◌, ◌++◌, Some, None, refl, sym, ap, ◌∙◌, append_assoc}
 use Rattle.taskscript.specs.declared.fault.FileFault.{FileFault}
-use Rattle.taskscript.specs.Faults.{first, IsFirst}
+use Rattle.execlist.specs.Order.{first}
+use Rattle.taskscript.specs.Faults.{IsFirst}
 
 pub first_none : {F : Type 0} (a b : List F) → first a ≡ None → first (a ++ b) ≡ first b
 first_none [] b h = refl

@@ -9,7 +9,7 @@ use Rattle.taskscript.specs.declared.word.row.Kind.TheVariants.{Value, Label, Na
 use Rattle.taskscript.specs.Commands as numbered
 use Rattle.taskscript.specs.Commands.{ArgumentData}
 use Rattle.taskscript.specs.Code.{body_faults, code_of}
-use Rattle.taskscript.specs.Faults.{first}
+use Rattle.execlist.specs.Order.{first}
 use Rattle.taskscript.specs.Interrupting.{Setting, is_of_interrupt, softint_named, softints_among}
 use Rattle.taskscript.specs.Lines.{NamedVariableData, NamedArgumentData, number, variable, label, quoted, NamedCommandData}
 use Rattle.taskscript.specs.Machines.{IsShared, ReadsShared, IsOfInterrupt, softint_asked, softints_named, NamesSoftints}

@@ -6,7 +6,7 @@ use Rattle.toml.specs.Data.{Data, item}
 use Rattle.toml.specs.View.{view, items_view}
 use Rattle.toml.proofs.Views.{items_view-drop}
 use Rattle.taskscript.specs.declared.fault.FileFault.{FileFault}
-use Rattle.taskscript.specs.Faults.{first}
+use Rattle.execlist.specs.Order.{first}
 use Rattle.taskscript.specs.File.{region_of, regions_of}
 use Rattle.taskscript.specs.Tree.{items_faults}
 use Rattle.taskscript.proofs.Firsts.{first_none}

@@ -8,7 +8,8 @@ use Rattle.toml.specs.Data.{Data, Items, no_items, item, Members}
 use Rattle.toml.proofs.Views.{items_view-drop}
 use Rattle.taskscript.specs.declared.fault.FileFault.{FileFault}
 use Rattle.taskscript.specs.Code.{body_faults, shared_after}
-use Rattle.taskscript.specs.Faults.{first, IsFirst}
+use Rattle.execlist.specs.Order.{first}
+use Rattle.taskscript.specs.Faults.{IsFirst}
 use Rattle.taskscript.specs.File.{name_of, named_faults, item_names, code_lines, bodies_faults, shared_after_bodies, with_bodies}
 use Rattle.taskscript.specs.Interrupting.{Setting}
 use Rattle.taskscript.specs.Numbering.{texts}

@@ -11,7 +11,8 @@ use Rattle.taskscript.specs.declared.named.NamedCommand.{NamedCommand}
 use Rattle.taskscript.specs.declared.variable.Variable.{Variable}
 use Rattle.taskscript.specs.declared.word.Word.{Word}
 use Rattle.taskscript.specs.Commands.{ArgumentData, CommandData, argument_view}
-use Rattle.taskscript.specs.Faults.{first, check}
+use Rattle.execlist.specs.Order.{first}
+use Rattle.taskscript.specs.Faults.{check}
 use Rattle.taskscript.specs.Labels.{Mark, place_in, are_marked, jump_faults_in}
 use Rattle.taskscript.specs.Lines.{NamedArgumentData, number, variable, label, quoted, NamedCommandData, named_command_view}
 use Rattle.taskscript.specs.Numbering.{labels_of_arguments}

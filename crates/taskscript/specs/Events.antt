@@ -7,7 +7,8 @@ use Rattle.taskscript.specs.declared.event.Event.{Event}
 use Rattle.taskscript.specs.declared.event.Event.TheVariants.{Run, Tick, Irq}
 use Rattle.taskscript.specs.declared.fault.EventFault.{EventFault}
 use Rattle.taskscript.specs.declared.fault.EventFault.TheVariants.{BadLine, TooMany, OutOfMemory}
-use Rattle.taskscript.specs.Faults.{first, judged}
+use Rattle.execlist.specs.Order.{first}
+use Rattle.execlist.specs.Answers.{fault_or}
 
 -- ---- one line
 
@@ -85,7 +86,7 @@ text_lines text = slice_split (λ b. b == 10) text
 
 -- the events of a text, or the fault of its first faulty line
 unfoldable pub script_of : List ℕ → Result (List Event) EventFault
-script_of text = judged (events_of (text_lines text)) (first (faults [] (text_lines text)))
+script_of text = fault_or (first (faults [] (text_lines text))) (events_of (text_lines text))
 
 -- ---- what a reader of lines answers
 

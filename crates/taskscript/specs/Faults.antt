@@ -1,5 +1,6 @@
--- Faults: their numbers, and the first of all faults of a text in their order, by which it is judged.
+-- Faults: their numbers. A text is judged by the first of all its faults in their order.
 use Rattle.std.specs.Prelude.{◌≡◌, ℕ, Bool, List, [], ◌∷◌, Option, Some, None, Result, Ok, Err, if◌then◌else◌}
+use Rattle.execlist.specs.Order.{first}
 use Rattle.taskscript.specs.declared.fault.FileFault.{FileFault}
 use Rattle.taskscript.specs.declared.fault.FileFault.TheVariants.{NotToml, UnknownKey, MissingKey, BadValue, NameTwice, BadRegions, BadCommand, BadLabel, NotInInterrupt, TooMany, OutOfMemory}
 use Rattle.taskscript.specs.declared.fault.EventFault.{EventFault}
@@ -24,16 +25,6 @@ abbrev pub event_fault_number : EventFault → ℕ
 event_fault_number (event.BadLine line) = 1
 event_fault_number event.TooMany = 2
 event_fault_number event.OutOfMemory = 3
-
--- the first of some faults of either kind, if there is one
-abbrev pub first : {F : Type 0} → List F → Option F
-first [] = None
-first (fault ∷ faults) = Some fault
-
--- what a text states, or the first of its faults
-abbrev pub judged : {X F : Type 0} → X → Option F → Result X F
-judged value None = Ok value
-judged value (Some fault) = Err fault
 
 -- this fault, unless the test holds
 abbrev pub check : Bool → FileFault → List FileFault

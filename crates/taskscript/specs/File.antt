@@ -7,7 +7,9 @@ use Rattle.taskscript.specs.declared.fault.FileFault.{FileFault}
 use Rattle.taskscript.specs.declared.fault.FileFault.TheVariants.{NotToml, UnknownKey, BadRegions}
 use Rattle.taskscript.specs.declared.source.Source.{Source}
 use Rattle.taskscript.specs.Commands.{CommandData}
-use Rattle.taskscript.specs.Faults.{first, judged, check}
+use Rattle.execlist.specs.Order.{first}
+use Rattle.execlist.specs.Answers.{fault_or}
+use Rattle.taskscript.specs.Faults.{check}
 use Rattle.taskscript.specs.Interrupting.{Setting}
 use Rattle.taskscript.specs.Tree.{document_of, required, optional, table_faults, of_items, keys_are_among, integer_faults, pri_faults, softint_pri_faults, source_faults, boolean_faults, name_faults, array_faults, items_faults, code_faults, pri_in, source_in, number_or, boolean_or, string_or_nothing, items_or_none, members_or_none}
 use Rattle.taskscript.specs.Code.{lines_in, body_faults, code_of, shared_after}
@@ -337,7 +339,7 @@ machine_of tree = record {
 
 abbrev pub file_of_document : Option Members → Result MachineData FileFault
 file_of_document None = Err NotToml
-file_of_document (Some tree) = judged (machine_of tree) (first (faults tree))
+file_of_document (Some tree) = fault_or (first (faults tree)) (machine_of tree)
 
 -- the machine that the bytes of a file state, or the fault at the first of its faulty places
 unfoldable pub file_of : List ℕ → Result MachineData FileFault

@@ -1,6 +1,6 @@
 use Rattle.std.proofs.Common.{◌≡◌, drop}
 use Rattle.toml.specs.View.{items_view}
-use Rattle.taskscript.specs.Faults.{first}
+use Rattle.execlist.specs.Order.{first}
 use Rattle.taskscript.specs.File.{item_names, shared_after_bodies}
 use Rattle.execcheck.specs.AllPlaces.{bodies_placed}
 use Rattle.execcheck.specs.Places.{setting}

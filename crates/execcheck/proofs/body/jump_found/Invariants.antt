@@ -1,7 +1,7 @@
 use Rattle.std.proofs.Common.{◌≡◌, drop}
 use Rattle.toml.specs.View.{items_view}
 use Rattle.taskscript.specs.Code.{lines_in}
-use Rattle.taskscript.specs.Faults.{first}
+use Rattle.execlist.specs.Order.{first}
 use Rattle.execcheck.specs.AllPlaces.{jumps_placed}
 use Rattle.execcheck.specs.Seen.{texts}
 use Rattle.execcheck.proofs.body.jump_found.Given as goal

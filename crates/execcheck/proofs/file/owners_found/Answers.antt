@@ -1,7 +1,7 @@
 use Rattle.std.proofs.Common.{◌≡◌, ◌∙◌, ◌++◌, [], sym, ap}
 use Rattle.toml.specs.Data.{Items}
 use Rattle.toml.specs.View.{table_view, items_view}
-use Rattle.taskscript.specs.Faults.{first}
+use Rattle.execlist.specs.Order.{first}
 use Rattle.taskscript.specs.File.{item_names, names_before_servers, names_before_tasks, softints_in}
 use Rattle.execcheck.specs.declared.rules.Array.TheVariants.{Softint, Server, Task}
 use Rattle.execcheck.specs.TreePlaces.{array_in}

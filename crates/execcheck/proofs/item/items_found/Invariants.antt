@@ -1,6 +1,6 @@
 use Rattle.std.proofs.Common.{◌≡◌, ◌++◌}
 use Rattle.toml.specs.View.{items_view}
-use Rattle.taskscript.specs.Faults.{first}
+use Rattle.execlist.specs.Order.{first}
 use Rattle.taskscript.specs.File.{item_names}
 use Rattle.execcheck.specs.TreePlaces.{items_found}
 use Rattle.execcheck.proofs.TreeTurns.{items_from}

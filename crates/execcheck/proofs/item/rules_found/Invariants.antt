@@ -1,6 +1,6 @@
 use Rattle.std.proofs.Common.{◌≡◌, drop}
 use Rattle.toml.specs.View.{table_view}
-use Rattle.taskscript.specs.Faults.{first}
+use Rattle.execlist.specs.Order.{first}
 use Rattle.execcheck.specs.Names.{names_before}
 use Rattle.execcheck.specs.TreePlaces.{rules_found}
 use Rattle.execcheck.proofs.item.rules_found.Given as goal

@@ -1,6 +1,6 @@
 use Rattle.std.proofs.Common.{◌∙◌, sym, ap, List}
 use Rattle.toml.specs.View.{table_view}
-use Rattle.taskscript.specs.Faults.{first}
+use Rattle.execlist.specs.Order.{first}
 use Rattle.execcheck.specs.Names.{names_before}
 use Rattle.execcheck.specs.declared.rules.Rule.{Rule}
 use Rattle.execcheck.specs.TreePlaces.{rules_found}

@@ -2,7 +2,8 @@ use Rattle.std.proofs.Common.{◌∙◌, Bool, Some, sym, ap}
 use Rattle.std.proofs.lemmas.Result.{err_from_is_err_and}
 use Rattle.taskscript.specs.declared.fault.FileFault.TheVariants.{BadCommand, NotInInterrupt, TooMany}
 use Rattle.taskscript.specs.Bodies.{reading_view}
-use Rattle.taskscript.specs.Faults.{first, check}
+use Rattle.execlist.specs.Order.{first}
+use Rattle.taskscript.specs.Faults.{check}
 use Rattle.taskscript.specs.Interrupting.{may_stand, names_softints}
 use Rattle.taskscript.specs.Lines.{named_command_view}
 use Rattle.taskscript.specs.Numbering.{have_room, variables_of}

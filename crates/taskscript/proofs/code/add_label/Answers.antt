@@ -3,7 +3,8 @@ use Rattle.std.specs.Prelude.{is_some}
 use Rattle.std.proofs.lemmas.List.{length-map}
 use Rattle.taskscript.specs.declared.fault.FileFault.TheVariants.{NotInInterrupt, BadLabel}
 use Rattle.taskscript.specs.Bodies.{Reading}
-use Rattle.taskscript.specs.Faults.{first, check}
+use Rattle.execlist.specs.Order.{first}
+use Rattle.taskscript.specs.Faults.{check}
 use Rattle.taskscript.specs.Labels.{Mark, place_in, marks_view}
 use Rattle.taskscript.specs.Lines.{NamedCommandData, named_command_view}
 use Rattle.taskscript.specs.Numbering.{Names, names_view}

@@ -2,7 +2,7 @@ use Rattle.std.proofs.Common.{◌≡◌, ◌≤◌, drop, length}
 use Rattle.toml.specs.View.{items_view}
 use Rattle.taskscript.specs.Bodies.{nothing_read, reading_view, reading_after, faults_after}
 use Rattle.taskscript.specs.Code.{lines_in}
-use Rattle.taskscript.specs.Faults.{first}
+use Rattle.execlist.specs.Order.{first}
 use Rattle.taskscript.specs.Numbering.{texts}
 use Rattle.taskscript.specs.Records.{setting_view}
 use Rattle.taskscript.proofs.code.body_of.Given as goal

@@ -1,6 +1,6 @@
 use Rattle.std.proofs.Common.{◌≡◌, ◌≤◌, take, drop, map, length, sum_by, []}
 use Rattle.taskscript.specs.Events.{events_of, steps, ticks, faults}
-use Rattle.taskscript.specs.Faults.{first}
+use Rattle.execlist.specs.Order.{first}
 use Rattle.taskscript.proofs.events.events_of.Given as goal
 
 abbrev pub invariant-loop-i : goal.invariant-loop-i

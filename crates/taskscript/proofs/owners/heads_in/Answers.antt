@@ -3,7 +3,8 @@ use Rattle.std.proofs.lemmas.Result.{err_from_is_err_and}
 use Rattle.arrayvec.specs.ArrayString.{ArrayString}
 use Rattle.toml.specs.Data.{get_member}
 use Rattle.toml.specs.View.{table_view}
-use Rattle.taskscript.specs.Faults.{first, IsFirst}
+use Rattle.execlist.specs.Order.{first}
+use Rattle.taskscript.specs.Faults.{IsFirst}
 use Rattle.taskscript.specs.File.{softint_faults, server_faults, task_faults, named_faults, item_names, softints_in, servers_in, tasks_in, names_before_servers, names_before_tasks}
 use Rattle.taskscript.specs.Numbering.{texts}
 use Rattle.taskscript.specs.Tree.{optional, array_faults}

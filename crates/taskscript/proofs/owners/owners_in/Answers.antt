@@ -2,7 +2,7 @@ use Rattle.std.proofs.Common.{◌≡◌, ℕ, ◌∙◌, ◌++◌, Bool, true, f
 use Rattle.std.proofs.lemmas.Result.{err_from_is_err_and}
 use Rattle.toml.specs.Data.{Items}
 use Rattle.toml.specs.View.{table_view, items_view}
-use Rattle.taskscript.specs.Faults.{first}
+use Rattle.execlist.specs.Order.{first}
 use Rattle.taskscript.specs.File.{item_names, softints_in, servers_in, tasks_in, setting_of, bodies_faults, shared_after_bodies, with_bodies, shared_after_softints, shared_after_servers, softint_of, server_of, task_of}
 use Rattle.taskscript.specs.Interrupting.{Setting}
 use Rattle.taskscript.specs.Numbering.{texts}

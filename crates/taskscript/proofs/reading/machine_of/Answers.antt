@@ -2,7 +2,8 @@ use Rattle.std.proofs.Common.{sym, ◌∙◌, ◌++◌, ap, map, Bool, None, Som
 use Rattle.std.proofs.lemmas.Result.{err_from_is_err_and}
 use Rattle.toml.specs.View.{table_view}
 use Rattle.taskscript.specs.declared.fault.FileFault.TheVariants.{UnknownKey}
-use Rattle.taskscript.specs.Faults.{first, check}
+use Rattle.execlist.specs.Order.{first}
+use Rattle.taskscript.specs.Faults.{check}
 use Rattle.taskscript.specs.File.{top_keys, total_of, version_of, settings_faults, regions_faults, libraries_faults, both_passes_faults}
 use Rattle.taskscript.specs.Records.{library_view, softint_view, server_view, task_view}
 use Rattle.taskscript.specs.Tree.{keys_are_among}

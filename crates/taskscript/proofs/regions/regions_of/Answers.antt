@@ -1,6 +1,6 @@
 use Rattle.std.proofs.Common.{◌≡◌, sym, ◌∙◌, None}
 use Rattle.toml.specs.View.{view}
-use Rattle.taskscript.specs.Faults.{first}
+use Rattle.execlist.specs.Order.{first}
 use Rattle.taskscript.specs.File.{region_faults, region_of}
 use Rattle.taskscript.specs.Tree.{table_faults}
 use Rattle.taskscript.proofs.ItemTurns.{items_go_on, regions_found}

@@ -1,6 +1,6 @@
 use Rattle.std.proofs.Common.{◌≡◌, drop, ◌++◌}
 use Rattle.toml.specs.View.{items_view}
-use Rattle.taskscript.specs.Faults.{first}
+use Rattle.execlist.specs.Order.{first}
 use Rattle.taskscript.specs.File.{region_faults, regions_of}
 use Rattle.taskscript.specs.Tree.{table_faults, items_faults}
 use Rattle.taskscript.proofs.regions.regions_of.Given as goal

@@ -1,7 +1,7 @@
 use Rattle.std.proofs.Common.{◌≡◌, ◌++◌, drop, map}
 use Rattle.std.specs.List.{flat_map}
 use Rattle.taskscript.specs.Commands.{command_view}
-use Rattle.taskscript.specs.Faults.{first}
+use Rattle.execlist.specs.Order.{first}
 use Rattle.taskscript.specs.Labels.{jump_faults_in, marks_view, place_at}
 use Rattle.taskscript.specs.Lines.{named_command_view}
 use Rattle.taskscript.specs.Numbering.{names_view, command_in}

@@ -3,7 +3,8 @@ use Rattle.std.proofs.lemmas.Result.{err_from_is_err_and}
 use Rattle.toml.specs.Data.{get_member}
 use Rattle.toml.specs.View.{table_view}
 use Rattle.taskscript.specs.declared.fault.FileFault.TheVariants.{UnknownKey}
-use Rattle.taskscript.specs.Faults.{first, check}
+use Rattle.execlist.specs.Order.{first}
+use Rattle.taskscript.specs.Faults.{check}
 use Rattle.taskscript.specs.File.{server_keys}
 use Rattle.taskscript.specs.Numbering.{texts}
 use Rattle.taskscript.specs.Tree.{required, optional, keys_are_among, pri_faults, source_faults, boolean_faults, name_faults, code_faults}
