@@ -1,9 +1,6 @@
 //! The command `execsim`: it simulates the machine of one file under the events of another, and prints the trace.
 #![tactic(auto)]
 
-#[cfg(test)]
-mod tests;
-
 use execrun::run_on_arguments;
 use std::process::ExitCode;
 

@@ -1,14 +1,22 @@
-//! Makes whole runs of the simulator, and compares each with what stands in its data: tables of runs, and the examples.
+//! Makes whole runs of the simulator and whole answers of the checker, and compares each with what stands in its data.
 //!
-//! Each argument is a table, `NAME.runs`, or an example, of which `NAME.toml`, `NAME.events` and `NAME.trace` stand beside each other.
+//! Each argument is a table of runs, `NAME.runs`, a table of mistakes, `NAME.machines`, `NAME.events` or `NAME.endings`, or an example, of
+//! which `NAME.toml`, `NAME.events` and `NAME.trace` stand beside each other.
+//!
+//! Where the first argument is `grow`, it makes a part of a machine instead, or a machine, whose growths are to be refused.
 #![tactic(auto)]
 
+mod advice;
 mod case;
+mod growing;
 mod outcome;
+mod part;
 mod run;
 mod table;
 mod tally;
+mod unmade;
 
+use crate::advice::compare_answers;
 use crate::case::{Case, is_as_wanted};
 use crate::table::compare_table;
 use crate::tally::Tally;
@@ -45,22 +53,29 @@ fn compare_example(rt: &HostRuntime, name: &str) -> io::Result<Tally> {
 fn compare(rt: &HostRuntime, name: &str) -> io::Result<Tally> {
     if name.ends_with(".runs") {
         let text = fs::read_to_string(rt, name)?;
-        compare_table(rt, name, text.as_str())
-    } else {
-        compare_example(rt, name)
+        return compare_table(rt, name, text.as_str());
     }
+    if name.ends_with(".machines") || name.ends_with(".events") || name.ends_with(".endings") {
+        let text = fs::read_to_string(rt, name)?;
+        return compare_answers(rt, name, text.as_str());
+    }
+    compare_example(rt, name)
 }
 
-/// Prints a line for each argument, with how many runs it has, and a last line with how many there are. The status is 1 where one differs.
+/// Prints a line for each argument, with how many it compares, and a last line with how many there are. The status is 1 where one differs.
 fn main(rt: HostRuntime) -> io::Result<ExitCode> {
+    if growing::is_asked(&rt) {
+        return Ok(growing::grow(&rt));
+    }
     let mut all = Tally::none();
     for name in env::args(&rt)?.skip(1) {
-        let Tally { runs, differing } = compare(&rt, name.as_str())?;
-        println!(rt; "{name}: {differing} of {runs} differ")?;
-        all = all.with(Tally { runs, differing });
+        let found = compare(&rt, name.as_str())?;
+        let (differing, compared) = (found.differing, found.compared);
+        println!(rt; "{name}: {differing} of {compared} differ")?;
+        all = all.with(found);
     }
-    let Tally { runs, differing } = all;
-    println!(rt; "{differing} of {runs} runs differ")?;
+    let (differing, compared) = (all.differing, all.compared);
+    println!(rt; "{differing} of {compared} differ")?;
     if differing == 0 {
         Ok(ExitCode::SUCCESS)
     } else {

@@ -1,7 +1,6 @@
-//! Checks the texts of tables of mistakes, and compares each answer with the one that stands beside it.
-//!
-//! Each argument is a table of machine files, `NAME.machines`, of event texts, `NAME.events`, or of both texts of a run, `NAME.endings`. It
-//! begins with a comment, and then has for each text, after an empty line,
+//! Tables of mistakes: texts that are checked, each with the answer that the checker has to give. A table has machine files,
+//! `NAME.machines`, event texts, `NAME.events`, or both texts of a run, `NAME.endings`. It begins with a comment, and then has for each
+//! text, after an empty line,
 //!
 //! ```text
 //! == what is wrong
@@ -11,12 +10,10 @@
 //! ```
 //!
 //! The texts of a run stand one after the other, with the line `-- events` between them.
-#![tactic(auto)]
-
+use crate::tally::Tally;
 use execadvice::{check_events, check_machine};
 use runadvice::check_run;
-use std::process::ExitCode;
-use std::{env, fs, io};
+use std::io;
 
 /// The path that stands before the places of each text.
 const PATH: &str = "text";
@@ -87,35 +84,19 @@ fn is_as_wanted(rt: &HostRuntime, table: &str, case: &Case<'_>) -> io::Result<bo
     Ok(false)
 }
 
-/// How many texts a table has, and how many answers differ.
-fn compare_table(rt: &HostRuntime, table: &str) -> io::Result<(u32, u32)> {
-    let text = fs::read_to_string(rt, table)?;
-    let mut texts = 0u32;
-    let mut differing = 0u32;
-    for text in text.as_str().split("\n== ").skip(1) {
+/// Compares each answer of a table's text. An entry without the form of one counts as one that differs.
+pub(crate) fn compare_answers(rt: &HostRuntime, table: &str, text: &str) -> io::Result<Tally> {
+    let mut tally = Tally::none();
+    for text in text.split("\n== ").skip(1) {
         let same = match case_of(text) {
             Some(case) => is_as_wanted(rt, table, &case)?,
-            None => false,
+            None => {
+                let name = text.lines().next().unwrap_or("");
+                println!(rt; "{table}: {name}: not the form of a text and its answer")?;
+                false
+            }
         };
-        texts = texts.saturating_add(1);
-        if !same {
-            differing = differing.saturating_add(1);
-        }
+        tally = tally.with(Tally::of_one(same));
     }
-    println!(rt; "{table}: {differing} of {texts} differ")?;
-    Ok((texts, differing))
-}
-
-/// Prints a line for each table. The status is 1 where an answer differs.
-fn main(rt: HostRuntime) -> io::Result<ExitCode> {
-    let mut all = 0u32;
-    for table in env::args(&rt)?.skip(1) {
-        let (_texts, differing) = compare_table(&rt, table.as_str())?;
-        all = all.saturating_add(differing);
-    }
-    if all == 0 {
-        Ok(ExitCode::SUCCESS)
-    } else {
-        Ok(ExitCode::FAILURE)
-    }
+    Ok(tally)
 }

@@ -1,13 +1,8 @@
-//! Asks for memory in one way: its first argument names a part of a machine, which is made once and let go, or says `boot` or `run`, with a
-//! machine file and an event text behind it. `boot` makes the machine, and `run` makes it and runs it over the events. `.ci/growth` refuses
-//! each growth of each way in turn; `parts` prints the names for it.
+//! Asks for memory in one way. Behind the word `grow` an argument names a part of a machine, which is made once and let go, or says `boot` or
+//! `run`, with a machine file and an event text behind it. `boot` makes the machine, and `run` makes it and runs it over the events.
+//! `.ci/growth` refuses each growth of each way in turn; `parts` prints the names for it.
 //!
-//! What the program takes for itself is the same whatever it does: a growth more is one of the part or of the run.
-#![tactic(auto)]
-
-mod part;
-mod unmade;
-
+//! Nothing is taken for the arguments: a growth is one of the part, of the machine or of the run.
 use crate::part::{PARTS, Part, make};
 use crate::unmade::Unmade;
 use execlist::link::LinkSpace;
@@ -21,6 +16,9 @@ use taskscript::{read_events, read_machine};
 
 /// The longest argument, in bytes.
 const LONGEST: usize = 256;
+
+/// The word before what is asked for.
+const WORD: &str = "grow";
 
 /// An argument of the process, which stands in `room` then.
 fn argument<'a>(rt: &HostRuntime, i: usize, room: &'a mut [u8; LONGEST]) -> Option<&'a str> {
@@ -44,7 +42,7 @@ fn text_of(rt: &HostRuntime, i: usize) -> Result<Vec<u8>, Unmade> {
 
 /// Makes the machine of a machine file, and reads an event text.
 fn boot(rt: &HostRuntime) -> Result<(), Unmade> {
-    let (machine, events) = (text_of(rt, 2)?, text_of(rt, 3)?);
+    let (machine, events) = (text_of(rt, 3)?, text_of(rt, 4)?);
     let file = read_machine(rt.alloc(), &machine)?;
     let _events = read_events(rt.alloc(), &events)?;
     let _machine: Machine<LinkSpace> = Machine::boot(rt.alloc(), &file)?;
@@ -53,7 +51,7 @@ fn boot(rt: &HostRuntime) -> Result<(), Unmade> {
 
 /// Makes the machine of a machine file, and runs it over an event text. The trace goes to standard output, which takes no memory.
 fn run(rt: &HostRuntime) -> Result<(), Unmade> {
-    let (machine, events) = (text_of(rt, 2)?, text_of(rt, 3)?);
+    let (machine, events) = (text_of(rt, 3)?, text_of(rt, 4)?);
     let mut out = WriteSink::new(rt.stdout());
     let _end = simulate(rt.alloc(), &machine, &events, &mut out)?;
     Ok(())
@@ -69,10 +67,10 @@ fn list_parts(rt: &HostRuntime) -> Result<(), Unmade> {
     Ok(())
 }
 
-/// Does what the first argument says.
+/// Does what the argument behind the word says.
 fn asked(rt: &HostRuntime) -> Result<(), Unmade> {
     let mut room = [0; LONGEST];
-    match argument(rt, 1, &mut room) {
+    match argument(rt, 2, &mut room) {
         Some("boot") => boot(rt),
         Some("run") => run(rt),
         Some("parts") => list_parts(rt),
@@ -84,9 +82,16 @@ fn asked(rt: &HostRuntime) -> Result<(), Unmade> {
     }
 }
 
-/// Ends with 0 where it was made, with 4 where memory was refused, and with 1 where another fault came or the words are none of these.
-fn main(rt: HostRuntime) -> ExitCode {
-    match asked(&rt) {
+/// Whether the first argument asks for growths.
+pub(crate) fn is_asked(rt: &HostRuntime) -> bool {
+    let mut room = [0; LONGEST];
+    argument(rt, 1, &mut room) == Some(WORD)
+}
+
+/// Makes what the arguments ask for. The status is 0 where it was made, 4 where memory was refused, and 1 where another fault came or the
+/// words are none of these.
+pub(crate) fn grow(rt: &HostRuntime) -> ExitCode {
+    match asked(rt) {
         Ok(()) => ExitCode::SUCCESS,
         Err(Unmade::NoMemory) => ExitCode::from(4),
         Err(Unmade::Wrong) => ExitCode::FAILURE,
