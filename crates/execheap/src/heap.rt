@@ -129,13 +129,9 @@ impl<S: ListSpace> Heap<S> {
         ensures next { OnOk result (self.new ≡ freed list self.old) }
         ensures kept { OnErr result (self.new ≡ self.old) }
     {
-        match self.objects.empty_list_at(list) {
-            Err(why) => Err(why),
-            Ok(h) => {
-                self.objects.free_list(h, list);
-                Ok(())
-            }
-        }
+        let h = self.objects.empty_list_at(list)?;
+        self.objects.free_list(h, list);
+        Ok(())
     }
 
     /// Frees a node. It is refused where no node begins at the address (Handle), and where the node is linked (Link); own choice.
@@ -144,13 +140,9 @@ impl<S: ListSpace> Heap<S> {
         ensures next { OnOk result (self.new ≡ freed node self.old) }
         ensures kept { OnErr result (self.new ≡ self.old) }
     {
-        match self.objects.unlinked_node_at(node) {
-            Err(why) => Err(why),
-            Ok(n) => {
-                self.objects.free_node(n, node);
-                Ok(())
-            }
-        }
+        let n = self.objects.unlinked_node_at(node)?;
+        self.objects.free_node(n, node);
+        Ok(())
     }
 
     // ---- linking
@@ -162,13 +154,9 @@ impl<S: ListSpace> Heap<S> {
         ensures next { OnOk result (self.new ≡ on_heap (added_head list node) self.old) }
         ensures kept { OnErr result (self.new ≡ self.old) }
     {
-        match self.objects.to_link(list, node) {
-            Err(why) => Err(why),
-            Ok((h, n)) => {
-                self.objects.add_head(h, n);
-                Ok(())
-            }
-        }
+        let (h, n) = self.objects.to_link(list, node)?;
+        self.objects.add_head(h, n);
+        Ok(())
     }
 
     /// Puts a node last in a list. It is refused where no list or no node begins at its address (Handle), and where the
@@ -178,13 +166,9 @@ impl<S: ListSpace> Heap<S> {
         ensures next { OnOk result (self.new ≡ on_heap (added_tail list node) self.old) }
         ensures kept { OnErr result (self.new ≡ self.old) }
     {
-        match self.objects.to_link(list, node) {
-            Err(why) => Err(why),
-            Ok((h, n)) => {
-                self.objects.add_tail(h, n);
-                Ok(())
-            }
-        }
+        let (h, n) = self.objects.to_link(list, node)?;
+        self.objects.add_tail(h, n);
+        Ok(())
     }
 
     /// Puts a node before the first node of lower priority in a list, or last where there is none. It is refused where no list or no node
@@ -194,13 +178,9 @@ impl<S: ListSpace> Heap<S> {
         ensures next { OnOk result (self.new ≡ on_heap (enqueued list node) self.old) }
         ensures kept { OnErr result (self.new ≡ self.old) }
     {
-        match self.objects.to_link(list, node) {
-            Err(why) => Err(why),
-            Ok((h, n)) => {
-                self.objects.enqueue(h, n);
-                Ok(())
-            }
-        }
+        let (h, n) = self.objects.to_link(list, node)?;
+        self.objects.enqueue(h, n);
+        Ok(())
     }
 
     /// Puts a node after a node of a list, or first for address 0. It is refused where no list or no node begins at its address
@@ -211,13 +191,9 @@ impl<S: ListSpace> Heap<S> {
         ensures next { OnOk result (self.new ≡ on_heap (inserted list node pred) self.old) }
         ensures kept { OnErr result (self.new ≡ self.old) }
     {
-        match self.objects.to_insert(list, node, pred) {
-            Err(why) => Err(why),
-            Ok((h, n, p)) => {
-                self.objects.insert(h, n, p);
-                Ok(())
-            }
-        }
+        let (h, n, p) = self.objects.to_insert(list, node, pred)?;
+        self.objects.insert(h, n, p);
+        Ok(())
     }
 
     /// Takes a node out of the list that has it. It is refused where no node begins at the address (Handle), and where the node is not
@@ -227,13 +203,9 @@ impl<S: ListSpace> Heap<S> {
         ensures next { OnOk result (self.new ≡ on_heap (unlinked node) self.old) }
         ensures kept { OnErr result (self.new ≡ self.old) }
     {
-        match self.objects.linked_node_at(node) {
-            Err(why) => Err(why),
-            Ok((_, n)) => {
-                self.objects.remove(n);
-                Ok(())
-            }
-        }
+        let (_, n) = self.objects.linked_node_at(node)?;
+        self.objects.remove(n);
+        Ok(())
     }
 
     /// Takes the first node out of a list and answers its address, or 0 for an empty list. It is refused where no list begins at the
@@ -244,13 +216,9 @@ impl<S: ListSpace> Heap<S> {
         ensures next { OnOk result (self.new ≡ on_heap (removed_head list) self.old) }
         ensures kept { OnErr result (self.new ≡ self.old) }
     {
-        match self.objects.list_at(list) {
-            Err(why) => Err(why),
-            Ok(h) => {
-                let n = self.objects.rem_head(h);
-                Ok(self.objects.address_or_0(n))
-            }
-        }
+        let h = self.objects.list_at(list)?;
+        let n = self.objects.rem_head(h);
+        Ok(self.objects.address_or_0(n))
     }
 
     /// Takes the last node out of a list and answers its address, or 0 for an empty list. It is refused where no list begins at the
@@ -261,13 +229,9 @@ impl<S: ListSpace> Heap<S> {
         ensures next { OnOk result (self.new ≡ on_heap (removed_tail list) self.old) }
         ensures kept { OnErr result (self.new ≡ self.old) }
     {
-        match self.objects.list_at(list) {
-            Err(why) => Err(why),
-            Ok(h) => {
-                let n = self.objects.rem_tail(h);
-                Ok(self.objects.address_or_0(n))
-            }
-        }
+        let h = self.objects.list_at(list)?;
+        let n = self.objects.rem_tail(h);
+        Ok(self.objects.address_or_0(n))
     }
 
     // ---- scanning
@@ -278,10 +242,8 @@ impl<S: ListSpace> Heap<S> {
         ensures alert { alert_of result ≡ list_alert list self.now.heap }
         ensures answer { IfOk result (λ answer. answer ≡ first_of list self.now.heap) }
     {
-        match self.objects.list_at(list) {
-            Err(why) => Err(why),
-            Ok(h) => Ok(self.objects.address_or_0(self.objects.first(h))),
-        }
+        let h = self.objects.list_at(list)?;
+        Ok(self.objects.address_or_0(self.objects.first(h)))
     }
 
     /// Answers the address of the last node of a list, or 0 for an empty list. It is refused where no list begins at the address
@@ -290,10 +252,8 @@ impl<S: ListSpace> Heap<S> {
         ensures alert { alert_of result ≡ list_alert list self.now.heap }
         ensures answer { IfOk result (λ answer. answer ≡ last_of list self.now.heap) }
     {
-        match self.objects.list_at(list) {
-            Err(why) => Err(why),
-            Ok(h) => Ok(self.objects.address_or_0(self.objects.last(h))),
-        }
+        let h = self.objects.list_at(list)?;
+        Ok(self.objects.address_or_0(self.objects.last(h)))
     }
 
     /// Answers the address of the node after a linked one, or 0 where that is the last. It is refused where no node begins at the address
@@ -302,10 +262,8 @@ impl<S: ListSpace> Heap<S> {
         ensures alert { alert_of result ≡ linked_alert node self.now.heap }
         ensures answer { IfOk result (λ answer. answer ≡ succ_of node self.now.heap) }
     {
-        match self.objects.linked_node_at(node) {
-            Err(why) => Err(why),
-            Ok((_, n)) => Ok(self.objects.address_or_0(self.objects.succ(n))),
-        }
+        let (_, n) = self.objects.linked_node_at(node)?;
+        Ok(self.objects.address_or_0(self.objects.succ(n)))
     }
 
     /// Answers the address of the node before a linked one, or 0 where that is the first. It is refused where no node begins at the address
@@ -314,10 +272,8 @@ impl<S: ListSpace> Heap<S> {
         ensures alert { alert_of result ≡ linked_alert node self.now.heap }
         ensures answer { IfOk result (λ answer. answer ≡ pred_of node self.now.heap) }
     {
-        match self.objects.linked_node_at(node) {
-            Err(why) => Err(why),
-            Ok((_, n)) => Ok(self.objects.address_or_0(self.objects.pred(n))),
-        }
+        let (_, n) = self.objects.linked_node_at(node)?;
+        Ok(self.objects.address_or_0(self.objects.pred(n)))
     }
 
     /// Answers the address of the first node of a name in a list, or after a linked node, or 0; names compare byte for byte. It is refused
@@ -327,12 +283,10 @@ impl<S: ListSpace> Heap<S> {
         ensures alert { alert_of result ≡ find_alert start self.now.heap }
         ensures answer { IfOk result (λ answer. answer ≡ found_node start name.now self.now.heap) }
     {
-        match self.objects.to_search(start) {
-            Err(why) => Err(why),
-            Ok((h, after)) => Ok(
-                self.objects
-                    .address_or_0(self.objects.find_name(h, after, name)),
-            ),
-        }
+        let (h, after) = self.objects.to_search(start)?;
+        Ok(
+            self.objects
+                .address_or_0(self.objects.find_name(h, after, name)),
+        )
     }
 }

@@ -1,10 +1,9 @@
 //! The memory of a machine and the objects that live in it, by address.
-//! `Heap` is what callers use. `objects` keeps the objects by number, `finding` finds them by address, and `table` tells which
-//! block is an object of which kind and number, and which a loaded library.
+//! `Heap` is what callers use. `objects` keeps the objects by number and finds them by address, and `table` tells which block is an
+//! object of which kind and number, and which a loaded library.
 #![tactic(auto)]
 
 mod awaited;
-mod finding;
 mod heap;
 mod kind;
 mod objects;

@@ -28,13 +28,9 @@ impl<S: ListSpace> Heap<S> {
         ensures next { OnOk result (self.new ≡ closed base self.old) }
         ensures kept { OnErr result (self.new ≡ self.old) }
     {
-        match self.objects.open_library_at(base) {
-            Err(why) => Err(why),
-            Ok(i) => {
-                self.objects.close_library(i, base);
-                Ok(())
-            }
-        }
+        let i = self.objects.open_library_at(base)?;
+        self.objects.close_library(i, base);
+        Ok(())
     }
 
     /// Removes the library that begins at an address: one that is not open is freed, an open one is to be expunged when it is closed for the
@@ -45,13 +41,9 @@ impl<S: ListSpace> Heap<S> {
         ensures next { OnOk result (self.new ≡ removed base self.old) }
         ensures kept { OnErr result (self.new ≡ self.old) }
     {
-        match self.objects.library_at(base) {
-            Err(why) => Err(why),
-            Ok(i) => {
-                self.objects.remove_library(i, base);
-                Ok(())
-            }
-        }
+        let i = self.objects.library_at(base)?;
+        self.objects.remove_library(i, base);
+        Ok(())
     }
 
     /// Answers how often the library that begins at an address is open. It is refused where no loaded library begins there (Handle). RKM
@@ -60,9 +52,7 @@ impl<S: ListSpace> Heap<S> {
         ensures alert { alert_of result ≡ library_alert base self.now.heap }
         ensures answer { IfOk result (λ answer. answer ≡ count_of base self.now.heap) }
     {
-        match self.objects.library_at(base) {
-            Err(why) => Err(why),
-            Ok(i) => Ok(self.objects.library_count(i)),
-        }
+        let i = self.objects.library_at(base)?;
+        Ok(self.objects.library_count(i))
     }
 }

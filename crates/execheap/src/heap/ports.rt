@@ -53,10 +53,8 @@ impl<S: ListSpace> Heap<S> {
         ensures next { OnOk result (self.new ≡ freed port self.old) }
         ensures kept { OnErr result (self.new ≡ self.old) }
     {
-        match self.objects.port_to_delete(port) {
-            Err(why) => Err(why),
-            Ok(p) => Ok(self.objects.free_port(p, port)),
-        }
+        let p = self.objects.port_to_delete(port)?;
+        Ok(self.objects.free_port(p, port))
     }
 
     // ---- public ports
@@ -68,13 +66,9 @@ impl<S: ListSpace> Heap<S> {
         ensures next { OnOk result (self.new ≡ listed port name.bytes pri self.old) }
         ensures kept { OnErr result (self.new ≡ self.old) }
     {
-        match self.objects.private_port_at(port, pri) {
-            Err(why) => Err(why),
-            Ok(p) => {
-                self.objects.add_port(p, name, pri);
-                Ok(())
-            }
-        }
+        let p = self.objects.private_port_at(port, pri)?;
+        self.objects.add_port(p, name, pri);
+        Ok(())
     }
 
     /// Makes a port public no more. It is refused where no port begins at the address (Handle), and where the port is not public (Link).
@@ -84,13 +78,9 @@ impl<S: ListSpace> Heap<S> {
         ensures next { OnOk result (self.new ≡ made_private port self.old) }
         ensures kept { OnErr result (self.new ≡ self.old) }
     {
-        match self.objects.public_port_at(port) {
-            Err(why) => Err(why),
-            Ok(p) => {
-                self.objects.rem_port(p);
-                Ok(())
-            }
-        }
+        let p = self.objects.public_port_at(port)?;
+        self.objects.rem_port(p);
+        Ok(())
     }
 
     /// Answers the address of the first public port of a name, or 0; names compare byte for byte. The public ports stand by priority, and
@@ -108,13 +98,9 @@ impl<S: ListSpace> Heap<S> {
         ensures next { OnOk result (self.new ≡ on_heap (with_action action port) self.old) }
         ensures kept { OnErr result (self.new ≡ self.old) }
     {
-        match self.objects.port_at(port) {
-            Err(why) => Err(why),
-            Ok(p) => {
-                self.objects.set_action(p, action);
-                Ok(())
-            }
-        }
+        let p = self.objects.port_at(port)?;
+        self.objects.set_action(p, action);
+        Ok(())
     }
 
     // ---- messages made and freed
@@ -128,10 +114,8 @@ impl<S: ListSpace> Heap<S> {
         ensures next { IfOk result (λ place. self.new ≡ placed 24 (Message (new_message reply word)) place (after_asking_for_object is_message 24 self.old)) }
         ensures kept { OnErr result (self.new ≡ self.old) }
     {
-        match self.objects.reply_port_at(reply) {
-            Err(why) => Err(why),
-            Ok(_) => Ok(self.objects.make_message(reply, word)),
-        }
+        self.objects.reply_port_at(reply)?;
+        Ok(self.objects.make_message(reply, word))
     }
 
     /// Frees a message. It is refused where no message begins at the address (Handle), and where a port has it (Link). Own choice.
@@ -140,13 +124,9 @@ impl<S: ListSpace> Heap<S> {
         ensures next { OnOk result (self.new ≡ freed message self.old) }
         ensures kept { OnErr result (self.new ≡ self.old) }
     {
-        match self.objects.loose_message_at(message) {
-            Err(why) => Err(why),
-            Ok(m) => {
-                self.objects.free_message(m, message);
-                Ok(())
-            }
-        }
+        let m = self.objects.loose_message_at(message)?;
+        self.objects.free_message(m, message);
+        Ok(())
     }
 
     // ---- what a message holds
@@ -156,10 +136,8 @@ impl<S: ListSpace> Heap<S> {
         ensures alert { alert_of result ≡ message_alert message self.now.heap }
         ensures answer { IfOk result (λ word. word ≡ (content_of message self.now.heap).word) }
     {
-        match self.objects.message_at(message) {
-            Err(why) => Err(why),
-            Ok(m) => Ok(self.objects.ports().word(m)),
-        }
+        let m = self.objects.message_at(message)?;
+        Ok(self.objects.ports().word(m))
     }
 
     /// Gives a message another word. It is refused where no message begins at the address (Handle). Own choice.
@@ -168,13 +146,9 @@ impl<S: ListSpace> Heap<S> {
         ensures next { OnOk result (self.new ≡ on_heap (with_word message word) self.old) }
         ensures kept { OnErr result (self.new ≡ self.old) }
     {
-        match self.objects.message_at(message) {
-            Err(why) => Err(why),
-            Ok(m) => {
-                self.objects.set_word(m, word);
-                Ok(())
-            }
-        }
+        let m = self.objects.message_at(message)?;
+        self.objects.set_word(m, word);
+        Ok(())
     }
 
     /// Answers the type of a message: 0 for a new one, NT_MESSAGE, NT_REPLYMSG or NT_FREEMSG. It is refused where no message begins at
@@ -183,10 +157,8 @@ impl<S: ListSpace> Heap<S> {
         ensures alert { alert_of result ≡ message_alert message self.now.heap }
         ensures answer { IfOk result (λ kind. kind ≡ (content_of message self.now.heap).kind) }
     {
-        match self.objects.message_at(message) {
-            Err(why) => Err(why),
-            Ok(m) => Ok(self.objects.ports().kind(m)),
-        }
+        let m = self.objects.message_at(message)?;
+        Ok(self.objects.ports().kind(m))
     }
 
     // ---- putting and replying
@@ -200,10 +172,8 @@ impl<S: ListSpace> Heap<S> {
         ensures next { OnOk result (self.new ≡ on_heap (posted nt_message port message) self.old) }
         ensures kept { OnErr result (self.new ≡ self.old) }
     {
-        match self.objects.to_put(port, message) {
-            Err(why) => Err(why),
-            Ok((p, m)) => Ok(self.objects.put(p, m)),
-        }
+        let (p, m) = self.objects.to_put(port, message)?;
+        Ok(self.objects.put(p, m))
     }
 
     /// Puts a message at its reply port, the one that begins at that address now, as one of type NT_REPLYMSG, and answers what is to be
@@ -216,10 +186,10 @@ impl<S: ListSpace> Heap<S> {
         ensures next { OnOk result (self.new ≡ on_heap (replied_by message) self.old) }
         ensures kept { OnErr result (self.new ≡ self.old) }
     {
-        match self.objects.to_reply(message) {
-            Err(why) => Err(why),
-            Ok((m, Some(p))) => Ok(self.objects.reply(p, m)),
-            Ok((m, None)) => {
+        let (m, reply) = self.objects.to_reply(message)?;
+        match reply {
+            Some(p) => Ok(self.objects.reply(p, m)),
+            None => {
                 self.objects.reply_none(m);
                 Ok(Action::Nothing)
             }
@@ -237,13 +207,9 @@ impl<S: ListSpace> Heap<S> {
         ensures none { OnOk result (first (messages_of port self.old.heap) ≡ None → self.new ≡ self.old) }
         ensures kept { OnErr result (self.new ≡ self.old) }
     {
-        match self.objects.port_at(port) {
-            Err(why) => Err(why),
-            Ok(p) => {
-                let m = self.objects.take_message(p);
-                Ok(self.objects.message_or_0(m))
-            }
-        }
+        let p = self.objects.port_at(port)?;
+        let m = self.objects.take_message(p);
+        Ok(self.objects.message_or_0(m))
     }
 
     /// Answers the address of what stands first in a port at which a task may wait, a message or a request that is replied, or none, and the
@@ -259,12 +225,10 @@ impl<S: ListSpace> Heap<S> {
         ensures bit { IfOk result (λ pair. pair.1 ≡ (port_of port self.now.heap).bit) }
         ensures signal { IfOk result (λ pair. pair.1 < 32) }
     {
-        match self.objects.port_to_wait_at(task, port) {
-            Err(why) => Err(why),
-            Ok((p, bit)) => match self.objects.ports().first(p) {
-                Some(m) => Ok((Some(self.objects.address_of_message(m)), bit)),
-                None => Ok((None, bit)),
-            },
+        let (p, bit) = self.objects.port_to_wait_at(task, port)?;
+        match self.objects.ports().first(p) {
+            Some(m) => Ok((Some(self.objects.address_of_message(m)), bit)),
+            None => Ok((None, bit)),
         }
     }
 }

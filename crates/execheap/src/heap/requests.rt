@@ -32,10 +32,8 @@ impl<S: ListSpace> Heap<S> {
         ensures next { IfOk result (λ place. self.new ≡ placed 40 (Request (idle_request port)) place (after_asking_for_object model.is_request 40 self.old)) }
         ensures kept { OnErr result (self.new ≡ self.old) }
     {
-        match self.objects.port_at(port) {
-            Err(why) => Err(why),
-            Ok(_) => Ok(self.objects.make_request(port)),
-        }
+        self.objects.port_at(port)?;
+        Ok(self.objects.make_request(port))
     }
 
     /// Answers whether a request begins at an address. Own choice.
@@ -52,13 +50,9 @@ impl<S: ListSpace> Heap<S> {
         ensures next { OnOk result (self.new ≡ freed request self.old) }
         ensures kept { OnErr result (self.new ≡ self.old) }
     {
-        match self.objects.request_to_delete(request) {
-            Err(why) => Err(why),
-            Ok(r) => {
-                self.objects.free_request(r, request);
-                Ok(())
-            }
-        }
+        let r = self.objects.request_to_delete(request)?;
+        self.objects.free_request(r, request);
+        Ok(())
     }
 
     // ---- opening and writing
@@ -72,10 +66,8 @@ impl<S: ListSpace> Heap<S> {
         ensures next { OnOk result (self.new ≡ on_heap (model.opened_for unit request) self.old) }
         ensures kept { OnErr result (self.new ≡ self.old) }
     {
-        match self.objects.resting_request_at(request) {
-            Err(why) => Err(why),
-            Ok(r) => Ok(self.objects.open_request(r, unit)),
-        }
+        let r = self.objects.resting_request_at(request)?;
+        Ok(self.objects.open_request(r, unit))
     }
 
     /// Leaves a request not open. It is refused where no request begins at the address (Handle), and where it is under way (Io). Autodoc
@@ -85,13 +77,9 @@ impl<S: ListSpace> Heap<S> {
         ensures next { OnOk result (self.new ≡ on_heap (model.closed_device request) self.old) }
         ensures kept { OnErr result (self.new ≡ self.old) }
     {
-        match self.objects.resting_request_at(request) {
-            Err(why) => Err(why),
-            Ok(r) => {
-                self.objects.close_request(r);
-                Ok(())
-            }
-        }
+        let r = self.objects.resting_request_at(request)?;
+        self.objects.close_request(r);
+        Ok(())
     }
 
     /// Gives a request a command and a time in seconds and microseconds. It is refused where no request begins at the address (Handle), and
@@ -108,13 +96,9 @@ impl<S: ListSpace> Heap<S> {
         ensures next { OnOk result (self.new ≡ on_heap (model.with_command command secs micros request) self.old) }
         ensures kept { OnErr result (self.new ≡ self.old) }
     {
-        match self.objects.resting_request_at(request) {
-            Err(why) => Err(why),
-            Ok(r) => {
-                self.objects.set_request(r, command, secs, micros);
-                Ok(())
-            }
-        }
+        let r = self.objects.resting_request_at(request)?;
+        self.objects.set_request(r, command, secs, micros);
+        Ok(())
     }
 
     // ---- beginning
@@ -129,10 +113,8 @@ impl<S: ListSpace> Heap<S> {
         ensures next { OnOk result (self.new ≡ model.begun_at false request self.old) }
         ensures kept { OnErr result (self.new ≡ self.old) }
     {
-        match self.objects.request_to_send(request) {
-            Err(why) => Err(why),
-            Ok(r) => Ok(self.objects.begin_request(r, false)),
-        }
+        let r = self.objects.request_to_send(request)?;
+        Ok(self.objects.begin_request(r, false))
     }
 
     /// Begins a request with IOF_QUICK set, and answers its error, if it is done at once; else it waits for its time, and the answer is the
@@ -145,13 +127,9 @@ impl<S: ListSpace> Heap<S> {
         ensures next { OnOk result (self.new ≡ model.begun_at true request self.old) }
         ensures kept { OnErr result (self.new ≡ self.old) }
     {
-        match self.objects.request_to_do(task, request) {
-            Err(why) => Err(why),
-            Ok((r, bit)) => {
-                self.objects.begin_request(r, true);
-                Ok(self.objects.looked_for(r, bit))
-            }
-        }
+        let (r, bit) = self.objects.request_to_do(task, request)?;
+        self.objects.begin_request(r, true);
+        Ok(self.objects.looked_for(r, bit))
     }
 
     // ---- waiting and aborting
@@ -162,10 +140,8 @@ impl<S: ListSpace> Heap<S> {
         ensures alert { alert_of result ≡ model.request_alert request self.now.heap }
         ensures answer { IfOk result (λ answer. answer ≡ is_under_way (model.request_of request self.now.heap)) }
     {
-        match self.objects.request_at(request) {
-            Err(why) => Err(why),
-            Ok(r) => Ok(self.objects.is_under_way(r)),
-        }
+        let r = self.objects.request_at(request)?;
+        Ok(self.objects.is_under_way(r))
     }
 
     /// Answers the error of a request that is done, and takes its reply, if it has one, out of its reply port; for one that is under way the
@@ -179,13 +155,9 @@ impl<S: ListSpace> Heap<S> {
         ensures next { OnOk result (self.new ≡ on_heap (taken_if_replied request) self.old) }
         ensures kept { OnErr result (self.new ≡ self.old) }
     {
-        match self.objects.request_to_wait_for(task, request) {
-            Err(why) => Err(why),
-            Ok((r, bit)) => {
-                self.objects.take_reply(r);
-                Ok(self.objects.looked_for(r, bit))
-            }
-        }
+        let (r, bit) = self.objects.request_to_wait_for(task, request)?;
+        self.objects.take_reply(r);
+        Ok(self.objects.looked_for(r, bit))
     }
 
     /// Ends a request that is under way with IOERR_ABORTED (-2), and answers what is to be done for its reply; none, and nothing changes, where
@@ -196,15 +168,11 @@ impl<S: ListSpace> Heap<S> {
         ensures next { OnOk result (self.new ≡ aborted request self.old) }
         ensures kept { OnErr result (self.new ≡ self.old) }
     {
-        match self.objects.request_at(request) {
-            Err(why) => Err(why),
-            Ok(r) => {
-                if self.objects.is_under_way(r) {
-                    Ok(Some(self.objects.abort_request(r)))
-                } else {
-                    Ok(None)
-                }
-            }
+        let r = self.objects.request_at(request)?;
+        if self.objects.is_under_way(r) {
+            Ok(Some(self.objects.abort_request(r)))
+        } else {
+            Ok(None)
         }
     }
 
@@ -216,10 +184,8 @@ impl<S: ListSpace> Heap<S> {
         ensures alert { alert_of result ≡ model.request_alert request self.now.heap }
         ensures answer { IfOk result (λ secs. secs ≡ (model.request_of request self.now.heap).secs) }
     {
-        match self.objects.request_at(request) {
-            Err(why) => Err(why),
-            Ok(r) => Ok(self.objects.requests().secs(r)),
-        }
+        let r = self.objects.request_at(request)?;
+        Ok(self.objects.requests().secs(r))
     }
 
     /// Answers the microseconds of the time of a request. It is refused as `secs`. Devices, timer device: `tr_time`; the refusal: own choice.
@@ -227,10 +193,8 @@ impl<S: ListSpace> Heap<S> {
         ensures alert { alert_of result ≡ model.request_alert request self.now.heap }
         ensures answer { IfOk result (λ micros. micros ≡ (model.request_of request self.now.heap).micros) }
     {
-        match self.objects.request_at(request) {
-            Err(why) => Err(why),
-            Ok(r) => Ok(self.objects.requests().micros(r)),
-        }
+        let r = self.objects.request_at(request)?;
+        Ok(self.objects.requests().micros(r))
     }
 
     /// Answers the error of a request: 0, IOERR_OPENFAIL (-1), IOERR_ABORTED (-2) or IOERR_NOCMD (-3). It is refused as `secs`. RKM Devices,
@@ -239,10 +203,8 @@ impl<S: ListSpace> Heap<S> {
         ensures alert { alert_of result ≡ model.request_alert request self.now.heap }
         ensures answer { IfOk result (λ error. error ≡ (model.request_of request self.now.heap).error) }
     {
-        match self.objects.request_at(request) {
-            Err(why) => Err(why),
-            Ok(r) => Ok(self.objects.requests().error(r)),
-        }
+        let r = self.objects.request_at(request)?;
+        Ok(self.objects.requests().error(r))
     }
 
     /// Answers whether IOF_QUICK of a request is set. It is refused as `secs`. RKM Devices, Introduction to Amiga System Devices: `io_Flags`; the
@@ -251,10 +213,8 @@ impl<S: ListSpace> Heap<S> {
         ensures alert { alert_of result ≡ model.request_alert request self.now.heap }
         ensures answer { IfOk result (λ quick. quick ≡ (model.request_of request self.now.heap).quick) }
     {
-        match self.objects.request_at(request) {
-            Err(why) => Err(why),
-            Ok(r) => Ok(self.objects.requests().quick(r)),
-        }
+        let r = self.objects.request_at(request)?;
+        Ok(self.objects.requests().quick(r))
     }
 
     // ---- the clock, and system time

@@ -32,13 +32,9 @@ impl<S: ListSpace> Heap<S> {
         ensures next { OnOk result (self.new ≡ freed semaphore self.old) }
         ensures kept { OnErr result (self.new ≡ self.old) }
     {
-        match self.objects.semaphore_to_free(semaphore) {
-            Err(why) => Err(why),
-            Ok(n) => {
-                self.objects.free_semaphore(n, semaphore);
-                Ok(())
-            }
-        }
+        let n = self.objects.semaphore_to_free(semaphore)?;
+        self.objects.free_semaphore(n, semaphore);
+        Ok(())
     }
 
     // ---- obtaining and releasing
@@ -55,10 +51,8 @@ impl<S: ListSpace> Heap<S> {
         ensures next { OnOk result (self.new ≡ on_heap (obtained semaphore task) self.old) }
         ensures kept { OnErr result (self.new ≡ self.old) }
     {
-        match self.objects.semaphore_at(semaphore) {
-            Err(why) => Err(why),
-            Ok(n) => told(self.objects.obtain(n, task)),
-        }
+        let n = self.objects.semaphore_at(semaphore)?;
+        told(self.objects.obtain(n, task))
     }
 
     /// Asks for a semaphore for a task that is not to wait, and answers whether it has it: where it would have to wait, nothing changes. It
@@ -70,10 +64,8 @@ impl<S: ListSpace> Heap<S> {
         ensures next { OnOk result (self.new ≡ on_heap (attempted semaphore task) self.old) }
         ensures kept { OnErr result (self.new ≡ self.old) }
     {
-        match self.objects.semaphore_at(semaphore) {
-            Err(why) => Err(why),
-            Ok(n) => told(self.objects.attempt(n, task)),
-        }
+        let n = self.objects.semaphore_at(semaphore)?;
+        told(self.objects.attempt(n, task))
     }
 
     /// Releases a semaphore once, for its owner. The last release hands it on: the first of the tasks that wait there waits no more and is
@@ -90,10 +82,8 @@ impl<S: ListSpace> Heap<S> {
         ensures next { OnOk result (self.new ≡ on_heap (released semaphore) self.old) }
         ensures kept { OnErr result (self.new ≡ self.old) }
     {
-        match self.objects.semaphore_at(semaphore) {
-            Err(why) => Err(why),
-            Ok(n) => told(self.objects.release(n, task)),
-        }
+        let n = self.objects.semaphore_at(semaphore)?;
+        told(self.objects.release(n, task))
     }
 
     /// One of the tasks waits for no semaphore any more; the others keep their order. Own choice: a task that waits may be removed.

@@ -1,5 +1,5 @@
 //! Semaphores by number, and the blocks in which they live.
-ghost use Rattle.std.specs.Prelude.{◌≡◌, ◌<◌, not, [], None, Some, IsTrue};
+ghost use Rattle.std.specs.Prelude.{◌≡◌, ◌<◌, not, [], None, Some, IsTrue, IfOk};
 ghost use Rattle.execlist.specs.Pool.{slot};
 ghost use Rattle.execlist.specs.Answers.{fault_or, kept_or};
 ghost use Rattle.sigsem.specs.Semaphores.{attempted, deep_fault, dropped, free_sem, heir, is_open, is_owned, is_sem, let_go, obtained, outcome_for, release_fault, sem_at, waits_at};
@@ -9,11 +9,14 @@ ghost use Rattle.execmodel.specs.GivingWay.{after_asking_for_object};
 ghost use Rattle.execmodel.specs.Objects.{place_for_object};
 ghost use Rattle.execmodel.specs.Semaphores.{is_semaphore};
 ghost use Rattle.execheap.specs.declared.kind.Kind.TheVariants as variant;
-ghost use Rattle.execheap.specs.Numbered.{places, shown_memory};
+ghost use Rattle.execheap.specs.Numbered.{places, shown_memory, IsKnown, shown_heap};
 ghost use Rattle.execheap.specs.Changes.{on_semaphores};
+ghost use Rattle.execmodel.specs.Semaphores as model;
+ghost use Rattle.execheap.specs.Refusals.{alert_of};
 
 use crate::kind::Kind;
 use crate::objects::Objects;
+use crate::refusal::Refusal;
 use execlist::space::ListSpace;
 use sigsem::fault::SemFault;
 use sigsem::semaphore::{Obtained, TaskId};
@@ -101,5 +104,36 @@ impl<S: ListSpace> Objects<S> {
         ensures { self.new ≡ on_semaphores (dropped t) self.old }
     {
         self.sems.drop_waiter(t);
+    }
+
+    // ---- found by address; or why the call is refused
+
+    /// The semaphore that begins at an address.
+    ///
+    /// Source: own choice.
+    pub fn semaphore_at(&self, semaphore: u32) -> Result<SemId, Refusal>
+        ensures alert { alert_of result ≡ model.semaphore_alert semaphore (shown_heap self.now) }
+        ensures found { IfOk result (λ n. slot (places variant.Semaphore self.now) n ≡ Some semaphore) }
+        ensures live { IfOk result (λ n. IsTrue (is_sem n self.now.sems)) }
+        ensures known { IsKnown self.now }
+    {
+        match self.number_at(Kind::Semaphore, semaphore) {
+            Some(n) => Ok(n),
+            None => Err(Refusal::Handle),
+        }
+    }
+
+    /// The semaphore that begins at an address, which no task owns.
+    ///
+    /// Source: own choice.
+    pub fn semaphore_to_free(&self, semaphore: u32) -> Result<SemId, Refusal>
+        ensures alert { alert_of result ≡ model.free_sem_alert semaphore (shown_heap self.now) }
+        ensures found { IfOk result (λ n. slot (places variant.Semaphore self.now) n ≡ Some semaphore) }
+        ensures unowned { IfOk result (λ n. IsTrue (not (is_owned (sem_at n self.now.sems)))) }
+        ensures known { IsKnown self.now }
+    {
+        let n = self.semaphore_at(semaphore)?;
+        let owned = self.sems().is_owned(n);
+        if owned { Err(Refusal::Sem) } else { Ok(n) }
     }
 }
