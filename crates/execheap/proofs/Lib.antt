@@ -56,3 +56,4 @@ pub mod Tagging
 pub mod Ticked
 pub mod Unused
 pub mod Waits
+pub mod Passed

@@ -6,9 +6,9 @@ use Rattle.execheap.specs.Numbered.{shown_memory}
 use Rattle.execheap.proofs.Linking.{at_head_shown}
 use Rattle.execheap.proofs.heap.Heap.add_head.Goals as goal
 
-pub returns-in-Ok-clause-next : goal.returns-in-Ok-clause-next
-returns-in-Ok-clause-next g c =
-    let f = c.in-Ok.ensures.known in
+pub returns-clause-next : goal.returns-clause-next
+returns-clause-next g c =
+    let f = c.in_ok-h.ensures.known in
     ap shown_memory c.add_head.ensures
-    ∙ at_head_shown f.sound f.space f.memory c.in-Ok.h c.in-Ok.n c.args.list c.args.node c.in-Ok.ensures.list c.in-Ok.ensures.node
+    ∙ at_head_shown f.sound f.space f.memory c.in_ok-h.h c.in_ok-h.n c.args.list c.args.node c.in_ok-h.ensures.list c.in_ok-h.ensures.node
     ∙ ap (on_heap (added_head c.args.list c.args.node)) c.self.view_is

@@ -11,20 +11,20 @@ use Rattle.execheap.proofs.heap.Heap.do_request.Goals as goal
 
 pub looked_for-requires : goal.looked_for-requires
 looked_for-requires g c =
-    ap (λ (x : Numbered). is_request c.in-Ok.r x.requests) c.begin_request.ensures.next
-    ∙ begun_lives c.self.inside.objects c.in-Ok.r true c.in-Ok.ensures.live
+    ap (λ (x : Numbered). is_request c.in_ok-r.r x.requests) c.begin_request.ensures.next
+    ∙ begun_lives c.self.inside.objects c.in_ok-r.r true c.in_ok-r.ensures.live
 
-pub returns-in-Ok-clause-answer : goal.returns-in-Ok-clause-answer
-returns-in-Ok-clause-answer g c =
-    let f = c.in-Ok.ensures.known in
+pub returns-clause-answer : goal.returns-clause-answer
+returns-clause-answer g c =
+    let f = c.in_ok-r.ensures.known in
     c.looked_for.ensures
-    ∙ ap (λ (x : Numbered). looked_for (request_at c.in-Ok.r x.requests) c.in-Ok.bit) c.begin_request.ensures.next
-    ∙ begun_awaited f.sound f.ports f.memory c.in-Ok.r c.args.request c.in-Ok.ensures.found c.in-Ok.ensures.live true c.in-Ok.bit c.in-Ok.ensures.bit
+    ∙ ap (λ (x : Numbered). looked_for (request_at c.in_ok-r.r x.requests) c.in_ok-r.bit) c.begin_request.ensures.next
+    ∙ begun_awaited f.sound f.ports f.memory c.in_ok-r.r c.args.request c.in_ok-r.ensures.found c.in_ok-r.ensures.live true c.in_ok-r.bit c.in_ok-r.ensures.bit
     ∙ ap (λ (x : Numbered). awaited_for c.args.request (shown_heap x)) (sym c.begin_request.ensures.next)
 
-pub returns-in-Ok-clause-next : goal.returns-in-Ok-clause-next
-returns-in-Ok-clause-next g c =
-    let f = c.in-Ok.ensures.known in
+pub returns-clause-next : goal.returns-clause-next
+returns-clause-next g c =
+    let f = c.in_ok-r.ensures.known in
     ap shown_memory c.begin_request.ensures.next
-    ∙ begun_shown f.sound f.ports f.memory c.in-Ok.r c.args.request c.in-Ok.ensures.found true
+    ∙ begun_shown f.sound f.ports f.memory c.in_ok-r.r c.args.request c.in_ok-r.ensures.found true
     ∙ ap (begun_at true c.args.request) c.self.view_is

@@ -8,10 +8,10 @@ use Rattle.execheap.specs.Numbered.{address_in, places}
 use Rattle.execheap.proofs.Linking.{found_shown}
 use Rattle.execheap.proofs.heap.Heap.find_name.Goals as goal
 
-pub returns-in-Ok-clause-answer : goal.returns-in-Ok-clause-answer
-returns-in-Ok-clause-answer g c =
-    let f = c.in-Ok.ensures.known in
+pub returns-clause-answer : goal.returns-clause-answer
+returns-clause-answer g c =
+    let f = c.in_ok-h.ensures.known in
     let s = c.self.inside.objects in
     c.address_or_0.ensures ∙ ap (λ n. or_none (option_map (address_in (places variant.Node s)) n)) c.find_name.ensures.value
-    ∙ sym (found_shown f.sound f.space c.args.name.now c.args.start c.in-Ok.h c.in-Ok.after c.in-Ok.ensures.searched)
+    ∙ sym (found_shown f.sound f.space c.args.name.now c.args.start c.in_ok-h.h c.in_ok-h.after c.in_ok-h.ensures.searched)
     ∙ ap (λ (m : Memory). found_node c.args.start c.args.name.now m.heap) c.self.view_is

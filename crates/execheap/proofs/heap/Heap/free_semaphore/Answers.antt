@@ -3,5 +3,5 @@ use Rattle.std.proofs.Common.{ap, ◌∙◌}
 use Rattle.execmodel.specs.Memory.{freed}
 use Rattle.execheap.proofs.heap.Heap.free_semaphore.Goals as goal
 
-pub returns-in-Ok-clause-next : goal.returns-in-Ok-clause-next
-returns-in-Ok-clause-next g c = c.free_semaphore.ensures ∙ ap (freed c.args.semaphore) c.self.view_is
+pub returns-clause-next : goal.returns-clause-next
+returns-clause-next g c = c.free_semaphore.ensures ∙ ap (freed c.args.semaphore) c.self.view_is

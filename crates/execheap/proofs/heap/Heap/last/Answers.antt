@@ -8,9 +8,9 @@ use Rattle.execheap.specs.Numbered.{address_in, places}
 use Rattle.execheap.proofs.Linking.{last_shown}
 use Rattle.execheap.proofs.heap.Heap.last.Goals as goal
 
-pub returns-in-Ok-clause-answer : goal.returns-in-Ok-clause-answer
-returns-in-Ok-clause-answer g c =
-    let f = c.in-Ok.ensures.known in
+pub returns-clause-answer : goal.returns-clause-answer
+returns-clause-answer g c =
+    let f = c.in_ok-h.ensures.known in
     let s = c.self.inside.objects in
     c.address_or_0.ensures ∙ ap (λ n. or_none (option_map (address_in (places variant.Node s)) n)) c.last.ensures.value
-    ∙ sym (last_shown f.sound f.space c.in-Ok.h c.args.list c.in-Ok.ensures.found) ∙ ap (λ (m : Memory). last_of c.args.list m.heap) c.self.view_is
+    ∙ sym (last_shown f.sound f.space c.in_ok-h.h c.args.list c.in_ok-h.ensures.found) ∙ ap (λ (m : Memory). last_of c.args.list m.heap) c.self.view_is

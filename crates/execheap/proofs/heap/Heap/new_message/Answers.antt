@@ -8,9 +8,9 @@ use Rattle.execmodel.specs.Objects.{place_for_object}
 use Rattle.execmodel.specs.Ports.{is_message}
 use Rattle.execheap.proofs.heap.Heap.new_message.Goals as goal
 
-pub returns-in-Ok-clause-address : goal.returns-in-Ok-clause-address
-returns-in-Ok-clause-address g c = c.make_message.ensures.address ∙ ap (λ m. place_for_object is_message 24 (after_asking_for_object is_message 24 m)) c.self.view_is
+pub returns-clause-address : goal.returns-clause-address
+returns-clause-address g c = c.make_message.ensures.address ∙ ap (λ m. place_for_object is_message 24 (after_asking_for_object is_message 24 m)) c.self.view_is
 
-pub returns-in-Ok-clause-next : goal.returns-in-Ok-clause-next
-returns-in-Ok-clause-next g c =
+pub returns-clause-next : goal.returns-clause-next
+returns-clause-next g c =
     c.make_message.ensures.next ∙ ap (λ m. placed 24 (Message (new_message c.args.reply c.args.word)) c.make_message.result (after_asking_for_object is_message 24 m)) c.self.view_is

@@ -8,8 +8,8 @@ use Rattle.execmodel.specs.GivingWay.{after_asking_for_object}
 use Rattle.execmodel.specs.Objects.{place_for_object}
 use Rattle.execheap.proofs.heap.Heap.new_request.Goals as goal
 
-pub returns-in-Ok-clause-address : goal.returns-in-Ok-clause-address
-returns-in-Ok-clause-address g c = c.make_request.ensures.address ∙ ap (λ m. place_for_object is_request 40 (after_asking_for_object is_request 40 m)) c.self.view_is
+pub returns-clause-address : goal.returns-clause-address
+returns-clause-address g c = c.make_request.ensures.address ∙ ap (λ m. place_for_object is_request 40 (after_asking_for_object is_request 40 m)) c.self.view_is
 
-pub returns-in-Ok-clause-next : goal.returns-in-Ok-clause-next
-returns-in-Ok-clause-next g c = c.make_request.ensures.next ∙ ap (λ m. placed 40 (Request (idle_request c.args.port)) c.make_request.result (after_asking_for_object is_request 40 m)) c.self.view_is
+pub returns-clause-next : goal.returns-clause-next
+returns-clause-next g c = c.make_request.ensures.next ∙ ap (λ m. placed 40 (Request (idle_request c.args.port)) c.make_request.result (after_asking_for_object is_request 40 m)) c.self.view_is

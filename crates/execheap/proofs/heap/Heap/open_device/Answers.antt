@@ -6,8 +6,8 @@ use Rattle.execheap.specs.Numbered.{shown_memory}
 use Rattle.execheap.proofs.RequestsShown.{opened_shown}
 use Rattle.execheap.proofs.heap.Heap.open_device.Goals as goal
 
-pub returns-in-Ok-clause-next : goal.returns-in-Ok-clause-next
-returns-in-Ok-clause-next g c =
-    let f = c.in-Ok.ensures.known in
-    ap shown_memory c.open_request.ensures.next ∙ opened_shown f.sound f.ports f.memory c.in-Ok.r c.args.request c.in-Ok.ensures.found c.args.unit
+pub returns-clause-next : goal.returns-clause-next
+returns-clause-next g c =
+    let f = c.in_ok-r.ensures.known in
+    ap shown_memory c.open_request.ensures.next ∙ opened_shown f.sound f.ports f.memory c.in_ok-r.r c.args.request c.in_ok-r.ensures.found c.args.unit
     ∙ ap (on_heap (opened_for c.args.unit c.args.request)) c.self.view_is

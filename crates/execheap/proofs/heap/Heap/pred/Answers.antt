@@ -8,10 +8,10 @@ use Rattle.execheap.specs.Numbered.{address_in, places}
 use Rattle.execheap.proofs.Linking.{pred_shown}
 use Rattle.execheap.proofs.heap.Heap.pred.Goals as goal
 
-pub returns-in-Ok-clause-answer : goal.returns-in-Ok-clause-answer
-returns-in-Ok-clause-answer g c =
-    let f = c.in-Ok.ensures.known in
-    let e = c.in-Ok.ensures in
+pub returns-clause-answer : goal.returns-clause-answer
+returns-clause-answer g c =
+    let f = c.in_ok-n.ensures.known in
+    let e = c.in_ok-n.ensures in
     let s = c.self.inside.objects in
     c.address_or_0.ensures ∙ ap (λ n. or_none (option_map (address_in (places variant.Node s)) n)) (c.pred.ensures.value _ e.linked)
-    ∙ sym (pred_shown f.sound f.space _ c.in-Ok.n c.args.node e.found e.linked) ∙ ap (λ (m : Memory). pred_of c.args.node m.heap) c.self.view_is
+    ∙ sym (pred_shown f.sound f.space _ c.in_ok-n.n c.args.node e.found e.linked) ∙ ap (λ (m : Memory). pred_of c.args.node m.heap) c.self.view_is

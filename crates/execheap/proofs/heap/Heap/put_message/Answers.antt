@@ -8,15 +8,15 @@ use Rattle.execheap.specs.Numbered.{shown_memory}
 use Rattle.execheap.proofs.Posted.{port_of_shown, posted_shown}
 use Rattle.execheap.proofs.heap.Heap.put_message.Goals as goal
 
-pub returns-in-Ok-clause-answer : goal.returns-in-Ok-clause-answer
-returns-in-Ok-clause-answer g c =
-    c.put.ensures.answer ∙ ap acting (sym (port_of_shown c.in-Ok.ensures.known.sound c.in-Ok.p c.args.port c.in-Ok.ensures.port))
+pub returns-clause-answer : goal.returns-clause-answer
+returns-clause-answer g c =
+    c.put.ensures.answer ∙ ap acting (sym (port_of_shown c.in_ok-p.ensures.known.sound c.in_ok-p.p c.args.port c.in_ok-p.ensures.port))
     ∙ ap (λ (m : Memory). acting (port_of c.args.port m.heap)) c.self.view_is
 
-pub returns-in-Ok-clause-next : goal.returns-in-Ok-clause-next
-returns-in-Ok-clause-next g c =
-    let f = c.in-Ok.ensures.known in
-    let e = c.in-Ok.ensures in
+pub returns-clause-next : goal.returns-clause-next
+returns-clause-next g c =
+    let f = c.in_ok-p.ensures.known in
+    let e = c.in_ok-p.ensures in
     ap shown_memory c.put.ensures.next
-    ∙ posted_shown f.sound f.ports f.memory c.in-Ok.p c.args.port e.port e.live_port c.in-Ok.m c.args.message e.message e.live_message nt_message
+    ∙ posted_shown f.sound f.ports f.memory c.in_ok-p.p c.args.port e.port e.live_port c.in_ok-p.m c.args.message e.message e.live_message nt_message
     ∙ ap (on_heap (posted nt_message c.args.port c.args.message)) c.self.view_is

@@ -11,18 +11,18 @@ use Rattle.execheap.specs.Numbered.{Numbered, address_in, shown_memory, places}
 use Rattle.execheap.proofs.Linking.{unlinked_table, first_shown, head_taken_shown}
 use Rattle.execheap.proofs.heap.Heap.rem_head.Goals as goal
 
-pub returns-in-Ok-clause-answer : goal.returns-in-Ok-clause-answer
-returns-in-Ok-clause-answer g c =
-    let f = c.in-Ok.ensures.known in
+pub returns-clause-answer : goal.returns-clause-answer
+returns-clause-answer g c =
+    let f = c.in_ok-h.ensures.known in
     let s = c.self.inside.objects in
     c.address_or_0.ensures
     ∙ ap (λ (x : Numbered). or_none (option_map (address_in (places variant.Node x)) c.rem_head-n.result)) c.rem_head-n.ensures.next
-    ∙ ap (λ (t : Tabled). or_none (option_map (address_in (slots_of variant.Node t)) c.rem_head-n.result)) (unlinked_table c.in-Ok.h (first (sequence s.sequences c.in-Ok.h)) (drop 1 (sequence s.sequences c.in-Ok.h)) s)
+    ∙ ap (λ (t : Tabled). or_none (option_map (address_in (slots_of variant.Node t)) c.rem_head-n.result)) (unlinked_table c.in_ok-h.h (first (sequence s.sequences c.in_ok-h.h)) (drop 1 (sequence s.sequences c.in_ok-h.h)) s)
     ∙ ap (λ n. or_none (option_map (address_in (places variant.Node s)) n)) c.rem_head-n.ensures.value
-    ∙ sym (first_shown f.sound f.space c.in-Ok.h c.args.list c.in-Ok.ensures.found) ∙ ap (λ (m : Memory). first_of c.args.list m.heap) c.self.view_is
+    ∙ sym (first_shown f.sound f.space c.in_ok-h.h c.args.list c.in_ok-h.ensures.found) ∙ ap (λ (m : Memory). first_of c.args.list m.heap) c.self.view_is
 
-pub returns-in-Ok-clause-next : goal.returns-in-Ok-clause-next
-returns-in-Ok-clause-next g c =
-    let f = c.in-Ok.ensures.known in
-    ap shown_memory c.rem_head-n.ensures.next ∙ head_taken_shown f.sound f.space f.memory c.in-Ok.h c.args.list c.in-Ok.ensures.found
+pub returns-clause-next : goal.returns-clause-next
+returns-clause-next g c =
+    let f = c.in_ok-h.ensures.known in
+    ap shown_memory c.rem_head-n.ensures.next ∙ head_taken_shown f.sound f.space f.memory c.in_ok-h.h c.args.list c.in_ok-h.ensures.found
     ∙ ap (on_heap (removed_head c.args.list)) c.self.view_is

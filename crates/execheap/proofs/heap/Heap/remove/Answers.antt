@@ -6,9 +6,9 @@ use Rattle.execheap.specs.Numbered.{shown_memory}
 use Rattle.execheap.proofs.Linking.{taken_out_shown}
 use Rattle.execheap.proofs.heap.Heap.remove.Goals as goal
 
-pub returns-in-Ok-clause-next : goal.returns-in-Ok-clause-next
-returns-in-Ok-clause-next g c =
-    let f = c.in-Ok.ensures.known in
-    let e = c.in-Ok.ensures in
-    ap shown_memory c.remove.ensures ∙ taken_out_shown f.sound f.space f.memory c.in-Ok.n c.args.node _ e.found e.linked
+pub returns-clause-next : goal.returns-clause-next
+returns-clause-next g c =
+    let f = c.in_ok-n.ensures.known in
+    let e = c.in_ok-n.ensures in
+    ap shown_memory c.remove.ensures ∙ taken_out_shown f.sound f.space f.memory c.in_ok-n.n c.args.node _ e.found e.linked
     ∙ ap (on_heap (unlinked c.args.node)) c.self.view_is

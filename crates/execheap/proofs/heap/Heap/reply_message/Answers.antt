@@ -10,40 +10,40 @@ use Rattle.execheap.proofs.Posted.{port_of_shown, posted_shown, typed_shown}
 use Rattle.execheap.proofs.Replying.{replied_none, replied_some, replying_none, replying_some}
 use Rattle.execheap.proofs.heap.Heap.reply_message.Goals as goal
 
-pub returns-in-Ok-default-Some-clause-answer : goal.returns-in-Ok-default-Some-clause-answer
-returns-in-Ok-default-Some-clause-answer g c =
+pub returns-in-Some-clause-answer : goal.returns-in-Some-clause-answer
+returns-in-Some-clause-answer g c =
     let s = c.self.inside.objects in
-    let e = c.in-Ok-default-Some.ensures in
-    let p = c.in-Ok-default-Some.p in
+    let e = c.in_ok-m.ensures in
+    let p = c.in-Some.p in
     let port = (content_of c.args.message (shown_heap s)).reply in
-    c.reply.ensures.answer ∙ ap acting (sym (port_of_shown c.in-Ok-default-Some.ensures.known.sound p port (e.reply p c.in-Ok-default-Some.field-0-1-is)))
-    ∙ sym (replying_some c.args.message (shown_heap s) (e.some p c.in-Ok-default-Some.field-0-1-is))
+    c.reply.ensures.answer ∙ ap acting (sym (port_of_shown c.in_ok-m.ensures.known.sound p port (e.reply p c.in-Some.is)))
+    ∙ sym (replying_some c.args.message (shown_heap s) (e.some p c.in-Some.is))
     ∙ ap (λ (m : Memory). replying c.args.message m.heap) c.self.view_is
 
-pub returns-in-Ok-default-Some-clause-next : goal.returns-in-Ok-default-Some-clause-next
-returns-in-Ok-default-Some-clause-next g c =
-    let f = c.in-Ok-default-Some.ensures.known in
+pub returns-in-Some-clause-next : goal.returns-in-Some-clause-next
+returns-in-Some-clause-next g c =
+    let f = c.in_ok-m.ensures.known in
     let s = c.self.inside.objects in
-    let e = c.in-Ok-default-Some.ensures in
-    let p = c.in-Ok-default-Some.p in
-    let is = c.in-Ok-default-Some.field-0-1-is in
+    let e = c.in_ok-m.ensures in
+    let p = c.in-Some.p in
+    let is = c.in-Some.is in
     let port = (content_of c.args.message (shown_heap s)).reply in
     ap shown_memory c.reply.ensures.next
-    ∙ posted_shown f.sound f.ports f.memory p port (e.reply p is) (e.live_port p is) c.in-Ok-default-Some.m c.args.message e.message e.live_message nt_replymsg
+    ∙ posted_shown f.sound f.ports f.memory p port (e.reply p is) (e.live_port p is) c.in_ok-m.m c.args.message e.message e.live_message nt_replymsg
     ∙ ap (λ heap. on_heap (λ old. heap) (shown_memory s)) (sym (replied_some c.args.message (shown_heap s) (e.some p is)))
     ∙ ap (on_heap (replied_by c.args.message)) c.self.view_is
 
-pub returns-in-Ok-default-None-clause-answer : goal.returns-in-Ok-default-None-clause-answer
-returns-in-Ok-default-None-clause-answer g c =
-    sym (replying_none c.args.message (shown_heap c.self.inside.objects) (c.in-Ok-default-None.ensures.none c.in-Ok-default-None.field-0-1-is))
+pub returns-in-None-clause-answer : goal.returns-in-None-clause-answer
+returns-in-None-clause-answer g c =
+    sym (replying_none c.args.message (shown_heap c.self.inside.objects) (c.in_ok-m.ensures.none c.in-None.is))
     ∙ ap (λ (m : Memory). replying c.args.message m.heap) c.self.view_is
 
-pub returns-in-Ok-default-None-clause-next : goal.returns-in-Ok-default-None-clause-next
-returns-in-Ok-default-None-clause-next g c =
-    let f = c.in-Ok-default-None.ensures.known in
+pub returns-in-None-clause-next : goal.returns-in-None-clause-next
+returns-in-None-clause-next g c =
+    let f = c.in_ok-m.ensures.known in
     let s = c.self.inside.objects in
-    let e = c.in-Ok-default-None.ensures in
+    let e = c.in_ok-m.ensures in
     ap shown_memory c.reply_none.ensures
-    ∙ typed_shown f.sound f.ports f.memory c.in-Ok-default-None.m c.args.message e.message e.live_message nt_freemsg
-    ∙ ap (λ heap. on_heap (λ old. heap) (shown_memory s)) (sym (replied_none c.args.message (shown_heap s) (e.none c.in-Ok-default-None.field-0-1-is)))
+    ∙ typed_shown f.sound f.ports f.memory c.in_ok-m.m c.args.message e.message e.live_message nt_freemsg
+    ∙ ap (λ heap. on_heap (λ old. heap) (shown_memory s)) (sym (replied_none c.args.message (shown_heap s) (e.none c.in-None.is)))
     ∙ ap (on_heap (replied_by c.args.message)) c.self.view_is

@@ -6,9 +6,9 @@ use Rattle.execheap.specs.Numbered.{shown_memory}
 use Rattle.execheap.proofs.Posted.{word_shown}
 use Rattle.execheap.proofs.heap.Heap.set_word.Goals as goal
 
-pub returns-in-Ok-clause-next : goal.returns-in-Ok-clause-next
-returns-in-Ok-clause-next g c =
-    let f = c.in-Ok.ensures.known in
+pub returns-clause-next : goal.returns-clause-next
+returns-clause-next g c =
+    let f = c.in_ok-m.ensures.known in
     ap shown_memory c.set_word.ensures
-    ∙ word_shown f.sound f.ports f.memory c.in-Ok.m c.args.message c.in-Ok.ensures.found c.in-Ok.ensures.live c.args.word
+    ∙ word_shown f.sound f.ports f.memory c.in_ok-m.m c.args.message c.in_ok-m.ensures.found c.in_ok-m.ensures.live c.args.word
     ∙ ap (on_heap (with_word c.args.message c.args.word)) c.self.view_is

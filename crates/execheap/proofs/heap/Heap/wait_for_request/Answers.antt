@@ -10,18 +10,18 @@ use Rattle.execheap.specs.Requesting.{looked_for}
 use Rattle.execheap.proofs.RequestAnswers.{looked_shown, requests_out, taken_if_shown}
 use Rattle.execheap.proofs.heap.Heap.wait_for_request.Goals as goal
 
-pub returns-in-Ok-clause-answer : goal.returns-in-Ok-clause-answer
-returns-in-Ok-clause-answer g c =
+pub returns-clause-answer : goal.returns-clause-answer
+returns-clause-answer g c =
     let s = c.self.inside.objects in
     c.looked_for.ensures
-    ∙ ap (λ (x : Numbered). looked_for (request_at c.in-Ok.r x.requests) c.in-Ok.bit) c.take_reply.ensures
-    ∙ ap (λ (m : Pooled Request). looked_for (request_at c.in-Ok.r m) c.in-Ok.bit) (requests_out (request_at c.in-Ok.r s.requests).state c.in-Ok.r s)
-    ∙ looked_shown (request_at c.in-Ok.r s.requests) c.in-Ok.bit c.args.request (shown_heap s) c.in-Ok.ensures.content c.in-Ok.ensures.bit
+    ∙ ap (λ (x : Numbered). looked_for (request_at c.in_ok-r.r x.requests) c.in_ok-r.bit) c.take_reply.ensures
+    ∙ ap (λ (m : Pooled Request). looked_for (request_at c.in_ok-r.r m) c.in_ok-r.bit) (requests_out (request_at c.in_ok-r.r s.requests).state c.in_ok-r.r s)
+    ∙ looked_shown (request_at c.in_ok-r.r s.requests) c.in_ok-r.bit c.args.request (shown_heap s) c.in_ok-r.ensures.content c.in_ok-r.ensures.bit
     ∙ ap (λ (m : Memory). awaited_for c.args.request m.heap) c.self.view_is
 
-pub returns-in-Ok-clause-next : goal.returns-in-Ok-clause-next
-returns-in-Ok-clause-next g c =
-    let f = c.in-Ok.ensures.known in
+pub returns-clause-next : goal.returns-clause-next
+returns-clause-next g c =
+    let f = c.in_ok-r.ensures.known in
     ap shown_memory c.take_reply.ensures
-    ∙ taken_if_shown f.sound f.ports f.memory c.in-Ok.r c.args.request c.in-Ok.ensures.found c.in-Ok.ensures.queued
+    ∙ taken_if_shown f.sound f.ports f.memory c.in_ok-r.r c.args.request c.in_ok-r.ensures.found c.in_ok-r.ensures.queued
     ∙ ap (on_heap (taken_if_replied c.args.request)) c.self.view_is

@@ -7,27 +7,31 @@ use Rattle.msgport.specs.Port.{Port}
 use Rattle.execheap.specs.Numbered.{shown_heap}
 use Rattle.execheap.proofs.Posted.{port_of_shown}
 use Rattle.execheap.proofs.RequestAlerts.{do_past, do_refused}
+use Rattle.execheap.proofs.Passed.{passed_on}
 use Rattle.execheap.proofs.objects.Objects.request_to_do.Goals as goal
 
-pub returns-in-Err-clause-alert : goal.returns-in-Err-clause-alert
-returns-in-Err-clause-alert g c = sym (do_refused c.args.request (shown_heap c.args.self.now) c.args.task (sym c.in-Err.ensures.alert))
+pub returns-in_err-r-clause-alert : goal.returns-in_err-r-clause-alert
+returns-in_err-r-clause-alert g c =
+    passed_on c.from_residual.result c.in_err-r.field-0.0 c.from_residual.ensures.1
+    ∙ sym (do_refused c.args.request (shown_heap c.args.self.now) c.args.task (sym c.in_err-r.ensures.alert))
 
-pub returns-in-Err-port_to_wait_at-clause-alert : goal.returns-in-Err-port_to_wait_at-clause-alert
-returns-in-Err-port_to_wait_at-clause-alert g c =
+pub returns-in_err-bit-clause-alert : goal.returns-in_err-bit-clause-alert
+returns-in_err-bit-clause-alert g c =
     let heap = shown_heap c.args.self.now in
-    let port = c.reply_port.ensures ∙ ap (λ x. (request_at c.in-Ok.r x).port) c.requests.ensures ∙ ap (λ (q : TimerRequest). q.port) c.in-Ok.ensures.content in
-    c.in-Err-port_to_wait_at.ensures.alert ∙ ap (λ a. wait_alert c.args.task a heap) port ∙ sym (do_past c.args.request heap c.args.task (sym c.in-Ok.ensures.alert))
+    let port = c.reply_port.ensures ∙ ap (λ x. (request_at c.in_ok-r.r x).port) c.requests.ensures ∙ ap (λ (q : TimerRequest). q.port) c.in_ok-r.ensures.content in
+    passed_on c.from_residual-in_err-bit.result c.in_err-bit.field-0.0 c.from_residual-in_err-bit.ensures.1
+    ∙ c.in_err-bit.ensures.alert ∙ ap (λ a. wait_alert c.args.task a heap) port ∙ sym (do_past c.args.request heap c.args.task (sym c.in_ok-r.ensures.alert))
 
-pub returns-in-Ok-port_to_wait_at-clause-alert : goal.returns-in-Ok-port_to_wait_at-clause-alert
-returns-in-Ok-port_to_wait_at-clause-alert g c =
+pub returns-clause-alert : goal.returns-clause-alert
+returns-clause-alert g c =
     let heap = shown_heap c.args.self.now in
-    let port = c.reply_port.ensures ∙ ap (λ x. (request_at c.in-Ok.r x).port) c.requests.ensures ∙ ap (λ (q : TimerRequest). q.port) c.in-Ok.ensures.content in
-    c.in-Ok-port_to_wait_at.ensures.alert ∙ ap (λ a. wait_alert c.args.task a heap) port ∙ sym (do_past c.args.request heap c.args.task (sym c.in-Ok.ensures.alert))
+    let port = c.reply_port.ensures ∙ ap (λ x. (request_at c.in_ok-r.r x).port) c.requests.ensures ∙ ap (λ (q : TimerRequest). q.port) c.in_ok-r.ensures.content in
+    c.in_ok-bit.ensures.alert ∙ ap (λ a. wait_alert c.args.task a heap) port ∙ sym (do_past c.args.request heap c.args.task (sym c.in_ok-r.ensures.alert))
 
-pub returns-in-Ok-port_to_wait_at-clause-bit : goal.returns-in-Ok-port_to_wait_at-clause-bit
-returns-in-Ok-port_to_wait_at-clause-bit g c =
+pub returns-clause-bit : goal.returns-clause-bit
+returns-clause-bit g c =
     let heap = shown_heap c.args.self.now in
-    let port = c.reply_port.ensures ∙ ap (λ x. (request_at c.in-Ok.r x).port) c.requests.ensures ∙ ap (λ (q : TimerRequest). q.port) c.in-Ok.ensures.content in
-    c.in-Ok-port_to_wait_at.ensures.bit
-    ∙ ap (λ (p : Port). p.bit) (sym (port_of_shown c.in-Ok.ensures.known.sound c.in-Ok-port_to_wait_at.field-0-0 c.reply_port.result c.in-Ok-port_to_wait_at.ensures.found))
+    let port = c.reply_port.ensures ∙ ap (λ x. (request_at c.in_ok-r.r x).port) c.requests.ensures ∙ ap (λ (q : TimerRequest). q.port) c.in_ok-r.ensures.content in
+    c.in_ok-bit.ensures.bit
+    ∙ ap (λ (p : Port). p.bit) (sym (port_of_shown c.in_ok-r.ensures.known.sound c.in_ok-bit.field-0-0 c.reply_port.result c.in_ok-bit.ensures.found))
     ∙ ap (λ a. (port_of a heap).bit) port

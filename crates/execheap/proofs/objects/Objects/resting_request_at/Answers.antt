@@ -3,17 +3,20 @@ use Rattle.std.proofs.Common.{sym, ◌∙◌}
 use Rattle.iorequest.specs.Requests.{request_at}
 use Rattle.execheap.specs.Numbered.{shown_heap}
 use Rattle.execheap.proofs.RequestAlerts.{resting_found, resting_refused}
+use Rattle.execheap.proofs.Passed.{passed_on}
 use Rattle.execheap.proofs.objects.Objects.resting_request_at.Goals as goal
 
-pub returns-in-Err-clause-alert : goal.returns-in-Err-clause-alert
-returns-in-Err-clause-alert g c = sym (resting_refused c.args.request (shown_heap c.args.self.now) (sym c.in-Err.ensures.alert))
+pub returns-in_err-r-clause-alert : goal.returns-in_err-r-clause-alert
+returns-in_err-r-clause-alert g c =
+    passed_on c.from_residual.result c.in_err-r.field-0.0 c.from_residual.ensures.1
+    ∙ sym (resting_refused c.args.request (shown_heap c.args.self.now) (sym c.in_err-r.ensures.alert))
 
 pub returns-then-begun-clause-alert : goal.returns-then-begun-clause-alert
 returns-then-begun-clause-alert g c =
-    sym (resting_found c.args.request (shown_heap c.args.self.now) (request_at c.in-Ok.r c.args.self.now.requests) c.in-Ok.ensures.content
-    (sym c.in-Ok.ensures.alert) (sym c.is_under_way-begun.ensures ∙ c.if-begun.true))
+    sym (resting_found c.args.request (shown_heap c.args.self.now) (request_at c.in_ok-r.r c.args.self.now.requests) c.in_ok-r.ensures.content
+    (sym c.in_ok-r.ensures.alert) (sym c.is_under_way-begun.ensures ∙ c.if-begun.true))
 
 pub returns-else-begun-clause-alert : goal.returns-else-begun-clause-alert
 returns-else-begun-clause-alert g c =
-    sym (resting_found c.args.request (shown_heap c.args.self.now) (request_at c.in-Ok.r c.args.self.now.requests) c.in-Ok.ensures.content
-    (sym c.in-Ok.ensures.alert) (sym c.is_under_way-begun.ensures ∙ c.if-begun.false))
+    sym (resting_found c.args.request (shown_heap c.args.self.now) (request_at c.in_ok-r.r c.args.self.now.requests) c.in_ok-r.ensures.content
+    (sym c.in_ok-r.ensures.alert) (sym c.is_under_way-begun.ensures ∙ c.if-begun.false))

@@ -2,15 +2,19 @@
 use Rattle.std.proofs.Common.{sym, ◌∙◌}
 use Rattle.execheap.specs.Numbered.{shown_heap}
 use Rattle.execheap.proofs.PortAlerts.{put_by_message, put_by_port}
+use Rattle.execheap.proofs.Passed.{passed_on}
 use Rattle.execheap.proofs.objects.Objects.to_put.Goals as goal
 
-pub returns-in-Err-clause-alert : goal.returns-in-Err-clause-alert
-returns-in-Err-clause-alert g c = sym (put_by_port c.args.message (shown_heap c.args.self.now) c.args.port (sym c.in-Err.ensures.alert))
+pub returns-in_err-p-clause-alert : goal.returns-in_err-p-clause-alert
+returns-in_err-p-clause-alert g c =
+    passed_on c.from_residual.result c.in_err-p.field-0.0 c.from_residual.ensures.1
+    ∙ sym (put_by_port c.args.message (shown_heap c.args.self.now) c.args.port (sym c.in_err-p.ensures.alert))
 
-pub returns-in-Err-loose_message_at-clause-alert : goal.returns-in-Err-loose_message_at-clause-alert
-returns-in-Err-loose_message_at-clause-alert g c =
-    c.in-Err-loose_message_at.ensures.alert ∙ sym (put_by_message c.args.message (shown_heap c.args.self.now) c.args.port (sym c.in-Ok.ensures.alert))
+pub returns-in_err-m-clause-alert : goal.returns-in_err-m-clause-alert
+returns-in_err-m-clause-alert g c =
+    passed_on c.from_residual-in_err-m.result c.in_err-m.field-0.0 c.from_residual-in_err-m.ensures.1
+    ∙ c.in_err-m.ensures.alert ∙ sym (put_by_message c.args.message (shown_heap c.args.self.now) c.args.port (sym c.in_ok-p.ensures.alert))
 
-pub returns-in-Ok-loose_message_at-clause-alert : goal.returns-in-Ok-loose_message_at-clause-alert
-returns-in-Ok-loose_message_at-clause-alert g c =
-    c.in-Ok-loose_message_at.ensures.alert ∙ sym (put_by_message c.args.message (shown_heap c.args.self.now) c.args.port (sym c.in-Ok.ensures.alert))
+pub returns-clause-alert : goal.returns-clause-alert
+returns-clause-alert g c =
+    c.in_ok-m.ensures.alert ∙ sym (put_by_message c.args.message (shown_heap c.args.self.now) c.args.port (sym c.in_ok-p.ensures.alert))
