@@ -1,5 +1,5 @@
 -- What calls on semaphores leave alone.
-use Rattle.std.proofs.Common.{◌≡◌, ℕ, ◌+◌, ◌-◌, Bool, true, false, length, refl, ap, sym, ◌∙◌, subst}
+use Rattle.std.proofs.Common.{◌≡◌, ℕ, Bool, true, false, length, refl, ap, sym, ◌∙◌, subst}
 use Rattle.std.specs.Prelude.{Some, None, Option, Ok, Result, is_ok, if◌then◌else◌, IsTrue}
 use Rattle.std.proofs.lemmas.List.{length-set}
 use Rattle.execlist.specs.Order.{first}

@@ -1,5 +1,5 @@
 -- A semaphore that changes: by number and by address it is the same one.
-use Rattle.std.proofs.Common.{◌≡◌, ℕ, ◌+◌, ◌-◌, ◌<◌, List, Bool, true, false, drop, map, length, slice_set, refl, ap, sym, ◌∙◌}
+use Rattle.std.proofs.Common.{◌≡◌, ℕ, ◌<◌, List, Bool, true, false, drop, map, length, slice_set, refl, ap, sym, ◌∙◌}
 use Rattle.std.specs.Prelude.{Option, Some, None, if◌then◌else◌, nat_eq, ◌&&◌, IsTrue}
 use Rattle.execlist.specs.Order.{first}
 use Rattle.sigsem.specs.declared.semaphore.Sem.{Sem}

@@ -1,5 +1,5 @@
 -- Objects by number, and the memory that they stand for: the objects by address.
-use Rattle.std.specs.Prelude.{◌≡◌, ℕ, ◌+◌, ◌^◌, ◌<◌, ◌≤◌, ◌&&◌, ◌++◌, false, take, if◌then◌else◌, Bool, IsSome, IsTrue, is_some, List, length, map, slice_index_or, Option, None, Some, unwrap_or}
+use Rattle.std.specs.Prelude.{◌≡◌, ℕ, ◌+◌, ◌^◌, ◌<◌, ◌≤◌, ◌&&◌, ◌++◌, false, take, if◌then◌else◌, Bool, IsSome, IsTrue, is_some, List, length, map, Option, None, Some, unwrap_or}
 use Rattle.execlist.specs.Lists.{Key, sequence, home, is_at, times, key_at}
 use Rattle.execlist.specs.Pool.{Pooled, slot}
 use Rattle.execlib.specs.Libraries.{Description, count_of, is_delayed}
