@@ -1,8 +1,8 @@
 //! The ports and the messages of a machine, by number.
-ghost use Rattle.std.specs.Prelude.{◌≡◌, ◌<◌, ◌≤◌, length, false, not, find, is_ok, Some, None, IfOk, IfSome, IsSome, IsTrue};
+ghost use Rattle.std.specs.Prelude.{◌≡◌, ◌<◌, ◌≤◌, [], length, replicate, false, not, find, is_ok, Some, None, IfOk, IfSome, IsSome, IsTrue};
 ghost use Rattle.execlist.specs.Order.{first};
-ghost use Rattle.execlist.specs.Lists.{home, is_named};
-ghost use Rattle.execlist.specs.Pool.{IsStocked, next_number};
+ghost use Rattle.execlist.specs.Lists.{blank, home, is_named};
+ghost use Rattle.execlist.specs.Pool.{IsStocked, all_free, next_number};
 ghost use Rattle.msgport.specs.Port.{acting, wait_bit};
 ghost use Rattle.msgport.specs.Ports.{IsSound, is_port, is_message, is_queued, is_held, is_linked, is_public, has_messages, port_at, message_at, messages_of};
 ghost use Rattle.std.specs.Option.{ok_or};
@@ -73,6 +73,35 @@ impl<S: ListSpace> Model for Ports<S> {
     }) };
 }
 
+/// The numbers of so many ports and messages, all of them free.
+fn pools_of(
+    alloc: Global,
+    ports: usize,
+    msgs: usize,
+) -> Result<(Pool<Port>, Pool<Message>), AllocError>
+    ensures ports { IfOk result (λ pools. pools.0 ≡ all_free ports) }
+    ensures messages { IfOk result (λ pools. pools.1 ≡ all_free msgs) }
+{
+    let numbers = Pool::new(alloc, ports)?;
+    let messages = Pool::new(alloc, msgs)?;
+    Ok((numbers, messages))
+}
+
+/// The header of the messages that are held and that of the public ports, both empty.
+fn headers_of<S: ListSpace>(alloc: Global, ports: usize, msgs: usize) -> Result<(S, S), AllocError>
+    requires few_ports { ports ≤ 4096 }
+    requires few_messages { msgs ≤ 4096 }
+    ensures held { IfOk result (λ both. S.sequences both.0 ≡ replicate 1 []) }
+    ensures none_held { IfOk result (λ both. S.homes both.0 ≡ replicate msgs None) }
+    ensures public { IfOk result (λ both. S.sequences both.1 ≡ replicate 1 []) }
+    ensures none_public { IfOk result (λ both. S.homes both.1 ≡ replicate ports None) }
+    ensures keys { IfOk result (λ both. S.keys both.1 ≡ replicate ports blank) }
+{
+    let held = S::new(alloc, 1, msgs)?;
+    let public = S::new(alloc, 1, ports)?;
+    Ok((held, public))
+}
+
 impl<S: ListSpace> Ports<S> {
     /// Room for so many ports and messages, at most 4,096 of each. There is no port and no message yet.
     ///
@@ -84,11 +113,9 @@ impl<S: ListSpace> Ports<S> {
         requires few_messages { msgs ≤ 4096 }
         ensures { IfOk result (λ q. q ≡ no_ports ports msgs) }
     {
-        let numbers = Pool::new(alloc, ports)?;
-        let messages = Pool::new(alloc, msgs)?;
+        let (numbers, messages) = pools_of(alloc, ports, msgs)?;
         let queues = S::new(alloc, ports, msgs)?;
-        let held = S::new(alloc, 1, msgs)?;
-        let public = S::new(alloc, 1, ports)?;
+        let (held, public) = headers_of(alloc, ports, msgs)?;
         Ok(Ports {
             ports: numbers,
             messages,
