@@ -16,6 +16,7 @@ mod libraries;
 mod lists;
 mod ports;
 mod requests;
+mod room;
 mod semaphores;
 
 use crate::kind::Kind;
@@ -97,11 +98,9 @@ impl<S: ListSpace> Objects<S> {
     {
         let pool = pool as usize;
         let table = Table::new(alloc, regions, pool, libraries, asks)?;
-        let space = S::new(alloc, pool, pool)?;
-        let ports = requests::with_requests(Ports::new(alloc, pool, pool + pool)?, pool);
-        let sems = Sems::new(alloc, pool, tasks)?;
-        let held = Requests::new(alloc, pool)?;
-        let timer = Timer::new(alloc, pool, tick_micros)?;
+        let (space, sems) = room::lists_and_semaphores(alloc, pool, tasks)?;
+        let ports = room::ports_of(alloc, pool)?;
+        let (held, timer) = room::requests_and_timer(alloc, pool, tick_micros)?;
         Ok(Objects {
             table,
             space,
