@@ -5,6 +5,7 @@
 
 mod bodies;
 mod body_calls;
+mod boot;
 mod calls;
 mod causing;
 mod change;

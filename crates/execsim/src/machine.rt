@@ -1,40 +1,24 @@
 //! The machine as its callers see it: made from a machine file, started once, and given one event after another.
-ghost use Rattle.std.specs.Prelude.{◌≡◌, ◌≤◌, [], true, false, All, length, map, nat_eq, sum_by, IfOk};
+ghost use Rattle.std.specs.Prelude.{◌≡◌, true, false, sum_by, IfOk};
 ghost use Rattle.exectrace.specs.Sink.{Writes};
 ghost use Rattle.exectrace.specs.Trace.{printed};
 ghost use Rattle.exectrace.specs.declared.sinks.SinkState.{SinkState};
-ghost use Rattle.taskscript.specs.Commands.{command_view};
 ghost use Rattle.taskscript.specs.Events.{ticks as ticks_of};
-ghost use Rattle.taskscript.specs.Records.{library_view, server_view, softint_view, task_view};
-ghost use Rattle.softint.specs.Interrupts.{IsPriority};
-ghost use Rattle.softint.specs.Sources.{no_latches};
-ghost use Rattle.timerdev.specs.Timing.{new_timer};
-ghost use Rattle.execlib.specs.Libraries.{description_of};
-ghost use Rattle.execheap.specs.Numbered.{shown_library};
-ghost use Rattle.execmodel.specs.State.{State, booted, begun, andthen};
+ghost use Rattle.execmodel.specs.State.{State, booted, andthen};
 ghost use Rattle.execmodel.specs.Step.{starts, event, events};
 ghost use Rattle.execsim.specs.Agreement.{Agrees};
 ghost use Rattle.execsim.specs.Headline.{Acts, StaysFailed, Finishes, flow_of};
 ghost use Rattle.execsim.specs.Reached.{QueuesAgree};
 ghost use Rattle.execsim.specs.Time.{HasTimeFor};
-ghost use Rattle.execsim.specs.Views.{CanBeSmall, interrupting};
 
-use crate::bodies::Bodies;
-use crate::interrupts::source_named;
+use crate::boot::kernel_of;
 use crate::kernel::Kernel;
-use crate::program::Program;
-use crate::small::small_code;
-use execheap::{Heap, LibInit};
 use execlist::space::ListSpace;
 use exectrace::sinks::written;
 use exectrace::{Sink, WriteFault};
-use scheduler::Sched;
-use softint::interrupt::{Server, Soft};
-use softint::ints::Ints;
 use std::alloc::{AllocError, Global};
 use std::marker::Model;
-use taskq::TaskInit;
-use taskscript::{Event, LibraryRecord, MachineFile, ServerRecord, SoftintRecord, TaskRecord};
+use taskscript::{Event, MachineFile};
 
 /// Whether a machine goes on.
 #[derive(Clone, Copy, Debug, PartialEq, Eq)]
@@ -62,132 +46,6 @@ impl<S: ListSpace> Model for Machine<S> {
     ghost view = { λ m. record { seen = m.kernel; failed = m.failed } };
 
     ghost invariant = { λ m. m.failed ≡ false → IsKnown m.kernel };
-}
-
-/// The names and priorities of the tasks, in the order of the file.
-fn inits_of(alloc: Global, tasks: &[TaskRecord]) -> Result<Vec<TaskInit>, AllocError>
-    ensures names { IfOk result (λ v. map (λ t. t.name.bytes) v.items ≡ map (λ t. t.name.bytes) tasks.now) }
-    ensures pris { IfOk result (λ v. map (λ t. t.pri) v.items ≡ map (λ t. t.pri) tasks.now) }
-    ensures count { IfOk result (λ v. length v.items ≡ length tasks.now) }
-{
-    let mut inits = Vec::new(alloc);
-    for task in tasks {
-        inits.push(TaskInit {
-            name: task.name,
-            pri: task.pri,
-        })?;
-    }
-    Ok(inits)
-}
-
-/// The program of a task at its first command.
-fn program_of(alloc: Global, task: &TaskRecord) -> Result<Program, AllocError>
-    requires { CanBeSmall (map command_view task.now.code.items) }
-    ensures { IfOk result (λ p. p ≡ begun (task_view task.now)) }
-{
-    let code = small_code(alloc, &task.code)?;
-    Ok(Program::new(code, task.start))
-}
-
-/// The programs of the tasks, in the order of the file.
-fn programs_of(alloc: Global, tasks: &[TaskRecord]) -> Result<Vec<Program>, AllocError>
-    requires { All (λ t. CanBeSmall t.code) (map task_view tasks.now) }
-    ensures { IfOk result (λ v. v.items ≡ map begun (map task_view tasks.now)) }
-{
-    let mut programs = Vec::new(alloc);
-    for task in tasks {
-        programs.push(program_of(alloc, task)?)?;
-    }
-    Ok(programs)
-}
-
-/// The priorities of the software interrupts, in the order of the file.
-fn softs_of(alloc: Global, softints: &[SoftintRecord]) -> Result<Vec<Soft>, AllocError>
-    ensures pris { IfOk result (λ v. map (λ s. s.pri) v.items ≡ map (λ s. s.pri) softints.now) }
-    ensures count { IfOk result (λ v. length v.items ≡ length softints.now) }
-{
-    let mut softs = Vec::new(alloc);
-    for softint in softints {
-        softs.push(Soft { pri: softint.pri })?;
-    }
-    Ok(softs)
-}
-
-/// The sources and priorities of the servers, in the order of the file.
-fn sources_of(alloc: Global, servers: &[ServerRecord]) -> Result<Vec<Server>, AllocError>
-    ensures servers { IfOk result (λ v. v.items ≡ map interrupting (map server_view servers.now)) }
-    ensures count { IfOk result (λ v. length v.items ≡ length servers.now) }
-{
-    let mut sources = Vec::new(alloc);
-    for server in servers {
-        sources.push(Server {
-            source: source_named(server.source),
-            pri: server.pri,
-        })?;
-    }
-    Ok(sources)
-}
-
-/// The interrupts of a file: none is pending.
-fn ints_of<S: ListSpace>(
-    alloc: Global,
-    softints: &[SoftintRecord],
-    servers: &[ServerRecord],
-) -> Result<Ints<S>, AllocError>
-    requires few_softints { length softints.now ≤ 32 }
-    requires few_servers { length servers.now ≤ 32 }
-    requires priorities { All (λ s. IsPriority s.pri) (map softint_view softints.now) }
-    ensures { IfOk result (λ ints. ints ≡ record {
-      priorities = map (λ s. s.pri) (map softint_view softints.now);
-      caused = [];
-      latches = no_latches;
-      servers = map interrupting (map server_view servers.now);
-    }) }
-{
-    let softs = softs_of(alloc, softints)?;
-    let sources = sources_of(alloc, servers)?;
-    Ints::new(alloc, &softs, &sources)
-}
-
-/// The libraries, in the order of the file.
-fn libraries_of(alloc: Global, libraries: &[LibraryRecord]) -> Result<Vec<LibInit>, AllocError>
-    ensures libraries { IfOk result (λ v. map shown_library (map description_of v.items) ≡ map library_view libraries.now) }
-    ensures count { IfOk result (λ v. length v.items ≡ length libraries.now) }
-{
-    let mut inits = Vec::new(alloc);
-    for library in libraries {
-        inits.push(LibInit {
-            name: library.name,
-            version: library.version,
-            size: library.size,
-        })?;
-    }
-    Ok(inits)
-}
-
-/// The memory of a file: nothing is allocated, and no library is loaded; libraries are asked to give way where the file is of version 2.
-fn heap_of<S: ListSpace>(alloc: Global, file: &MachineFile) -> Result<Heap<S>, AllocError>
-    ensures { IfOk result (λ heap. heap ≡ record {
-      regions = file.now.regions;
-      libraries = file.now.libraries;
-      asks = nat_eq file.now.version 2;
-      pool = file.now.pool;
-      tasks = length file.now.tasks;
-      heap = [];
-      public = [];
-      timer = new_timer file.now.tick_micros;
-    }) }
-{
-    let inits = libraries_of(alloc, file.libraries())?;
-    Heap::new(
-        alloc,
-        file.regions(),
-        file.pool(),
-        file.tasks().len(),
-        &inits,
-        file.version() == 2,
-        file.tick_micros(),
-    )
 }
 
 /// Whether a machine goes on, by whether an alert has stopped it.
@@ -226,15 +84,9 @@ impl<S: ListSpace> Machine<S> {
         ensures whole { IfOk result (λ m. m.failed ≡ false) }
         ensures time { IfOk result (λ m. HasTimeFor 1000000 m.seen) }
     {
-        let tasks = file.tasks();
-        let inits = inits_of(alloc, tasks)?;
-        let sched = Sched::new(alloc, &inits, file.quantum())?;
-        let programs = programs_of(alloc, tasks)?;
-        let memory = heap_of(alloc, file)?;
-        let bodies = Bodies::new(alloc, file.softints(), file.servers())?;
-        let ints = ints_of(alloc, file.softints(), file.servers())?;
+        let kernel = kernel_of(alloc, file)?;
         Ok(Machine {
-            kernel: Kernel::new(sched, programs, memory, bodies, ints),
+            kernel,
             failed: false,
         })
     }

@@ -1,7 +1,7 @@
 use Rattle.std.proofs.Common.{◌≡◌, map, take}
 use Rattle.taskscript.specs.Records.{task_view}
 use Rattle.execmodel.specs.State.{begun}
-use Rattle.execsim.proofs.machine.programs_of.Given as goal
+use Rattle.execsim.proofs.boot.programs_of.Given as goal
 
 -- the tasks so far have their programs
 abbrev pub invariant-loop-task : goal.invariant-loop-task

@@ -1,7 +1,7 @@
 use Rattle.std.proofs.Common.{◌≡◌, map, take}
 use Rattle.taskscript.specs.Records.{server_view}
 use Rattle.execsim.specs.Views.{interrupting}
-use Rattle.execsim.proofs.machine.sources_of.Given as goal
+use Rattle.execsim.proofs.boot.sources_of.Given as goal
 
 -- the servers so far have given their sources and priorities
 abbrev pub invariant-loop-server : goal.invariant-loop-server

@@ -7,7 +7,7 @@ use Rattle.taskscript.specs.File.{SoftintData}
 use Rattle.taskscript.specs.Records.{softint_view}
 use Rattle.execsim.proofs.Accepted.{all_shown, all_under}
 use Rattle.execsim.proofs.Calling.{map-map_as}
-use Rattle.execsim.proofs.machine.ints_of.Goals as goal
+use Rattle.execsim.proofs.boot.ints_of.Goals as goal
 
 pub new-requires-clause-priorities : goal.new-requires-clause-priorities
 new-requires-clause-priorities g c =

@@ -1,5 +1,5 @@
 use Rattle.std.proofs.Common.{◌≡◌, map, take}
-use Rattle.execsim.proofs.machine.inits_of.Given as goal
+use Rattle.execsim.proofs.boot.inits_of.Given as goal
 
 -- the tasks so far have given their names and priorities
 abbrev pub invariant-loop-task : goal.invariant-loop-task

@@ -1,5 +1,5 @@
 use Rattle.std.proofs.Common.{◌≡◌, map, take}
-use Rattle.execsim.proofs.machine.softs_of.Given as goal
+use Rattle.execsim.proofs.boot.softs_of.Given as goal
 
 -- the software interrupts so far have given their priorities
 abbrev pub invariant-loop-softint : goal.invariant-loop-softint

@@ -2,7 +2,7 @@ use Rattle.std.proofs.Common.{◌≡◌, map, take}
 use Rattle.taskscript.specs.Records.{library_view}
 use Rattle.execlib.specs.Libraries.{description_of}
 use Rattle.execheap.specs.Numbered.{shown_library}
-use Rattle.execsim.proofs.machine.libraries_of.Given as goal
+use Rattle.execsim.proofs.boot.libraries_of.Given as goal
 
 -- the libraries so far have given what is known of them
 abbrev pub invariant-loop-library : goal.invariant-loop-library

@@ -1,7 +1,7 @@
 use Rattle.std.proofs.Common.{◌≡◌, length, sym, ap, ◌∙◌}
 use Rattle.std.proofs.lemmas.List.{length-map}
 use Rattle.taskscript.specs.Records.{task_view}
-use Rattle.execsim.proofs.machine.heap_of.Goals as goal
+use Rattle.execsim.proofs.boot.heap_of.Goals as goal
 
 pub returns : goal.returns
 returns g c =
