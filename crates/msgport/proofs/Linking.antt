@@ -8,7 +8,7 @@ use Rattle.execlist.specs.Order.{first, without}
 use Rattle.execlist.specs.Lists.{sequence, home, is_at, times}
 use Rattle.execlist.specs.Pool.{slot}
 use Rattle.msgport.specs.declared.fault.PortFault.TheVariants.{Unknown, Link}
-use Rattle.msgport.specs.Ports.{MessagePorts, IsHeld, is_port, is_message, is_queued, is_held, is_linked, loose_fault, reply_fault, messages_of, appended, port_freed, message_freed}
+use Rattle.msgport.specs.Ports.{MessagePorts, IsHeld, is_port, is_message, is_queued, is_linked, loose_fault, reply_fault, messages_of, appended, port_freed, message_freed}
 use Rattle.execlist.proofs.Pools.{item_of, slot_known, slot_other, slot_same}
 
 -- how often a node of that home stands in header h

@@ -1,5 +1,5 @@
 -- What is left stays linked to what lives.
-use Rattle.std.proofs.Common.{◌≡◌, ◌∙◌, List, Option, ap, refl, sym, Some, None, length, slice_set, subst}
+use Rattle.std.proofs.Common.{◌≡◌, ◌∙◌, List, Option, ap, Some, None, length, slice_set}
 use Rattle.std.specs.Prelude.{ℕ, MatchOption}
 use Rattle.std.proofs.lemmas.List.{length-set}
 use Rattle.msgport.specs.Ports.{IsHeld, MessagePorts}

@@ -1,5 +1,5 @@
 -- A message that may be put anywhere is not held yet.
-use Rattle.std.proofs.Common.{◌≡◌, ◌∙◌, ap, not, IsTrue, sym, subst, None}
+use Rattle.std.proofs.Common.{◌∙◌, not, IsTrue, sym, subst}
 use Rattle.msgport.specs.Ports.{MessagePorts, is_linked}
 use Rattle.msgport.proofs.Linking.{loose_of, neither, not_in}
 use Rattle.msgport.proofs.ports.Ports.hold.Goals as goal

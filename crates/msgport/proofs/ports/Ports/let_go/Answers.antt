@@ -1,7 +1,5 @@
 -- What is not held leaves those that are as they are.
-use Rattle.std.proofs.Common.{◌∙◌, ap, sym, List}
-use Rattle.std.specs.Prelude.{ℕ}
-use Rattle.msgport.specs.Ports.{MessagePorts}
+use Rattle.std.proofs.Common.{◌∙◌, ap, sym}
 use Rattle.msgport.proofs.Linking.{without_absent}
 use Rattle.msgport.proofs.ports.Ports.let_go.Goals as goal
 
