@@ -2,6 +2,7 @@
 ghost use Rattle.std.specs.Prelude.{◌≡◌, ◌<◌, ◌≤◌, length, insert, slice_get, All, IfOk};
 ghost use Rattle.execlist.specs.Order.{enqueue};
 ghost use Rattle.softint.specs.Interrupts.{chain, serves, server_pri};
+ghost use Rattle.softint.specs.declared.source.Source.TheVariants as variant;
 
 use crate::interrupt::Server;
 use crate::source::Source;
@@ -10,14 +11,38 @@ use std::alloc::{AllocError, Global};
 /// The number of a server, from 0.
 pub type ServerId = usize;
 
+/// The servers of each source in the order in which they are to run.
+#[derive(Drop)]
+pub struct Chains {
+    pub ports: Vec<ServerId>,
+    pub vertb: Vec<ServerId>,
+    pub exter: Vec<ServerId>,
+}
+
+impl Chains {
+    /// The chains of all sources.
+    ///
+    /// An error means that memory is lacking. Autodoc exec.library/AddIntServer.
+    pub fn new(alloc: Global, servers: &[Server]) -> Result<Self, AllocError>
+        ensures ports { IfOk result (λ chains. chains.ports.items ≡ chain variant.Ports servers.now) }
+        ensures vertb { IfOk result (λ chains. chains.vertb.items ≡ chain variant.Vertb servers.now) }
+        ensures exter { IfOk result (λ chains. chains.exter.items ≡ chain variant.Exter servers.now) }
+    {
+        let ports = chain_of(alloc, servers, Source::Ports)?;
+        let vertb = chain_of(alloc, servers, Source::Vertb)?;
+        let exter = chain_of(alloc, servers, Source::Exter)?;
+        Ok(Chains {
+            ports,
+            vertb,
+            exter,
+        })
+    }
+}
+
 /// The servers of a source, by priority, and those of one priority in the order of their numbers.
 ///
 /// An error means that memory is lacking. Autodoc exec.library/AddIntServer.
-pub fn chain_of(
-    alloc: Global,
-    servers: &[Server],
-    source: Source,
-) -> Result<Vec<ServerId>, AllocError>
+fn chain_of(alloc: Global, servers: &[Server], source: Source) -> Result<Vec<ServerId>, AllocError>
     ensures { IfOk result (λ v. v.items ≡ chain source servers.now) }
 {
     let mut chain = Vec::with_capacity(alloc, servers.len())?;

@@ -6,7 +6,7 @@ ghost use Rattle.softint.specs.Interrupts.{IsPriority, quiet, causes, taken_off,
 ghost use Rattle.execlist.specs.Disciplines.{pri_at};
 
 use crate::caused::{IntId, PRIORITIES, first_caused, header_of};
-use crate::chain::{ServerId, chain_of, server_at};
+use crate::chain::{Chains, ServerId, server_at};
 use crate::interrupt::{Server, Soft};
 use crate::latches::Latches;
 use crate::source::Source;
@@ -25,9 +25,7 @@ pub struct Ints<S: ListSpace> {
     some_caused: bool,
     latches: Latches,
     servers: Vec<Server>,
-    ports: Vec<ServerId>,
-    vertb: Vec<ServerId>,
-    exter: Vec<ServerId>,
+    chains: Chains,
 }
 
 impl<S: ListSpace> Model for Ints<S> {
@@ -45,7 +43,7 @@ impl<S: ListSpace> Model for Ints<S> {
     } };
 
     ghost invariant = { λ q. IsHeld (length (S.sequences q.caused)) (S.homes q.caused) q.softs.items
-        × IsChained q.ports.items q.vertb.items q.exter.items q.servers.items
+        × IsChained q.chains.ports.items q.chains.vertb.items q.chains.exter.items q.servers.items
         × (q.some_caused ≡ is_some (first (joined (S.sequences q.caused)))) };
 }
 
@@ -63,9 +61,7 @@ impl<S: ListSpace> Ints<S> {
         ensures { IfOk result (λ q. q ≡ quiet softs.now servers.now) }
     {
         let caused = S::new(alloc, PRIORITIES, softs.len())?;
-        let ports = chain_of(alloc, servers, Source::Ports)?;
-        let vertb = chain_of(alloc, servers, Source::Vertb)?;
-        let exter = chain_of(alloc, servers, Source::Exter)?;
+        let chains = Chains::new(alloc, servers)?;
         let own_softs = Vec::from_slice(alloc, softs)?;
         let own_servers = Vec::from_slice(alloc, servers)?;
         Ok(Ints {
@@ -74,9 +70,7 @@ impl<S: ListSpace> Ints<S> {
             some_caused: false,
             latches: Latches::new(),
             servers: own_servers,
-            ports,
-            vertb,
-            exter,
+            chains,
         })
     }
 
@@ -173,9 +167,9 @@ impl<S: ListSpace> Ints<S> {
         ensures { result.now ≡ chain source self.now.servers }
     {
         match source {
-            Source::Ports => &self.ports,
-            Source::Vertb => &self.vertb,
-            Source::Exter => &self.exter,
+            Source::Ports => &self.chains.ports,
+            Source::Vertb => &self.chains.vertb,
+            Source::Exter => &self.chains.exter,
         }
     }
 }
