@@ -1,1 +1,2 @@
+mod LocateLemmas
 mod SpanLemmas

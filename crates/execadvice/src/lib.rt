@@ -11,6 +11,7 @@ mod near;
 mod reasons;
 mod regions;
 mod said;
+mod section;
 mod show;
 mod spacing;
 mod stands;
