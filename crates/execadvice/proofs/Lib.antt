@@ -1,2 +1,3 @@
+mod KeyTurns
 mod LocateLemmas
 mod SpanLemmas

@@ -1,4 +1,5 @@
 pub mod Findings
+pub mod KeysTold
 pub mod Locating
 pub mod Near
 pub mod Saying

@@ -1,4 +1,8 @@
 //! Why a place of the tree is faulty, in one sentence.
+ghost use Rattle.std.specs.Prelude.{◌≡◌};
+ghost use Rattle.toml.specs.View.{table_view};
+ghost use Rattle.execadvice.specs.KeysTold.{key_at, members_at};
+
 use crate::near::{nearest, proposal};
 use crate::regions::regions_reason;
 use execcheck::{
@@ -158,18 +162,20 @@ fn twice_reason(
     format!(in alloc; "the name \"{name}\" stands before")
 }
 
-/// The item of an array, where it is a table.
-fn table_in<'a>(table: &'a Table, array: Array, item: usize) -> Option<&'a Table> {
-    items_at(table, array.key())
-        .get(item)
-        .and_then(|it| it.as_table())
-}
-
-/// The table of a place.
-fn table_at<'a>(table: &'a Table, place: TablePlace) -> &'a Table {
-    match place {
-        TablePlace::Top => table,
-        TablePlace::Item(array, item) => table_in(table, array, item).unwrap_or(table),
+/// The table of a place; where the item is no table, the top table.
+#[tactic(auto, using(crate::proofs::KeyTurns::item_held, crate::proofs::KeyTurns::no_item))]
+fn table_at<'a>(table: &'a Table, place: TablePlace) -> &'a Table
+    ensures { table_view result.now ≡ members_at (table_view table.now) place }
+{
+    let TablePlace::Item(array, item) = place else {
+        return table;
+    };
+    match items_at(table, array.key()).get(item) {
+        None => table,
+        Some(value) => match value.as_table() {
+            None => table,
+            Some(own) => own,
+        },
     }
 }
 
@@ -220,12 +226,17 @@ fn array_reason(
     }
 }
 
-/// The text of the key of a place, or the empty text.
+/// The text of the key of a place: of a table with a key that it may not have, the first such key. Of an array and of an item the empty text.
 ///
 /// Source: own choice.
-pub fn key_at(place: TreePlace, table: &Table) -> &str {
+pub fn key_at(place: TreePlace, table: &Table) -> &str
+    ensures { result.now ≡ key_at (table_view table.now) place }
+{
     match place {
-        TreePlace::UnknownKey(of) => unknown_key(of, table_at(table, of)).unwrap_or(""),
+        TreePlace::UnknownKey(of) => match unknown_key(of, table_at(table, of)) {
+            None => "",
+            Some(key) => key,
+        },
         TreePlace::Key(_, key) => key.text(),
         _ => "",
     }
