@@ -1,3 +1,6 @@
 mod KeyTurns
+mod LimitTurns
 mod LocateLemmas
+mod RegionTurns
 mod SpanLemmas
+mod ToldTurns

@@ -1,6 +1,11 @@
 pub mod Findings
 pub mod KeysTold
+pub mod LabelsTold
+pub mod Limits
 pub mod Locating
+pub mod Misplaced
 pub mod Near
+pub mod RegionsTold
 pub mod Saying
 pub mod Spans
+pub mod Told

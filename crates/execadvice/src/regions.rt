@@ -1,4 +1,13 @@
 //! Why the regions of a file are refused all together.
+ghost use Rattle.std.specs.Prelude.{◌≡◌, ◌+◌, ◌^◌, ◌<◌, IfOk, length, option_map, pos, unsigned_abs};
+ghost use Rattle.std.specs.String.{string_bytes};
+ghost use Rattle.toml.specs.Data.{get_member};
+ghost use Rattle.toml.specs.View.{table_view, view};
+ghost use Rattle.memlist.specs.Regions.{overlaps, region_end};
+ghost use Rattle.taskscript.specs.File.{total_of, version_of};
+ghost use Rattle.taskscript.specs.Tree.{integer_or, members_or_none};
+ghost use Rattle.execadvice.specs.RegionsTold.{beyond, bytes_of, end_text, first_of, first_overlap, held_between, overlap_text, overlapped, region_told, regions_reason, regions_told, too_many_bytes, unfit};
+
 use execcheck::{items_at, member, total_at};
 use memlist::{MEM_BLOCKSIZE, Region};
 use std::alloc::{AllocError, Global};
@@ -8,41 +17,63 @@ use toml::{Table, Value};
 const REACH: u64 = 2_147_483_648;
 
 /// The number that the key of a region holds, or another.
-fn number_in(value: &Value, key: &str, otherwise: i64) -> i64 {
+fn number_in(value: &Value, key: &str, otherwise: i64) -> i64
+    ensures { result ≡ integer_or otherwise (get_member key.now (members_or_none (view value.now))) }
+{
     match value.as_table() {
         None => otherwise,
         Some(table) => match member(table, key) {
             None => otherwise,
-            Some(held) => held.as_integer().unwrap_or(otherwise),
+            Some(held) => match held.as_integer() {
+                None => otherwise,
+                Some(number) => number,
+            },
         },
     }
 }
 
+/// The address that the key of a region holds, or 0.
+fn address_in(value: &Value, key: &str) -> u32
+    ensures { result ≡ unsigned_abs (held_between (pos 0) (pos 4294967295) (pos 0) key.now (view value.now)) }
+{
+    number_in(value, key, 0)
+        .clamp(0, 4_294_967_295)
+        .unsigned_abs() as u32
+}
+
+/// A region, with what its reasons need: its base and its size.
+fn region_told(value: &Value) -> Region
+    ensures { result ≡ region_told (view value.now) }
+{
+    Region {
+        base: address_in(value, "base"),
+        size: address_in(value, "size"),
+        attrs: 1,
+        pri: 0,
+    }
+}
+
 /// The regions of a file.
-fn regions_of(alloc: Global, table: &Table) -> Result<Vec<Region>, AllocError> {
+#[tactic(auto, using(crate::proofs::RegionTurns::regions_turn))]
+fn regions_of(alloc: Global, table: &Table) -> Result<Vec<Region>, AllocError>
+    ensures { IfOk result (λ regions. regions.items ≡ regions_told (table_view table.now)) }
+{
     let mut regions = Vec::new(alloc);
     for value in items_at(table, "region") {
-        regions.push(Region {
-            base: number_in(value, "base", 0).clamp(0, 4_294_967_295) as u32,
-            size: number_in(value, "size", 0).clamp(0, 4_294_967_295) as u32,
-            attrs: number_in(value, "attrs", 1).clamp(0, 7) as u32,
-            pri: number_in(value, "pri", 0).clamp(-128, 127) as i8,
-        })?;
+        regions.push(region_told(value))?;
     }
     Ok(regions)
 }
 
 /// Which rule a region breaks by itself.
-fn region_reason(
-    alloc: Global,
-    number: usize,
-    region: Region,
-) -> Result<Option<String>, AllocError> {
+fn unfit(alloc: Global, number: usize, region: Region) -> Result<Option<String>, AllocError>
+    ensures { IfOk result (λ reason. option_map (λ it. string_bytes it) reason ≡ unfit number region) }
+{
     let (base, size) = (region.base, region.size);
     let reason = if base % MEM_BLOCKSIZE != 0 {
-        format!(in alloc; "region {number}: its base {base} is no multiple of {MEM_BLOCKSIZE}")?
+        format!(in alloc; "region {number}: its base {base} is no multiple of 8")?
     } else if size % MEM_BLOCKSIZE != 0 {
-        format!(in alloc; "region {number}: its size {size} is no multiple of {MEM_BLOCKSIZE}")?
+        format!(in alloc; "region {number}: its size {size} is no multiple of 8")?
     } else if size == 0 {
         format!(in alloc; "region {number}: its size is 0")?
     } else if base < 4096 {
@@ -53,47 +84,162 @@ fn region_reason(
     Ok(Some(reason))
 }
 
-/// Two regions that overlap, by their numbers from 1.
-fn overlap(regions: &[Region]) -> Option<(usize, usize)> {
-    for (i, one) in regions.iter().enumerate() {
-        for (k, other) in regions.iter().enumerate() {
-            let is_before = u64::from(one.base) < u64::from(other.base) + u64::from(other.size);
-            let is_after = u64::from(other.base) < u64::from(one.base) + u64::from(one.size);
-            if i < k && is_before && is_after {
-                return Some((i.saturating_add(1), k.saturating_add(1)));
-            }
+/// The first region that breaks a rule by itself.
+#[tactic(auto, using(crate::proofs::RegionTurns::reason_turn))]
+fn first_unfit(alloc: Global, regions: &[Region]) -> Result<Option<String>, AllocError>
+    ensures { IfOk result (λ reason. option_map (λ it. string_bytes it) reason ≡ first_of unfit 1 regions.now) }
+{
+    for (i, region) in regions.iter().enumerate() {
+        if let Some(reason) = unfit(alloc, i + 1, *region)? {
+            return Ok(Some(reason));
         }
     }
-    None
+    Ok(None)
 }
 
-/// Which regions break which rule.
-///
-/// Source: own choice.
-pub fn regions_reason(alloc: Global, table: &Table) -> Result<String, AllocError> {
-    let regions = regions_of(alloc, table)?;
+/// The bytes of all regions together.
+fn bytes_of(regions: &[Region]) -> u64
+    ensures { result ≡ bytes_of regions.now }
+{
     let mut total = 0u64;
-    for (i, region) in regions.iter().enumerate() {
-        if let Some(reason) = region_reason(alloc, i.saturating_add(1), *region)? {
-            return Ok(reason);
-        }
+    for region in regions {
         total = total.saturating_add(u64::from(region.size));
     }
-    let most = u64::from(total_at(table));
+    total
+}
+
+/// Whether they have more bytes than there may be.
+fn too_many_bytes(alloc: Global, most: u64, total: u64) -> Result<Option<String>, AllocError>
+    ensures { IfOk result (λ reason. option_map (λ it. string_bytes it) reason ≡ too_many_bytes most total) }
+{
     if total > most {
-        return format!(in alloc;
+        Ok(Some(format!(in alloc;
             "the regions have {total} bytes together; there are at most {most}"
-        );
+        )?))
+    } else {
+        Ok(None)
     }
+}
+
+/// The address after the last byte of a region.
+fn end_of(region: Region) -> u64
+    ensures { result ≡ region_end region }
+{
+    u64::from(region.base) + u64::from(region.size)
+}
+
+/// That a region ends at that address.
+fn end_text(alloc: Global, number: usize, end: u64) -> Result<String, AllocError>
+    ensures { IfOk result (λ text. string_bytes text ≡ end_text number end) }
+{
+    format!(in alloc; "region {number}: it ends at {end}, past 2147483648")
+}
+
+/// Whether a region ends past what there may be.
+fn beyond(alloc: Global, number: usize, region: Region) -> Result<Option<String>, AllocError>
+    ensures { IfOk result (λ reason. option_map (λ it. string_bytes it) reason ≡ beyond number region) }
+{
+    let end = end_of(region);
+    if end <= REACH {
+        return Ok(None);
+    }
+    let text = end_text(alloc, number, end)?;
+    Ok(Some(text))
+}
+
+/// The first region that ends past what there may be.
+#[tactic(auto, using(crate::proofs::RegionTurns::reason_turn))]
+fn first_beyond(alloc: Global, regions: &[Region]) -> Result<Option<String>, AllocError>
+    ensures { IfOk result (λ reason. option_map (λ it. string_bytes it) reason ≡ first_of beyond 1 regions.now) }
+{
     for (i, region) in regions.iter().enumerate() {
-        let end = u64::from(region.base) + u64::from(region.size);
-        if end > REACH {
-            let number = i.saturating_add(1);
-            return format!(in alloc; "region {number}: it ends at {end}, past {REACH}");
+        if let Some(reason) = beyond(alloc, i + 1, *region)? {
+            return Ok(Some(reason));
         }
     }
-    match overlap(&regions) {
+    Ok(None)
+}
+
+/// Whether two regions overlap.
+fn overlaps(one: Region, other: Region) -> bool
+    ensures { result ≡ overlaps one other }
+{
+    u64::from(one.base) < u64::from(other.base) + u64::from(other.size)
+        && u64::from(other.base) < u64::from(one.base) + u64::from(one.size)
+}
+
+/// That two regions overlap.
+fn overlap_text(alloc: Global, one: usize, number: usize) -> Result<String, AllocError>
+    ensures { IfOk result (λ text. string_bytes text ≡ overlap_text one number) }
+{
+    format!(in alloc; "regions {one} and {number} overlap")
+}
+
+/// The number of a region that stands so many places behind the one after that.
+fn number_behind(one: usize, places: usize) -> usize
+    ensures { one + places + 1 < 2 ^ 64 → result ≡ one + 1 + places }
+{
+    one.saturating_add(places).saturating_add(1)
+}
+
+/// The first of the regions behind one that overlaps it.
+#[tactic(auto, using(crate::proofs::RegionTurns::overlapped_turn))]
+fn overlapped(
+    alloc: Global,
+    one: usize,
+    region: Region,
+    others: &[Region],
+) -> Result<Option<String>, AllocError>
+    ensures { one + length others.now < 2 ^ 64
+        → IfOk result (λ reason. option_map (λ it. string_bytes it) reason ≡ overlapped one region (one + 1) others.now) }
+{
+    for (k, other) in others.iter().enumerate() {
+        if overlaps(region, *other) {
+            let text = overlap_text(alloc, one, number_behind(one, k))?;
+            return Ok(Some(text));
+        }
+    }
+    Ok(None)
+}
+
+/// The first two regions that overlap.
+#[tactic(auto, using(crate::proofs::RegionTurns::overlap_turn))]
+fn first_overlap(alloc: Global, regions: &[Region]) -> Result<Option<String>, AllocError>
+    ensures { IfOk result (λ reason. option_map (λ it. string_bytes it) reason ≡ first_overlap 1 regions.now) }
+{
+    for (i, region) in regions.iter().enumerate() {
+        if let Some(reason) = overlapped(alloc, i + 1, *region, &regions[i + 1..])? {
+            return Ok(Some(reason));
+        }
+    }
+    Ok(None)
+}
+
+/// Which regions break which rule, in one sentence: the first region whose base or size is no multiple of 8, whose size is 0 or whose base is
+/// below 4096; else that all have too many bytes together; else the first that ends past 2 GB; else the first two that overlap.
+///
+/// # Errors
+///
+/// Where memory is refused.
+///
+/// Source: own choice.
+pub fn regions_reason(alloc: Global, table: &Table) -> Result<String, AllocError>
+    ensures { let tree = table_view table.now in
+        IfOk result (λ reason. string_bytes reason ≡ regions_reason (total_of (version_of tree)) (regions_told tree)) }
+{
+    let regions = regions_of(alloc, table)?;
+    if let Some(reason) = first_unfit(alloc, &regions)? {
+        return Ok(reason);
+    }
+    let most = u64::from(total_at(table));
+    if let Some(reason) = too_many_bytes(alloc, most, bytes_of(&regions))? {
+        return Ok(reason);
+    }
+    if let Some(reason) = first_beyond(alloc, &regions)? {
+        return Ok(reason);
+    }
+    match first_overlap(alloc, &regions)? {
         None => format!(in alloc; "the regions are refused"),
-        Some((one, other)) => format!(in alloc; "regions {one} and {other} overlap"),
+        Some(reason) => Ok(reason),
     }
 }

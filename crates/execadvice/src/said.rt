@@ -1,7 +1,7 @@
 //! A line that says something, by its parts.
-ghost use Rattle.std.specs.Prelude.{◌≡◌, drop, map, option_map, IfOk, IfSome};
+ghost use Rattle.std.specs.Prelude.{◌≡◌, ◌++◌, ◌∷◌, [], drop, if◌then◌else◌, map, option_map, IfOk, IfSome, OnOk};
 ghost use Rattle.taskscript.specs.Parsing.{cut_target, label_in};
-ghost use Rattle.execadvice.specs.Saying.{arguments_in, first_word, target_of, word_in};
+ghost use Rattle.execadvice.specs.Saying.{arguments_in, first_word, target_of, target_value, value_view, word_in};
 
 use execcheck::{fields_of, label_in};
 use std::alloc::{AllocError, Global};
@@ -76,18 +76,69 @@ pub fn said_by(alloc: Global, line: &str) -> Result<Option<Said<'_>>, AllocError
     said_behind(alloc, target, parts)
 }
 
-impl Said<'_> {
-    ghost use Rattle.std.specs.Prelude.{◌≡◌, ◌+◌, ◌^◌, ◌<◌, ◌↔◌, IsTrue, if◌then◌else◌, is_some, slice_get};
+/// A target as a part that may be a variable, where it is there.
+fn target_value<'a>(
+    alloc: Global,
+    target: Option<&'a str>,
+) -> Result<Vec<(usize, &'a str)>, AllocError>
+    ensures { IfOk result (λ values. map value_view values.items ≡ target_value (option_map (λ it. it.now) target.entry)) }
+{
+    let mut values = Vec::new(alloc);
+    if let Some(field) = target {
+        values.push((0, field))?;
+    }
+    Ok(values)
+}
+
+/// Adds an argument, where it may be a variable.
+fn push_value<'a>(
+    values: &mut Vec<(usize, &'a str)>,
+    place: usize,
+    field: &'a str,
+    is_value: bool,
+) -> Result<(), AllocError>
+    ensures { OnOk result (map value_view values.new.items ≡ map value_view values.old.items ++ (if is_value then (place, field.now) ∷ [] else [])) }
+{
+    if is_value {
+        values.push((place, field))?;
+    }
+    Ok(())
+}
+
+impl<'a> Said<'a> {
+    ghost use Rattle.std.specs.Prelude.{◌≡◌, ◌+◌, ◌^◌, ◌<◌, IfOk, if◌then◌else◌, is_some, map, option_map, slice_get};
+    ghost use Rattle.execadvice.specs.Saying.{is_label, is_value, value_view, values_in};
     ghost use Rattle.taskscript.specs.Words.{kinds};
+
+    /// The kind of the argument of a number.
+    fn kind_of(&self, number: usize) -> Option<Kind>
+        ensures { result ≡ slice_get (kinds self.now.word) number }
+    {
+        self.word.kinds().get(number).copied()
+    }
 
     /// Whether the argument of a number may be a variable.
     ///
     /// Source: own choice.
     pub fn is_value(&self, number: usize) -> bool
-        ensures { IsTrue result ↔ (slice_get (kinds self.now.word) number ≡ Some Kind.Value) }
+        ensures { result ≡ is_value (slice_get (kinds self.now.word) number) }
     {
-        match self.word.kinds().get(number) {
-            Some(kind) => *kind == Kind::Value,
+        match self.kind_of(number) {
+            Some(Kind::Value) => true,
+            Some(_) => false,
+            None => false,
+        }
+    }
+
+    /// Whether the argument of a number has to be a label.
+    ///
+    /// Source: own choice.
+    pub fn is_label(&self, number: usize) -> bool
+        ensures { result ≡ is_label (slice_get (kinds self.now.word) number) }
+    {
+        match self.kind_of(number) {
+            Some(Kind::Label) => true,
+            Some(_) => false,
             None => false,
         }
     }
@@ -113,5 +164,24 @@ impl Said<'_> {
         ensures { result ≡ (if is_some self.now.target then 2 else 0) }
     {
         if self.target.is_some() { 2 } else { 0 }
+    }
+
+    /// The parts that may be variables, in reading order, each with the number of its field: the target, and the arguments that may.
+    ///
+    /// # Errors
+    ///
+    /// Where memory is refused.
+    ///
+    /// Source: own choice.
+    #[tactic(auto, using(crate::proofs::ToldTurns::value_turn, crate::proofs::ToldTurns::no_more_values))]
+    pub fn values(&self, alloc: Global) -> Result<Vec<(usize, &'a str)>, AllocError>
+        ensures { IfOk result (λ values. map value_view values.items
+            ≡ values_in self.now.word (option_map (λ it. it.now) self.now.target) (map (λ it. it.now) self.now.arguments.items)) }
+    {
+        let mut values = target_value(alloc, self.target)?;
+        for (i, field) in self.arguments.iter().enumerate() {
+            push_value(&mut values, self.place_of(i), *field, self.is_value(i))?;
+        }
+        Ok(values)
     }
 }
