@@ -5,6 +5,7 @@ use execlist::key::Name;
 use execlist::plain::PlainSpace;
 use memlist::Region;
 use std::alloc::{AllocError, Global};
+use std::process::Abort;
 use std::test::*;
 
 /// A port of 40 bytes, and the requests behind it, of 40 each.
@@ -14,7 +15,35 @@ const WAITS: u32 = 0x1028;
 
 const SETS: u32 = 0x1050;
 
-/// TR_ADDREQUEST on UNIT_WAITUNTIL, and TR_SETSYSTIME on UNIT_MICROHZ: the second ends the first.
+/// A port, and two requests behind it: TR_ADDREQUEST on UNIT_WAITUNTIL, and TR_SETSYSTIME on UNIT_MICROHZ.
+fn expect_written(rt: &impl Abort, heap: &mut Heap<PlainSpace>) {
+    assert_eq!(rt; heap.new_port(7, 16), Some(PORT));
+    assert_eq!(rt; heap.new_request(PORT), Ok(Some(WAITS)));
+    assert_eq!(rt; heap.new_request(PORT), Ok(Some(SETS)));
+    assert_eq!(rt; heap.open_device(WAITS, Some(3)), Ok(0));
+    assert_eq!(rt; heap.open_device(SETS, Some(0)), Ok(0));
+    assert_eq!(rt; heap.set_request(WAITS, 9, 5, 1), Ok(()));
+    assert_eq!(rt; heap.set_request(SETS, 11, 5, 1), Ok(()));
+}
+
+/// The first waits, and the second sets system time.
+fn expect_begun(rt: &impl Abort, heap: &mut Heap<PlainSpace>) {
+    assert_eq!(rt; heap.send_request(WAITS), Ok(Action::Nothing));
+    assert_eq!(rt; heap.take_setting(), false);
+    assert_eq!(rt; heap.finish_until(), None);
+    assert_eq!(rt; heap.do_request(7, SETS), Ok(Awaited::Done(0)));
+}
+
+/// System time was set, which ends the first.
+fn expect_ended(rt: &impl Abort, heap: &mut Heap<PlainSpace>) {
+    let signals = Action::Signal(7, 0x1_0000);
+    assert_eq!(rt; heap.take_setting(), true);
+    assert_eq!(rt; heap.finish_until(), Some((WAITS, signals)));
+    assert_eq!(rt; heap.finish_until(), None);
+    assert_eq!(rt; heap.finish_due(), None);
+    assert_eq!(rt; heap.wait_for_request(7, WAITS), Ok(Awaited::Done(0)));
+}
+
 #[test]
 fn a_request_waits_until_system_time_is_set(rt: HostRuntime) -> Result<(), Fail> {
     let region = Region {
@@ -23,28 +52,10 @@ fn a_request_waits_until_system_time_is_set(rt: HostRuntime) -> Result<(), Fail>
         attrs: 1,
         pri: 0,
     };
-    let mut heap: Heap<PlainSpace> = Heap::new(rt.alloc(), &[region], 2, 8, &[], false, 20_000)?;
-    assert_eq!(&rt; heap.new_port(7, 16), Some(PORT));
-    let made = [heap.new_request(PORT), heap.new_request(PORT)];
-    assert_eq!(&rt; made, [Ok(Some(WAITS)), Ok(Some(SETS))]);
-    let opened = [
-        heap.open_device(WAITS, Some(3)),
-        heap.open_device(SETS, Some(0)),
-    ];
-    assert_eq!(&rt; opened, [Ok(0), Ok(0)]);
-    let written = [
-        heap.set_request(WAITS, 9, 5, 1),
-        heap.set_request(SETS, 11, 5, 1),
-    ];
-    assert_eq!(&rt; written, [Ok(()), Ok(())]);
-    assert_eq!(&rt; heap.send_request(WAITS), Ok(Action::Nothing));
-    assert_eq!(&rt; (heap.take_setting(), heap.finish_until()), (false, None));
-    assert_eq!(&rt; heap.do_request(7, SETS), Ok(Awaited::Done(0)));
-    assert_eq!(&rt; heap.take_setting(), true);
-    let signals = Action::Signal(7, 0x1_0000);
-    assert_eq!(&rt; heap.finish_until(), Some((WAITS, signals)));
-    assert_eq!(&rt; (heap.finish_until(), heap.finish_due()), (None, None));
-    assert_eq!(&rt; heap.wait_for_request(7, WAITS), Ok(Awaited::Done(0)));
+    let mut heap = Heap::new(rt.alloc(), &[region], 2, 8, &[], false, 20_000)?;
+    expect_written(&rt, &mut heap);
+    expect_begun(&rt, &mut heap);
+    expect_ended(&rt, &mut heap);
     Ok(())
 }
 
@@ -64,28 +75,36 @@ fn full_heap(alloc: Global, asks: bool) -> Result<Heap<PlainSpace>, AllocError> 
     Heap::new(alloc, &[region], 2, 1, &[library], asks, 20_000)
 }
 
+/// A library that is opened and closed is loaded still, until a port takes its memory, or takes none.
+fn expect_not_open(rt: &impl Abort, heap: &mut Heap<PlainSpace>, wanted: Option<u32>) {
+    assert_eq!(rt; heap.open_library("x.library", 1), Some(PORT));
+    assert_eq!(rt; heap.close_library(PORT), Ok(()));
+    assert_eq!(rt; heap.alloc_mem(0, 1), None);
+    assert_eq!(rt; heap.library_count(PORT), Ok(0));
+    assert_eq!(rt; heap.new_port(7, 16), wanted);
+}
+
 #[test]
 fn a_library_that_is_not_open_gives_way_where_it_is_asked(rt: HostRuntime) -> Result<(), Fail> {
     for (asks, wanted) in [(false, None), (true, Some(PORT))] {
-        let mut heap = full_heap(rt.alloc(), asks)?;
-        assert_eq!(&rt; heap.open_library("x.library", 1), Some(PORT));
-        assert_eq!(&rt; heap.close_library(PORT), Ok(()));
-        assert_eq!(&rt; heap.alloc_mem(0, 1), None);
-        assert_eq!(&rt; heap.library_count(PORT), Ok(0));
-        assert_eq!(&rt; heap.new_port(7, 16), wanted);
+        expect_not_open(&rt, &mut full_heap(rt.alloc(), asks)?, wanted);
     }
     Ok(())
+}
+
+/// A library that is open keeps its memory, where it is asked for, until it is closed: then so much is free.
+fn expect_open(rt: &impl Abort, heap: &mut Heap<PlainSpace>, wanted: u32) {
+    assert_eq!(rt; heap.open_library("x.library", 1), Some(PORT));
+    assert_eq!(rt; heap.alloc_mem(8, 1), None);
+    assert_eq!(rt; heap.library_count(PORT), Ok(1));
+    assert_eq!(rt; heap.close_library(PORT), Ok(()));
+    assert_eq!(rt; heap.avail(1), wanted);
 }
 
 #[test]
 fn a_library_that_is_open_gives_way_once_it_is_closed(rt: HostRuntime) -> Result<(), Fail> {
     for (asks, wanted) in [(false, 0), (true, 40)] {
-        let mut heap = full_heap(rt.alloc(), asks)?;
-        assert_eq!(&rt; heap.open_library("x.library", 1), Some(PORT));
-        assert_eq!(&rt; heap.alloc_mem(8, 1), None);
-        assert_eq!(&rt; heap.library_count(PORT), Ok(1));
-        assert_eq!(&rt; heap.close_library(PORT), Ok(()));
-        assert_eq!(&rt; heap.avail(1), wanted);
+        expect_open(&rt, &mut full_heap(rt.alloc(), asks)?, wanted);
     }
     Ok(())
 }
