@@ -2,7 +2,7 @@
 //! `run`, with a machine file and an event text behind it. `boot` makes the machine, and `run` makes it and runs it over the events.
 //! `.ci/growth` refuses each growth of each way in turn; `parts` prints the names for it.
 //!
-//! Nothing is taken for the arguments: a growth is one of the part, of the machine or of the run.
+//! Nothing is taken for the arguments: a growth is one of the part, of the texts, of the machine or of the run.
 use crate::part::{PARTS, Part, make};
 use crate::unmade::Unmade;
 use execlist::link::LinkSpace;
