@@ -1,16 +1,22 @@
 -- The calls that commands are.
-use Rattle.std.proofs.Common.{◌≡◌, ℕ, ◌+◌, ◌<◌, List, [], ◌∷◌, None, Some, refl, ap, sym, ◌∙◌, get_or, length, map, take}
-use Rattle.std.proofs.lemmas.List.{take-map, take_more_set}
+use Rattle.std.proofs.Common.{◌≡◌, ℕ, ◌+◌, ◌<◌, List, [], ◌∷◌, ◌++◌, None, Some, refl, ap, sym, ◌∙◌, get_or, length, map, take}
+use Rattle.std.proofs.lemmas.List.{map_push, take-map, take_more, take_more_set}
 use Rattle.std.proofs.Math.ListN.{set}
 use Rattle.std.specs.Prelude.{slice_get}
 use Rattle.taskscript.specs.Commands.{CommandData}
 use Rattle.execmodel.specs.State.{Call, Scripts, program_of}
 use Rattle.execmodel.specs.Calls.{call_of, call_at, call_after, next_call}
-use Rattle.execsim.proofs.Naming.{shown_more}
 
 pub map-map_as : {A B C : Type 0} (f : B → C) (v : A → B) (xs : List A) → map (λ a. f (v a)) xs ≡ map f (map v xs)
 map-map_as f v [] = refl
 map-map_as f v (x ∷ xs) = ap (λ ys. f (v x) ∷ ys) (map-map_as f v xs)
+
+-- one more of what is shown of a list
+shown_more : {X Y Z : Type 0} (f : X → Z) (g : Y → Z) (xs : List X) (ys : List Y) (y : Y) (i : ℕ) (x : X) → i < length xs → x ≡ get_or xs i x → g y ≡ f x
+    → map g ys ≡ map f (take i xs) → map g (ys ++ y ∷ []) ≡ map f (take (i + 1) xs)
+shown_more f g xs ys y i x below is made before =
+    map_push g ys y ∙ ap (λ shown. shown ++ g y ∷ []) before ∙ ap (λ last. map f (take i xs) ++ last ∷ []) made
+    ∙ sym (ap (map f) (take_more xs i x below ∙ ap (λ a. take i xs ++ a ∷ []) (sym is)) ∙ map_push f (take i xs) x)
 
 -- one more value is shown as that of the argument at its place
 pub shown_one_more : {A B C : Type 0} (value : B → C) (shown : A → C) (arguments : List B) (values : List A) (k : ℕ) (argument : B) (made : A) → k < length arguments

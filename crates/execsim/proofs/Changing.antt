@@ -4,7 +4,9 @@ use Rattle.std.proofs.lemmas.Option.{slice_get-map}
 use Rattle.std.specs.Option.{option_map}
 use Rattle.std.specs.Prelude.{Option, IfSome, if◌then◌else◌, nat_eq, bit_and, bit_or, slice_get}
 use Rattle.exectrace.specs.Sink.{Tape}
-use Rattle.taskscript.specs.Commands.{ArgumentData, CommandData}
+use Rattle.taskscript.specs.declared.command.Argument.{Argument}
+use Rattle.taskscript.specs.declared.command.Command.{Command}
+use Rattle.taskscript.specs.Commands.{ArgumentData, CommandData, argument_view, command_view}
 use Rattle.taskscript.specs.declared.word.Word.TheVariants.{Plain}
 use Rattle.taskscript.specs.declared.word.plain.PlainWord.TheVariants as word
 use Rattle.execmodel.specs.State.{Call, Scripts, State, program_of}
@@ -13,10 +15,7 @@ use Rattle.execmodel.specs.Plain.{does_set, does_add, does_sub, does_and, does_o
 use Rattle.execmodel.specs.Step.{call_step, does, does_word, task_step}
 use Rattle.execsim.specs.Changes.{changes}
 use Rattle.execsim.specs.Agreement.{Seen, Follows}
-use Rattle.execsim.specs.Views.{operand_view, slot_view, small_view}
 use Rattle.execsim.specs.declared.command.Change.{Change}
-use Rattle.execsim.specs.declared.command.Operand.{Operand}
-use Rattle.execsim.specs.declared.command.SmallCommand.{SmallCommand}
 use Rattle.execsim.proofs.Calling.{next-command}
 use Rattle.execsim.proofs.Following.{moves_scripts, follows_as, follows_quietly}
 use Rattle.execsim.proofs.Stepping.{task_step_as}
@@ -32,22 +31,22 @@ next_changes t scripts command place (Some change) kept here behind is = λ s.
     ∙ ap (λ next. does t (call_of t next command scripts) s) (sym behind) ∙ is s
 
 -- the number at an argument of a command
-module _ (t k : ℕ) (command : SmallCommand) (scripts : Scripts) where
-  pub number_there : (operand : Operand) (n : ℕ) → slice_get (take command.count command.operands) k ≡ Some operand
-      → ((name : List ℕ) → n ≡ number_in (Some (evaluated t scripts (operand_view name operand))))
-      → (next : ℕ) → n ≡ argument k (call_of t next (small_view command) scripts)
+module _ (t k : ℕ) (command : Command) (scripts : Scripts) where
+  pub number_there : (found : Argument) (n : ℕ) → slice_get (take command.count command.arguments) k ≡ Some found
+      → ((name : List ℕ) → n ≡ number_in (Some (evaluated t scripts (argument_view name found))))
+      → (next : ℕ) → n ≡ argument k (call_of t next (command_view command) scripts)
   unfolding call_of
-  number_there operand n at is next =
-      let view : Operand → ArgumentData = operand_view command.name.bytes in
-      let all : List Operand = take command.count command.operands in
+  number_there found n at is next =
+      let view : Argument → ArgumentData = argument_view command.name.bytes in
+      let all : List Argument = take command.count command.arguments in
       is command.name.bytes ∙ sym (ap number_in (slice_get-map (evaluated t scripts) (map view all) k
       ∙ ap (option_map (evaluated t scripts)) (slice_get-map view all k ∙ ap (option_map view) at)))
 
-  pub number_past : slice_get (take command.count command.operands) k ≡ None → (next : ℕ) → 0 ≡ argument k (call_of t next (small_view command) scripts)
+  pub number_past : slice_get (take command.count command.arguments) k ≡ None → (next : ℕ) → 0 ≡ argument k (call_of t next (command_view command) scripts)
   unfolding call_of
   number_past at next =
-      let view : Operand → ArgumentData = operand_view command.name.bytes in
-      let all : List Operand = take command.count command.operands in
+      let view : Argument → ArgumentData = argument_view command.name.bytes in
+      let all : List Argument = take command.count command.arguments in
       sym (ap number_in (slice_get-map (evaluated t scripts) (map view all) k
       ∙ ap (option_map (evaluated t scripts)) (slice_get-map view all k ∙ ap (option_map view) at)))
 
@@ -95,10 +94,10 @@ module _ (t : ℕ) (call : Call) (first second : ℕ) (one : first ≡ argument 
       ∙ ap (λ p. jumps t p s) (sym (p ∙ ap (λ x. if nat_eq x 0 then call.next else second) one
       ∙ ap (λ y. if nat_eq (argument 0 call) 0 then call.next else y) two))
 
-pub follows_changes : {m n o : Seen} (t : ℕ) (change : Change) (tape : Tape) → n ≡ record m { scripts = stored t (option_map slot_view change.target) change.value m.scripts }
+pub follows_changes : {m n o : Seen} (t : ℕ) (change : Change) (tape : Tape) → n ≡ record m { scripts = stored t change.target change.value m.scripts }
     → o ≡ record n { scripts = goes_on t change.next n.scripts } → Follows (changes t change) m o tape tape
 follows_changes t change tape first is = follows_quietly tape
-    (moves_scripts (λ scripts. goes_on t change.next (stored t (option_map slot_view change.target) change.value scripts))
+    (moves_scripts (λ scripts. goes_on t change.next (stored t change.target change.value scripts))
     (is ∙ ap (λ (x : Seen). record x { scripts = goes_on t change.next x.scripts }) first))
 
 -- a task that does a plain word does its next call

@@ -15,7 +15,6 @@ pub mod Forbidding
 pub mod GivingWay
 pub mod Keeping
 pub mod Listing
-pub mod Naming
 pub mod Obtaining
 pub mod Opening
 pub mod Ordering

@@ -1,12 +1,9 @@
--- What the commands, the calls and the bodies of the machine show.
-use Rattle.std.specs.Prelude.{◌≡◌, ◌<◌, ℕ, All, List, [], ◌∷◌, map, take}
+-- What the calls and the bodies of the machine show.
+use Rattle.std.specs.Prelude.{◌≡◌, ◌<◌, ℕ, List, map, take}
 use Rattle.std.specs.Option.{option_map}
 use Rattle.exectrace.specs.Short.{short_argument}
-use Rattle.taskscript.specs.declared.variable.Variable.{Variable}
-use Rattle.taskscript.specs.declared.variable.Variable.TheVariants as variable
-use Rattle.taskscript.specs.Commands.{ArgumentData, number, variable, quoted, place, CommandData, CommandFits}
+use Rattle.taskscript.specs.Commands.{CommandData, command_view}
 use Rattle.taskscript.specs.File.{SoftintData, ServerData}
-use Rattle.taskscript.specs.Machines.{QuotesOnce}
 use Rattle.softint.specs.declared.interrupt.Server.{Server as Interrupting}
 use Rattle.softint.specs.Interrupts.{Interrupts}
 use Rattle.execmodel.specs.State as model
@@ -18,55 +15,9 @@ use Rattle.execsim.specs.declared.bodies.Softint.{Softint}
 use Rattle.execsim.specs.declared.bodies.Server.{Server}
 use Rattle.execsim.specs.declared.bodies.Body.{Body}
 use Rattle.execsim.specs.declared.bodies.Body.TheVariants as body
-use Rattle.execsim.specs.declared.command.Operand.{Operand}
-use Rattle.execsim.specs.declared.command.Operand.TheVariants as operand
-use Rattle.execsim.specs.declared.command.Slot.{Slot}
-use Rattle.execsim.specs.declared.command.Slot.TheVariants as slot
-use Rattle.execsim.specs.declared.command.SmallCommand.{SmallCommand}
 use Rattle.execsim.specs.declared.command.Call.{Call}
 use Rattle.execsim.specs.declared.command.Caller.{Caller}
 use Rattle.execsim.specs.declared.command.Caller.TheVariants as caller
-
-abbrev pub slot_view : Slot → Variable
-slot_view (slot.Private k) = variable.Private k
-slot_view (slot.Shared k) = variable.Shared k
-
--- ---- commands
-
--- an argument, where the name of the command is this
-abbrev pub operand_view : List ℕ → Operand → ArgumentData
-operand_view name (operand.Number n) = number n
-operand_view name (operand.Variable s) = variable (slot_view s)
-operand_view name operand.Quoted = quoted name
-operand_view name (operand.Place k) = place k
-
--- as many arguments as its count says
-abbrev pub small_view : SmallCommand → CommandData
-small_view c = record { word = c.word; target = option_map slot_view c.target; arguments = map (operand_view c.name.bytes) (take c.count c.operands) }
-
--- commands that can be made small: their variables are within the limits, and at most one argument of each is a name
-pub record CanBeSmall (code : List CommandData) : Type 0 where
-  pub fit : All CommandFits code
-  pub once : All QuotesOnce code
-
--- an argument is this name, if it is a name
-abbrev pub IsNamed : List ℕ → ArgumentData → Type 0
-IsNamed name (number n) = Unit {0}
-IsNamed name (variable v) = Unit {0}
-IsNamed name (quoted own) = own ≡ name
-IsNamed name (place k) = Unit {0}
-
--- the name that an argument is, or else another one
-abbrev pub name_or : ArgumentData → List ℕ → List ℕ
-name_or (number n) other = other
-name_or (variable v) other = other
-name_or (quoted name) other = name
-name_or (place k) other = other
-
--- the first name of some arguments, or an empty one
-abbrev pub first_name : List ArgumentData → List ℕ
-first_name [] = []
-first_name (a ∷ others) = name_or a (first_name others)
 
 -- ---- calls
 
@@ -74,7 +25,7 @@ first_name (a ∷ others) = name_or a (first_name others)
 abbrev pub call_view : Call → model.Call
 call_view c = record {
   word = c.word;
-  target = option_map slot_view c.target;
+  target = c.target;
   arguments = map (short_argument c.quoted.bytes) (take c.count c.arguments);
   next = c.next;
   awaited = c.awaited;
@@ -94,10 +45,10 @@ IsCaller tasks (caller.Body name) = Unit {0}
 -- ---- bodies of interrupts
 
 abbrev pub softint_view : Softint → SoftintData
-softint_view s = record { name = s.name.bytes; pri = s.pri; code = map small_view s.code.items }
+softint_view s = record { name = s.name.bytes; pri = s.pri; code = map command_view s.code.items }
 
 abbrev pub server_view : Server → ServerData
-server_view s = record { name = s.name.bytes; source = s.source; pri = s.pri; claim = s.claim; code = map small_view s.code.items }
+server_view s = record { name = s.name.bytes; source = s.source; pri = s.pri; claim = s.claim; code = map command_view s.code.items }
 
 -- a server as calls on interrupts see it: by its source and its priority
 abbrev pub interrupting : ServerData → Interrupting

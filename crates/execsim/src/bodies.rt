@@ -7,22 +7,21 @@ ghost use Rattle.taskscript.specs.Numbering.{texts};
 ghost use Rattle.taskscript.specs.Records as records;
 ghost use Rattle.execmodel.specs.Interrupts.{no_server, no_softint, server_at};
 ghost use Rattle.execmodel.specs.Pending.{softint_named};
-ghost use Rattle.execsim.specs.Views.{CanBeSmall, code_of_body, name_of_body, server_view, small_view, softint_view};
+ghost use Rattle.execsim.specs.Views.{code_of_body, name_of_body, server_view, softint_view};
 
-use crate::command::SmallCommand;
-use crate::small::small_code;
+use crate::code::copied_code;
 use exectrace::Name;
 use indexmap::IndexSet;
 use std::alloc::{AllocError, Global};
 use std::marker::Model;
-use taskscript::{ServerRecord, SoftintRecord, Source};
+use taskscript::{Command, ServerRecord, SoftintRecord, Source};
 
 /// A software interrupt.
 #[derive(Drop)]
 pub struct Softint {
     pub name: Name,
     pub pri: i8,
-    pub code: Vec<SmallCommand>,
+    pub code: Vec<Command>,
 }
 
 /// A server.
@@ -34,7 +33,7 @@ pub struct Server {
     pub pri: i8,
     /// Whether it ends the chain of its source.
     pub claim: bool,
-    pub code: Vec<SmallCommand>,
+    pub code: Vec<Command>,
 }
 
 /// A body, by the number of its software interrupt or server, from 0 in the order of the file.
@@ -69,10 +68,9 @@ impl Model for Bodies {
 
 /// A software interrupt of a file.
 fn softint_of(alloc: Global, softint: &SoftintRecord) -> Result<Softint, AllocError>
-    requires { CanBeSmall (map command_view softint.now.code.items) }
     ensures { IfOk result (λ s. softint_view s ≡ records.softint_view softint.now) }
 {
-    let code = small_code(alloc, &softint.code)?;
+    let code = copied_code(alloc, &softint.code)?;
     Ok(Softint {
         name: softint.name,
         pri: softint.pri,
@@ -82,7 +80,6 @@ fn softint_of(alloc: Global, softint: &SoftintRecord) -> Result<Softint, AllocEr
 
 /// The software interrupts of a file, in its order.
 fn softints_of(alloc: Global, softints: &[SoftintRecord]) -> Result<Vec<Softint>, AllocError>
-    requires { All (λ s. CanBeSmall s.code) (map records.softint_view softints.now) }
     ensures { IfOk result (λ v. map softint_view v.items ≡ map records.softint_view softints.now) }
 {
     let mut made = Vec::new(alloc);
@@ -94,10 +91,9 @@ fn softints_of(alloc: Global, softints: &[SoftintRecord]) -> Result<Vec<Softint>
 
 /// A server of a file.
 fn server_of(alloc: Global, server: &ServerRecord) -> Result<Server, AllocError>
-    requires { CanBeSmall (map command_view server.now.code.items) }
     ensures { IfOk result (λ s. server_view s ≡ records.server_view server.now) }
 {
-    let code = small_code(alloc, &server.code)?;
+    let code = copied_code(alloc, &server.code)?;
     Ok(Server {
         name: server.name,
         source: server.source,
@@ -109,7 +105,6 @@ fn server_of(alloc: Global, server: &ServerRecord) -> Result<Server, AllocError>
 
 /// The servers of a file, in its order.
 fn servers_of(alloc: Global, servers: &[ServerRecord]) -> Result<Vec<Server>, AllocError>
-    requires { All (λ s. CanBeSmall s.code) (map records.server_view servers.now) }
     ensures { IfOk result (λ v. map server_view v.items ≡ map records.server_view servers.now) }
 {
     let mut made = Vec::new(alloc);
@@ -140,8 +135,8 @@ fn softint_name(softints: &[Softint], i: usize) -> Name
     }
 }
 
-fn softint_code(softints: &[Softint], i: usize) -> &[SmallCommand]
-    ensures { map small_view result.now ≡ (slice_index_or (map softint_view softints.now) i no_softint).code }
+fn softint_code(softints: &[Softint], i: usize) -> &[Command]
+    ensures { map command_view result.now ≡ (slice_index_or (map softint_view softints.now) i no_softint).code }
 {
     match softints.get(i) {
         Some(softint) => &softint.code,
@@ -158,8 +153,8 @@ fn server_name(servers: &[Server], k: usize) -> Name
     }
 }
 
-fn server_code(servers: &[Server], k: usize) -> &[SmallCommand]
-    ensures { map small_view result.now ≡ (slice_index_or (map server_view servers.now) k no_server).code }
+fn server_code(servers: &[Server], k: usize) -> &[Command]
+    ensures { map command_view result.now ≡ (slice_index_or (map server_view servers.now) k no_server).code }
 {
     match servers.get(k) {
         Some(server) => &server.code,
@@ -185,8 +180,6 @@ impl Bodies {
         softints: &[SoftintRecord],
         servers: &[ServerRecord],
     ) -> Result<Bodies, AllocError>
-        requires softints { All (λ s. CanBeSmall s.code) (map records.softint_view softints.now) }
-        requires servers { All (λ s. CanBeSmall s.code) (map records.server_view servers.now) }
         requires names { AllPairs (λ s t. s ≢ t) (softint_names (map records.softint_view softints.now)) }
         ensures { IfOk result (λ b. b ≡ record {
           softints = map records.softint_view softints.now;
@@ -257,8 +250,8 @@ impl Bodies {
     /// The commands of a body; none where there is none of that number.
     ///
     /// Source: own choice.
-    pub fn code(&self, body: Body) -> &[SmallCommand]
-        ensures { map small_view result.now ≡ code_of_body body self.now }
+    pub fn code(&self, body: Body) -> &[Command]
+        ensures { map command_view result.now ≡ code_of_body body self.now }
     {
         match body {
             Body::Softint(i) => softint_code(&self.softints, i),

@@ -11,40 +11,45 @@ ghost use Rattle.execmodel.specs.Bodies.{body_step, does_in_body, does_interrupt
 ghost use Rattle.execmodel.specs.Calls.{ByBody, alerted_by, answered_by, call_in_body, done_by, evaluated_in_body, silent_by, stored_shared};
 ghost use Rattle.execsim.specs.Actions.{does_at_place};
 ghost use Rattle.execsim.specs.Agreement.{Follows};
-ghost use Rattle.execsim.specs.Views.{call_view, code_of_body, name_of_body, operand_view, slot_view, small_view};
+ghost use Rattle.taskscript.specs.Commands.{argument_view, command_view};
+ghost use Rattle.execsim.specs.Views.{call_view, code_of_body, name_of_body};
 ghost use Rattle.std.specs.Option.{option_map};
 
 use crate::bodies::Body;
-use crate::command::{Call, Caller, Operand, Slot, SmallCommand};
+use crate::command::{Call, Caller};
 use crate::kernel::Kernel;
 use crate::program::command_at;
 use execlist::space::ListSpace;
 use exectrace::lines::CallOutcome;
 use exectrace::printing::{put_alert, put_short_call};
 use exectrace::{Name, ShortArg, Sink};
-use taskscript::{InterruptWord, PlainWord, PortWord, SignalWord, Word};
+use taskscript::{
+    Argument, Command, InterruptWord, PlainWord, PortWord, SignalWord, Variable, Word,
+};
 
 impl<S: ListSpace> Kernel<S> {
     // ---- the call that a command is
 
     /// The value of an argument in a body.
-    fn evaluate_in_body(&self, operand: Operand) -> ShortArg
-        ensures { (name : List ℕ) → short_argument name result ≡ evaluated_in_body self.now.scripts (operand_view name operand) }
+    fn evaluate_in_body(&self, argument: Argument) -> ShortArg
+        ensures { (name : List ℕ) → short_argument name result ≡ evaluated_in_body self.now.scripts (argument_view name argument) }
     {
-        match operand {
-            Operand::Number(n) => ShortArg::Value(n),
-            Operand::Variable(Slot::Private(_)) => ShortArg::Value(0),
-            Operand::Variable(Slot::Shared(k)) => ShortArg::Value(self.shared_content(k as usize)),
-            Operand::Quoted => ShortArg::Quoted,
-            Operand::Place(place) => ShortArg::Value(place),
+        match argument {
+            Argument::Number(n) => ShortArg::Value(n),
+            Argument::Variable(Variable::Private(_)) => ShortArg::Value(0),
+            Argument::Variable(Variable::Shared(k)) => ShortArg::Value(self.shared_content(
+                k as usize,
+            )),
+            Argument::Quoted => ShortArg::Quoted,
+            Argument::Place(place) => ShortArg::Value(place),
         }
     }
 
     /// The values of all arguments of a command in a body.
-    fn evaluate_all_in_body(&self, operands: &[Operand; 4]) -> [ShortArg; 4]
-        ensures { (name : List ℕ) → map (short_argument name) result ≡ map (λ a. evaluated_in_body self.now.scripts (operand_view name a)) operands.now }
+    fn evaluate_all_in_body(&self, arguments: &[Argument; 4]) -> [ShortArg; 4]
+        ensures { (name : List ℕ) → map (short_argument name) result ≡ map (λ a. evaluated_in_body self.now.scripts (argument_view name a)) arguments.now }
     {
-        let [first, second, third, fourth] = *operands;
+        let [first, second, third, fourth] = *arguments;
         [
             self.evaluate_in_body(first),
             self.evaluate_in_body(second),
@@ -54,14 +59,14 @@ impl<S: ListSpace> Kernel<S> {
     }
 
     /// The call that a command of a body is.
-    fn call_in_body(&self, command: &SmallCommand) -> Call
-        ensures { call_view result ≡ call_in_body (small_view command.now) self.now.scripts }
+    fn call_in_body(&self, command: &Command) -> Call
+        ensures { call_view result ≡ call_in_body (command_view command.now) self.now.scripts }
     {
         Call {
             word: command.word,
             target: command.target,
-            arguments: self.evaluate_all_in_body(&command.operands),
-            count: command.count,
+            arguments: self.evaluate_all_in_body(&command.arguments),
+            count: command.count as usize,
             quoted: command.name,
             next: 0,
             awaited: 0,
@@ -80,13 +85,13 @@ impl<S: ListSpace> Kernel<S> {
     }
 
     /// A shared variable, or none, is given a value; a body has no variables of its own.
-    fn store_in_body(&mut self, target: Option<Slot>, value: u32)
-        ensures { self.new ≡ record self.old { scripts = stored_shared (option_map slot_view target) value self.old.scripts } }
+    fn store_in_body(&mut self, target: Option<Variable>, value: u32)
+        ensures { self.new ≡ record self.old { scripts = stored_shared target value self.old.scripts } }
     {
         match target {
             None => {}
-            Some(Slot::Private(_)) => {}
-            Some(Slot::Shared(k)) => self.store_shared(k as usize, value),
+            Some(Variable::Private(_)) => {}
+            Some(Variable::Shared(k)) => self.store_shared(k as usize, value),
         }
     }
 
@@ -212,16 +217,16 @@ impl<S: ListSpace> Kernel<S> {
     // ---- a whole body
 
     /// One command of the body of that name.
-    fn body_step<W: Sink>(&mut self, name: &Name, command: &SmallCommand, out: &mut W)
-        ensures { Follows (body_step name.now.bytes (small_view command.now)) self.old self.new (W.tape out.old) (W.tape out.new) }
+    fn body_step<W: Sink>(&mut self, name: &Name, command: &Command, out: &mut W)
+        ensures { Follows (body_step name.now.bytes (command_view command.now)) self.old self.new (W.tape out.old) (W.tape out.new) }
     {
         let call = self.call_in_body(command);
         self.does_in_body(name, &call, out);
     }
 
     /// The command at a place of a body, copied, since the machine is changed while it runs.
-    fn command_in_body(&self, body: Body, place: usize) -> Option<SmallCommand>
-        ensures { option_map small_view result ≡ slice_get (code_of_body body self.now.bodies) place }
+    fn command_in_body(&self, body: Body, place: usize) -> Option<Command>
+        ensures { option_map command_view result ≡ slice_get (code_of_body body self.now.bodies) place }
     {
         command_at(self.bodies.code(body), place).copied()
     }

@@ -13,13 +13,13 @@ ghost use Rattle.execheap.specs.Numbered.{shown_library};
 ghost use Rattle.execmodel.specs.State.{State, booted, begun};
 ghost use Rattle.execsim.specs.Agreement.{Agrees};
 ghost use Rattle.execsim.specs.Time.{HasTimeFor};
-ghost use Rattle.execsim.specs.Views.{CanBeSmall, IsFor, interrupting};
+ghost use Rattle.execsim.specs.Views.{IsFor, interrupting};
 
 use crate::bodies::Bodies;
+use crate::code::copied_code;
 use crate::interrupts::source_named;
 use crate::kernel::Kernel;
 use crate::program::Program;
-use crate::small::small_code;
 use execheap::{Heap, LibInit};
 use execlist::space::ListSpace;
 use scheduler::Sched;
@@ -76,16 +76,14 @@ fn sched_of<S: ListSpace>(
 
 /// The program of a task at its first command.
 fn program_of(alloc: Global, task: &TaskRecord) -> Result<Program, AllocError>
-    requires { CanBeSmall (map command_view task.now.code.items) }
     ensures { IfOk result (λ p. p ≡ begun (task_view task.now)) }
 {
-    let code = small_code(alloc, &task.code)?;
+    let code = copied_code(alloc, &task.code)?;
     Ok(Program::new(code, task.start))
 }
 
 /// The programs of the tasks, in the order of the file.
 fn programs_of(alloc: Global, tasks: &[TaskRecord]) -> Result<Vec<Program>, AllocError>
-    requires { All (λ t. CanBeSmall t.code) (map task_view tasks.now) }
     ensures { IfOk result (λ v. v.items ≡ map begun (map task_view tasks.now)) }
 {
     let mut programs = Vec::new(alloc);
@@ -102,7 +100,6 @@ fn tasks_of<S: ListSpace>(
     quantum: u8,
 ) -> Result<(Sched<S>, Vec<Program>), AllocError>
     requires few { length tasks.now ≤ 4096 }
-    requires small { All (λ t. CanBeSmall t.code) (map task_view tasks.now) }
     ensures schedule { IfOk result (λ made. made.0 ≡ unstarted (length tasks.now) (map (λ t. t.pri) tasks.now) (map (λ t. t.name.bytes) tasks.now) quantum) }
     ensures programs { IfOk result (λ made. made.1.items ≡ map begun (map task_view tasks.now)) }
 {

@@ -7,13 +7,13 @@ ghost use Rattle.execmodel.specs.Calls.{argument, call_of, evaluated, next_call,
 ghost use Rattle.execmodel.specs.Step.{call_step, does};
 ghost use Rattle.execsim.specs.Changes.{changes};
 ghost use Rattle.execsim.specs.Agreement.{Follows};
-ghost use Rattle.execsim.specs.Views.{operand_view, small_view};
+ghost use Rattle.taskscript.specs.Commands.{argument_view, command_view};
 
-use crate::command::{Change, Operand, SmallCommand};
+use crate::command::Change;
 use crate::kernel::Kernel;
 use execlist::space::ListSpace;
 use taskq::TaskId;
-use taskscript::{PlainWord, Word};
+use taskscript::{Argument, Command, PlainWord, Word};
 
 /// The sum of two words.
 fn sum(a: u32, b: u32) -> u32
@@ -51,33 +51,33 @@ fn place_at_zero(n: u32, zero: usize, other: usize) -> usize
 }
 
 /// The argument of a command, counted from 0, if it has so many.
-fn operand_at(command: &SmallCommand, k: usize) -> Option<&Operand>
-    ensures { option_copied result ≡ slice_get (take command.now.count command.now.operands) k }
+fn argument_at(command: &Command, k: usize) -> Option<&Argument>
+    ensures { option_copied result ≡ slice_get (take command.now.count command.now.arguments) k }
 {
-    command.operands[..command.count].get(k)
+    command.arguments[..command.count as usize].get(k)
 }
 
 impl<S: ListSpace> Kernel<S> {
     /// The number that an argument is for task t; 0 for a name.
-    fn number(&self, t: TaskId, operand: Operand) -> u32
+    fn number(&self, t: TaskId, argument: Argument) -> u32
         requires { t < length self.now.scripts.programs }
-        ensures { (name : List ℕ) → result ≡ number_in (Some (evaluated t self.now.scripts (operand_view name operand))) }
+        ensures { (name : List ℕ) → result ≡ number_in (Some (evaluated t self.now.scripts (argument_view name argument))) }
     {
-        match operand {
-            Operand::Number(n) => n,
-            Operand::Variable(variable) => self.content(t, variable),
-            Operand::Quoted => 0,
-            Operand::Place(place) => place,
+        match argument {
+            Argument::Number(n) => n,
+            Argument::Variable(variable) => self.content(t, variable),
+            Argument::Quoted => 0,
+            Argument::Place(place) => place,
         }
     }
 
     /// The number that stands at an argument of a command of task t, counted from 0; 0 where none does.
-    fn number_at(&self, t: TaskId, command: &SmallCommand, k: usize) -> u32
+    fn number_at(&self, t: TaskId, command: &Command, k: usize) -> u32
         requires { t < length self.now.scripts.programs }
-        ensures { (next : ℕ) → result ≡ argument k (call_of t next (small_view command.now) self.now.scripts) }
+        ensures { (next : ℕ) → result ≡ argument k (call_of t next (command_view command.now) self.now.scripts) }
     {
-        match operand_at(command, k) {
-            Some(operand) => self.number(t, *operand),
+        match argument_at(command, k) {
+            Some(argument) => self.number(t, *argument),
             None => 0,
         }
     }
@@ -87,12 +87,12 @@ impl<S: ListSpace> Kernel<S> {
         &self,
         t: TaskId,
         word: PlainWord,
-        command: &SmallCommand,
+        command: &Command,
         next: usize,
     ) -> Option<Change>
         requires known { t < length self.now.scripts.programs }
         requires plain { command.now.word ≡ Plain word }
-        ensures { IfSome result (λ change. (s : State) → does t (call_of t next (small_view command.now) self.now.scripts) s ≡ changes t change s) }
+        ensures { IfSome result (λ change. (s : State) → does t (call_of t next (command_view command.now) self.now.scripts) s ≡ changes t change s) }
     {
         let target = command.target;
         let first = self.number_at(t, command, 0);

@@ -6,10 +6,11 @@ ghost use Rattle.scheduler.specs.Schedule.{name_of, task_count};
 ghost use Rattle.execmodel.specs.State.{program_of, shared_variables};
 ghost use Rattle.execmodel.specs.Calls.{content, evaluated, stored, goes_on, keeps};
 ghost use Rattle.execmodel.specs.Signals.{is_task};
-ghost use Rattle.execsim.specs.Views.{IsFor, call_view, operand_view, slot_view};
+ghost use Rattle.taskscript.specs.Commands.{argument_view};
+ghost use Rattle.execsim.specs.Views.{IsFor, call_view};
 
 use crate::bodies::Bodies;
-use crate::command::{Call, Operand, Slot};
+use crate::command::Call;
 use crate::program::Program;
 use execheap::Heap;
 use execlist::space::ListSpace;
@@ -18,6 +19,7 @@ use scheduler::Sched;
 use softint::ints::Ints;
 use std::marker::Model;
 use taskq::TaskId;
+use taskscript::{Argument, Variable};
 
 /// How many variables all bodies share.
 const SHARED_VARIABLES: usize = 64;
@@ -103,13 +105,13 @@ impl<S: ListSpace> Kernel<S> {
     }
 
     /// What a variable holds for task t; 0 where there is no such variable.
-    pub(crate) fn content(&self, t: TaskId, variable: Slot) -> u32
+    pub(crate) fn content(&self, t: TaskId, variable: Variable) -> u32
         requires { t < length self.now.scripts.programs }
-        ensures { result ≡ content t self.now.scripts (slot_view variable) }
+        ensures { result ≡ content t self.now.scripts variable }
     {
         match variable {
-            Slot::Private(k) => self.programs[t].variable(k as usize),
-            Slot::Shared(k) => self.shared_content(k as usize),
+            Variable::Private(k) => self.programs[t].variable(k as usize),
+            Variable::Shared(k) => self.shared_content(k as usize),
         }
     }
 
@@ -121,15 +123,15 @@ impl<S: ListSpace> Kernel<S> {
     }
 
     /// The value of an argument for task t.
-    fn evaluate(&self, t: TaskId, operand: Operand) -> ShortArg
+    fn evaluate(&self, t: TaskId, argument: Argument) -> ShortArg
         requires { t < length self.now.scripts.programs }
-        ensures { (name : List ℕ) → short_argument name result ≡ evaluated t self.now.scripts (operand_view name operand) }
+        ensures { (name : List ℕ) → short_argument name result ≡ evaluated t self.now.scripts (argument_view name argument) }
     {
-        match operand {
-            Operand::Number(n) => ShortArg::Value(n),
-            Operand::Variable(variable) => ShortArg::Value(self.content(t, variable)),
-            Operand::Quoted => ShortArg::Quoted,
-            Operand::Place(place) => ShortArg::Value(place),
+        match argument {
+            Argument::Number(n) => ShortArg::Value(n),
+            Argument::Variable(variable) => ShortArg::Value(self.content(t, variable)),
+            Argument::Quoted => ShortArg::Quoted,
+            Argument::Place(place) => ShortArg::Value(place),
         }
     }
 
@@ -138,29 +140,29 @@ impl<S: ListSpace> Kernel<S> {
     pub(crate) fn evaluate_all(
         &self,
         t: TaskId,
-        operands: &[Operand; 4],
+        arguments: &[Argument; 4],
         count: usize,
         values: &mut [ShortArg; 4],
     )
         requires known { t < length self.now.scripts.programs }
         requires few { count ≤ 4 }
         ensures { (name : List ℕ) → map (short_argument name) (take count values.new)
-            ≡ map (λ a. evaluated t self.now.scripts (operand_view name a)) (take count operands.now) }
+            ≡ map (λ a. evaluated t self.now.scripts (argument_view name a)) (take count arguments.now) }
     {
         for k in 0..count {
-            values[k] = self.evaluate(t, operands[k]);
+            values[k] = self.evaluate(t, arguments[k]);
         }
     }
 
     /// Gives a variable of task t, or none, a value.
-    pub(crate) fn store(&mut self, t: TaskId, target: Option<Slot>, value: u32)
+    pub(crate) fn store(&mut self, t: TaskId, target: Option<Variable>, value: u32)
         requires { t < length self.old.scripts.programs }
-        ensures { self.new ≡ record self.old { scripts = stored t (option_map slot_view target) value self.old.scripts } }
+        ensures { self.new ≡ record self.old { scripts = stored t target value self.old.scripts } }
     {
         match target {
             None => {}
-            Some(Slot::Private(k)) => self.programs[t].store(k as usize, value),
-            Some(Slot::Shared(k)) => self.store_shared(k as usize, value),
+            Some(Variable::Private(k)) => self.programs[t].store(k as usize, value),
+            Some(Variable::Shared(k)) => self.store_shared(k as usize, value),
         }
     }
 

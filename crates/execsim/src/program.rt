@@ -4,11 +4,13 @@ ghost use Rattle.std.specs.Option.{option_map};
 ghost use Rattle.exectrace.specs.Short.{short_argument};
 ghost use Rattle.execmodel.specs.Calls.{argument, name_argument};
 ghost use Rattle.execmodel.specs.State.{begun_with};
-ghost use Rattle.execsim.specs.Views.{call_view, small_view};
+ghost use Rattle.taskscript.specs.Commands.{command_view};
+ghost use Rattle.execsim.specs.Views.{call_view};
 
-use crate::command::{Call, SmallCommand};
+use crate::command::Call;
 use exectrace::{Name, ShortArg};
 use std::marker::Model;
+use taskscript::Command;
 
 /// How many variables of its own a task has.
 pub const PRIVATE_VARIABLES: usize = 32;
@@ -62,7 +64,7 @@ impl Call {
 /// The command of that place, if there is one.
 ///
 /// Source: own choice.
-pub fn command_at(code: &[SmallCommand], place: usize) -> Option<&SmallCommand>
+pub fn command_at(code: &[Command], place: usize) -> Option<&Command>
     ensures { option_copied result ≡ slice_get code.now place }
 {
     code.get(place)
@@ -71,7 +73,7 @@ pub fn command_at(code: &[SmallCommand], place: usize) -> Option<&SmallCommand>
 /// The program of a task.
 #[derive(Drop)]
 pub struct Program {
-    code: Vec<SmallCommand>,
+    code: Vec<Command>,
     place: usize,
     variables: [u32; PRIVATE_VARIABLES],
     kept: Option<Call>,
@@ -82,12 +84,13 @@ impl Model for Program {
     ghost use Rattle.std.specs.Prelude.{map};
     ghost use Rattle.std.specs.Option.{option_map};
     ghost use Rattle.execmodel.specs.State as model;
-    ghost use Rattle.execsim.specs.Views.{call_view, small_view};
+    ghost use Rattle.taskscript.specs.Commands.{command_view};
+    ghost use Rattle.execsim.specs.Views.{call_view};
 
     ghost Value = { model.Program };
 
     ghost view = { λ p. record {
-      code = map small_view p.code.items;
+      code = map command_view p.code.items;
       place = p.place;
       variables = p.variables;
       kept = option_map call_view p.kept;
@@ -99,8 +102,8 @@ impl Program {
     /// The program of these commands, at its first one, with every variable 0, of a task that starts with the machine or not.
     ///
     /// Source: own choice.
-    pub fn new(code: Vec<SmallCommand>, starts: bool) -> Self
-        ensures { result ≡ begun_with (map small_view code.items) starts }
+    pub fn new(code: Vec<Command>, starts: bool) -> Self
+        ensures { result ≡ begun_with (map command_view code.items) starts }
     {
         Program {
             code,
@@ -132,8 +135,8 @@ impl Program {
     /// The next command, if any is left.
     ///
     /// Source: own choice.
-    pub fn command(&self) -> Option<&SmallCommand>
-        ensures { option_map small_view (option_copied result) ≡ slice_get self.now.code self.now.place }
+    pub fn command(&self) -> Option<&Command>
+        ensures { option_map command_view (option_copied result) ≡ slice_get self.now.code self.now.place }
     {
         command_at(self.code.as_slice(), self.place)
     }

@@ -172,12 +172,13 @@ impl<S: ListSpace> Kernel<S> {
                         word: command.word,
                         target: command.target,
                         arguments: [ShortArg::Value(0); 4],
-                        count: command.count,
+                        count: command.count as usize,
                         quoted: command.name,
                         next: program.next(),
                         awaited: 0,
                     };
-                    self.evaluate_all(t, &command.operands, command.count, &mut call.arguments);
+                    let count = command.count as usize;
+                    self.evaluate_all(t, &command.arguments, count, &mut call.arguments);
                     self.make(t, &call, out);
                 }
                 None => self.make_none(t, out),

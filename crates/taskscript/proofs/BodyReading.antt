@@ -211,7 +211,7 @@ pub too_long : (s : Setting) (shared lines : List (List ℕ)) → 1024 < length 
 unfolding body_faults
 too_long s shared lines h = let e : nat_le (length lines) 1024 ≡ false = grind (arith, nat_tests) in first_some (check (nat_le (length lines) 1024) TooMany) _ TooMany (ap (λ (b : Bool). first (check b TooMany)) e)
 
-lines_judged : (s : Setting) (shared lines : List (List ℕ)) → faults_after s (nothing_read shared) lines ≡ lines_faults s (names_of shared lines) [] lines
+pub lines_judged : (s : Setting) (shared lines : List (List ℕ)) → faults_after s (nothing_read shared) lines ≡ lines_faults s (names_of shared lines) [] lines
 lines_judged s shared lines = faults_whole s (nothing_read shared) (names_of shared lines) lines refl
 
 pub line_decides : (s : Setting) (shared lines : List (List ℕ)) (f : FileFault) → length lines ≤ 1024 → first (faults_after s (nothing_read shared) lines) ≡ Some f → first (body_faults s shared lines) ≡ Some f

@@ -43,7 +43,7 @@ arguments_fit names places (quoted n ∷ found) h = All-cons ArgumentFits (numbe
 arguments_fit names places (variable v ∷ found) h =
     All-cons ArgumentFits (numbered.variable (variable_in names v)) (map (argument_in names places) found) (variable_fits (variable_in names v) (and_parts _ _ h).0) (arguments_fit names places found (and_parts _ _ h).1)
 
-command_fits : (names : Names) (places : List ℕ → ℕ) (c : NamedCommandData) → all_within names (variables_of c) ≡ true → CommandFits (command_in names places c)
+pub command_fits : (names : Names) (places : List ℕ → ℕ) (c : NamedCommandData) → all_within names (variables_of c) ≡ true → CommandFits (command_in names places c)
 command_fits names places c h = record {
   target = target_fits names c.target (variables_of_arguments c.arguments) h;
   arguments = arguments_fit names places c.arguments (after_target names c.target (variables_of_arguments c.arguments) h);
@@ -79,7 +79,7 @@ said_stand s names before None others h rest = absurd cc
 said_stand s names before (Some (label_line n)) others h rest = rest
 said_stand s names before (Some (command_line c)) others h rest = All-cons (Stands s names) c others (command_stands s names before c h) rest
 
-lines_stand : (s : Setting) (names : Names) (before : List (List ℕ)) (lines : List (List ℕ)) → first (lines_faults s names before lines) ≡ None → All (Stands s names) (commands_of lines)
+pub lines_stand : (s : Setting) (names : Names) (before : List (List ℕ)) (lines : List (List ℕ)) → first (lines_faults s names before lines) ≡ None → All (Stands s names) (commands_of lines)
 lines_stand s names before [] h = All-nil (Stands s names)
 lines_stand s names before (line ∷ others) h =
     let after = before ++ labels_of (line ∷ []) in

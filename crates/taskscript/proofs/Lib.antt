@@ -8,6 +8,7 @@ pub mod EventSizes
 pub mod EventTurns
 pub mod FirstSight
 pub mod Firsts
+pub mod Fitting
 pub mod InterruptLaws
 pub mod Interrupts
 pub mod ItemTurns
@@ -16,6 +17,7 @@ pub mod Keys
 pub mod LabelPlaces
 pub mod Machines
 pub mod Names
+pub mod Naming
 pub mod OneName
 pub mod OwnArguments
 pub mod OwnerTurns

@@ -155,7 +155,7 @@ counted (k ∷ ks) (a ∷ args) h =
     let there = counted ks args h.1 in
     rw (count_more is_quoted a args, count_more may_be_name k ks) (omega (arith, here, there))
 
-once : (c : CommandData) → HasItsArguments c → QuotesOnce c
+pub once : (c : CommandData) → HasItsArguments c → QuotesOnce c
 once c h =
     let few = counted (kinds c.word) c.arguments h in
     let one = one_name c.word in

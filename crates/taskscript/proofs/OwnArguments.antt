@@ -55,7 +55,7 @@ said_has names places (Some (label_line n)) others has rest = rest
 said_has names places (Some (command_line c)) others has rest =
     All-cons HasItsArguments (command_in names places c) (map (command_in names places) others) (has c refl) rest
 
-lines_have : (names : Names) (places : List ℕ → ℕ) (lines : List (List ℕ)) → All HasItsArguments (map (command_in names places) (commands_of lines))
+pub lines_have : (names : Names) (places : List ℕ → ℕ) (lines : List (List ℕ)) → All HasItsArguments (map (command_in names places) (commands_of lines))
 lines_have names places [] = All-nil HasItsArguments
 lines_have names places (line ∷ others) =
     said_has names places (says line) (commands_of others) (λ c is. command_has names places (fields line) c (is_said line (command_line c) is))

@@ -1,23 +1,27 @@
 -- Labels and numbers of a command, one argument and one command after another.
-use Rattle.std.proofs.Common.{◌≡◌, ℕ, ◌+◌, ◌<◌, Bool, true, false, ◌&&◌, List, [], ◌∷◌, ◌++◌, length, map, drop, take, get_or, Option, Some, refl, ap, sym, ◌∙◌, append_assoc}
-use Rattle.std.specs.Prelude.{is_some}
+use Rattle.std.proofs.Common.{◌≡◌, ℕ, ◌+◌, ◌<◌, ◌≤◌, Bool, true, false, ◌&&◌, List, [], ◌∷◌, ◌++◌, length, map, drop, take, get_or, Option, Some, All, arith, refl, ap, sym, subst, ◌∙◌, append_assoc}
+use Rattle.std.specs.Prelude.{is_some, count_by}
 use Rattle.std.specs.List.{flat_map}
-use Rattle.std.proofs.lemmas.List.{drop_more, take_more_set, map_push}
+use Rattle.std.proofs.lemmas.List.{drop_all, drop_more, take_more_set, map_push, append-nil}
 use Rattle.std.proofs.Math.ListN.{set}
+use Rattle.arrayvec.specs.ArrayString.{ArrayString as Name}
 use Rattle.taskscript.specs.declared.command.Argument.{Argument}
 use Rattle.taskscript.specs.declared.fault.FileFault.{FileFault}
 use Rattle.taskscript.specs.declared.fault.FileFault.TheVariants.{BadLabel}
+use Rattle.taskscript.specs.declared.named.NamedArgument.{NamedArgument}
+use Rattle.taskscript.specs.declared.named.NamedArgument.TheVariants as named
 use Rattle.taskscript.specs.declared.named.NamedCommand.{NamedCommand}
 use Rattle.taskscript.specs.declared.variable.Variable.{Variable}
 use Rattle.taskscript.specs.declared.word.Word.{Word}
-use Rattle.taskscript.specs.Commands.{ArgumentData, CommandData, argument_view}
+use Rattle.taskscript.specs.Commands.{ArgumentData, CommandData, argument_view, IsNamed, first_name}
 use Rattle.execlist.specs.Order.{first}
 use Rattle.taskscript.specs.Faults.{check}
 use Rattle.taskscript.specs.Labels.{Mark, place_in, are_marked, jump_faults_in}
-use Rattle.taskscript.specs.Lines.{NamedArgumentData, number, variable, label, quoted, NamedCommandData, named_command_view}
-use Rattle.taskscript.specs.Numbering.{labels_of_arguments}
-use Rattle.taskscript.specs.Words.{kinds}
+use Rattle.taskscript.specs.Lines.{NamedArgumentData, number, variable, label, quoted, NamedCommandData, named_argument_view, named_command_view}
+use Rattle.taskscript.specs.Numbering.{Names, argument_in, labels_of_arguments}
+use Rattle.taskscript.specs.Machines.{is_quoted}
 use Rattle.taskscript.proofs.Firsts.{first_none, first_some}
+use Rattle.taskscript.proofs.Naming.{first_named}
 
 and_true : (a b : Bool) → (a && b) ≡ ((a && true) && b)
 and_true true b = refl
@@ -36,8 +40,9 @@ marked_more marks a left others b is h =
     ap (λ (found : List NamedArgumentData). are_marked marks (labels_of_arguments found)) is ∙ marked_split marks a others
     ∙ ap (λ (c : Bool). c && are_marked marks (labels_of_arguments others)) h
 
-pub front_grown : (xs : List Argument) (i : ℕ) (a : Argument) → i < length xs → map argument_view (take (i + 1) (set xs i a)) ≡ map argument_view (take i xs) ++ argument_view a ∷ []
-front_grown xs i a lt = ap (map argument_view) (take_more_set xs i a lt) ∙ map_push argument_view (take i xs) a
+pub front_grown : (name : List ℕ) (xs : List Argument) (i : ℕ) (a : Argument) → i < length xs
+    → map (argument_view name) (take (i + 1) (set xs i a)) ≡ map (argument_view name) (take i xs) ++ argument_view name a ∷ []
+front_grown name xs i a lt = ap (map (argument_view name)) (take_more_set xs i a lt) ∙ map_push (argument_view name) (take i xs) a
 
 -- one more of what is made of a list by a function
 pub made_more : {X Y : Type 0} (f : X → Y) (front grown : List Y) (y : Y) (x : X) (left others : List X) → left ≡ x ∷ others → y ≡ f x → grown ≡ front ++ y ∷ []
@@ -49,14 +54,53 @@ pub next_command : (xs : List NamedCommand) (i : ℕ) (c : NamedCommand) → i <
     → map named_command_view (drop i xs) ≡ named_command_view c ∷ map named_command_view (drop (i + 1) xs)
 next_command xs i c lt is = ap (map named_command_view) (drop_more xs i c lt) ∙ ap (λ (d : NamedCommand). named_command_view d ∷ map named_command_view (drop (i + 1) xs)) (sym is)
 
+-- all arguments have their numbers and places
+pub arguments_resolved : (marks : List Mark) (made : NamedArgumentData → ArgumentData) (named : List NamedArgument) (xs : List Argument) (i : ℕ) → i ≤ length named → length named ≤ i
+    → are_marked marks (labels_of_arguments (map named_argument_view (drop i named))) ≡ are_marked marks (labels_of_arguments (map named_argument_view named))
+    → ((name : List ℕ) → All (IsNamed name) (map made (map named_argument_view named))
+    → map (argument_view name) (take i xs) ++ map made (map named_argument_view (drop i named)) ≡ map made (map named_argument_view named))
+    → (are_marked marks (labels_of_arguments (map named_argument_view named)) ≡ true)
+    × ((name : List ℕ) → All (IsNamed name) (map made (map named_argument_view named)) → map (argument_view name) (take (length named) xs) ≡ map made (map named_argument_view named))
+arguments_resolved marks made named xs i within past known found =
+    let end : i ≡ length named = omega (arith, within, past) in
+    let none : drop i named ≡ [] = drop_all i named past in (
+      sym known ∙ ap (λ (left : List NamedArgument). are_marked marks (labels_of_arguments (map named_argument_view left))) none,
+      λ name all. ap (λ k. map (argument_view name) (take k xs)) (sym end) ∙ sym (append-nil (map (argument_view name) (take i xs)))
+          ∙ ap (λ (left : List NamedArgument). map (argument_view name) (take i xs) ++ map made (map named_argument_view left)) (sym none) ∙ found name all,
+    )
+
+-- ---- the first name
+
+-- a name is the first, and what is no name leaves it to the others
+pub name_first : (names : Names) (places : List ℕ → ℕ) (a : NamedArgument) (name : Name) (left others : List NamedArgumentData) → left ≡ named_argument_view a ∷ others → a ≡ named.Quoted name
+    → name.bytes ≡ first_name (map (argument_in names places) left)
+name_first names places a name left others is quotes =
+    sym (ap (λ xs. first_name (map (argument_in names places) xs)) is
+    ∙ ap (λ (b : NamedArgument). first_name (map (argument_in names places) (named_argument_view b ∷ others))) quotes)
+
+not_named : (names : Names) (places : List ℕ → ℕ) (a : NamedArgument) (others : List NamedArgumentData) → ((name : Name) → a ≡ named.Quoted name → ⊥)
+    → first_name (map (argument_in names places) others) ≡ first_name (map (argument_in names places) (named_argument_view a ∷ others))
+not_named names places (named.Number n) others not = refl
+not_named names places (named.Variable v) others not = refl
+not_named names places (named.Label n) others not = refl
+not_named names places (named.Quoted n) others not = absurd (not n refl)
+
+pub name_left : (names : Names) (places : List ℕ → ℕ) (a : NamedArgument) (left others : List NamedArgumentData) → left ≡ named_argument_view a ∷ others → ((name : Name) → a ≡ named.Quoted name → ⊥)
+    → first_name (map (argument_in names places) others) ≡ first_name (map (argument_in names places) left)
+name_left names places a left others is not = not_named names places a others not ∙ ap (λ xs. first_name (map (argument_in names places) xs)) (sym is)
+
+-- ---- commands
+
 abbrev command : Word → Option Variable → List ArgumentData → CommandData
 command w t found = record { word = w; target = t; arguments = found }
 
 -- a command made of its parts
-pub command_made : (w : Word) (t u : Option Variable) (xs : List Argument) (n : ℕ) (found : List ArgumentData) → n ≡ length (kinds w) → t ≡ u → map argument_view (take n xs) ≡ found
-    → command w t (map argument_view (take (length (kinds w)) xs)) ≡ command w u found
-command_made w t u xs n found count target made =
-    ap (λ (o : Option Variable). command w o (map argument_view (take (length (kinds w)) xs))) target ∙ ap (command w u) (ap (λ (k : ℕ). map argument_view (take k xs)) (sym count) ∙ made)
+pub command_made : (w : Word) (t u : Option Variable) (xs : List Argument) (n k : ℕ) (name : List ℕ) (found : List ArgumentData) → n ≡ k → t ≡ u → name ≡ first_name found → count_by is_quoted found ≤ 1
+    → ((m : List ℕ) → All (IsNamed m) found → map (argument_view m) (take k xs) ≡ found) → command w t (map (argument_view name) (take n xs)) ≡ command w u found
+command_made w t u xs n k name found count target first once made =
+    let named : All (IsNamed name) found = subst (λ m. All (IsNamed m) found) (sym first) (first_named found once) in
+    ap (λ (o : Option Variable). command w o (map (argument_view name) (take n xs))) target
+    ∙ ap (command w u) (ap (λ (j : ℕ). map (argument_view name) (take j xs)) count ∙ made name named)
 
 abbrev jumps_left : List Mark → List NamedCommandData → List FileFault
 jumps_left marks cs = flat_map (jump_faults_in marks) cs

@@ -1,12 +1,11 @@
 -- Commands, as contracts and the abstract machine see them.
-use Rattle.std.specs.Prelude.{ℕ, ◌<◌, All, List, length, map, take, IfSome, Option}
+use Rattle.std.specs.Prelude.{◌≡◌, ℕ, ◌<◌, All, List, [], ◌∷◌, map, take, IfSome, Option}
 use Rattle.taskscript.specs.declared.word.Word.{Word}
 use Rattle.taskscript.specs.declared.variable.Variable.{Variable}
 use Rattle.taskscript.specs.declared.variable.Variable.TheVariants.{Private, Shared}
 use Rattle.taskscript.specs.declared.command.Argument.{Argument}
 use Rattle.taskscript.specs.declared.command.Argument.TheVariants as argument
 use Rattle.taskscript.specs.declared.command.Command.{Command}
-use Rattle.taskscript.specs.Words.{kinds}
 
 -- a number, what a variable holds, a name that stood between double quotes, or the place of a command
 pub data ArgumentData : Type 0 where
@@ -38,12 +37,34 @@ pub record CommandFits (c : CommandData) : Type 0 where
 
 -- ---- what the code holds
 
-abbrev pub argument_view : Argument → ArgumentData
-argument_view (argument.Number n) = number n
-argument_view (argument.Variable v) = variable v
-argument_view (argument.Quoted n) = quoted n.bytes
-argument_view (argument.Place k) = place k
+-- an argument, where the name of the command is this
+abbrev pub argument_view : List ℕ → Argument → ArgumentData
+argument_view name (argument.Number n) = number n
+argument_view name (argument.Variable v) = variable v
+argument_view name argument.Quoted = quoted name
+argument_view name (argument.Place k) = place k
 
--- as many arguments as the word has
+-- as many arguments as its count says
 abbrev pub command_view : Command → CommandData
-command_view c = record { word = c.word; target = c.target; arguments = map argument_view (take (length (kinds c.word)) c.arguments) }
+command_view c = record { word = c.word; target = c.target; arguments = map (argument_view c.name.bytes) (take c.count c.arguments) }
+
+-- ---- the name of a command
+
+-- an argument is this name, if it is a name
+abbrev pub IsNamed : List ℕ → ArgumentData → Type 0
+IsNamed name (number n) = Unit {0}
+IsNamed name (variable v) = Unit {0}
+IsNamed name (quoted own) = own ≡ name
+IsNamed name (place k) = Unit {0}
+
+-- the name that an argument is, or else another one
+abbrev pub name_or : ArgumentData → List ℕ → List ℕ
+name_or (number n) other = other
+name_or (variable v) other = other
+name_or (quoted name) other = name
+name_or (place k) other = other
+
+-- the first name of some arguments, or an empty one
+abbrev pub first_name : List ArgumentData → List ℕ
+first_name [] = []
+first_name (a ∷ others) = name_or a (first_name others)

@@ -1,4 +1,7 @@
-//! Commands: what the lines of a body say, with numbers for the names of variables.
+//! Commands: what the lines of a body say, with numbers for the names of variables. Since at most one argument of a command is a name, the name
+//! stands beside the arguments.
+ghost use Rattle.std.specs.Prelude.{◌≤◌};
+
 use crate::name::Name;
 use crate::variable::Variable;
 use crate::word::Word;
@@ -10,8 +13,8 @@ pub enum Argument {
     Number(u32),
     /// What a variable holds when the command runs.
     Variable(Variable),
-    /// A name, which stood between double quotes.
-    Quoted(Name),
+    /// The name of the command, which stood between double quotes.
+    Quoted,
     /// The place (from 0) of a command of the body, or the number of its commands.
     Place(u32),
 }
@@ -23,6 +26,10 @@ pub struct Command {
     pub word: Word,
     /// Where the answer goes.
     pub target: Option<Variable>,
-    /// The arguments, from left to right; past those that the word has they mean nothing.
+    /// The arguments, from left to right; past the first `count` of them they mean nothing.
     pub arguments: [Argument; 4],
+    pub count: u8,
+    /// The name among the arguments; where none is a name, it means nothing.
+    pub name: Name,
+    ghost few: { count ≤ 4 },
 }

@@ -1,6 +1,7 @@
 //! Numbers for the names of variables, in the order of first sight: a name is seen, and then it has a
 //! number.
-ghost use Rattle.std.specs.Prelude.{◌≡◌, [], ◌∷◌, nat_lt, map, option_map, OnOk};
+ghost use Rattle.std.specs.Prelude.{◌≡◌, [], ◌∷◌, nat_lt, map, option_map, IfSome, OnOk};
+ghost use Rattle.taskscript.specs.Commands.{VariableFits};
 ghost use Rattle.taskscript.specs.Lines.{named_variable_view, named_argument_view, named_command_view};
 ghost use Rattle.taskscript.specs.Numbering.{names_view, number_in, seen_after, texts, variable_in, variables_of, variables_of_arguments, variables_of_target, Sees, SeesAll};
 
@@ -127,7 +128,7 @@ fn number_in(names: &IndexSet<VariableName>, name: VariableName) -> usize
     }
 }
 
-/// A variable by its number.
+/// A variable by its number, which is within its limit.
 ///
 /// Source: own choice.
 pub fn variable_in(
@@ -135,16 +136,17 @@ pub fn variable_in(
     private: &IndexSet<VariableName>,
     shared: &IndexSet<VariableName>,
 ) -> Variable
+    requires { VariableFits (variable_in (names_view private.now.keys shared.now.keys) (named_variable_view variable)) }
     ensures { result ≡ variable_in (names_view private.now.keys shared.now.keys) (named_variable_view variable) }
 {
     if variable.is_shared {
-        Variable::Shared(number_in(shared, variable.name))
+        Variable::Shared(number_in(shared, variable.name) as u8)
     } else {
-        Variable::Private(number_in(private, variable.name))
+        Variable::Private(number_in(private, variable.name) as u8)
     }
 }
 
-/// A target by its number, if there is one.
+/// A target by its number, if there is one; the number is within its limit.
 ///
 /// Source: own choice.
 pub fn target_in(
@@ -152,6 +154,8 @@ pub fn target_in(
     private: &IndexSet<VariableName>,
     shared: &IndexSet<VariableName>,
 ) -> Option<Variable>
+    requires { let names = names_view private.now.keys shared.now.keys in
+        IfSome (option_map (variable_in names) (option_map named_variable_view target)) VariableFits }
     ensures { let names = names_view private.now.keys shared.now.keys in
         result ≡ option_map (variable_in names) (option_map named_variable_view target) }
 {

@@ -1,41 +1,43 @@
 //! Commands with numbers and places for their names, once the whole body was read.
-ghost use Rattle.std.specs.Prelude.{◌≡◌, ◌≤◌, [], ◌∷◌, length, map, take};
+ghost use Rattle.std.specs.Prelude.{◌≡◌, ◌≤◌, ℕ, List, [], ◌∷◌, All, length, map, take};
 ghost use Rattle.std.specs.List.{flat_map};
-ghost use Rattle.taskscript.specs.Commands.{argument_view, command_view};
+ghost use Rattle.taskscript.specs.Commands.{argument_view, command_view, first_name, ArgumentFits, CommandFits, IsNamed};
 ghost use Rattle.taskscript.specs.Faults.{Judges};
 ghost use Rattle.taskscript.specs.Labels.{are_marked, jump_faults_in, marks_view, place_at, Resolves};
 ghost use Rattle.taskscript.specs.Lines.{named_argument_view, named_command_view};
-ghost use Rattle.taskscript.specs.Numbering.{argument_in, command_in, labels_of_arguments, names_view};
+ghost use Rattle.taskscript.specs.Machines.{QuotesOnce};
+ghost use Rattle.taskscript.specs.Numbering.{argument_in, command_in, labels_of_arguments, names_view, Names};
 
 use crate::command::{Argument, Command};
 use crate::fault::FileFault;
 use crate::label::LabelName;
+use crate::name::Name;
 use crate::named::{NamedArgument, NamedCommand};
 use crate::numbering::{target_in, variable_in};
 use crate::variable::VariableName;
 use indexmap::{IndexMap, IndexSet};
 use std::alloc::Global;
 
-// An argument with the number of its variable, or the place of its label.
+// An argument with the number of its variable, or the place of its label, and without its name.
 fn argument_in(
     argument: NamedArgument,
     private: &IndexSet<VariableName>,
     shared: &IndexSet<VariableName>,
     labels: &IndexMap<LabelName, u32>,
 ) -> Result<Argument, FileFault>
-    ensures { let names = names_view private.now.keys shared.now.keys in
-        let marks = marks_view labels.now.entries in
-        let named = named_argument_view argument in
+    requires { ArgumentFits (argument_in (names_view private.now.keys shared.now.keys) (place_at (marks_view labels.now.entries)) (named_argument_view argument)) }
+    ensures { let marks = marks_view labels.now.entries in
+        let found = argument_in (names_view private.now.keys shared.now.keys) (place_at marks) (named_argument_view argument) in
         Resolves result
-        (are_marked marks (labels_of_arguments (named ∷ [])))
-        (λ a. argument_view a ≡ argument_in names (place_at marks) named) }
+        (are_marked marks (labels_of_arguments (named_argument_view argument ∷ [])))
+        (λ a. (name : List ℕ) → IsNamed name found → argument_view name a ≡ found) }
 {
     match argument {
         NamedArgument::Number(n) => Ok(Argument::Number(n)),
         NamedArgument::Variable(variable) => {
             Ok(Argument::Variable(variable_in(variable, private, shared)))
         }
-        NamedArgument::Quoted(name) => Ok(Argument::Quoted(name)),
+        NamedArgument::Quoted(_) => Ok(Argument::Quoted),
         NamedArgument::Label(name) => match labels.get(&name).copied() {
             None => Err(FileFault::BadLabel),
             Some(place) => Ok(Argument::Place(place)),
@@ -50,13 +52,13 @@ fn arguments_in(
     shared: &IndexSet<VariableName>,
     labels: &IndexMap<LabelName, u32>,
 ) -> Result<[Argument; 4], FileFault>
-    requires { length named.now ≤ 4 }
-    ensures { let names = names_view private.now.keys shared.now.keys in
-        let marks = marks_view labels.now.entries in
-        let all = map named_argument_view named.now in
+    requires few { length named.now ≤ 4 }
+    requires fit { All ArgumentFits (map (argument_in (names_view private.now.keys shared.now.keys) (place_at (marks_view labels.now.entries))) (map named_argument_view named.now)) }
+    ensures { let marks = marks_view labels.now.entries in
+        let found = map (argument_in (names_view private.now.keys shared.now.keys) (place_at marks)) (map named_argument_view named.now) in
         Resolves result
-        (are_marked marks (labels_of_arguments all))
-        (λ a. map argument_view (take (length named.now) a) ≡ map (argument_in names (place_at marks)) all) }
+        (are_marked marks (labels_of_arguments (map named_argument_view named.now)))
+        (λ a. (name : List ℕ) → All (IsNamed name) found → map (argument_view name) (take (length named.now) a) ≡ found) }
 {
     let mut arguments = [Argument::Number(0); 4];
     for (i, argument) in named.iter().enumerate() {
@@ -65,8 +67,45 @@ fn arguments_in(
     Ok(arguments)
 }
 
+// The first name among the arguments, or an empty one.
+fn name_among(named: &[NamedArgument]) -> Name
+    ensures { (names : Names) (places : List ℕ → ℕ) → result.bytes ≡ first_name (map (argument_in names places) (map named_argument_view named.now)) }
+{
+    for argument in named {
+        if let NamedArgument::Quoted(name) = argument {
+            return *name;
+        }
+    }
+    Name::new()
+}
+
+// A command with numbers and places for its names, or BadLabel where it jumps to a label that is not among these.
+fn command_in(
+    named: &NamedCommand,
+    private: &IndexSet<VariableName>,
+    shared: &IndexSet<VariableName>,
+    labels: &IndexMap<LabelName, u32>,
+) -> Result<Command, FileFault>
+    requires fits { CommandFits (command_in (names_view private.now.keys shared.now.keys) (place_at (marks_view labels.now.entries)) (named_command_view named.now)) }
+    requires once { QuotesOnce (command_in (names_view private.now.keys shared.now.keys) (place_at (marks_view labels.now.entries)) (named_command_view named.now)) }
+    ensures { let marks = marks_view labels.now.entries in
+        let all = named_command_view named.now in
+        Resolves result
+        (are_marked marks (labels_of_arguments all.arguments))
+        (λ c. command_view c ≡ command_in (names_view private.now.keys shared.now.keys) (place_at marks) all) }
+{
+    let arguments = named.arguments.as_slice();
+    Ok(Command {
+        word: named.word,
+        target: target_in(named.target, private, shared),
+        arguments: arguments_in(arguments, private, shared, labels)?,
+        count: arguments.len() as u8,
+        name: name_among(arguments),
+    })
+}
+
 /// The commands with numbers and places for their names, or BadLabel where one jumps to a label that is
-/// not among these.
+/// not among these. Their variables are within the limits, and at most one argument of each is a name.
 ///
 /// Source: own choice.
 pub fn commands_in(
@@ -76,6 +115,8 @@ pub fn commands_in(
     shared: &IndexSet<VariableName>,
     labels: &IndexMap<LabelName, u32>,
 ) -> Result<Vec<Command>, FileFault>
+    requires fit { All CommandFits (map (command_in (names_view private.now.keys shared.now.keys) (place_at (marks_view labels.now.entries))) (map named_command_view commands.now)) }
+    requires once { All QuotesOnce (map (command_in (names_view private.now.keys shared.now.keys) (place_at (marks_view labels.now.entries))) (map named_command_view commands.now)) }
     ensures { let names = names_view private.now.keys shared.now.keys in
         let marks = marks_view labels.now.entries in
         let all = map named_command_view commands.now in
@@ -83,15 +124,9 @@ pub fn commands_in(
         (flat_map (jump_faults_in marks) all)
         (λ code. map command_view code.items ≡ map (command_in names (place_at marks)) all) }
 {
-    let mut code = Vec::new(alloc);
+    let mut code = Vec::with_capacity(alloc, commands.len())?;
     for named in commands {
-        let target = target_in(named.target, private, shared);
-        let arguments = arguments_in(named.arguments.as_slice(), private, shared, labels)?;
-        code.push(Command {
-            word: named.word,
-            target,
-            arguments,
-        })?;
+        code.push(command_in(named, private, shared, labels)?)?;
     }
     Ok(code)
 }

@@ -12,9 +12,9 @@ pub type VariableName = Identifier;
 #[derive(Clone, Copy, Debug, PartialEq, Eq)]
 pub enum Variable {
     /// Private to its body: the order is that of the body.
-    Private(usize),
+    Private(u8),
     /// Shared by all bodies: the order is that of the file.
-    Shared(usize),
+    Shared(u8),
 }
 
 /// A variable, as a line names it.

@@ -9,8 +9,8 @@ use taskscript::Word::{
     self, Interrupts, Libraries, Lists, Plain, Ports, Requests, Semaphores, Signals, Tasks,
 };
 use taskscript::{
-    Argument, Command, InterruptWord, LibraryWord, ListWord, PlainWord, PortWord, RequestWord,
-    SemaphoreWord, SignalWord, TaskWord, read_machine,
+    Argument, Command, InterruptWord, LibraryWord, ListWord, Name, PlainWord, PortWord,
+    RequestWord, SemaphoreWord, SignalWord, TaskWord, read_machine,
 };
 
 /// An argument, as a case writes it.
@@ -640,12 +640,12 @@ fn file_of(alloc: Global, bodies: &[&[&str]]) -> Result<Vec<u8>, AllocError> {
     Ok(file)
 }
 
-/// An argument of a command, as a case writes it.
-fn written(argument: &Argument) -> Said {
+/// An argument of a command of that name, as a case writes it.
+fn written<'a>(argument: &Argument, name: &'a Name) -> Said<'a> {
     match argument {
         Argument::Number(number) => Number(*number),
         Argument::Variable(variable) => Held(*variable),
-        Argument::Quoted(name) => Quoted(name.as_str()),
+        Argument::Quoted => Quoted(name.as_str()),
         Argument::Place(place) => Place(*place),
     }
 }
@@ -661,8 +661,9 @@ fn speaks(rt: &impl Abort, test: &str, case: &str, command: &Command, wanted: Sp
         (word, target),
     );
     same_at(rt, test, case, word.kinds().len(), arguments.len());
+    same_at(rt, test, case, command.count as usize, arguments.len());
     for (argument, wanted) in command.arguments.iter().zip(arguments) {
-        same_at(rt, test, case, written(argument), *wanted);
+        same_at(rt, test, case, written(argument, &command.name), *wanted);
     }
 }
 

@@ -2,5 +2,5 @@
 use Rattle.execsim.proofs.Accepted.{softints_differ}
 use Rattle.execsim.proofs.boot.interrupts_of.Goals as goal
 
-pub new-requires-clause-names : goal.new-requires-clause-names
-new-requires-clause-names g c = softints_differ c.softints.ensures.machine _ c.softints.ensures.softints
+pub new-requires : goal.new-requires
+new-requires g c = record { names = softints_differ c.softints.ensures.machine _ c.softints.ensures.softints }

@@ -6,6 +6,7 @@ use Rattle.taskscript.specs.Code.{lines_in}
 use Rattle.taskscript.specs.Numbering.{texts}
 use Rattle.taskscript.specs.Records.{setting_view}
 use Rattle.taskscript.proofs.BodyReading.{lines_counted, too_long, line_decides, code_decided, shared_read}
+use Rattle.taskscript.proofs.Fitting.{commands_within, commands_once}
 use Rattle.taskscript.proofs.code.read_code.Goals as goal
 
 pub returns-then-lines-gt-LINE_LIMIT-clause-judged :
@@ -17,6 +18,15 @@ returns-in_err-body-clause-judged c =
     let p = err_from_is_err_and c.from_residual.result c.from_residual.ensures.1 in
     let few : length (lines_in (items_view c.args.lines.now)) ≤ 1024 = rw (lines_counted c.args.lines.now) c.if-lines-gt-LINE_LIMIT.false in
     rw (p.1, p.2) (λ ne. line_decides (setting_view c.args.setting) (texts c.args.shared.now.keys) (lines_in (items_view c.args.lines.now)) c.in_err-body.field-0.0 few (c.in_err-body.ensures ne))
+
+pub commands_in-requires-clause-fit : goal.commands_in-requires-clause-fit
+commands_in-requires-clause-fit c =
+    rw c.deref.ensures.value (commands_within (setting_view c.args.setting) (texts c.args.shared.now.keys) (lines_in (items_view c.args.lines.now)) (reading_view c.in_ok-body.body c.body_of.new.shared.keys)
+    c.in_ok-body.ensures.0 c.in_ok-body.ensures.1)
+
+pub commands_in-requires-clause-once : goal.commands_in-requires-clause-once
+commands_in-requires-clause-once c =
+    rw c.deref.ensures.value (commands_once (texts c.args.shared.now.keys) (lines_in (items_view c.args.lines.now)) (reading_view c.in_ok-body.body c.body_of.new.shared.keys) c.in_ok-body.ensures.1)
 
 pub returns-clause-judged : goal.returns-clause-judged
 returns-clause-judged c =

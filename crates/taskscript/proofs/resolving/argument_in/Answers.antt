@@ -13,4 +13,4 @@ returns-in-None c =
 pub returns-in-Some : goal.returns-in-Some
 returns-in-Some c =
     let there : place_in (marks_view c.args.labels.now.entries) c.in-Label.name.bytes ≡ Some c.in-Some.place = sym (c.in-Some.ensures ∙ c.get.ensures.value ∙ place_looked_up c.in-Label.name.bytes c.args.labels.now.entries) in
-    rw c.in-Label.is (ap (λ (o : Option ℕ). is_some o && true) there, ap (λ (o : Option ℕ). place (unwrap_or o 0)) (sym there))
+    rw c.in-Label.is (ap (λ (o : Option ℕ). is_some o && true) there, λ _ _. ap (λ (o : Option ℕ). place (unwrap_or o 0)) (sym there))

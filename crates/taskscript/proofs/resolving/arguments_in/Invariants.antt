@@ -1,5 +1,5 @@
-use Rattle.std.proofs.Common.{◌≡◌, ◌++◌, drop, take, map, length}
-use Rattle.taskscript.specs.Commands.{argument_view}
+use Rattle.std.proofs.Common.{◌≡◌, ◌++◌, ℕ, List, All, drop, take, map, length}
+use Rattle.taskscript.specs.Commands.{argument_view, IsNamed}
 use Rattle.taskscript.specs.Labels.{are_marked, marks_view, place_at}
 use Rattle.taskscript.specs.Lines.{named_argument_view}
 use Rattle.taskscript.specs.Numbering.{names_view, argument_in, labels_of_arguments}
@@ -14,5 +14,5 @@ invariant-loop-i l =
     record {
       four : length l.arguments ≡ 4;
       known : are_marked marks (labels_of_arguments left) ≡ are_marked marks (labels_of_arguments all);
-      found : map argument_view (take l.i l.arguments) ++ map numbered left ≡ map numbered all;
+      found : (name : List ℕ) → All (IsNamed name) (map numbered all) → map (argument_view name) (take l.i l.arguments) ++ map numbered left ≡ map numbered all;
     }

@@ -1,9 +1,8 @@
 use Rattle.std.proofs.Common.{refl, ap, sym, take, ◌∙◌, ◌+◌, Some}
 use Rattle.std.proofs.lemmas.Option.{slice_get_within}
-use Rattle.std.specs.Option.{option_map}
 use Rattle.execmodel.specs.State.{program_of}
 use Rattle.execmodel.specs.Calls.{call_of, evaluated}
-use Rattle.execsim.specs.Views.{operand_view, slot_view, small_view}
+use Rattle.taskscript.specs.Commands.{argument_view, command_view}
 use Rattle.execsim.proofs.Calling.{map-map_as, next-kept, next-none, next-command}
 use Rattle.execsim.proofs.kernel.Kernel.make_call.Goals as goal
 
@@ -11,7 +10,7 @@ pub make-requires-clause-next : goal.make-requires-clause-next
 make-requires-clause-next g c = next-kept _ _ _ (rw (← c.program-program.ensures, ← c.kept.ensures, c.in-Some.is) refl)
 
 pub next-requires : goal.next-requires
-next-requires g c = slice_get_within _ _ (small_view c.in-Some-command.command.now)
+next-requires g c = slice_get_within _ _ (command_view c.in-Some-command.command.now)
     (rw (← c.command.ensures, c.in-Some-command.is) refl)
 
 -- the call has the values of the command's arguments
@@ -24,8 +23,8 @@ make-requires-in-Some-command-clause-next g c =
     rw (c.next.ensures, c.program-program.ensures)
     (next-command _ _ _ (rw (← c.program-program.ensures, ← c.kept.ensures, c.in-None.is) refl)
     (rw (← c.program-program.ensures, ← c.command.ensures, c.in-Some-command.is) refl)
-    ∙ ap (λ arguments. Some (record { word = command.word; target = option_map slot_view command.target; arguments = arguments; next = (program_of scripts c.args.t).place + 1; awaited = 0 }))
-    (sym (c.evaluate_all.ensures name ∙ map-map_as (evaluated c.args.t scripts) (operand_view name) (take command.count command.operands))))
+    ∙ ap (λ arguments. Some (record { word = command.word; target = command.target; arguments = arguments; next = (program_of scripts c.args.t).place + 1; awaited = 0 }))
+    (sym (c.evaluate_all.ensures name ∙ map-map_as (evaluated c.args.t scripts) (argument_view name) (take command.count command.arguments))))
 
 pub make_none-requires-clause-next : goal.make_none-requires-clause-next
 make_none-requires-clause-next g c = next-none _ _ (rw (← c.program-program.ensures, ← c.kept.ensures, c.in-None.is) refl)

@@ -2,10 +2,10 @@ use Rattle.std.proofs.Common.{◌∙◌, ap, sym}
 use Rattle.std.specs.Prelude.{slice_get}
 use Rattle.std.specs.Option.{option_map}
 use Rattle.std.proofs.lemmas.Option.{slice_get-map}
-use Rattle.execsim.specs.Views.{small_view}
+use Rattle.taskscript.specs.Commands.{command_view}
 use Rattle.execsim.proofs.program.Program.command.Goals as goal
 
 pub returns : goal.returns
 returns c = rw (← c.self.view_is) (
-    ap (option_map small_view) (c.command_at.ensures ∙ ap (λ items. slice_get items c.self.inside.place) c.as_slice.ensures.value)
-    ∙ sym (slice_get-map small_view c.self.inside.code.items c.self.inside.place))
+    ap (option_map command_view) (c.command_at.ensures ∙ ap (λ items. slice_get items c.self.inside.place) c.as_slice.ensures.value)
+    ∙ sym (slice_get-map command_view c.self.inside.code.items c.self.inside.place))

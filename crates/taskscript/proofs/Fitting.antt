@@ -1,0 +1,37 @@
+-- The commands of a body whose lines have no fault: their variables are within the limits, and at most one argument of each is a name.
+use Rattle.std.proofs.Common.{◌≡◌, ℕ, List, [], map, All, None, sym, ap, subst, ◌∙◌}
+use Rattle.std.specs.Prelude.{slice_index_or}
+use Rattle.std.proofs.lemmas.List.Elements.{All-map, All-weaker}
+use Rattle.execlist.specs.Order.{first}
+use Rattle.taskscript.specs.Commands.{CommandData, CommandFits}
+use Rattle.taskscript.specs.Interrupting.{Setting}
+use Rattle.taskscript.specs.Labels.{place_at}
+use Rattle.taskscript.specs.Machines.{QuotesOnce}
+use Rattle.taskscript.specs.Numbering.{command_in}
+use Rattle.taskscript.specs.Code.{commands_of, names_of}
+use Rattle.taskscript.specs.Bodies.{Reading, nothing_read, reading_after, faults_after}
+use Rattle.taskscript.proofs.BodyReading.{body_read, lines_judged, marks_from}
+use Rattle.taskscript.proofs.CodeLaws.{Stands, command_fits, lines_stand}
+use Rattle.taskscript.proofs.OneName.{once}
+use Rattle.taskscript.proofs.OwnArguments.{lines_have}
+
+-- the commands of what was read, with numbers and places for their names
+abbrev numbered : Reading → List CommandData
+numbered r = map (command_in r.names (place_at r.marks)) r.commands
+
+pub commands_within : (s : Setting) (shared lines : List (List ℕ)) (r : Reading) → first (faults_after s (nothing_read shared) lines) ≡ None → r ≡ reading_after (nothing_read shared) lines
+    → All CommandFits (numbered r)
+commands_within s shared lines r none is =
+    let names = names_of shared lines in
+    let made = command_in names (place_at (marks_from 0 lines)) in
+    let stand = lines_stand s names [] lines (ap first (sym (lines_judged s shared lines)) ∙ none) in
+    let fit = All-map CommandFits made (commands_of lines)
+    (All-weaker (Stands s names) (λ c. CommandFits (made c)) (λ c stands. command_fits names (place_at (marks_from 0 lines)) c stands.within) (commands_of lines) stand) in
+    subst (λ (q : Reading). All CommandFits (numbered q)) (sym (body_read shared lines r is)) fit
+
+pub commands_once : (shared lines : List (List ℕ)) (r : Reading) → r ≡ reading_after (nothing_read shared) lines → All QuotesOnce (numbered r)
+commands_once shared lines r is =
+    let made = map (command_in (names_of shared lines) (place_at (marks_from 0 lines))) (commands_of lines) in
+    let has = lines_have (names_of shared lines) (place_at (marks_from 0 lines)) lines in
+    subst (λ (q : Reading). All QuotesOnce (numbered q)) (sym (body_read shared lines r is))
+    (λ k d inside. once (slice_index_or made k d) (has k d inside))
