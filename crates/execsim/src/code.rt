@@ -4,7 +4,7 @@ ghost use Rattle.std.specs.Prelude.{◌≡◌, IfOk};
 use std::alloc::{AllocError, Global};
 use taskscript::Command;
 
-/// A copy of the commands of a body, with room for no more.
+/// A copy of the commands of a body. An error means that memory is lacking.
 ///
 /// Source: own choice.
 pub fn copied_code(alloc: Global, code: &[Command]) -> Result<Vec<Command>, AllocError>

@@ -28,6 +28,7 @@ pub struct Command {
     pub target: Option<Variable>,
     /// The arguments, from left to right; past the first `count` of them they mean nothing.
     pub arguments: [Argument; 4],
+    /// How many arguments there are: 0 to 4.
     pub count: u8,
     /// The name among the arguments; where none is a name, it means nothing.
     pub name: Name,
