@@ -2,5 +2,8 @@ mod KeyTurns
 mod LimitTurns
 mod LocateLemmas
 mod RegionTurns
+mod SpacingTurns
 mod SpanLemmas
+mod SpokenTurns
 mod ToldTurns
+mod WarningTurns

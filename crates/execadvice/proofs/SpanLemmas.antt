@@ -1,12 +1,15 @@
 -- The characters of the parts of a line.
-use Rattle.std.proofs.Common.{◌≡◌, ℕ, ◌+◌, ◌<◌, ◌≤◌, ◌==◌, ◌∙◌, Bool, true, false, cond, List, [], ◌∷◌, None, Some, length, take, get_or, arith, refl, ap, sym, subst, append_assoc, ◌++◌, drop, encode_utf8}
-use Rattle.std.specs.List.{onto_first, slice_get, slice_split, sum_by}
+use Rattle.std.proofs.Common.{◌≡◌, ℕ, ◌+◌, ◌-◌, ◌^◌, ◌<◌, ◌≤◌, inl, inr, ◌==◌, ◌∙◌, Bool, true, false, cond, List, [], ◌∷◌, length, take, get_or, arith, refl, ap, sym, subst, append_assoc, ◌++◌, drop, encode_utf8}
+use Rattle.std.specs.List.{onto_first, slice_get, sum_by}
 use Rattle.std.specs.Option.{option_map_or}
+use Rattle.std.proofs.lemmas.Bool.{cases_lt}
 use Rattle.std.proofs.lemmas.List.{append-nil, at_drop_all, at_drop_more, length_push, take_all}
 use Rattle.std.proofs.lemmas.List.Splits.{length-slice_split}
 use Rattle.std.proofs.lemmas.List.Sums.{sum_by-cons, sum_by_more, sum_by-take-le}
 use Rattle.std.proofs.lemmas.Option.{slice_get_past, slice_get_read}
 use Rattle.taskscript.specs.Lines.{fields}
+use Rattle.execadvice.specs.declared.show.Span.{Span}
+use Rattle.execadvice.specs.Told.{span_of}
 use Rattle.execadvice.specs.Spans.{shown_character, shown_characters, width_of, width_with_spaces}
 
 -- how many bytes some parts of a line have, with the space behind each
@@ -68,6 +71,29 @@ past_parts line i number last past = (
   ap width_with_spaces (take_all i (fields line) (omega arith) ∙ sym (take_all number (fields line) (omega arith))),
   sym (ap (λ o. option_map_or width_of o 1) (slice_get_past (fields line) number (omega arith))),
 )
+
+-- each number behind the last part of a line is the same place
+pub past_number : (line : List ℕ) (i number : ℕ) → length line < i → length line < number
+    → (width_with_spaces (take i (fields line)) ≡ width_with_spaces (take number (fields line)))
+    × (option_map_or width_of (slice_get (fields line) i) 1 ≡ option_map_or width_of (slice_get (fields line) number) 1)
+past_number line i number one other =
+    let few : length (fields line) ≤ length line + 1 = omega (arith, count-fields line, bytes-fields line) in
+    let here = past_parts line (length (fields line)) i refl (omega arith) in
+    let there = past_parts line (length (fields line)) number refl (omega arith) in
+    (sym here.0 ∙ there.0, sym here.1 ∙ there.1)
+
+-- a part that is counted as far as a number goes
+pub counted_span : (line : List ℕ) (span : Span) (part number : ℕ) → length line < 2 ^ 63
+    → (part < 2 ^ 64 → number ≡ part) → (2 ^ 64 ≤ part → number ≡ 2 ^ 64 - 1)
+    → span.start ≡ width_with_spaces (take number (fields line)) → span.width ≡ option_map_or width_of (slice_get (fields line) number) 1
+    → span ≡ span_of line part
+counted_span line span part number short within past start width = elim (cases_lt part (2 ^ 64)) [
+  | inl less ↦ same span (span_of line number) start width ∙ ap (span_of line) (within less)
+  | inr more ↦ same span (span_of line part) (start ∙ (past_number line number part (omega (arith, past more)) (omega arith)).0) (width ∙ (past_number line number part (omega (arith, past more)) (omega arith)).1)
+]
+  where
+    same : (one other : Span) → one.start ≡ other.start → one.width ≡ other.width → one ≡ other
+    same one other start width = ap (λ (n : ℕ). record { start = n; width = one.width }) start ∙ ap (λ (n : ℕ). record { start = other.start; width = n }) width
 
 -- ---- lines as they are shown
 

@@ -2,10 +2,14 @@ pub mod Findings
 pub mod KeysTold
 pub mod LabelsTold
 pub mod Limits
+pub mod LinesTold
 pub mod Locating
 pub mod Misplaced
+pub mod Misspaced
 pub mod Near
 pub mod RegionsTold
 pub mod Saying
 pub mod Spans
+pub mod Spoken
 pub mod Told
+pub mod Warnings

@@ -1,4 +1,14 @@
 //! Why a line says no command, in one sentence, with a proposal where one is near.
+ghost use Rattle.std.specs.Prelude.{◌≡◌, ◌-◌, ◌^◌, ◌<◌, ◌≤◌, IfOk};
+ghost use Rattle.toml.specs.View.{items_view};
+ghost use Rattle.taskscript.specs.File.{item_names};
+ghost use Rattle.taskscript.specs.Lines.{fields};
+ghost use Rattle.taskscript.specs.Parsing.{cut_target};
+ghost use Rattle.execadvice.specs.Limits.{texts};
+ghost use Rattle.execadvice.specs.LinesTold.{line_told, part_of};
+ghost use Rattle.execadvice.specs.Saying.{place_of_word, target_of};
+ghost use Rattle.execadvice.specs.Told.{span_of};
+
 use crate::near::{nearest, proposal};
 use crate::show::{Advice, field_span};
 use crate::spacing::spacing_advice;
@@ -238,57 +248,87 @@ fn argument_reason(
     }
 }
 
-/// The number of the field that is the word: the first, or the third where a target and `=` stand before it.
-fn word_place(fields: &[&str]) -> usize {
+/// The number of the part that is the word: the first, or the third where a target and `=` stand before it.
+fn word_place(fields: &[&str]) -> usize
+    ensures { result ≡ place_of_word (cut_target (texts fields.now)).0 }
+{
     match fields {
         [_, equals, ..] if *equals == "=" => 2,
         _ => 0,
     }
 }
 
-/// The field at which a mistake is shown, and why it is one.
+/// The part in which a mistake is, by its number, as far as a number goes.
+fn part_of(fields: &[&str], mistake: Mistake) -> usize
+    ensures within { part_of (cut_target (texts fields.now)).0 mistake < 2 ^ 64 → result ≡ part_of (cut_target (texts fields.now)).0 mistake }
+    ensures past { 2 ^ 64 ≤ part_of (cut_target (texts fields.now)).0 mistake → result ≡ 2 ^ 64 - 1 }
+{
+    let at = word_place(fields);
+    match mistake {
+        Mistake::NoWord | Mistake::UnknownWord => at,
+        Mistake::NoAnswer | Mistake::Target => 0,
+        Mistake::Argument(number) => (at + 1).saturating_add(number),
+    }
+}
+
+/// Why a mistake is one.
+fn mistake_reason(
+    alloc: Global,
+    softints: &[Value],
+    fields: &[&str],
+    mistake: Mistake,
+) -> Result<String, AllocError> {
+    let at = word_place(fields);
+    let text = fields.get(at).copied().unwrap_or("");
+    match mistake {
+        Mistake::NoWord => format!(in alloc; "a word is wanted behind the ="),
+        Mistake::UnknownWord => word_reason(alloc, fields, at),
+        Mistake::NoAnswer => {
+            format!(in alloc; "{text} gives no answer, so no variable stands before it")
+        }
+        Mistake::Target => target_reason(alloc, fields.get(0).copied().unwrap_or("")),
+        Mistake::Argument(number) => {
+            let after = fields.get(at.saturating_add(1)..).unwrap_or(&[]);
+            match word_of(text) {
+                None => word_reason(alloc, fields, at),
+                Some(word) => argument_reason(alloc, softints, word, after, number),
+            }
+        }
+    }
+}
+
+/// The part in which a mistake is, and why it is one. `parts` are those of the line.
 fn mistake_advice(
     alloc: Global,
     softints: &[Value],
     line: &str,
-    fields: &[&str],
+    parts: &[&str],
     mistake: Mistake,
-) -> Result<Advice, AllocError> {
-    let at = word_place(fields);
-    let text = fields.get(at).copied().unwrap_or("");
-    let (place, reason) = match mistake {
-        Mistake::NoWord => (at, format!(in alloc; "a word is wanted behind the =")?),
-        Mistake::UnknownWord => (at, word_reason(alloc, fields, at)?),
-        Mistake::NoAnswer => (
-            0,
-            format!(in alloc; "{text} gives no answer, so no variable stands before it")?,
-        ),
-        Mistake::Target => (
-            0,
-            target_reason(alloc, fields.get(0).copied().unwrap_or(""))?,
-        ),
-        Mistake::Argument(number) => {
-            let place = at.saturating_add(1).saturating_add(number);
-            let after = fields.get(at.saturating_add(1)..).unwrap_or(&[]);
-            match word_of(text) {
-                None => (at, word_reason(alloc, fields, at)?),
-                Some(word) => (
-                    place,
-                    argument_reason(alloc, softints, word, after, number)?,
-                ),
-            }
-        }
-    };
+) -> Result<Advice, AllocError>
+    requires { texts parts.now ≡ fields line.now }
+    ensures { IfOk result (λ advice. advice.span ≡ span_of line.now (part_of (target_of line.now) mistake)) }
+{
+    let reason = mistake_reason(alloc, softints, parts, mistake)?;
     Ok(Advice {
-        span: field_span(line, place),
+        span: field_span(line, part_of(parts, mistake)),
         reason,
     })
 }
 
 /// The part of a line for which it says no command, and why. `softints` are the software interrupts of the file.
 ///
+/// A tab, a part that no line has or a space that separates nothing goes before the mistake in its words: a word that is wanted or is not
+/// known, a target, or an argument. In a line with no mistake it is the first part.
+///
+/// # Errors
+///
+/// Where memory is refused.
+///
 /// Source: own choice.
-pub fn line_advice(alloc: Global, softints: &[Value], line: &str) -> Result<Advice, AllocError> {
+#[tactic(auto, unfolding(crate::specs::LinesTold::line_told))]
+pub fn line_advice(alloc: Global, softints: &[Value], line: &str) -> Result<Advice, AllocError>
+    ensures { IfOk result (λ advice. advice.span ≡ line_told (item_names (items_view softints.now)) line.now) }
+{
     let fields = fields_of(alloc, line)?;
     let Some(mistake) = mistake_in(softints, &fields) else {
         return Advice::new(alloc, field_span(line, 0), "this line says no command");

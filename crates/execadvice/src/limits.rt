@@ -48,7 +48,9 @@ fn see<'a>(names: &mut Vec<&'a str>, name: &'a str, limit: usize) -> Result<bool
 }
 
 /// Whether `@` stands before the name of a variable.
-fn is_shared(field: &str) -> bool
+///
+/// Source: own choice.
+pub fn is_shared(field: &str) -> bool
     ensures { result ≡ is_shared field.now }
 {
     match field.as_bytes() {

@@ -106,8 +106,8 @@ fn push_value<'a>(
 }
 
 impl<'a> Said<'a> {
-    ghost use Rattle.std.specs.Prelude.{◌≡◌, ◌+◌, ◌^◌, ◌<◌, IfOk, if◌then◌else◌, is_some, map, option_map, slice_get};
-    ghost use Rattle.execadvice.specs.Saying.{is_label, is_value, value_view, values_in};
+    ghost use Rattle.std.specs.Prelude.{◌≡◌, ◌+◌, ◌++◌, ◌^◌, ◌<◌, IfOk, OnOk, if◌then◌else◌, is_some, map, option_map, slice_get};
+    ghost use Rattle.execadvice.specs.Saying.{is_label, is_value, place_of_first, value_view, values_from, values_in};
     ghost use Rattle.taskscript.specs.Words.{kinds};
 
     /// The kind of the argument of a number.
@@ -166,6 +166,18 @@ impl<'a> Said<'a> {
         if self.target.is_some() { 2 } else { 0 }
     }
 
+    /// Adds the arguments that may be variables, each with the number of its field.
+    #[tactic(auto, using(crate::proofs::ToldTurns::value_turn, crate::proofs::ToldTurns::no_more_values))]
+    fn push_arguments(&self, values: &mut Vec<(usize, &'a str)>) -> Result<(), AllocError>
+        ensures { OnOk result (map value_view values.new.items ≡ map value_view values.old.items
+            ++ values_from (place_of_first (option_map (λ it. it.now) self.now.target)) (kinds self.now.word) (map (λ it. it.now) self.now.arguments.items)) }
+    {
+        for (i, field) in self.arguments.iter().enumerate() {
+            push_value(values, self.place_of(i), *field, self.is_value(i))?;
+        }
+        Ok(())
+    }
+
     /// The parts that may be variables, in reading order, each with the number of its field: the target, and the arguments that may.
     ///
     /// # Errors
@@ -173,15 +185,28 @@ impl<'a> Said<'a> {
     /// Where memory is refused.
     ///
     /// Source: own choice.
-    #[tactic(auto, using(crate::proofs::ToldTurns::value_turn, crate::proofs::ToldTurns::no_more_values))]
     pub fn values(&self, alloc: Global) -> Result<Vec<(usize, &'a str)>, AllocError>
         ensures { IfOk result (λ values. map value_view values.items
             ≡ values_in self.now.word (option_map (λ it. it.now) self.now.target) (map (λ it. it.now) self.now.arguments.items)) }
     {
         let mut values = target_value(alloc, self.target)?;
-        for (i, field) in self.arguments.iter().enumerate() {
-            push_value(&mut values, self.place_of(i), *field, self.is_value(i))?;
-        }
+        self.push_arguments(&mut values)?;
+        Ok(values)
+    }
+
+    /// The arguments that may be variables, each with the number of its field: what the line reads.
+    ///
+    /// # Errors
+    ///
+    /// Where memory is refused.
+    ///
+    /// Source: own choice.
+    pub fn read_values(&self, alloc: Global) -> Result<Vec<(usize, &'a str)>, AllocError>
+        ensures { IfOk result (λ values. map value_view values.items
+            ≡ values_from (place_of_first (option_map (λ it. it.now) self.now.target)) (kinds self.now.word) (map (λ it. it.now) self.now.arguments.items)) }
+    {
+        let mut values = Vec::new(alloc);
+        self.push_arguments(&mut values)?;
         Ok(values)
     }
 }

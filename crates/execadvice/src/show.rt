@@ -37,7 +37,9 @@ impl Advice {
 }
 
 /// How many characters a text has.
-fn width_of(text: &str) -> usize
+///
+/// Source: own choice.
+pub fn width_of(text: &str) -> usize
     ensures value { result ≡ width_of text.now }
     ensures bound { result ≤ length text.now }
 {

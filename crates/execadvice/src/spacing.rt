@@ -1,64 +1,131 @@
 //! Mistakes of a line that are seen before its words: spaces, tabs, commas and comments.
+ghost use Rattle.std.specs.Prelude.{◌≡◌, ◌==◌, IfOk, is_some, nat_eq, option_map};
+ghost use Rattle.std.specs.List.{ends_with, position_from};
+ghost use Rattle.std.specs.Option.{option_or};
+ghost use Rattle.std.specs.Str.{chars};
+ghost use Rattle.execadvice.specs.Limits.{texts};
+ghost use Rattle.execadvice.specs.Misspaced.{foreign_in, is_comment, is_foreign, is_nothing, misspaced, space_in};
+
 use crate::show::{Advice, Span, field_span};
+use execcheck::fields_of;
 use std::alloc::{AllocError, Global};
 
-/// The place of the first character of which a test holds.
-fn first_of(line: &str, wanted: char) -> Option<usize> {
-    let mut place = 0usize;
-    for c in line.chars() {
-        if c == wanted {
-            return Some(place);
-        }
-        place = place.saturating_add(1);
-    }
-    None
+/// The place of the first such character of a line.
+fn first_of(line: &str, wanted: char) -> Option<usize>
+    ensures { result ≡ position_from (λ c. c == wanted) 0 (chars line.now) }
+{
+    line.chars().position(|c| c == wanted)
 }
 
-/// What a field is as a comment or as one with a comma, if it is such.
-fn reason_of(field: &str) -> Option<&'static str> {
-    if field.starts_with("#") || field.starts_with(";") || field.starts_with("//") {
+/// Whether a part begins as a comment does.
+fn is_comment(part: &str) -> bool
+    ensures { result ≡ is_comment part.now }
+{
+    part.starts_with("#") || part.starts_with(";") || part.starts_with("//")
+}
+
+/// Whether a part has that text at its end.
+fn has_at_end(part: &str, text: &str) -> bool
+    ensures { result ≡ ends_with nat_eq part.now text.now }
+{
+    part.ends_with(text)
+}
+
+/// What a part is that no line has, if it is one: a comment, or one with a comma or a semicolon at its end.
+fn reason_of(part: &str) -> Option<&'static str>
+    ensures { is_some result ≡ is_foreign part.now }
+{
+    if is_comment(part) {
         Some("a line of code has no comment; a comment of the file stands behind the string")
-    } else if field.ends_with(",") {
+    } else if has_at_end(part, ",") {
         Some("no comma stands between the parts of a line, but one space")
-    } else if field.ends_with(";") {
+    } else if has_at_end(part, ";") {
         Some("no semicolon stands at the end of a line")
     } else {
         None
     }
 }
 
-/// What is wrong with the spaces of a line, or with a part that no line has.
-///
-/// Source: own choice.
-pub fn spacing_advice(alloc: Global, line: &str) -> Result<Option<Advice>, AllocError> {
-    let whole = Span { start: 0, width: 1 };
+/// The first part that no line has, by its number, and what it is.
+#[tactic(auto, using(crate::proofs::SpacingTurns::foreign_turn))]
+fn first_foreign(parts: &[&str]) -> Option<(usize, &'static str)>
+    ensures { option_map (λ it. it.0) result ≡ position_from is_foreign 0 (texts parts.now) }
+{
+    for (i, part) in parts.iter().enumerate() {
+        if let Some(reason) = reason_of(*part) {
+            return Some((i, reason));
+        }
+    }
+    None
+}
+
+/// Whether a part has nothing in it.
+fn is_nothing(part: &str) -> bool
+    ensures { result ≡ is_nothing part.now }
+{
+    part.is_empty()
+}
+
+/// The number of the first part with nothing in it.
+#[tactic(auto, using(crate::proofs::SpacingTurns::nothing_turn))]
+fn first_nothing(parts: &[&str]) -> Option<usize>
+    ensures { result ≡ position_from is_nothing 0 (texts parts.now) }
+{
+    for (i, part) in parts.iter().enumerate() {
+        if is_nothing(*part) {
+            return Some(i);
+        }
+    }
+    None
+}
+
+/// Why no space may stand there.
+fn space_reason(line: &str, start: usize) -> &'static str {
     if line.is_empty() {
-        let reason = "an empty line says nothing: leave it out";
-        return Ok(Some(Advice::new(alloc, whole, reason)?));
-    }
-    if let Some(start) = first_of(line, '\t') {
-        let reason = "a tab stands here; one space separates the parts of a line";
-        return Ok(Some(Advice::new(alloc, Span { start, width: 1 }, reason)?));
-    }
-    let mut empty_before = None;
-    for (i, field) in line.split(' ').enumerate() {
-        if let Some(reason) = reason_of(field) {
-            return Ok(Some(Advice::new(alloc, field_span(line, i), reason)?));
-        }
-        if field.is_empty() && empty_before.is_none() {
-            empty_before = Some(field_span(line, i).start);
-        }
-    }
-    let Some(start) = empty_before else {
-        return Ok(None);
-    };
-    let span = Span { start, width: 1 };
-    let reason = if start == 0 {
+        "an empty line says nothing: leave it out"
+    } else if start == 0 {
         "a space stands at the beginning; there is none"
     } else if start >= line.chars().count() {
         "a space stands at the end; there is none"
     } else {
         "two spaces stand in a row; one space separates the parts of a line"
+    }
+}
+
+/// What is wrong with the parts of a line: the first that no line has, or else a space that separates nothing.
+fn parts_advice(alloc: Global, line: &str) -> Result<Option<Advice>, AllocError>
+    ensures { IfOk result (λ advice. option_map (λ it. it.span) advice ≡ option_or (foreign_in line.now) (space_in line.now)) }
+{
+    let parts = fields_of(alloc, line)?;
+    if let Some((part, reason)) = first_foreign(&parts) {
+        return Ok(Some(Advice::new(alloc, field_span(line, part), reason)?));
+    }
+    let Some(part) = first_nothing(&parts) else {
+        return Ok(None);
     };
-    Ok(Some(Advice::new(alloc, span, reason)?))
+    let start = field_span(line, part).start;
+    let reason = space_reason(line, start);
+    Ok(Some(Advice::new(alloc, Span { start, width: 1 }, reason)?))
+}
+
+/// What is wrong with a line before its words are looked at, and where: the first tab; or else the first part that begins as a comment
+/// (`#`, `;` or `//`) or has a comma or a semicolon at its end; or else the first space that separates nothing, as one does at the
+/// beginning, at the end, behind another, or where the line is empty. None where there is none of these.
+///
+/// # Errors
+///
+/// Where memory is refused.
+///
+/// Source: own choice.
+#[tactic(auto, unfolding(crate::specs::Misspaced::misspaced))]
+pub fn spacing_advice(alloc: Global, line: &str) -> Result<Option<Advice>, AllocError>
+    ensures { IfOk result (λ advice. option_map (λ it. it.span) advice ≡ misspaced line.now) }
+{
+    match first_of(line, '\t') {
+        Some(start) => {
+            let reason = "a tab stands here; one space separates the parts of a line";
+            Ok(Some(Advice::new(alloc, Span { start, width: 1 }, reason)?))
+        }
+        None => parts_advice(alloc, line),
+    }
 }

@@ -2,7 +2,7 @@ use Rattle.std.proofs.Common.{◌+◌, [], arith, map, option_map}
 use Rattle.taskscript.specs.Words.{kinds}
 use Rattle.execadvice.specs.Saying.{place_of_first, value_view}
 use Rattle.execadvice.proofs.ToldTurns.{values_end, values_more}
-use Rattle.execadvice.proofs.said.Said.values.Goals as goal
+use Rattle.execadvice.proofs.said.Said.push_arguments.Goals as goal
 
 pub loop-i-preserved : goal.loop-i-preserved
 loop-i-preserved c =
