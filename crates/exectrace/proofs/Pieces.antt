@@ -59,13 +59,13 @@ stopped_not_good state stopped good = elim stopped [ inl failed ↦ cc | inr emp
 -- Where a text breaks off.
 
 -- all of a first text was taken, and a second one broke off
-Breaks-then : (a b c : Tape) (xs ys : List ℕ) → TakesAll a b xs → Breaks b c ys → Breaks a c (xs ++ ys)
-Breaks-then a b c xs ys all broke = record {
+Breaks-then : (a b c : Tape) (xs ys : List ℕ) → Appends a.taken b.taken xs → Breaks b c ys → Breaks a c (xs ++ ys)
+Breaks-then a b c xs ys first broke = record {
   written = xs ++ broke.written;
   missing = broke.missing;
   parts = ap (λ zs. xs ++ zs) broke.parts ∙ sym (append_assoc xs broke.written broke.missing);
   short = broke.short;
-  took = Appends-then a.taken b.taken c.taken xs broke.written all.took broke.took;
+  took = Appends-then a.taken b.taken c.taken xs broke.written first broke.took;
   stopped = broke.stopped;
 }
 
@@ -117,7 +117,7 @@ Puts-trans a b c xs ys p q = record {
   while_good = λ good. elim (p.while_good good) [
     | inl all ↦ elim (q.while_good all.good) [
       | inl more ↦ inl (record { took = Appends-then a.taken b.taken c.taken xs ys all.took more.took; good = more.good })
-      | inr broke ↦ inr (Breaks-then a b c xs ys all broke)
+      | inr broke ↦ inr (Breaks-then a b c xs ys all.took broke)
     ]
     | inr broke ↦
         let same : c ≡ b = q.afterwards (stopped_not_good b.state broke.stopped) in
@@ -127,6 +127,18 @@ Puts-trans a b c xs ys p q = record {
       let still : b.state ≢ Good = (λ e. bad (ap (λ (t : Tape). t.state) (sym first) ∙ e)) in
       q.afterwards still ∙ first;
 }
+
+-- the first n bytes were taken, and the rest after them, or a part of it
+pub puts_rest : {T E : Type 0} (a b c : Tape) (n : ℕ) (xs : List ℕ) (result : Result T E) → a.state ≡ Good → Appends a.taken b.taken (take n xs)
+    → Writes b c (take (length xs - n) (drop n xs)) result → Puts a c xs
+puts_rest a b c n xs (Ok value) good first all =
+    let more : Appends b.taken c.taken (drop n xs) = rw take_rest at all.took in
+    let took : Appends a.taken c.taken xs = subst (λ zs. Appends a.taken c.taken zs) (take-append-drop n xs) (Appends-then a.taken b.taken c.taken _ _ first more) in
+    record { while_good = λ _. inl (record { took = took; good = all.good }); afterwards = λ bad. absurd (bad good) }
+puts_rest a b c n xs (Err fault) good first broke =
+    let more : Breaks b c (drop n xs) = rw take_rest at broke in
+    let whole : Breaks a c xs = subst (λ zs. Breaks a c zs) (take-append-drop n xs) (Breaks-then a b c _ _ first more) in
+    record { while_good = λ _. inr whole; afterwards = λ bad. absurd (bad good) }
 
 -- one after another, where the bytes are another spelling of the two texts
 pub puts_then : {a b c : Tape} {xs ys : List ℕ} (bytes : List ℕ) → Puts a b xs → Puts b c ys → bytes ≡ xs ++ ys → Puts a c bytes

@@ -123,9 +123,12 @@ impl<W: Write> Sink for WriteSink<W> {
     }
 }
 
-/// Writes all the bytes to a good sink, in as many writes as it needs.
-fn write_all<W: Sink>(out: &mut W, bytes: &[u8]) -> Result<(), WriteFault>
-    requires { (W.tape out.old).state ≡ SinkState.Good }
+/// Writes these bytes, at least one, in as many writes as it needs, to a sink whose last 16 writes did not all take none.
+#[cold]
+#[inline(never)]
+fn write_rest<W: Sink>(bytes: &[u8], out: &mut W) -> Result<(), WriteFault>
+    requires given { 0 < length bytes.now }
+    requires few_empty { empties (W.tape out.old).state < 16 }
     ensures { Writes (W.tape out.old) (W.tape out.new) bytes.now result }
 {
     let mut done = 0;
@@ -141,15 +144,22 @@ fn write_all<W: Sink>(out: &mut W, bytes: &[u8]) -> Result<(), WriteFault>
     Ok(())
 }
 
-/// Writes all the bytes to a good sink, and nothing to one that is not good.
+/// Writes all the bytes to a good sink, and nothing to one that is not good. Mostly the first write takes them all.
 ///
 /// Source: own choice.
 #[inline(never)]
 pub fn put<W: Sink>(bytes: &[u8], out: &mut W)
     ensures { Puts (W.tape out.old) (W.tape out.new) bytes.now }
 {
+    if bytes.is_empty() {
+        return;
+    }
     if let SinkState::Good = out.state() {
-        let _ = write_all(out, bytes);
+        if let Ok(count) = out.write(bytes) {
+            if count < bytes.len() {
+                let _ = write_rest(&bytes[count..], out);
+            }
+        }
     }
 }
 

@@ -2,7 +2,7 @@ use Rattle.std.proofs.Common.{length, take, ◌-◌, ◌≡◌, ◌<◌, ◌≤�
 use Rattle.std.specs.Io.KnownBytes.{Appends}
 use Rattle.exectrace.specs.Sink.{empties}
 use Rattle.exectrace.specs.declared.sinks.SinkState.TheVariants.{Good}
-use Rattle.exectrace.proofs.sinks.write_all.Given as goal
+use Rattle.exectrace.proofs.sinks.write_rest.Given as goal
 
 -- the bytes so far were taken, and the sink is open, and good at the end
 abbrev pub invariant-loop-done : goal.invariant-loop-done

@@ -1,7 +1,7 @@
 use Rattle.exectrace.proofs.Pieces.{Appends-rest, rest_fits, good_at_end, Breaks-exhausted}
 use Rattle.std.proofs.Common.{◌≡◌, ◌<◌, ◌≤◌, refl, false, true, arith}
 use Rattle.exectrace.specs.Sink.{empties}
-use Rattle.exectrace.proofs.sinks.write_all.Goals as goal
+use Rattle.exectrace.proofs.sinks.write_rest.Goals as goal
 
 pub returns-then-is_exhausted : goal.returns-then-is_exhausted
 returns-then-is_exhausted g c =

@@ -1,0 +1,8 @@
+use Rattle.std.proofs.Common.{sym, ◌∙◌}
+use Rattle.exectrace.proofs.Pieces.{puts_rest}
+use Rattle.exectrace.proofs.sinks.put.Goals as goal
+
+pub returns-then-count-bytes : goal.returns-then-count-bytes
+returns-then-count-bytes g c =
+    let taken = c.in-Ok.ensures in
+    puts_rest _ (g.W.Sink.tape c.write.new.self) _ _ _ _ (sym c.state.ensures ∙ c.in-Good.is) taken.1 c.write_rest.ensures
