@@ -9,7 +9,7 @@ use Rattle.execmodel.specs.Lists.{find_alert, free_list_alert, free_node_alert, 
 use Rattle.execmodel.specs.Lists.{is_linked, is_list_at, is_node_at, is_pred_at, is_pred_in, nodes_of, pred_alert, predecessor}
 use Rattle.execmodel.specs.Lists.{searched, sequence_with, stands_in}
 use Rattle.execlist.specs.Pool.{slot}
-use Rattle.execheap.specs.declared.kind.Kind.TheVariants as variant
+use Rattle.execheap.specs.declared.tag.Kind.TheVariants as variant
 use Rattle.execheap.specs.Numbered.{Numbered, IsSound, IsSpace, address_in, shown_heap, places}
 use Rattle.execheap.specs.Table.{number_at}
 use Rattle.execheap.specs.Refusals.{is_none_or_in}

@@ -15,8 +15,8 @@ use Rattle.execmodel.specs.GivingWay.{after_asking_for_object, gives_way_at}
 use Rattle.execmodel.specs.Memory.{place_for, placed}
 use Rattle.execmodel.specs.State.{Plain}
 use Rattle.execmodel.specs.Objects.{is_allowed, place_for_object}
-use Rattle.execheap.specs.declared.kind.Kind.{Kind}
-use Rattle.execheap.specs.declared.kind.Kind.TheVariants as variant
+use Rattle.execheap.specs.declared.tag.Kind.{Kind}
+use Rattle.execheap.specs.declared.tag.Kind.TheVariants as variant
 use Rattle.execheap.specs.Tags.{size_of}
 use Rattle.execheap.specs.Table.{Tabled, IsSound, after_asking, library_removed, next_object, pool_of, ready_for, ready_for_number, with_lent, with_object}
 use Rattle.execheap.specs.Numbered.{Numbered, Fits, IsKept, own_shape, shown_library, shown_memory, test_of}

@@ -9,7 +9,7 @@ use Rattle.execlist.specs.Pool.{IsStocked, Pooled, given, next_number}
 use Rattle.execlib.specs.Libraries as library
 use Rattle.execlib.specs.Libraries.{Lent, Libraries, LieIn, asked_one, base_of, expunged, fits, gives_way, is_loaded, leaves_by_removal, lent, marked, memory_without, opened_base}
 use Rattle.execlib.proofs.Asking.{asking_keeps, ready_keeps, ways}
-use Rattle.execheap.specs.declared.kind.Kind.{Kind}
+use Rattle.execheap.specs.declared.tag.Kind.{Kind}
 use Rattle.execheap.specs.Tags.{kind_code, size_of, tag_of}
 use Rattle.execheap.specs.Table.{Tabled, IsSound, after_asking, library_opened, next_object, object_at_next, pool_of, ready_for, ready_for_number, with_lent, with_object}
 use Rattle.execheap.proofs.Keeping.{kept_made, pool_is}

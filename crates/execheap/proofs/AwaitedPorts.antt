@@ -9,7 +9,7 @@ use Rattle.iorequest.specs.Request.{idle_request, is_under_way}
 use Rattle.iorequest.specs.Requests.{is_under_way_at}
 use Rattle.execmodel.specs.Ports.{is_awaited_at, replies_to}
 use Rattle.execmodel.specs.State.{Block}
-use Rattle.execheap.specs.declared.kind.Kind.TheVariants as variant
+use Rattle.execheap.specs.declared.tag.Kind.TheVariants as variant
 use Rattle.execheap.specs.declared.tag.Tagged.{Tagged}
 use Rattle.execheap.specs.declared.tag.Tagged.TheVariants as tag
 use Rattle.execheap.specs.Tags.{tag_of, tagged}

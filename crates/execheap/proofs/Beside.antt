@@ -7,8 +7,8 @@ use Rattle.execlist.specs.Pool.{slot}
 use Rattle.msgport.specs.Ports.{messages_of, port_at}
 use Rattle.timerdev.specs.Timing.{Waiting, is_waiting}
 use Rattle.execmodel.specs.State.{ListHead, MsgPort}
-use Rattle.execheap.specs.declared.kind.Kind.{Kind}
-use Rattle.execheap.specs.declared.kind.Kind.TheVariants as variant
+use Rattle.execheap.specs.declared.tag.Kind.{Kind}
+use Rattle.execheap.specs.declared.tag.Kind.TheVariants as variant
 use Rattle.execheap.specs.Table.{Tabled, slots_of}
 use Rattle.execheap.specs.Numbered.{Numbered, address_in, object_of, places, shown_public, shown_timer, shown_waiting}
 use Rattle.execheap.proofs.Mapped.{map_agree, members, stands_by_times}

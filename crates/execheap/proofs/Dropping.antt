@@ -16,8 +16,8 @@ use Rattle.memlist.specs.Memory.{IsWellFormed}
 use Rattle.execmodel.specs.State.{Object, Semaphore, Block, on_heap}
 use Rattle.execmodel.specs.Semaphores as model
 use Rattle.execmodel.specs.Semaphores.{left_by_task}
-use Rattle.execheap.specs.declared.kind.Kind.{Kind}
-use Rattle.execheap.specs.declared.kind.Kind.TheVariants as variant
+use Rattle.execheap.specs.declared.tag.Kind.{Kind}
+use Rattle.execheap.specs.declared.tag.Kind.TheVariants as variant
 use Rattle.execheap.specs.declared.tag.Tagged.{Tagged}
 use Rattle.execheap.specs.declared.tag.Tagged.TheVariants as tag
 use Rattle.execheap.specs.Tags.{tagged}

@@ -13,8 +13,8 @@ use Rattle.sigsem.specs.declared.semaphore.Sem.{Sem}
 use Rattle.msgport.specs.Ports.{MessagePorts, is_held, no_ports}
 use Rattle.msgport.specs.Port.{Port}
 use Rattle.timerdev.specs.Timing.{new_timer}
-use Rattle.execheap.specs.declared.kind.Kind.{Kind}
-use Rattle.execheap.specs.declared.kind.Kind.TheVariants as variant
+use Rattle.execheap.specs.declared.tag.Kind.{Kind}
+use Rattle.execheap.specs.declared.tag.Kind.TheVariants as variant
 use Rattle.execheap.specs.Table as table
 use Rattle.execheap.specs.Table.{pool_of}
 use Rattle.execheap.specs.Numbered.{Fits, IsInTime, IsKept, is_way_at, own_shape, shape, shown_heap, shown_library, shown_memory, shown_public}

@@ -5,7 +5,7 @@ use Rattle.execlist.specs.Pool.{Pooled, given, given_at, next_number, released, 
 use Rattle.execlist.proofs.Pools.{item_of, slot_known}
 use Rattle.msgport.specs.declared.message.Message.{Message}
 use Rattle.msgport.specs.Ports.{is_message}
-use Rattle.execheap.specs.declared.kind.Kind.TheVariants as variant
+use Rattle.execheap.specs.declared.tag.Kind.TheVariants as variant
 use Rattle.execheap.specs.Table as table
 use Rattle.execheap.specs.Table.{pool_of, slots_of}
 use Rattle.execheap.specs.Numbered.{Numbered, IsKept, Shape, shape, places}

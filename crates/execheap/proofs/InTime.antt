@@ -11,7 +11,7 @@ use Rattle.msgport.specs.declared.message.Message.{Message}
 use Rattle.msgport.specs.Ports.{MessagePorts, is_message}
 use Rattle.timerdev.specs.Held.{Held}
 use Rattle.timerdev.specs.Timing.{is_waiting}
-use Rattle.execheap.specs.declared.kind.Kind.TheVariants as variant
+use Rattle.execheap.specs.declared.tag.Kind.TheVariants as variant
 use Rattle.execheap.specs.Table.{slots_of}
 use Rattle.execheap.specs.Numbered.{Numbered, IsInTime, is_way_at, message_of_request, places}
 

@@ -4,7 +4,7 @@ use Rattle.std.specs.Prelude.{Some, slice_index_or, slice_set}
 use Rattle.memlist.specs.Fit.{fit}
 use Rattle.memlist.specs.Memory.{IsWellFormed, Memory, allocated, without_block}
 use Rattle.execlist.specs.Pool.{IsStocked, Pooled, all_free, given, next_number, released, slot}
-use Rattle.execheap.specs.declared.kind.Kind.{Kind}
+use Rattle.execheap.specs.declared.tag.Kind.{Kind}
 use Rattle.execheap.specs.Tags.{kind_code, size_of, tag_of}
 use Rattle.execheap.specs.Table.{Tabled, IsSound, pool_of, slots_of}
 use Rattle.execheap.proofs.Matching.{sound_freed, sound_made}

@@ -11,8 +11,8 @@ use Rattle.msgport.specs.declared.message.Message.{Message}
 use Rattle.execlist.specs.Answers.{fault_or, kept_or}
 use Rattle.msgport.specs.Port.{Port, new_port}
 use Rattle.msgport.specs.Ports.{MessagePorts, is_message, is_port, taken_off, with_message, with_port}
-use Rattle.execheap.specs.declared.kind.Kind.{Kind}
-use Rattle.execheap.specs.declared.kind.Kind.TheVariants as variant
+use Rattle.execheap.specs.declared.tag.Kind.{Kind}
+use Rattle.execheap.specs.declared.tag.Kind.TheVariants as variant
 use Rattle.execheap.specs.Table.{pool_of}
 use Rattle.execheap.specs.Numbered.{Numbered, Fits, IsKept, message_of_request, own_shape, shape}
 use Rattle.execheap.proofs.Front.{front_step}

@@ -16,8 +16,8 @@ use Rattle.msgport.specs.Ports as ports
 use Rattle.msgport.specs.Ports.{MessagePorts, is_held, is_message, is_port, is_queued as is_in_port, let_go, loose_fault, nt_replymsg, posted, queued_fault, taken_out}
 use Rattle.timerdev.specs.Held.{Held, on_timer}
 use Rattle.timerdev.specs.Timing.{Due, begins_to_wait, is_waiting, waits_no_more}
-use Rattle.execheap.specs.declared.kind.Kind.{Kind}
-use Rattle.execheap.specs.declared.kind.Kind.TheVariants as variant
+use Rattle.execheap.specs.declared.tag.Kind.{Kind}
+use Rattle.execheap.specs.declared.tag.Kind.TheVariants as variant
 use Rattle.execheap.specs.Table.{number_at, pool_of}
 use Rattle.execheap.specs.Numbered.{Numbered, Fits, IsInTime, IsKept, IsSound, is_way_at, message_of_request, own_shape, places, shape}
 use Rattle.execheap.proofs.Front.{front_step}

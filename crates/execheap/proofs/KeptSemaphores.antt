@@ -7,8 +7,8 @@ use Rattle.sigsem.specs.declared.fault.SemFault.{SemFault}
 use Rattle.sigsem.specs.declared.semaphore.Sem.{Sem}
 use Rattle.execlist.specs.Answers.{fault_or, kept_or}
 use Rattle.sigsem.specs.Semaphores.{Semaphores, attempted, dropped, dropped_from, entered, free_sem, handed_on, is_last, is_open, is_sem, let_go, obtained, once_less, once_more, owned_by, queued, sem_at, waiters_of, waits_at, with_sem}
-use Rattle.execheap.specs.declared.kind.Kind.{Kind}
-use Rattle.execheap.specs.declared.kind.Kind.TheVariants as variant
+use Rattle.execheap.specs.declared.tag.Kind.{Kind}
+use Rattle.execheap.specs.declared.tag.Kind.TheVariants as variant
 use Rattle.execheap.specs.Table.{pool_of}
 use Rattle.execheap.specs.Numbered.{Numbered, Fits, IsKept, own_shape, shape}
 use Rattle.execheap.proofs.InTime.{in_time_beside}

@@ -17,8 +17,8 @@ use Rattle.execmodel.specs.Memory.{freed, placed}
 use Rattle.execmodel.specs.Objects.{is_kind, object_at, replaced}
 use Rattle.execmodel.specs.Libraries as model
 use Rattle.execmodel.specs.Libraries.{is_library, is_library_at, is_numbered, with_library}
-use Rattle.execheap.specs.declared.kind.Kind.{Kind}
-use Rattle.execheap.specs.declared.kind.Kind.TheVariants as variant
+use Rattle.execheap.specs.declared.tag.Kind.{Kind}
+use Rattle.execheap.specs.declared.tag.Kind.TheVariants as variant
 use Rattle.execheap.specs.declared.tag.Tagged.{Tagged}
 use Rattle.execheap.specs.declared.tag.Tagged.TheVariants as tag
 use Rattle.execheap.specs.Tags.{library_in, tagged}

@@ -12,7 +12,7 @@ use Rattle.execlist.proofs.Pools.{slot_known, slot_other, slot_same}
 use Rattle.execheap.proofs.Counting.{tally}
 use Rattle.execheap.proofs.Entries.{some_same}
 use Rattle.execheap.proofs.Matching.{counts}
-use Rattle.execheap.specs.declared.kind.Kind.{Kind}
+use Rattle.execheap.specs.declared.tag.Kind.{Kind}
 use Rattle.execheap.specs.declared.tag.Tagged.TheVariants.{Library}
 use Rattle.execheap.specs.Tags.{is_of, libraries, object_tagged, tagged}
 use Rattle.execheap.specs.Table.{base_at}

@@ -8,7 +8,7 @@ use Rattle.msgport.proofs.Linking.{without_absent}
 use Rattle.msgport.specs.declared.fault.PortFault.TheVariants.{Link, Unknown}
 use Rattle.msgport.specs.declared.message.Message.{Message}
 use Rattle.msgport.specs.Ports.{MessagePorts, is_held, is_message, is_port, let_go, loose_fault, nt_replymsg, post_fault, posted, reply_fault}
-use Rattle.execheap.specs.declared.kind.Kind.TheVariants as variant
+use Rattle.execheap.specs.declared.tag.Kind.TheVariants as variant
 use Rattle.execheap.specs.Table as table
 use Rattle.execheap.specs.Changes.{on_ports}
 use Rattle.execheap.specs.Numbered.{Numbered, IsInTime, IsKept, places}

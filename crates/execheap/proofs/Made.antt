@@ -5,7 +5,7 @@ use Rattle.std.specs.Option.{option_map}
 use Rattle.memlist.specs.Fit.{fit}
 use Rattle.execlist.specs.Pool.{next_number}
 use Rattle.execheap.proofs.Entries.{some_same}
-use Rattle.execheap.specs.declared.kind.Kind.{Kind}
+use Rattle.execheap.specs.declared.tag.Kind.{Kind}
 use Rattle.execheap.specs.Tags.{size_of}
 use Rattle.execheap.specs.Table.{object_at_next, pool_of}
 use Rattle.execheap.specs.Numbered.{Numbered, IsKept}

@@ -18,7 +18,7 @@ use Rattle.execlib.specs.Libraries.{library_tag}
 use Rattle.execlist.specs.Pool.{IsStocked, Pooled, all_free, given, next_number, released, slot, taken}
 use Rattle.execlist.proofs.Pools.{given_slots, slot_known, slot_other, slot_same, taken_given, taken_released}
 use Rattle.execheap.proofs.Entries.{all_then, at_found, some_same}
-use Rattle.execheap.specs.declared.kind.Kind.{Kind}
+use Rattle.execheap.specs.declared.tag.Kind.{Kind}
 use Rattle.execheap.specs.declared.tag.Tagged.{Tagged}
 use Rattle.execheap.specs.declared.tag.Tagged.TheVariants.{Plain, Object, Library}
 use Rattle.execheap.specs.Tags.{is_of, is_plain, is_same, kind_code, number_in, size_of, tag_of, tagged}

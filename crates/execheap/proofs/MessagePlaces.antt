@@ -13,8 +13,8 @@ use Rattle.execlist.specs.Pool.{IsStocked, next_number, slot}
 use Rattle.execlist.proofs.Pools.{slot_known}
 use Rattle.msgport.specs.Ports as ports
 use Rattle.msgport.specs.Ports.{is_message, messages_of}
-use Rattle.execheap.specs.declared.kind.Kind.{Kind}
-use Rattle.execheap.specs.declared.kind.Kind.TheVariants as variant
+use Rattle.execheap.specs.declared.tag.Kind.{Kind}
+use Rattle.execheap.specs.declared.tag.Kind.TheVariants as variant
 use Rattle.execheap.specs.Tags.{size_of}
 use Rattle.execheap.specs.Table.{Tabled, IsSound, pool_of, slots_of, with_object, without_object}
 use Rattle.execheap.specs.Numbered as numbered

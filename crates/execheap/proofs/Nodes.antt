@@ -9,8 +9,8 @@ use Rattle.execlist.specs.Pool.{IsStocked, next_number, slot}
 use Rattle.execmodel.specs.State.{ListHead, MsgPort, Node}
 use Rattle.msgport.specs.Ports.{messages_of, port_at}
 use Rattle.execmodel.specs.Memory.{freed, placed}
-use Rattle.execheap.specs.declared.kind.Kind.{Kind}
-use Rattle.execheap.specs.declared.kind.Kind.TheVariants as variant
+use Rattle.execheap.specs.declared.tag.Kind.{Kind}
+use Rattle.execheap.specs.declared.tag.Kind.TheVariants as variant
 use Rattle.execheap.specs.Tags.{kind_code, size_of}
 use Rattle.execheap.specs.Table.{Tabled, IsSound, object_at_next, pool_of, slots_of, with_object, without_object}
 use Rattle.execheap.specs.Numbered.{Numbered, IsKept, address_in, object_of, own_shape, places, shown_memory, shape}

@@ -7,8 +7,8 @@ use Rattle.sigsem.specs.Semaphores as sems
 use Rattle.sigsem.specs.Semaphores.{Semaphores, free_sem, owned_by, sem_at, waiters_of, with_sem}
 use Rattle.execmodel.specs.State.{Semaphore, Heap, on_heap}
 use Rattle.execmodel.specs.Semaphores as model
-use Rattle.execheap.specs.declared.kind.Kind.{Kind}
-use Rattle.execheap.specs.declared.kind.Kind.TheVariants as variant
+use Rattle.execheap.specs.declared.tag.Kind.{Kind}
+use Rattle.execheap.specs.declared.tag.Kind.TheVariants as variant
 use Rattle.execheap.specs.Tags.{is_same}
 use Rattle.execheap.specs.Numbered.{Numbered, object_of, places, shown_heap, shown_library, shown_memory, shown_public, shown_timer}
 use Rattle.execheap.specs.Table.{number_at}

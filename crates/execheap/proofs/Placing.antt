@@ -7,7 +7,7 @@ use Rattle.memlist.specs.Memory.{IsWellFormed, allocated, without_block}
 use Rattle.memlist.proofs.Keeping.{rising_sorted}
 use Rattle.execlib.specs.Libraries.{Libraries, library_tag}
 use Rattle.execlist.specs.Pool.{slot}
-use Rattle.execheap.specs.declared.kind.Kind.{Kind}
+use Rattle.execheap.specs.declared.tag.Kind.{Kind}
 use Rattle.execheap.specs.declared.tag.Tagged.{Tagged}
 use Rattle.execheap.specs.declared.tag.Tagged.TheVariants.{Plain, Object, Library}
 use Rattle.execheap.specs.Tags.{is_plain, tag_of, tagged}

@@ -14,8 +14,8 @@ use Rattle.execmodel.specs.State as state
 use Rattle.execmodel.specs.Memory as model
 use Rattle.execmodel.specs.Memory.{freed, is_named, placed}
 use Rattle.execheap.proofs.Entries.{at_found, put_shown, some_same, where_key_shown}
-use Rattle.execheap.specs.declared.kind.Kind.{Kind}
-use Rattle.execheap.specs.declared.kind.Kind.TheVariants as variant
+use Rattle.execheap.specs.declared.tag.Kind.{Kind}
+use Rattle.execheap.specs.declared.tag.Kind.TheVariants as variant
 use Rattle.execheap.specs.declared.tag.Tagged.{Tagged}
 use Rattle.execheap.specs.declared.tag.Tagged.TheVariants.{Plain, Object, Library}
 use Rattle.execheap.specs.Tags.{is_of, is_plain, tagged}

@@ -9,7 +9,7 @@ use Rattle.msgport.specs.Port.{wait_bit}
 use Rattle.msgport.specs.Ports as ports
 use Rattle.msgport.specs.Ports.{is_linked, is_queued, message_at, port_at}
 use Rattle.execlist.specs.Pool.{slot}
-use Rattle.execheap.specs.declared.kind.Kind.TheVariants as variant
+use Rattle.execheap.specs.declared.tag.Kind.TheVariants as variant
 use Rattle.execheap.specs.Numbered.{Numbered, IsSound, shown_heap, places}
 use Rattle.execheap.specs.Table.{number_at}
 use Rattle.execheap.proofs.Alerts.{handle_unless, is_there, link_if, refused_first}

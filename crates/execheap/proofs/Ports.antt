@@ -15,8 +15,8 @@ use Rattle.msgport.specs.Ports as ports
 use Rattle.msgport.specs.Ports.{MessagePorts, messages_of, port_at, port_freed, port_made}
 use Rattle.execmodel.specs.State.{ListHead, Message, MsgPort}
 use Rattle.execmodel.specs.Memory.{freed, placed}
-use Rattle.execheap.specs.declared.kind.Kind.{Kind}
-use Rattle.execheap.specs.declared.kind.Kind.TheVariants as variant
+use Rattle.execheap.specs.declared.tag.Kind.{Kind}
+use Rattle.execheap.specs.declared.tag.Kind.TheVariants as variant
 use Rattle.execheap.specs.Tags.{kind_code, size_of}
 use Rattle.execheap.specs.Table.{Tabled, IsSound, object_at_next, pool_of, slots_of, with_object, without_object}
 use Rattle.execheap.specs.Numbered.{Numbered, IsKept, address_in, object_of, own_shape, message_places, places, shape, shown_memory, shown_public, message_of_request}

@@ -16,8 +16,8 @@ use Rattle.msgport.specs.Ports.{MessagePorts, message_at, messages_of, new_messa
 use Rattle.execmodel.specs.State.{Object, MsgPort, Message, Block, Heap, on_heap}
 use Rattle.execmodel.specs.Objects.{replaced}
 use Rattle.execmodel.specs.Ports as model
-use Rattle.execheap.specs.declared.kind.Kind.{Kind}
-use Rattle.execheap.specs.declared.kind.Kind.TheVariants as variant
+use Rattle.execheap.specs.declared.tag.Kind.{Kind}
+use Rattle.execheap.specs.declared.tag.Kind.TheVariants as variant
 use Rattle.execheap.specs.declared.tag.Tagged.{Tagged}
 use Rattle.execheap.specs.declared.tag.Tagged.TheVariants as tag
 use Rattle.execheap.specs.Tags.{is_same, tagged}

@@ -14,7 +14,7 @@ use Rattle.execmodel.specs.Ports.{add_port_alert, delete_alert, is_called, is_po
 use Rattle.execmodel.specs.Ports as model
 use Rattle.execmodel.specs.Tasks.{is_priority}
 use Rattle.execlist.specs.Pool.{slot}
-use Rattle.execheap.specs.declared.kind.Kind.TheVariants as variant
+use Rattle.execheap.specs.declared.tag.Kind.TheVariants as variant
 use Rattle.execheap.specs.Numbered.{Numbered, IsSound, address_in, message_places, shown_heap, shown_memory, shown_public, places}
 use Rattle.execheap.specs.Changes.{on_ports}
 use Rattle.execheap.specs.Listing.{listed}

@@ -9,7 +9,7 @@ use Rattle.msgport.specs.Ports as ports
 use Rattle.msgport.specs.Ports.{messages_of}
 use Rattle.execmodel.specs.Ports.{has_message, is_queued, messages_in}
 use Rattle.execlist.specs.Pool.{slot}
-use Rattle.execheap.specs.declared.kind.Kind.TheVariants as variant
+use Rattle.execheap.specs.declared.tag.Kind.TheVariants as variant
 use Rattle.execheap.specs.declared.tag.Tagged.{Tagged}
 use Rattle.execheap.specs.declared.tag.Tagged.TheVariants as tag
 use Rattle.execheap.specs.Tags.{tag_of, tagged}

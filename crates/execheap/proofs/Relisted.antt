@@ -10,8 +10,8 @@ use Rattle.execlib.specs.Libraries.{count_of, is_delayed}
 use Rattle.execmodel.specs.State.{Object, ListHead, Library, Block}
 use Rattle.execmodel.specs.Lists.{with_nodes}
 use Rattle.execmodel.specs.Objects.{replaced}
-use Rattle.execheap.specs.declared.kind.Kind.{Kind}
-use Rattle.execheap.specs.declared.kind.Kind.TheVariants as variant
+use Rattle.execheap.specs.declared.tag.Kind.{Kind}
+use Rattle.execheap.specs.declared.tag.Kind.TheVariants as variant
 use Rattle.execheap.specs.declared.tag.Tagged.{Tagged}
 use Rattle.execheap.specs.declared.tag.Tagged.TheVariants as tag
 use Rattle.execheap.specs.Tags.{is_same, tagged}

@@ -10,7 +10,7 @@ use Rattle.msgport.specs.Ports as ports
 use Rattle.execmodel.specs.State.{Heap}
 use Rattle.execmodel.specs.Ports.{is_queued, port_alert, wait_alert}
 use Rattle.execmodel.specs.Requests.{begin_alert, can_begin, delete_request_alert, do_alert, is_request_at, request_alert, request_of, request_of_object, resting_alert, send_alert, state_alert, wait_io_alert}
-use Rattle.execheap.specs.declared.kind.Kind.TheVariants as variant
+use Rattle.execheap.specs.declared.tag.Kind.TheVariants as variant
 use Rattle.execheap.specs.Numbered.{IsSound, Numbered, message_of_request, places, shown_heap}
 use Rattle.execheap.specs.Table.{number_at}
 use Rattle.execheap.proofs.Alerts.{handle_unless, is_there, link_if, refused_first}

@@ -22,7 +22,7 @@ use Rattle.execmodel.specs.Ports.{port_in, port_of, port_of_object}
 use Rattle.execmodel.specs.Requests as model
 use Rattle.execmodel.specs.Requests.{request_of}
 use Rattle.execheap.specs.declared.awaited.Awaited.TheVariants as awaited
-use Rattle.execheap.specs.declared.kind.Kind.TheVariants as variant
+use Rattle.execheap.specs.declared.tag.Kind.TheVariants as variant
 use Rattle.execheap.specs.declared.tag.Tagged.{Tagged}
 use Rattle.execheap.specs.declared.tag.Tagged.TheVariants as tag
 use Rattle.execheap.specs.Tags.{tagged}

@@ -25,8 +25,8 @@ use Rattle.execmodel.specs.State.{Message, MsgPort, Request, Heap, PublicPort, o
 use Rattle.execmodel.specs.Objects.{replaced}
 use Rattle.execmodel.specs.Ports as port_model
 use Rattle.execmodel.specs.Requests as model
-use Rattle.execheap.specs.declared.kind.Kind.{Kind}
-use Rattle.execheap.specs.declared.kind.Kind.TheVariants as variant
+use Rattle.execheap.specs.declared.tag.Kind.{Kind}
+use Rattle.execheap.specs.declared.tag.Kind.TheVariants as variant
 use Rattle.execheap.specs.declared.tag.Tagged.{Tagged}
 use Rattle.execheap.specs.declared.tag.Tagged.TheVariants as tag
 use Rattle.execheap.specs.Tags.{is_same, tagged}

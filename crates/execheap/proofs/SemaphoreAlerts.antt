@@ -10,7 +10,7 @@ use Rattle.sigsem.specs.Semaphores as sems
 use Rattle.sigsem.specs.Semaphores.{deep_fault, release_fault, is_last, is_owned, is_owner, is_too_deep}
 use Rattle.execmodel.specs.State.{Heap}
 use Rattle.execmodel.specs.Semaphores.{free_sem_alert, heir, is_semaphore_at, obtain_alert, release_alert, sem_of, semaphore_alert}
-use Rattle.execheap.specs.declared.kind.Kind.TheVariants as variant
+use Rattle.execheap.specs.declared.tag.Kind.TheVariants as variant
 use Rattle.execheap.specs.Refusals.{alert_of, told}
 use Rattle.execheap.specs.Numbered.{Numbered, IsSound, shown_heap, places}
 use Rattle.execheap.specs.Table.{number_at}

@@ -9,8 +9,8 @@ use Rattle.sigsem.specs.Semaphores as sems
 use Rattle.sigsem.specs.Semaphores.{free_sem, sem_at, sem_freed, sem_made, waiters_of}
 use Rattle.execmodel.specs.State.{Semaphore}
 use Rattle.execmodel.specs.Memory.{freed, placed}
-use Rattle.execheap.specs.declared.kind.Kind.{Kind}
-use Rattle.execheap.specs.declared.kind.Kind.TheVariants as variant
+use Rattle.execheap.specs.declared.tag.Kind.{Kind}
+use Rattle.execheap.specs.declared.tag.Kind.TheVariants as variant
 use Rattle.execheap.specs.Tags.{kind_code, size_of}
 use Rattle.execheap.specs.Table.{Tabled, IsSound, object_at_next, pool_of, slots_of, with_object, without_object}
 use Rattle.execheap.specs.Numbered.{Numbered, IsKept, object_of, own_shape, places, shape, shown_memory}

@@ -18,8 +18,8 @@ use Rattle.execmodel.specs.Memory as model
 use Rattle.execmodel.specs.Memory.{freed, place_for, placed}
 use Rattle.execmodel.specs.Objects.{is_allowed, object_at, is_kind, live, place_for_object}
 use Rattle.execheap.proofs.Entries.{all_then, find_shown, map_same, put_shown, some_same, where_key_shown}
-use Rattle.execheap.specs.declared.kind.Kind.{Kind}
-use Rattle.execheap.specs.declared.kind.Kind.TheVariants as kind
+use Rattle.execheap.specs.declared.tag.Kind.{Kind}
+use Rattle.execheap.specs.declared.tag.Kind.TheVariants as kind
 use Rattle.execheap.specs.declared.tag.Tagged.{Tagged}
 use Rattle.execheap.specs.declared.tag.Tagged.TheVariants as tag
 use Rattle.execheap.specs.Tags.{is_of, is_same, number_in, size_of, tag_of, tagged}

@@ -14,8 +14,8 @@ use Rattle.msgport.specs.Ports as queue
 use Rattle.msgport.specs.Ports.{message_at, port_at}
 use Rattle.sigsem.specs.Semaphores as waiting
 use Rattle.sigsem.specs.Semaphores.{sem_at}
-use Rattle.execheap.specs.declared.kind.Kind.{Kind}
-use Rattle.execheap.specs.declared.kind.Kind.TheVariants as variant
+use Rattle.execheap.specs.declared.tag.Kind.{Kind}
+use Rattle.execheap.specs.declared.tag.Kind.TheVariants as variant
 use Rattle.execheap.specs.declared.tag.Tagged.{Tagged}
 use Rattle.execheap.specs.declared.tag.Tagged.TheVariants as tag
 use Rattle.execheap.specs.Tags.{tag_of, tagged}

@@ -4,8 +4,8 @@ use Rattle.std.specs.Prelude.{Some, None, Option, is_some, IsSome, MatchOption}
 use Rattle.std.proofs.lemmas.List.{get_or-set_same, get_or-set_other, length-set}
 use Rattle.execlist.specs.Lists.{Key, home}
 use Rattle.execlist.specs.Pool.{slot}
-use Rattle.execheap.specs.declared.kind.Kind.{Kind}
-use Rattle.execheap.specs.declared.kind.Kind.TheVariants as variant
+use Rattle.execheap.specs.declared.tag.Kind.{Kind}
+use Rattle.execheap.specs.declared.tag.Kind.TheVariants as variant
 use Rattle.execheap.specs.Table.{pool_of}
 use Rattle.execheap.specs.Numbered.{Numbered, Fits, IsKept, own_shape, places}
 use Rattle.execheap.proofs.Entries.{some_same}

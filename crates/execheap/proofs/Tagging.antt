@@ -5,8 +5,8 @@ use Rattle.std.proofs.lemmas.Bool.{lt-ltb}
 use Rattle.memlist.proofs.Answered.{cases_eq, nat_eq-other, nat_eq-same}
 use Rattle.memlist.proofs.Headers.{from_eq}
 use Rattle.execheap.proofs.Entries.{some_same}
-use Rattle.execheap.specs.declared.kind.Kind.{Kind}
-use Rattle.execheap.specs.declared.kind.Kind.TheVariants.{List, Node, Port, Message, Semaphore, Request}
+use Rattle.execheap.specs.declared.tag.Kind.{Kind}
+use Rattle.execheap.specs.declared.tag.Kind.TheVariants.{List, Node, Port, Message, Semaphore, Request}
 use Rattle.execheap.specs.declared.tag.Tagged.{Tagged}
 use Rattle.execheap.specs.declared.tag.Tagged.TheVariants.{Plain, Object, Library}
 use Rattle.execheap.specs.Tags.{is_same, kind_code, kinds, libraries, object_or_plain, object_tagged, tag_of, tagged}

@@ -8,8 +8,8 @@ use Rattle.execlib.specs.Libraries.{Description}
 use Rattle.memlist.specs.declared.region.Region.{Region}
 use Rattle.execlist.specs.Pool.{Pooled, all_free, slot, taken}
 use Rattle.execlist.proofs.Pools.{slot_new, taken_new}
-use Rattle.execheap.specs.declared.kind.Kind.{Kind}
-use Rattle.execheap.specs.declared.kind.Kind.TheVariants as kind
+use Rattle.execheap.specs.declared.tag.Kind.{Kind}
+use Rattle.execheap.specs.declared.tag.Kind.TheVariants as kind
 use Rattle.execheap.specs.Table.{IsSound, pool_of, unused}
 
 pub pool_unused : (kind : Kind) (regions : List Region) (pool : ℕ) (known : List Description) (asks : Bool) → pool_of kind (unused regions pool known asks) ≡ all_free pool

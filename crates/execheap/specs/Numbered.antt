@@ -19,8 +19,8 @@ use Rattle.execmodel.specs.Lists.{is_list, is_node}
 use Rattle.execmodel.specs.Ports as model
 use Rattle.execmodel.specs.Semaphores.{is_semaphore}
 use Rattle.execmodel.specs.Requests.{is_request as is_request_object}
-use Rattle.execheap.specs.declared.kind.Kind.{Kind}
-use Rattle.execheap.specs.declared.kind.Kind.TheVariants as variant
+use Rattle.execheap.specs.declared.tag.Kind.{Kind}
+use Rattle.execheap.specs.declared.tag.Kind.TheVariants as variant
 use Rattle.execheap.specs.declared.tag.Tagged.{Tagged}
 use Rattle.execheap.specs.declared.tag.Tagged.TheVariants as tag
 use Rattle.execheap.specs.Tags.{tagged}

@@ -16,7 +16,7 @@ use Rattle.timerdev.specs.Held.{on_timer}
 use Rattle.timerdev.specs.Timing.{AtClock, AtSystem, Due, Timer, begins_to_wait, system_set, waits_no_more}
 use Rattle.execheap.specs.declared.awaited.Awaited.{Awaited}
 use Rattle.execheap.specs.declared.awaited.Awaited.TheVariants as awaited
-use Rattle.execheap.specs.declared.kind.Kind.TheVariants as variant
+use Rattle.execheap.specs.declared.tag.Kind.TheVariants as variant
 use Rattle.execheap.specs.Table.{Tabled, number_at}
 use Rattle.execheap.specs.Numbered.{Numbered, message_of_request}
 

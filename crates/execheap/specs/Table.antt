@@ -12,7 +12,7 @@ use Rattle.execlib.specs.Libraries as library
 use Rattle.execlib.specs.Libraries.{Description, Lent, Libraries, lent, library_tag, no_library_loaded}
 pub use Rattle.execlib.specs.Libraries.{base_at, tag_at}
 use Rattle.execlist.specs.Pool.{Pooled, all_free, given, next_number, released, slot, taken}
-use Rattle.execheap.specs.declared.kind.Kind.{Kind}
+use Rattle.execheap.specs.declared.tag.Kind.{Kind}
 use Rattle.execheap.specs.declared.tag.Tagged.{Tagged}
 use Rattle.execheap.specs.declared.tag.Tagged.TheVariants.{Plain, Object, Library}
 use Rattle.execheap.specs.Tags.{is_of, is_plain, kind_code, kinds, library_in, number_in, size_of, tag_of, tagged}

@@ -1,11 +1,10 @@
 //! The memory of a machine and the objects that live in it, by address.
-//! `Heap` is what callers use. `objects` keeps the objects by number and finds them by address, and `table` tells which block is an
-//! object of which kind and number, and which a loaded library.
+//! `Heap` is what callers use. `objects` keeps the objects by number, and a file for each kind has the kind's calls, by number and by
+//! address; `table` tells which block is an object of which kind and number, and which a loaded library.
 #![tactic(auto)]
 
 mod awaited;
 mod heap;
-mod kind;
 mod objects;
 mod refusal;
 mod table;

@@ -1,4 +1,4 @@
-//! Objects by number, and the blocks in which they live. What the methods here mean by address stands in `heap`.
+//! Objects by number, and the blocks in which they live. What a call by address means stands in the file of its kind, below this one.
 ghost use Rattle.std.specs.Prelude.{◌≡◌, ◌≤◌, not, ◌&&◌, true, false, Some, length, map, IfOk, IfSome, IsSome, IsTrue};
 ghost use Rattle.execlib.specs.Libraries.{description_of};
 ghost use Rattle.memlist.specs.Fit.{asks, avail};
@@ -7,7 +7,7 @@ ghost use Rattle.execlist.specs.Pool.{slot};
 ghost use Rattle.execmodel.specs.State.{Plain};
 ghost use Rattle.execmodel.specs.Memory.{freed, place_for, placed};
 ghost use Rattle.execmodel.specs.GivingWay.{after_asking};
-ghost use Rattle.execheap.specs.declared.kind.Kind.TheVariants as variant;
+ghost use Rattle.execheap.specs.declared.tag.Kind.TheVariants as variant;
 ghost use Rattle.execheap.specs.Table.{number_at};
 ghost use Rattle.execheap.specs.Numbered.{IsKnown, places, shown_memory};
 ghost use Rattle.execheap.specs.Changes.{unused};
@@ -19,8 +19,8 @@ mod requests;
 mod room;
 mod semaphores;
 
-use crate::kind::Kind;
 use crate::table::Table;
+use crate::tag::Kind;
 use execlib::library::LibInit;
 use execlist::space::ListSpace;
 use iorequest::requests::Requests;

@@ -7,18 +7,14 @@ ghost use Rattle.execlist.specs.Pool.{IsStocked, all_free, slot};
 ghost use Rattle.execlib.specs.Libraries.{close_fault, count_of, description_of, is_loaded, library_to_open, no_library_loaded, opened_base};
 ghost use Rattle.execheap.specs.Table.{IsSound, after_asking, base_at, free_pools, library_at, library_closed, library_opened, library_removed, next_object, number_at, pool_of, ready_for, ready_to_open, slots_of, unused, with_object, without_object};
 
-use crate::kind::Kind;
-use crate::tag::{library_in, number_in, read, tag_of};
+use crate::tag::{Kind, library_in, number_in, read, tag_of};
 use execlib::library::LibInit;
 use execlib::libs::{LibId, Libs};
 use execlist::pool::Pool;
 use execlist::space::ListSpace;
-use memlist::{MemList, Region};
+use memlist::{MEMF_PUBLIC, MemList, Region};
 use std::alloc::{AllocError, Global};
 use std::marker::Model;
-
-/// The requirement of the memory of an object: it is public (exec/memory.h).
-const MEMF_PUBLIC: u32 = 1;
 
 /// The blocks of a memory, for each kind the addresses of its objects, by number, and the libraries.
 #[derive(Drop)]

@@ -9,7 +9,7 @@ ghost use Rattle.execlib.specs.Libraries.{no_library_loaded, description_of, lib
 use crate::fault::LibFault;
 use crate::library::{LibInit, Loaded};
 use execlist::space::ListSpace;
-use memlist::MemList;
+use memlist::{MEMF_PUBLIC, MemList};
 use std::alloc::{AllocError, Global};
 use std::marker::Model;
 
@@ -21,9 +21,6 @@ const NAMES: usize = 0;
 
 /// The greatest count of openings.
 const MOST_OPENINGS: u16 = 65535;
-
-/// The attribute of memory in which libraries lie.
-const MEMF_PUBLIC: u32 = 1;
 
 /// The tag of the block of library 0; that of library i is greater by i.
 const FIRST_TAG: u32 = 0x8000_0000;

@@ -4,8 +4,12 @@
 //! (`specs/Memory.antt`); where AllocMem takes memory is `fit` of `specs/Fit.antt`.
 #![tactic(auto)]
 
-pub use memory::{MEMB_LARGEST, MEMB_TOTAL, MemList, NotABlock};
+pub use memory::{MemList, NotABlock};
 pub use region::{MEM_BLOCKSIZE, MemFault, Region, check_regions};
+pub use requirement::{
+    MEMB_LARGEST, MEMB_TOTAL, MEMF_CHIP, MEMF_CLEAR, MEMF_FAST, MEMF_LARGEST, MEMF_PUBLIC,
+    MEMF_TOTAL,
+};
 
 mod chunk;
 mod descent;
@@ -14,5 +18,6 @@ mod header;
 pub mod laws;
 mod memory;
 mod region;
+mod requirement;
 mod slot;
 mod space;

@@ -11,21 +11,10 @@ ghost use Rattle.memlist.specs.Choice.{IsHome, IsOffer, free_of, installed_of, i
 
 use crate::header::MemHeader;
 use crate::region::{MemFault, Region, check_regions};
+use crate::requirement::{MEMB_LARGEST, MEMB_TOTAL, MEMF_LARGEST, MEMF_TOTAL};
 use std::alloc::{AllocError, Global};
 use std::marker::Model;
 use thiserror::Error;
-
-/// The number of the bit of a requirement that asks AvailMem for the greatest gap (exec/memory.h).
-pub const MEMB_LARGEST: u32 = 17;
-
-/// That bit.
-const MEMF_LARGEST: u32 = 1 << MEMB_LARGEST;
-
-/// The number of the bit of a requirement that asks AvailMem for the installed size.
-pub const MEMB_TOTAL: u32 = 19;
-
-/// That bit.
-const MEMF_TOTAL: u32 = 1 << MEMB_TOTAL;
 
 /// The regions of a machine, the blocks that are allocated in them and the gaps that are left.
 ///

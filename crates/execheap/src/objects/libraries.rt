@@ -1,12 +1,12 @@
-//! Libraries, and the blocks into which they are loaded.
-ghost use Rattle.std.specs.Prelude.{◌≡◌, None, Some, IfSome, IsTrue, IfOk};
+//! Libraries, and the blocks into which they are loaded: by number, and opened, closed and removed by address (RKM Libraries, Exec Libraries).
+ghost use Rattle.std.specs.Prelude.{◌≡◌, None, Some, IfSome, IsTrue, IfOk, OnErr, OnOk};
 ghost use Rattle.execlib.specs.Libraries.{close_fault, count_of, is_loaded};
-ghost use Rattle.execmodel.specs.Libraries as model;
 ghost use Rattle.execheap.specs.Table.{base_at, library_at};
 ghost use Rattle.execheap.specs.Numbered.{IsKnown, shown_memory, shown_heap};
-ghost use Rattle.execmodel.specs.Libraries.{close_alert, library_alert};
 ghost use Rattle.execheap.specs.Refusals.{alert_of};
+ghost use Rattle.execmodel.specs.Libraries as model;
 
+use crate::heap::Heap;
 use crate::objects::Objects;
 use crate::refusal::Refusal;
 use execlib::libs::LibId;
@@ -75,7 +75,7 @@ impl<S: ListSpace> Objects<S> {
     ///
     /// Source: own choice.
     pub fn library_at(&self, base: u32) -> Result<LibId, Refusal>
-        ensures alert { alert_of result ≡ library_alert base (shown_heap self.now) }
+        ensures alert { alert_of result ≡ model.library_alert base (shown_heap self.now) }
         ensures found { IfOk result (λ i. base_at i self.now.table.libs ≡ Some base) }
         ensures known { IsKnown self.now }
     {
@@ -89,7 +89,7 @@ impl<S: ListSpace> Objects<S> {
     ///
     /// Source: own choice.
     pub fn open_library_at(&self, base: u32) -> Result<LibId, Refusal>
-        ensures alert { alert_of result ≡ close_alert base (shown_heap self.now) }
+        ensures alert { alert_of result ≡ model.close_alert base (shown_heap self.now) }
         ensures found { IfOk result (λ i. base_at i self.now.table.libs ≡ Some base) }
         ensures open { IfOk result (λ i. close_fault i self.now.table.libs ≡ None) }
         ensures known { IsKnown self.now }
@@ -104,5 +104,55 @@ impl<S: ListSpace> Objects<S> {
                 }
             }
         }
+    }
+}
+
+impl<S: ListSpace> Heap<S> {
+    /// Opens the library of a name that has at least a version, and answers its base. One that is absent is loaded first: it takes a block
+    /// of its size, of public memory, and others are asked to give way to it as in `alloc_mem`. It is open once more, and is not to be
+    /// expunged any more. None where there is none of the name, its version is lower, it is open 65,535 times, or its block fits nowhere;
+    /// then nothing changes but what gave way. Autodoc exec.library/OpenLibrary; the count, and that a library takes public memory: own
+    /// choice.
+    pub fn open_library(&mut self, name: &str, version: u32) -> Option<u32>
+        ensures answer { result ≡ model.opening name.now version self.old }
+        ensures next { self.new ≡ model.opened name.now version self.old }
+    {
+        self.objects.open_library(name, version)
+    }
+
+    /// Closes once the library that begins at an address. One that is to be expunged, and is open no more, is freed. It is refused where no
+    /// loaded library begins at the address (Handle), and where it is not open (Lib). Autodoc exec.library/CloseLibrary; the refusals: own
+    /// choice.
+    pub fn close_library(&mut self, base: u32) -> Result<(), Refusal>
+        ensures alert { alert_of result ≡ model.close_alert base self.old.heap }
+        ensures next { OnOk result (self.new ≡ model.closed base self.old) }
+        ensures kept { OnErr result (self.new ≡ self.old) }
+    {
+        let i = self.objects.open_library_at(base)?;
+        self.objects.close_library(i, base);
+        Ok(())
+    }
+
+    /// Removes the library that begins at an address: one that is not open is freed, an open one is to be expunged when it is closed for the
+    /// last time. It is refused where no loaded library begins at the address (Handle). Autodoc exec.library/RemLibrary; the refusal: own
+    /// choice.
+    pub fn remove_library(&mut self, base: u32) -> Result<(), Refusal>
+        ensures alert { alert_of result ≡ model.library_alert base self.old.heap }
+        ensures next { OnOk result (self.new ≡ model.removed base self.old) }
+        ensures kept { OnErr result (self.new ≡ self.old) }
+    {
+        let i = self.objects.library_at(base)?;
+        self.objects.remove_library(i, base);
+        Ok(())
+    }
+
+    /// Answers how often the library that begins at an address is open. It is refused where no loaded library begins there (Handle). RKM
+    /// Libraries, Exec Libraries: `lib_OpenCnt`; the refusal: own choice.
+    pub fn library_count(&self, base: u32) -> Result<u32, Refusal>
+        ensures alert { alert_of result ≡ model.library_alert base self.now.heap }
+        ensures answer { IfOk result (λ answer. answer ≡ model.count_of base self.now.heap) }
+    {
+        let i = self.objects.library_at(base)?;
+        Ok(self.objects.library_count(i))
     }
 }

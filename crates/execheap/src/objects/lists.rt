@@ -1,24 +1,23 @@
-//! Lists and nodes by number, and the blocks in which they live.
-ghost use Rattle.std.specs.Prelude.{◌≡◌, not, true, [], None, Some, find, map, option_map, IfOk, IfSome, IsSome};
+//! Lists and nodes: by number, with the blocks in which they live; how they are found by address; and the calls by address.
+ghost use Rattle.std.specs.Prelude.{◌≡◌, [], None, Some, find, map, option_map, IfOk, IfSome, IsSome, OnErr, OnOk};
 ghost use Rattle.std.specs.Option.{ForSome};
 ghost use Rattle.execlist.specs.Order.{first};
 ghost use Rattle.execlist.specs.Lists.{home, is_named, last, part_after, part_before, part_from, sequence};
 ghost use Rattle.execlist.specs.Pool.{slot};
-ghost use Rattle.execmodel.specs.State.{ListHead, Node};
+ghost use Rattle.execmodel.specs.State.{ListHead, Node, on_heap};
 ghost use Rattle.execmodel.specs.Memory.{freed, placed};
 ghost use Rattle.execmodel.specs.GivingWay.{after_asking_for_object};
 ghost use Rattle.execmodel.specs.Objects.{place_for_object};
-ghost use Rattle.execmodel.specs.Lists.{is_list, is_node};
-ghost use Rattle.execheap.specs.declared.kind.Kind.TheVariants as variant;
-ghost use Rattle.execheap.specs.Table.{number_at};
 ghost use Rattle.execheap.specs.Numbered.{IsKnown, places, shown_memory, address_in, shown_heap};
 ghost use Rattle.execheap.specs.Changes.{key_with, at_head, at_tail, queued, put, taken_out, head_taken, tail_taken};
-ghost use Rattle.execmodel.specs.Lists as model;
 ghost use Rattle.execheap.specs.Refusals.{alert_of, is_none_or_in};
+ghost use Rattle.execheap.specs.declared.tag.Kind.TheVariants as variant;
+ghost use Rattle.execmodel.specs.Lists as model;
 
-use crate::kind::Kind;
+use crate::heap::Heap;
 use crate::objects::Objects;
 use crate::refusal::Refusal;
+use crate::tag::Kind;
 use execlist::key::Name;
 use execlist::space::{HeaderId, ListSpace, NodeId};
 
@@ -29,8 +28,8 @@ impl<S: ListSpace> Objects<S> {
     ///
     /// Source: autodoc amiga.lib/NewList; that it takes the memory is own choice.
     pub fn make_list(&mut self) -> Option<u32>
-        ensures address { result ≡ place_for_object is_list 14 (after_asking_for_object is_list 14 (shown_memory self.old)) }
-        ensures next { shown_memory self.new ≡ placed 14 (ListHead []) result (after_asking_for_object is_list 14 (shown_memory self.old)) }
+        ensures address { result ≡ place_for_object model.is_list model.list_size (after_asking_for_object model.is_list model.list_size (shown_memory self.old)) }
+        ensures next { shown_memory self.new ≡ placed model.list_size (ListHead []) result (after_asking_for_object model.is_list model.list_size (shown_memory self.old)) }
     {
         let (_, list) = self.table.make(Kind::List)?;
         Some(list)
@@ -40,8 +39,8 @@ impl<S: ListSpace> Objects<S> {
     ///
     /// Source: RKM Libraries, Exec Lists and Queues: node initialization; that it takes the memory is own choice.
     pub fn make_node(&mut self, pri: i8, name: Option<Name>) -> Option<u32>
-        ensures address { result ≡ place_for_object is_node 14 (after_asking_for_object is_node 14 (shown_memory self.old)) }
-        ensures next { shown_memory self.new ≡ placed 14 (Node (key_with pri (option_map (λ text. text.bytes) name))) result (after_asking_for_object is_node 14 (shown_memory self.old)) }
+        ensures address { result ≡ place_for_object model.is_node model.node_size (after_asking_for_object model.is_node model.node_size (shown_memory self.old)) }
+        ensures next { shown_memory self.new ≡ placed model.node_size (Node (key_with pri (option_map (λ text. text.bytes) name))) result (after_asking_for_object model.is_node model.node_size (shown_memory self.old)) }
     {
         let (n, node) = self.table.make(Kind::Node)?;
         self.space.set_key(n, pri, name);
@@ -402,5 +401,194 @@ impl<S: ListSpace> Objects<S> {
             Some(n) => self.address_of(Kind::Node, n),
             None => 0,
         }
+    }
+}
+
+impl<S: ListSpace> Heap<S> {
+    // ---- lists and nodes made and freed
+
+    /// Makes an empty list and answers its address; none where the pool has no list left, which asks nothing, or its block fits nowhere once
+    /// libraries were asked to give way (autodoc amiga.lib/NewList; that it takes the memory: own choice).
+    pub fn new_list(&mut self) -> Option<u32>
+        ensures address { result ≡ place_for_object model.is_list model.list_size (after_asking_for_object model.is_list model.list_size self.old) }
+        ensures next { self.new ≡ placed model.list_size (ListHead []) result (after_asking_for_object model.is_list model.list_size self.old) }
+    {
+        self.objects.make_list()
+    }
+
+    /// Makes a node with that priority and that name or none, which is not linked, and answers its address; none where the pool has no
+    /// node left, which asks nothing, or its block fits nowhere once libraries were asked to give way (own choice).
+    pub fn new_node(&mut self, pri: i8, name: Option<Name>) -> Option<u32>
+        ensures address { result ≡ place_for_object model.is_node model.node_size (after_asking_for_object model.is_node model.node_size self.old) }
+        ensures next { self.new ≡ placed model.node_size (Node (key_with pri (option_map (λ text. text.bytes) name))) result (after_asking_for_object model.is_node model.node_size self.old) }
+    {
+        self.objects.make_node(pri, name)
+    }
+
+    /// Frees a list. It is refused where no list begins at the address (Handle), and where the list has nodes (Link); own choice.
+    pub fn free_list(&mut self, list: u32) -> Result<(), Refusal>
+        ensures alert { alert_of result ≡ model.free_list_alert list self.old.heap }
+        ensures next { OnOk result (self.new ≡ freed list self.old) }
+        ensures kept { OnErr result (self.new ≡ self.old) }
+    {
+        let h = self.objects.empty_list_at(list)?;
+        self.objects.free_list(h, list);
+        Ok(())
+    }
+
+    /// Frees a node. It is refused where no node begins at the address (Handle), and where the node is linked (Link); own choice.
+    pub fn free_node(&mut self, node: u32) -> Result<(), Refusal>
+        ensures alert { alert_of result ≡ model.free_node_alert node self.old.heap }
+        ensures next { OnOk result (self.new ≡ freed node self.old) }
+        ensures kept { OnErr result (self.new ≡ self.old) }
+    {
+        let n = self.objects.unlinked_node_at(node)?;
+        self.objects.free_node(n, node);
+        Ok(())
+    }
+
+    // ---- linking
+
+    /// Puts a node first in a list. It is refused where no list or no node begins at its address (Handle), and where the
+    /// node is linked (Link). Autodoc exec.library/AddHead; the refusals: own choice.
+    pub fn add_head(&mut self, list: u32, node: u32) -> Result<(), Refusal>
+        ensures alert { alert_of result ≡ model.link_alert list node self.old.heap }
+        ensures next { OnOk result (self.new ≡ on_heap (model.added_head list node) self.old) }
+        ensures kept { OnErr result (self.new ≡ self.old) }
+    {
+        let (h, n) = self.objects.to_link(list, node)?;
+        self.objects.add_head(h, n);
+        Ok(())
+    }
+
+    /// Puts a node last in a list. It is refused where no list or no node begins at its address (Handle), and where the
+    /// node is linked (Link). Autodoc exec.library/AddTail; the refusals: own choice.
+    pub fn add_tail(&mut self, list: u32, node: u32) -> Result<(), Refusal>
+        ensures alert { alert_of result ≡ model.link_alert list node self.old.heap }
+        ensures next { OnOk result (self.new ≡ on_heap (model.added_tail list node) self.old) }
+        ensures kept { OnErr result (self.new ≡ self.old) }
+    {
+        let (h, n) = self.objects.to_link(list, node)?;
+        self.objects.add_tail(h, n);
+        Ok(())
+    }
+
+    /// Puts a node before the first node of lower priority in a list, or last where there is none. It is refused where no list or no node
+    /// begins at its address (Handle), and where the node is linked (Link). Autodoc exec.library/Enqueue; the refusals: own choice.
+    pub fn enqueue(&mut self, list: u32, node: u32) -> Result<(), Refusal>
+        ensures alert { alert_of result ≡ model.link_alert list node self.old.heap }
+        ensures next { OnOk result (self.new ≡ on_heap (model.enqueued list node) self.old) }
+        ensures kept { OnErr result (self.new ≡ self.old) }
+    {
+        let (h, n) = self.objects.to_link(list, node)?;
+        self.objects.enqueue(h, n);
+        Ok(())
+    }
+
+    /// Puts a node after a node of a list, or first for address 0. It is refused where no list or no node begins at its address
+    /// (Handle), and where the node is linked or its predecessor does not stand in the list (Link). Autodoc exec.library/Insert; the
+    /// refusals: own choice.
+    pub fn insert(&mut self, list: u32, node: u32, pred: u32) -> Result<(), Refusal>
+        ensures alert { alert_of result ≡ model.insert_alert list node pred self.old.heap }
+        ensures next { OnOk result (self.new ≡ on_heap (model.inserted list node pred) self.old) }
+        ensures kept { OnErr result (self.new ≡ self.old) }
+    {
+        let (h, n, p) = self.objects.to_insert(list, node, pred)?;
+        self.objects.insert(h, n, p);
+        Ok(())
+    }
+
+    /// Takes a node out of the list that has it. It is refused where no node begins at the address (Handle), and where the node is not
+    /// linked (Link). Autodoc exec.library/Remove; the refusals: own choice.
+    pub fn remove(&mut self, node: u32) -> Result<(), Refusal>
+        ensures alert { alert_of result ≡ model.linked_alert node self.old.heap }
+        ensures next { OnOk result (self.new ≡ on_heap (model.unlinked node) self.old) }
+        ensures kept { OnErr result (self.new ≡ self.old) }
+    {
+        let (_, n) = self.objects.linked_node_at(node)?;
+        self.objects.remove(n);
+        Ok(())
+    }
+
+    /// Takes the first node out of a list and answers its address, or 0 for an empty list. It is refused where no list begins at the
+    /// address (Handle). Autodoc exec.library/RemHead; the refusal: own choice.
+    pub fn rem_head(&mut self, list: u32) -> Result<u32, Refusal>
+        ensures alert { alert_of result ≡ model.list_alert list self.old.heap }
+        ensures answer { IfOk result (λ answer. answer ≡ model.first_of list self.old.heap) }
+        ensures next { OnOk result (self.new ≡ on_heap (model.removed_head list) self.old) }
+        ensures kept { OnErr result (self.new ≡ self.old) }
+    {
+        let h = self.objects.list_at(list)?;
+        let n = self.objects.rem_head(h);
+        Ok(self.objects.address_or_0(n))
+    }
+
+    /// Takes the last node out of a list and answers its address, or 0 for an empty list. It is refused where no list begins at the
+    /// address (Handle). Autodoc exec.library/RemTail; the refusal: own choice.
+    pub fn rem_tail(&mut self, list: u32) -> Result<u32, Refusal>
+        ensures alert { alert_of result ≡ model.list_alert list self.old.heap }
+        ensures answer { IfOk result (λ answer. answer ≡ model.last_of list self.old.heap) }
+        ensures next { OnOk result (self.new ≡ on_heap (model.removed_tail list) self.old) }
+        ensures kept { OnErr result (self.new ≡ self.old) }
+    {
+        let h = self.objects.list_at(list)?;
+        let n = self.objects.rem_tail(h);
+        Ok(self.objects.address_or_0(n))
+    }
+
+    // ---- scanning
+
+    /// Answers the address of the first node of a list, or 0 for an empty list. It is refused where no list begins at the address
+    /// (Handle). RKM Libraries, Exec Lists and Queues: scanning a list; the refusal: own choice.
+    pub fn first(&self, list: u32) -> Result<u32, Refusal>
+        ensures alert { alert_of result ≡ model.list_alert list self.now.heap }
+        ensures answer { IfOk result (λ answer. answer ≡ model.first_of list self.now.heap) }
+    {
+        let h = self.objects.list_at(list)?;
+        Ok(self.objects.address_or_0(self.objects.first(h)))
+    }
+
+    /// Answers the address of the last node of a list, or 0 for an empty list. It is refused where no list begins at the address
+    /// (Handle). RKM Libraries, Exec Lists and Queues: scanning a list; the refusal: own choice.
+    pub fn last(&self, list: u32) -> Result<u32, Refusal>
+        ensures alert { alert_of result ≡ model.list_alert list self.now.heap }
+        ensures answer { IfOk result (λ answer. answer ≡ model.last_of list self.now.heap) }
+    {
+        let h = self.objects.list_at(list)?;
+        Ok(self.objects.address_or_0(self.objects.last(h)))
+    }
+
+    /// Answers the address of the node after a linked one, or 0 where that is the last. It is refused where no node begins at the address
+    /// (Handle), and where the node is not linked (Link). RKM Libraries, Exec Lists and Queues: `ln_Succ`; the refusals: own choice.
+    pub fn succ(&self, node: u32) -> Result<u32, Refusal>
+        ensures alert { alert_of result ≡ model.linked_alert node self.now.heap }
+        ensures answer { IfOk result (λ answer. answer ≡ model.succ_of node self.now.heap) }
+    {
+        let (_, n) = self.objects.linked_node_at(node)?;
+        Ok(self.objects.address_or_0(self.objects.succ(n)))
+    }
+
+    /// Answers the address of the node before a linked one, or 0 where that is the first. It is refused where no node begins at the address
+    /// (Handle), and where the node is not linked (Link). RKM Libraries, Exec Lists and Queues: `ln_Pred`; the refusals: own choice.
+    pub fn pred(&self, node: u32) -> Result<u32, Refusal>
+        ensures alert { alert_of result ≡ model.linked_alert node self.now.heap }
+        ensures answer { IfOk result (λ answer. answer ≡ model.pred_of node self.now.heap) }
+    {
+        let (_, n) = self.objects.linked_node_at(node)?;
+        Ok(self.objects.address_or_0(self.objects.pred(n)))
+    }
+
+    /// Answers the address of the first node of a name in a list, or after a linked node, or 0; names compare byte for byte. It is refused
+    /// where neither a list nor a node begins at the start (Handle), and where the node is not linked (Link). Autodoc
+    /// exec.library/FindName; the refusals: own choice.
+    pub fn find_name(&self, start: u32, name: &str) -> Result<u32, Refusal>
+        ensures alert { alert_of result ≡ model.find_alert start self.now.heap }
+        ensures answer { IfOk result (λ answer. answer ≡ model.found_node start name.now self.now.heap) }
+    {
+        let (h, after) = self.objects.to_search(start)?;
+        Ok(
+            self.objects
+                .address_or_0(self.objects.find_name(h, after, name)),
+        )
     }
 }

@@ -1,6 +1,6 @@
 //! Small memories, call by call, and the regions that are refused. Each case is a table: calls, each with what it must answer.
 use super::comparing::same;
-use memlist::{MemFault, MemList, NotABlock, Region, check_regions};
+use memlist::{MEMF_LARGEST, MEMF_TOTAL, MemFault, MemList, NotABlock, Region, check_regions};
 use std::alloc::{AllocError, Global};
 use std::process::Abort;
 use std::test::*;
@@ -47,10 +47,6 @@ struct Check {
     places: &'static [Place],
     wanted: Result<(), MemFault>,
 }
-
-const MEMF_LARGEST: u32 = 0x2_0000;
-
-const MEMF_TOTAL: u32 = 0x8_0000;
 
 const REFUSED: Result<(), NotABlock> = Err(NotABlock);
 

@@ -6,7 +6,7 @@ use Rattle.msgport.specs.Ports.{MessagePorts}
 use Rattle.execmodel.specs.State.{Memory}
 use Rattle.execmodel.specs.Lists.{or_none}
 use Rattle.execmodel.specs.Ports.{is_called, port_or_none}
-use Rattle.execheap.specs.declared.kind.Kind.TheVariants as variant
+use Rattle.execheap.specs.declared.tag.Kind.TheVariants as variant
 use Rattle.execheap.specs.Numbered.{address_in, places}
 use Rattle.execheap.proofs.Public.{found_public}
 use Rattle.execheap.proofs.heap.Heap.find_port.Goals as goal

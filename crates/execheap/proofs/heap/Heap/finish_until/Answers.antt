@@ -3,7 +3,7 @@ use Rattle.std.proofs.Common.{◌≡◌, Some, ap, sym, ◌∙◌}
 use Rattle.execlist.specs.Pool.{slot}
 use Rattle.timerdev.specs.Timing.{until_next}
 use Rattle.execmodel.specs.State.{Memory}
-use Rattle.execheap.specs.declared.kind.Kind.TheVariants as variant
+use Rattle.execheap.specs.declared.tag.Kind.TheVariants as variant
 use Rattle.execheap.specs.Listing.{ended_if, finishing}
 use Rattle.execheap.specs.Numbered.{Numbered, places, shown_memory}
 use Rattle.execheap.specs.Table.{Tabled, slots_of}

@@ -5,7 +5,7 @@ use Rattle.execlist.specs.Lists.{sequence}
 use Rattle.std.specs.Prelude.{option_map}
 use Rattle.execmodel.specs.State.{Memory, on_heap}
 use Rattle.execmodel.specs.Lists.{first_of, or_none, removed_head}
-use Rattle.execheap.specs.declared.kind.Kind.TheVariants as variant
+use Rattle.execheap.specs.declared.tag.Kind.TheVariants as variant
 use Rattle.execheap.specs.Table.{Tabled, slots_of}
 use Rattle.execheap.specs.Numbered.{Numbered, address_in, shown_memory, places}
 use Rattle.execheap.proofs.Linking.{unlinked_table, first_shown, head_taken_shown}

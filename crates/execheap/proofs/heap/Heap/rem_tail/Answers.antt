@@ -4,7 +4,7 @@ use Rattle.execlist.specs.Lists.{last, sequence}
 use Rattle.std.specs.Prelude.{option_map}
 use Rattle.execmodel.specs.State.{Memory, on_heap}
 use Rattle.execmodel.specs.Lists.{last_of, or_none, removed_tail}
-use Rattle.execheap.specs.declared.kind.Kind.TheVariants as variant
+use Rattle.execheap.specs.declared.tag.Kind.TheVariants as variant
 use Rattle.execheap.specs.Table.{Tabled, slots_of}
 use Rattle.execheap.specs.Numbered.{Numbered, address_in, shown_memory, places}
 use Rattle.execheap.proofs.Linking.{unlinked_table, last_shown, tail_taken_shown}

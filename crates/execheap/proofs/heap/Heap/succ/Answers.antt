@@ -3,7 +3,7 @@ use Rattle.std.proofs.Common.{ap, sym, ◌∙◌}
 use Rattle.std.specs.Prelude.{option_map}
 use Rattle.execmodel.specs.State.{Memory}
 use Rattle.execmodel.specs.Lists.{succ_of, or_none}
-use Rattle.execheap.specs.declared.kind.Kind.TheVariants as variant
+use Rattle.execheap.specs.declared.tag.Kind.TheVariants as variant
 use Rattle.execheap.specs.Numbered.{address_in, places}
 use Rattle.execheap.proofs.Linking.{succ_shown}
 use Rattle.execheap.proofs.heap.Heap.succ.Goals as goal

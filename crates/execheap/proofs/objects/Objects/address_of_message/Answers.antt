@@ -1,7 +1,7 @@
 -- A number below those of the requests is a message's, any other a request's.
 use Rattle.std.proofs.Common.{◌≡◌, ◌<◌, ◌≤◌, ◌-◌, ap, is_some, sym, ◌∙◌, arith}
 use Rattle.execlist.specs.Pool.{slot}
-use Rattle.execheap.specs.declared.kind.Kind.TheVariants as variant
+use Rattle.execheap.specs.declared.tag.Kind.TheVariants as variant
 use Rattle.execheap.specs.Numbered.{Numbered, places}
 use Rattle.execheap.proofs.MessagePlaces.{place_below, place_from}
 use Rattle.execheap.proofs.objects.Objects.address_of_message.Goals as goal

@@ -1,6 +1,6 @@
 -- What lives has an address.
 use Rattle.std.proofs.Common.{◌∙◌}
-use Rattle.execheap.specs.declared.kind.Kind.TheVariants as variant
+use Rattle.execheap.specs.declared.tag.Kind.TheVariants as variant
 use Rattle.execheap.specs.Table.{pool_of}
 use Rattle.execheap.proofs.Stepping.{shape_lives}
 use Rattle.execheap.proofs.objects.Objects.address_of_port.Goals as goal

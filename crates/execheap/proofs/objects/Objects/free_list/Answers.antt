@@ -3,7 +3,7 @@ use Rattle.std.proofs.Common.{ap, ◌∙◌}
 use Rattle.execlist.specs.Lists.{sequence}
 use Rattle.execlist.specs.Pool.{slot}
 use Rattle.execmodel.specs.Memory.{freed}
-use Rattle.execheap.specs.declared.kind.Kind.TheVariants as variant
+use Rattle.execheap.specs.declared.tag.Kind.TheVariants as variant
 use Rattle.execheap.specs.Numbered.{Numbered, places, shown_memory}
 use Rattle.execheap.proofs.Lists.{list_freed_kept, list_freed_shown}
 use Rattle.execheap.proofs.objects.Objects.free_list.Goals as goal

@@ -3,7 +3,7 @@ use Rattle.std.proofs.Common.{ap, refl, ◌∙◌}
 use Rattle.execlist.specs.Lists.{home}
 use Rattle.execlist.specs.Pool.{slot}
 use Rattle.execmodel.specs.Memory.{freed}
-use Rattle.execheap.specs.declared.kind.Kind.TheVariants as variant
+use Rattle.execheap.specs.declared.tag.Kind.TheVariants as variant
 use Rattle.execheap.specs.Numbered.{Numbered, places, shown_memory}
 use Rattle.execheap.proofs.KeptPorts.{not_refused}
 use Rattle.execheap.proofs.Messages.{message_freed_kept, message_freed_shown, message_loose}

@@ -3,7 +3,7 @@ use Rattle.std.proofs.Common.{ap, ◌∙◌}
 use Rattle.execlist.specs.Lists.{home}
 use Rattle.execlist.specs.Pool.{slot}
 use Rattle.execmodel.specs.Memory.{freed}
-use Rattle.execheap.specs.declared.kind.Kind.TheVariants as variant
+use Rattle.execheap.specs.declared.tag.Kind.TheVariants as variant
 use Rattle.execheap.specs.Numbered.{Numbered, places, shown_memory}
 use Rattle.execheap.proofs.Nodes.{node_freed_kept, node_freed_shown}
 use Rattle.execheap.proofs.objects.Objects.free_node.Goals as goal

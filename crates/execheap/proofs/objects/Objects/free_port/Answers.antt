@@ -4,7 +4,7 @@ use Rattle.std.specs.Prelude.{not}
 use Rattle.execlist.specs.Pool.{slot}
 use Rattle.msgport.specs.Ports.{has_messages, is_public}
 use Rattle.execmodel.specs.Memory.{freed}
-use Rattle.execheap.specs.declared.kind.Kind.TheVariants as variant
+use Rattle.execheap.specs.declared.tag.Kind.TheVariants as variant
 use Rattle.execheap.specs.Numbered.{Numbered, places, shown_memory}
 use Rattle.execheap.proofs.KeptPorts.{not_refused}
 use Rattle.execheap.proofs.Ports.{port_freed_kept, port_freed_shown, port_unused}

@@ -5,7 +5,7 @@ use Rattle.execlist.specs.Pool.{slot}
 use Rattle.iorequest.specs.Request.{is_under_way}
 use Rattle.iorequest.specs.Requests.{request_at}
 use Rattle.execmodel.specs.Memory.{freed}
-use Rattle.execheap.specs.declared.kind.Kind.TheVariants as variant
+use Rattle.execheap.specs.declared.tag.Kind.TheVariants as variant
 use Rattle.execheap.specs.Numbered.{IsKnown, Numbered, message_of_request, places, shown_memory}
 use Rattle.execheap.proofs.KeptRequests.{live_request}
 use Rattle.execheap.proofs.RequestCalls.{not_refused}

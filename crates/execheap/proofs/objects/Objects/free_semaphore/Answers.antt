@@ -2,7 +2,7 @@
 use Rattle.std.proofs.Common.{ap, ◌∙◌}
 use Rattle.execlist.specs.Pool.{slot}
 use Rattle.execmodel.specs.Memory.{freed}
-use Rattle.execheap.specs.declared.kind.Kind.TheVariants as variant
+use Rattle.execheap.specs.declared.tag.Kind.TheVariants as variant
 use Rattle.execheap.specs.Numbered.{places, shown_memory}
 use Rattle.execheap.proofs.KeptSemaphores.{not_refused}
 use Rattle.execheap.proofs.Semaphores.{sem_freed_kept, sem_freed_shown, sem_lives}

@@ -5,7 +5,7 @@ use Rattle.execmodel.specs.Memory.{placed}
 use Rattle.execmodel.specs.GivingWay.{after_asking_for_object}
 use Rattle.execmodel.specs.Objects.{place_for_object}
 use Rattle.execmodel.specs.Lists.{is_list}
-use Rattle.execheap.specs.declared.kind.Kind.TheVariants as variant
+use Rattle.execheap.specs.declared.tag.Kind.TheVariants as variant
 use Rattle.execheap.specs.Numbered.{shown_memory}
 use Rattle.execheap.proofs.Lists.{list_made_kept, list_made_shown}
 use Rattle.execheap.proofs.Asked.{kept_unmade, place_made, ready, shown_unmade}

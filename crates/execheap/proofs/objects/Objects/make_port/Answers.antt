@@ -6,7 +6,7 @@ use Rattle.execmodel.specs.Ports as model
 use Rattle.execmodel.specs.Memory.{placed}
 use Rattle.execmodel.specs.GivingWay.{after_asking_for_object}
 use Rattle.execmodel.specs.Objects.{place_for_object}
-use Rattle.execheap.specs.declared.kind.Kind.TheVariants as variant
+use Rattle.execheap.specs.declared.tag.Kind.TheVariants as variant
 use Rattle.execheap.specs.Numbered.{shown_memory}
 use Rattle.execheap.proofs.Ports.{port_made_kept, port_next, port_made_shown}
 use Rattle.execheap.proofs.Asked.{kept_unmade, place_made, ready, shown_unmade}

@@ -6,7 +6,7 @@ use Rattle.execmodel.specs.Requests.{is_request}
 use Rattle.execmodel.specs.Memory.{placed}
 use Rattle.execmodel.specs.GivingWay.{after_asking_for_object}
 use Rattle.execmodel.specs.Objects.{place_for_object}
-use Rattle.execheap.specs.declared.kind.Kind.TheVariants as variant
+use Rattle.execheap.specs.declared.tag.Kind.TheVariants as variant
 use Rattle.execheap.specs.Numbered.{IsKnown, shown_memory}
 use Rattle.execheap.proofs.RequestsMade.{request_made_kept, request_made_shown, request_next}
 use Rattle.execheap.proofs.Asked.{kept_unmade, place_made, ready, shown_unmade}

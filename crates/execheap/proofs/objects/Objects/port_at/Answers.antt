@@ -1,7 +1,7 @@
 -- No port begins there where the blocks have no number of one.
 use Rattle.std.proofs.Common.{ap, is_some, sym, ◌∙◌}
 use Rattle.execheap.proofs.PortAlerts.{port_found, port_refused}
-use Rattle.execheap.specs.declared.kind.Kind.TheVariants as variant
+use Rattle.execheap.specs.declared.tag.Kind.TheVariants as variant
 use Rattle.execheap.specs.Table.{pool_of}
 use Rattle.execheap.proofs.Stepping.{shape_lives}
 use Rattle.execheap.proofs.objects.Objects.port_at.Goals as goal

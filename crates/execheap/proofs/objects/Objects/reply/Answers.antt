@@ -4,7 +4,7 @@ use Rattle.std.specs.Prelude.{is_some}
 use Rattle.execlist.specs.Lists.{home}
 use Rattle.execlist.specs.Pool.{slot}
 use Rattle.msgport.specs.Ports.{is_port}
-use Rattle.execheap.specs.declared.kind.Kind.TheVariants as variant
+use Rattle.execheap.specs.declared.tag.Kind.TheVariants as variant
 use Rattle.execheap.specs.Numbered.{Numbered, places}
 use Rattle.execheap.proofs.KeptPorts.{kept_unless, not_refused}
 use Rattle.execheap.proofs.Loose.{held_as_before, none_replied, put_kept, replied_ports}
