@@ -1,5 +1,6 @@
 pub mod Actions
 pub mod Agreement
+pub mod Callers
 pub mod Changes
 pub mod Endings
 pub mod Headline

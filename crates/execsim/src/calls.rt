@@ -1,12 +1,13 @@
 //! How a call of a task ends: done, answered, waiting, or refused by an alert; and how one ends whoever makes it. Whatever else the call does
 //! has been done before.
-ghost use Rattle.std.specs.Prelude.{◌≡◌, ◌<◌, length};
+ghost use Rattle.std.specs.Prelude.{◌≡◌};
 ghost use Rattle.exectrace.specs.Sink.{Puts, Tape};
 ghost use Rattle.exectrace.specs.Shown.{shown_outcome};
 ghost use Rattle.exectrace.specs.Trace.{printed_line};
 ghost use Rattle.execmodel.specs.Calls.{done, done_by, answered, answered_by, waiting, silent, silent_by, alerted, alerted_by};
+ghost use Rattle.execsim.specs.Callers.{HasTask, HasCaller};
 ghost use Rattle.execsim.specs.Agreement.{Follows, line_seen};
-ghost use Rattle.execsim.specs.Views.{IsCaller, call_view, caller_view};
+ghost use Rattle.execsim.specs.Views.{call_view, caller_view};
 ghost use Rattle.execheap.specs.Refusals.{code_of};
 
 use crate::command::{Call, Caller};
@@ -21,17 +22,17 @@ use taskq::TaskId;
 impl<S: ListSpace> Kernel<S> {
     /// Prints the line of a call of task t.
     fn say<W: Sink>(&self, t: TaskId, call: &Call, outcome: CallOutcome, out: &mut W)
-        requires { t < length self.now.scripts.programs }
+        requires { HasTask t self.now }
         ensures { Puts (W.tape out.old) (W.tape out.new) (printed_line (line_seen t (call_view call.now) (shown_outcome outcome) self.now)) }
     {
         let name = self.name(t);
         let word = call.word.text();
-        put_short_call(&name, word, call.shown(), &call.quoted, outcome, out);
+        put_short_call(name, word, call.shown(), &call.quoted, outcome, out);
     }
 
     /// The call answers nothing, and task t goes on.
     pub(crate) fn done<W: Sink>(&mut self, t: TaskId, call: &Call, out: &mut W)
-        requires { t < length self.old.scripts.programs }
+        requires { HasTask t self.old }
         ensures { Follows (done t (call_view call.now)) self.old self.new (W.tape out.old) (W.tape out.new) }
     {
         self.say(t, call, CallOutcome::Done, out);
@@ -40,7 +41,7 @@ impl<S: ListSpace> Kernel<S> {
 
     /// The call answers, into its target if it has one, and task t goes on.
     pub(crate) fn answered<W: Sink>(&mut self, t: TaskId, call: &Call, value: u32, out: &mut W)
-        requires { t < length self.old.scripts.programs }
+        requires { HasTask t self.old }
         ensures { Follows (answered t (call_view call.now) value) self.old self.new (W.tape out.old) (W.tape out.new) }
     {
         self.say(t, call, CallOutcome::Answers(value), out);
@@ -50,7 +51,7 @@ impl<S: ListSpace> Kernel<S> {
 
     /// The call waits, and is kept, so that task t tries it again.
     pub(crate) fn waiting<W: Sink>(&mut self, t: TaskId, call: &Call, out: &mut W)
-        requires { t < length self.old.scripts.programs }
+        requires { HasTask t self.old }
         ensures { Follows (waiting t (call_view call.now)) self.old self.new (W.tape out.old) (W.tape out.new) }
     {
         self.say(t, call, CallOutcome::Waits, out);
@@ -59,7 +60,7 @@ impl<S: ListSpace> Kernel<S> {
 
     /// A word that is no call of Exec answers, and prints nothing.
     pub(crate) fn silent(&mut self, t: TaskId, call: &Call, value: u32)
-        requires { t < length self.old.scripts.programs }
+        requires { HasTask t self.old }
         ensures { (tape : Tape) → Follows (silent t (call_view call.now) value) self.old self.new tape tape }
     {
         self.store(t, call.target, value);
@@ -69,11 +70,11 @@ impl<S: ListSpace> Kernel<S> {
     /// The call of task t is refused: it changes nothing, and the machine stops for good.
     #[cold]
     pub(crate) fn alerted<W: Sink>(&mut self, code: &str, t: TaskId, call: &Call, out: &mut W)
-        requires { t < length self.old.scripts.programs }
+        requires { HasTask t self.old }
         ensures { Follows (alerted code.now t (call_view call.now)) self.old self.new (W.tape out.old) (W.tape out.new) }
     {
         let name = self.name(t);
-        put_alert(code, &name, call.word.text(), out);
+        put_alert(code, name, call.word.text(), out);
         self.stop();
     }
 
@@ -81,7 +82,7 @@ impl<S: ListSpace> Kernel<S> {
 
     /// The call of a task or of a body answers nothing.
     pub(crate) fn done_by<W: Sink>(&mut self, caller: &Caller, call: &Call, out: &mut W)
-        requires { IsCaller (length self.old.scripts.programs) caller.now }
+        requires { HasCaller caller.now self.old }
         ensures { Follows (done_by (caller_view caller.now) (call_view call.now)) self.old self.new (W.tape out.old) (W.tape out.new) }
     {
         match caller {
@@ -98,7 +99,7 @@ impl<S: ListSpace> Kernel<S> {
         value: u32,
         out: &mut W,
     )
-        requires { IsCaller (length self.old.scripts.programs) caller.now }
+        requires { HasCaller caller.now self.old }
         ensures { Follows (answered_by (caller_view caller.now) (call_view call.now) value) self.old self.new (W.tape out.old) (W.tape out.new) }
     {
         match caller {
@@ -109,7 +110,7 @@ impl<S: ListSpace> Kernel<S> {
 
     /// A word that is no call of Exec answers, and prints nothing, in a task or in a body.
     pub(crate) fn silent_by(&mut self, caller: &Caller, call: &Call, value: u32)
-        requires { IsCaller (length self.old.scripts.programs) caller.now }
+        requires { HasCaller caller.now self.old }
         ensures { (tape : Tape) → Follows (silent_by (caller_view caller.now) (call_view call.now) value) self.old self.new tape tape }
     {
         match caller {
@@ -127,7 +128,7 @@ impl<S: ListSpace> Kernel<S> {
         call: &Call,
         out: &mut W,
     )
-        requires { IsCaller (length self.old.scripts.programs) caller.now }
+        requires { HasCaller caller.now self.old }
         ensures { Follows (alerted_by code.now (caller_view caller.now) (call_view call.now)) self.old self.new (W.tape out.old) (W.tape out.new) }
     {
         match caller {
@@ -144,7 +145,7 @@ impl<S: ListSpace> Kernel<S> {
         call: &Call,
         out: &mut W,
     )
-        requires { IsCaller (length self.old.scripts.programs) caller.now }
+        requires { HasCaller caller.now self.old }
         ensures { Follows (alerted_by (code_of why) (caller_view caller.now) (call_view call.now)) self.old self.new (W.tape out.old) (W.tape out.new) }
     {
         self.alerted_by(why.code(), caller, call, out);

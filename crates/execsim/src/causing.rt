@@ -1,8 +1,8 @@
 //! Calls on interrupts.
-ghost use Rattle.std.specs.Prelude.{◌<◌, length};
 ghost use Rattle.execmodel.specs.Causing.{does_cause_by, does_interrupts};
+ghost use Rattle.execsim.specs.Callers.{HasTask, HasCaller};
 ghost use Rattle.execsim.specs.Agreement.{Follows};
-ghost use Rattle.execsim.specs.Views.{IsCaller, call_view, caller_view};
+ghost use Rattle.execsim.specs.Views.{call_view, caller_view};
 
 use crate::command::{Call, Caller};
 use crate::kernel::Kernel;
@@ -16,7 +16,7 @@ impl<S: ListSpace> Kernel<S> {
     /// Cause name: the software interrupt of that name is to run, behind those of its priority; one that is caused already stays where it is
     /// (autodoc exec.library/Cause).
     pub(crate) fn cause_named<W: Sink>(&mut self, caller: &Caller, call: &Call, out: &mut W)
-        requires { IsCaller (length self.old.scripts.programs) caller.now }
+        requires { HasCaller caller.now self.old }
         ensures { Follows (does_cause_by (caller_view caller.now) (call_view call.now)) self.old self.new (W.tape out.old) (W.tape out.new) }
     {
         let i = self.softint_named(name_or_empty(call.name(0)));
@@ -33,7 +33,7 @@ impl<S: ListSpace> Kernel<S> {
         call: &Call,
         out: &mut W,
     )
-        requires { t < length self.old.scripts.programs }
+        requires { HasTask t self.old }
         ensures { Follows (does_interrupts word t (call_view call.now)) self.old self.new (W.tape out.old) (W.tape out.new) }
     {
         match word {

@@ -1,10 +1,11 @@
 //! Plain words that print nothing: a task does them on its command itself, with no call between.
-ghost use Rattle.std.specs.Prelude.{◌≡◌, ◌<◌, ◌+◌, ◌-◌, ◌%◌, ◌^◌, ℕ, List, length, IfSome, Some, bit_and, bit_or, if◌then◌else◌, nat_eq, option_copied, slice_get, take};
+ghost use Rattle.std.specs.Prelude.{◌≡◌, ◌+◌, ◌-◌, ◌%◌, ◌^◌, ℕ, List, IfSome, Some, bit_and, bit_or, if◌then◌else◌, nat_eq, option_copied, slice_get, take};
 ghost use Rattle.exectrace.specs.Sink.{Tape};
 ghost use Rattle.taskscript.specs.declared.word.Word.TheVariants.{Plain};
 ghost use Rattle.execmodel.specs.State.{State};
 ghost use Rattle.execmodel.specs.Calls.{argument, call_of, evaluated, next_call, number_in};
 ghost use Rattle.execmodel.specs.Step.{call_step, does};
+ghost use Rattle.execsim.specs.Callers.{HasTask};
 ghost use Rattle.execsim.specs.Changes.{changes};
 ghost use Rattle.execsim.specs.Agreement.{Follows};
 ghost use Rattle.taskscript.specs.Commands.{argument_view, command_view};
@@ -60,7 +61,7 @@ fn argument_at(command: &Command, k: usize) -> Option<&Argument>
 impl<S: ListSpace> Kernel<S> {
     /// The number that an argument is for task t; 0 for a name.
     fn number(&self, t: TaskId, argument: Argument) -> u32
-        requires { t < length self.now.scripts.programs }
+        requires { HasTask t self.now }
         ensures { (name : List ℕ) → result ≡ number_in (Some (evaluated t self.now.scripts (argument_view name argument))) }
     {
         match argument {
@@ -73,7 +74,7 @@ impl<S: ListSpace> Kernel<S> {
 
     /// The number that stands at an argument of a command of task t, counted from 0; 0 where none does.
     fn number_at(&self, t: TaskId, command: &Command, k: usize) -> u32
-        requires { t < length self.now.scripts.programs }
+        requires { HasTask t self.now }
         ensures { (next : ℕ) → result ≡ argument k (call_of t next (command_view command.now) self.now.scripts) }
     {
         match argument_at(command, k) {
@@ -90,7 +91,7 @@ impl<S: ListSpace> Kernel<S> {
         command: &Command,
         next: usize,
     ) -> Option<Change>
-        requires known { t < length self.now.scripts.programs }
+        requires known { HasTask t self.now }
         requires plain { command.now.word ≡ Plain word }
         ensures { IfSome result (λ change. (s : State) → does t (call_of t next (command_view command.now) self.now.scripts) s ≡ changes t change s) }
     {
@@ -150,7 +151,7 @@ impl<S: ListSpace> Kernel<S> {
 
     /// What task t changes by what it does next, where that is a plain word that prints nothing.
     pub(crate) fn next_change(&self, t: TaskId) -> Option<Change>
-        requires { t < length self.now.scripts.programs }
+        requires { HasTask t self.now }
         ensures { IfSome result (λ change. (s : State) → call_step t (next_call t self.now.scripts) s ≡ changes t change s) }
     {
         let program = self.program(t);
@@ -169,7 +170,7 @@ impl<S: ListSpace> Kernel<S> {
 
     /// Task t changes what its command says, and goes on.
     pub(crate) fn change(&mut self, t: TaskId, change: Change)
-        requires { t < length self.old.scripts.programs }
+        requires { HasTask t self.old }
         ensures { (tape : Tape) → Follows (changes t change) self.old self.new tape tape }
     {
         self.store(t, change.target, change.value);

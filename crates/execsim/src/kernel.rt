@@ -1,5 +1,5 @@
 //! The machine without its failure to write. The methods here touch its fields, and have one equation each.
-ghost use Rattle.std.specs.Prelude.{◌≡◌, ◌<◌, ◌≤◌, ℕ, List, length, true, false, Some, None, slice_index_or, slice_set, map, replicate, take};
+ghost use Rattle.std.specs.Prelude.{◌≡◌, ◌≤◌, ℕ, List, length, true, false, None, slice_index_or, slice_set, map, replicate, take};
 ghost use Rattle.std.specs.Option.{option_map};
 ghost use Rattle.exectrace.specs.Short.{short_argument};
 ghost use Rattle.scheduler.specs.Schedule.{name_of, task_count};
@@ -7,6 +7,7 @@ ghost use Rattle.execmodel.specs.State.{program_of, shared_variables};
 ghost use Rattle.execmodel.specs.Calls.{content, evaluated, stored, goes_on, keeps};
 ghost use Rattle.execmodel.specs.Signals.{is_task};
 ghost use Rattle.taskscript.specs.Commands.{argument_view};
+ghost use Rattle.execsim.specs.Callers.{HasTask};
 ghost use Rattle.execsim.specs.Views.{IsFor, call_view};
 
 use crate::bodies::Bodies;
@@ -90,23 +91,23 @@ impl<S: ListSpace> Kernel<S> {
 
     /// The program of task t.
     pub(crate) fn program(&self, t: TaskId) -> &Program
-        requires { t < length self.now.scripts.programs }
+        requires { HasTask t self.now }
         ensures { result.now ≡ program_of self.now.scripts t }
     {
         &self.programs[t]
     }
 
     /// The name of task t.
-    pub(crate) fn name(&self, t: TaskId) -> Name
-        requires { t < length self.now.scripts.programs }
-        ensures { result.bytes ≡ name_of self.now.schedule t }
+    pub(crate) fn name(&self, t: TaskId) -> &Name
+        requires { HasTask t self.now }
+        ensures { result.now.bytes ≡ name_of self.now.schedule t }
     {
         self.sched.name(t)
     }
 
     /// What a variable holds for task t; 0 where there is no such variable.
     pub(crate) fn content(&self, t: TaskId, variable: Variable) -> u32
-        requires { t < length self.now.scripts.programs }
+        requires { HasTask t self.now }
         ensures { result ≡ content t self.now.scripts variable }
     {
         match variable {
@@ -124,7 +125,7 @@ impl<S: ListSpace> Kernel<S> {
 
     /// The value of an argument for task t.
     fn evaluate(&self, t: TaskId, argument: Argument) -> ShortArg
-        requires { t < length self.now.scripts.programs }
+        requires { HasTask t self.now }
         ensures { (name : List ℕ) → short_argument name result ≡ evaluated t self.now.scripts (argument_view name argument) }
     {
         match argument {
@@ -144,7 +145,7 @@ impl<S: ListSpace> Kernel<S> {
         count: usize,
         values: &mut [ShortArg; 4],
     )
-        requires known { t < length self.now.scripts.programs }
+        requires known { HasTask t self.now }
         requires few { count ≤ 4 }
         ensures { (name : List ℕ) → map (short_argument name) (take count values.new)
             ≡ map (λ a. evaluated t self.now.scripts (argument_view name a)) (take count arguments.now) }
@@ -156,7 +157,7 @@ impl<S: ListSpace> Kernel<S> {
 
     /// Gives a variable of task t, or none, a value.
     pub(crate) fn store(&mut self, t: TaskId, target: Option<Variable>, value: u32)
-        requires { t < length self.old.scripts.programs }
+        requires { HasTask t self.old }
         ensures { self.new ≡ record self.old { scripts = stored t target value self.old.scripts } }
     {
         match target {
@@ -177,7 +178,7 @@ impl<S: ListSpace> Kernel<S> {
 
     /// Task t goes on at the command of that place.
     pub(crate) fn go_on(&mut self, t: TaskId, next: usize)
-        requires { t < length self.old.scripts.programs }
+        requires { HasTask t self.old }
         ensures { self.new ≡ record self.old { scripts = goes_on t next self.old.scripts } }
     {
         self.programs[t].go_on(next);
@@ -185,7 +186,7 @@ impl<S: ListSpace> Kernel<S> {
 
     /// Task t will try this call again.
     pub(crate) fn keep(&mut self, t: TaskId, call: &Call)
-        requires { t < length self.old.scripts.programs }
+        requires { HasTask t self.old }
         ensures { self.new ≡ record self.old { scripts = keeps t (call_view call.now) self.old.scripts } }
     {
         self.programs[t].keep(call);

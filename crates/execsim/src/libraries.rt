@@ -1,8 +1,9 @@
 //! Libraries: how they are opened, closed and removed. A loaded library is named by its base, the address of its block. The calls of `Heap`
 //! have the effects on memory.
-ghost use Rattle.std.specs.Prelude.{◌≡◌, ◌<◌, length};
+ghost use Rattle.std.specs.Prelude.{◌≡◌};
 ghost use Rattle.execmodel.specs.Libraries.{opening, opened, does_libraries};
 ghost use Rattle.execmodel.specs.Libraries.{does_open_library, does_close_library, does_rem_library, does_lib_open_cnt};
+ghost use Rattle.execsim.specs.Callers.{HasTask};
 ghost use Rattle.execsim.specs.Agreement.{Follows};
 ghost use Rattle.execsim.specs.Views.{call_view};
 
@@ -28,7 +29,7 @@ impl<S: ListSpace> Kernel<S> {
     /// more; 0 where there is none of the name, its version is lower, it is open 65,535 times, or there is no place for it (autodoc
     /// exec.library/OpenLibrary; the count, and that a library takes memory with MEMF_PUBLIC: own choice).
     fn open_library<W: Sink>(&mut self, t: TaskId, call: &Call, out: &mut W)
-        requires { t < length self.old.scripts.programs }
+        requires { HasTask t self.old }
         ensures { Follows (does_open_library t (call_view call.now)) self.old self.new (W.tape out.old) (W.tape out.new) }
     {
         let name = name_or_empty(call.name(0));
@@ -39,7 +40,7 @@ impl<S: ListSpace> Kernel<S> {
     /// CloseLibrary base: the library is open once less, and goes where it is to be expunged and is open no more; 0 does nothing. HANDLE
     /// where no loaded library begins there, LIB where it is not open (autodoc exec.library/CloseLibrary; the alerts: own choice).
     fn close_library<W: Sink>(&mut self, t: TaskId, call: &Call, out: &mut W)
-        requires { t < length self.old.scripts.programs }
+        requires { HasTask t self.old }
         ensures { Follows (does_close_library t (call_view call.now)) self.old self.new (W.tape out.old) (W.tape out.new) }
     {
         let base = call.number(0);
@@ -54,7 +55,7 @@ impl<S: ListSpace> Kernel<S> {
     /// RemLibrary base: the library is expunged, or is to be when it is closed for the last time. HANDLE where no loaded library begins there
     /// (autodoc exec.library/RemLibrary; the alert: own choice).
     fn rem_library<W: Sink>(&mut self, t: TaskId, call: &Call, out: &mut W)
-        requires { t < length self.old.scripts.programs }
+        requires { HasTask t self.old }
         ensures { Follows (does_rem_library t (call_view call.now)) self.old self.new (W.tape out.old) (W.tape out.new) }
     {
         let base = call.number(0);
@@ -65,7 +66,7 @@ impl<S: ListSpace> Kernel<S> {
     /// LibOpenCnt base: answers how often the library is open. HANDLE where no loaded library begins there (RKM Libraries, Exec Libraries:
     /// lib_OpenCnt; that there is a call for it: own choice).
     fn lib_open_cnt<W: Sink>(&mut self, t: TaskId, call: &Call, out: &mut W)
-        requires { t < length self.old.scripts.programs }
+        requires { HasTask t self.old }
         ensures { Follows (does_lib_open_cnt t (call_view call.now)) self.old self.new (W.tape out.old) (W.tape out.new) }
     {
         let base = call.number(0);
@@ -81,7 +82,7 @@ impl<S: ListSpace> Kernel<S> {
         call: &Call,
         out: &mut W,
     )
-        requires { t < length self.old.scripts.programs }
+        requires { HasTask t self.old }
         ensures { Follows (does_libraries word t (call_view call.now)) self.old self.new (W.tape out.old) (W.tape out.new) }
     {
         match word {

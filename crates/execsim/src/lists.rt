@@ -1,6 +1,6 @@
 //! Lists and nodes: how they are made and freed, linked, unlinked and scanned. An object is named by the address of its block.
 //! The calls of `Heap` have the effects; a word hands its arguments on, and ends as the answer says.
-ghost use Rattle.std.specs.Prelude.{◌≡◌, ◌<◌, [], length, IfOk, IsTrue};
+ghost use Rattle.std.specs.Prelude.{◌≡◌, [], IfOk, IsTrue};
 ghost use Rattle.std.specs.Int.{cast_signed, w32};
 ghost use Rattle.std.specs.Option.{option_map, unwrap_or};
 ghost use Rattle.execmodel.specs.State.{ListHead, Node};
@@ -13,9 +13,10 @@ ghost use Rattle.execmodel.specs.Lists.{find_alert, found_node, is_list, is_node
 ghost use Rattle.execmodel.specs.Lists.{does_new_list, does_free_list, does_new_node, does_free_node, does_add_head, does_add_tail, does_enqueue, does_insert};
 ghost use Rattle.execmodel.specs.Lists.{does_remove, does_rem_head, does_rem_tail, does_first, does_last, does_succ, does_pred, does_find_name};
 ghost use Rattle.execheap.specs.Refusals.{alert_of, code_of};
+ghost use Rattle.execsim.specs.Callers.{HasTask, HasCaller};
 ghost use Rattle.execsim.specs.Agreement.{Follows};
 ghost use Rattle.execsim.specs.Endings.{answered_or_alerted, answered_or_alerted_by, done_or_alerted};
-ghost use Rattle.execsim.specs.Views.{IsCaller, call_view, caller_view};
+ghost use Rattle.execsim.specs.Views.{call_view, caller_view};
 
 use crate::command::{Call, Caller};
 use crate::kernel::Kernel;
@@ -31,7 +32,7 @@ impl<S: ListSpace> Kernel<S> {
 
     /// A refused call stops the machine by the alert of its refusal.
     pub(crate) fn refused<W: Sink>(&mut self, why: Refusal, t: TaskId, call: &Call, out: &mut W)
-        requires { t < length self.old.scripts.programs }
+        requires { HasTask t self.old }
         ensures { Follows (alerted (code_of why) t (call_view call.now)) self.old self.new (W.tape out.old) (W.tape out.new) }
     {
         self.alerted(why.code(), t, call, out);
@@ -45,7 +46,7 @@ impl<S: ListSpace> Kernel<S> {
         call: &Call,
         out: &mut W,
     )
-        requires { t < length self.old.scripts.programs }
+        requires { HasTask t self.old }
         ensures { Follows (done_or_alerted tried t (call_view call.now)) self.old self.new (W.tape out.old) (W.tape out.new) }
     {
         match tried {
@@ -62,7 +63,7 @@ impl<S: ListSpace> Kernel<S> {
         call: &Call,
         out: &mut W,
     )
-        requires { t < length self.old.scripts.programs }
+        requires { HasTask t self.old }
         ensures { Follows (answered_or_alerted tried t (call_view call.now)) self.old self.new (W.tape out.old) (W.tape out.new) }
     {
         match tried {
@@ -79,7 +80,7 @@ impl<S: ListSpace> Kernel<S> {
         call: &Call,
         out: &mut W,
     )
-        requires { IsCaller (length self.old.scripts.programs) caller.now }
+        requires { HasCaller caller.now self.old }
         ensures { Follows (answered_or_alerted_by tried (caller_view caller.now) (call_view call.now)) self.old self.new (W.tape out.old) (W.tape out.new) }
     {
         match tried {
@@ -115,7 +116,7 @@ impl<S: ListSpace> Kernel<S> {
 
     /// NewList: answers the address of a new empty list, or 0 (autodoc amiga.lib/NewList; that it takes the memory: own choice).
     fn new_list<W: Sink>(&mut self, t: TaskId, call: &Call, out: &mut W)
-        requires { t < length self.old.scripts.programs }
+        requires { HasTask t self.old }
         ensures { Follows (does_new_list t (call_view call.now)) self.old self.new (W.tape out.old) (W.tape out.new) }
     {
         let list = self.make_list();
@@ -124,7 +125,7 @@ impl<S: ListSpace> Kernel<S> {
 
     /// FreeList list: frees an empty list. HANDLE where no list begins there, LINK where it has nodes (own choice).
     fn free_list<W: Sink>(&mut self, t: TaskId, call: &Call, out: &mut W)
-        requires { t < length self.old.scripts.programs }
+        requires { HasTask t self.old }
         ensures { Follows (does_free_list t (call_view call.now)) self.old self.new (W.tape out.old) (W.tape out.new) }
     {
         let list = call.number(0);
@@ -135,7 +136,7 @@ impl<S: ListSpace> Kernel<S> {
     /// NewNode pri name: answers the address of a new node, which is not linked, or 0. VALUE where the priority, read as a signed word, is
     /// not in -128 to 127 (own choice).
     fn new_node<W: Sink>(&mut self, t: TaskId, call: &Call, out: &mut W)
-        requires { t < length self.old.scripts.programs }
+        requires { HasTask t self.old }
         ensures { Follows (does_new_node t (call_view call.now)) self.old self.new (W.tape out.old) (W.tape out.new) }
     {
         let pri = call.number(0);
@@ -149,7 +150,7 @@ impl<S: ListSpace> Kernel<S> {
 
     /// FreeNode node: frees a node. HANDLE where none begins there, LINK where it is linked (own choice).
     fn free_node<W: Sink>(&mut self, t: TaskId, call: &Call, out: &mut W)
-        requires { t < length self.old.scripts.programs }
+        requires { HasTask t self.old }
         ensures { Follows (does_free_node t (call_view call.now)) self.old self.new (W.tape out.old) (W.tape out.new) }
     {
         let node = call.number(0);
@@ -162,7 +163,7 @@ impl<S: ListSpace> Kernel<S> {
     /// AddHead list node: puts the node first. HANDLE where either is none, LINK where the node is linked (autodoc
     /// exec.library/AddHead; the alerts: own choice).
     fn add_head<W: Sink>(&mut self, t: TaskId, call: &Call, out: &mut W)
-        requires { t < length self.old.scripts.programs }
+        requires { HasTask t self.old }
         ensures { Follows (does_add_head t (call_view call.now)) self.old self.new (W.tape out.old) (W.tape out.new) }
     {
         let list = call.number(0);
@@ -173,7 +174,7 @@ impl<S: ListSpace> Kernel<S> {
 
     /// AddTail list node: puts the node last. The alerts are those of AddHead (autodoc exec.library/AddTail).
     fn add_tail<W: Sink>(&mut self, t: TaskId, call: &Call, out: &mut W)
-        requires { t < length self.old.scripts.programs }
+        requires { HasTask t self.old }
         ensures { Follows (does_add_tail t (call_view call.now)) self.old self.new (W.tape out.old) (W.tape out.new) }
     {
         let list = call.number(0);
@@ -185,7 +186,7 @@ impl<S: ListSpace> Kernel<S> {
     /// Enqueue list node: puts the node before the first one of lower priority, or last. The alerts are those of AddHead (autodoc
     /// exec.library/Enqueue).
     fn enqueue<W: Sink>(&mut self, t: TaskId, call: &Call, out: &mut W)
-        requires { t < length self.old.scripts.programs }
+        requires { HasTask t self.old }
         ensures { Follows (does_enqueue t (call_view call.now)) self.old self.new (W.tape out.old) (W.tape out.new) }
     {
         let list = call.number(0);
@@ -197,7 +198,7 @@ impl<S: ListSpace> Kernel<S> {
     /// Insert list node pred: puts the node after pred, or first where pred is 0. HANDLE where one of them is none, LINK where the node is
     /// linked or pred does not stand in the list (autodoc exec.library/Insert; the alerts: own choice).
     fn insert<W: Sink>(&mut self, t: TaskId, call: &Call, out: &mut W)
-        requires { t < length self.old.scripts.programs }
+        requires { HasTask t self.old }
         ensures { Follows (does_insert t (call_view call.now)) self.old self.new (W.tape out.old) (W.tape out.new) }
     {
         let list = call.number(0);
@@ -212,7 +213,7 @@ impl<S: ListSpace> Kernel<S> {
     /// Remove node: takes the node out of its list. HANDLE where none begins there, LINK where it is not linked (autodoc
     /// exec.library/Remove; the alerts: own choice).
     fn remove<W: Sink>(&mut self, t: TaskId, call: &Call, out: &mut W)
-        requires { t < length self.old.scripts.programs }
+        requires { HasTask t self.old }
         ensures { Follows (does_remove t (call_view call.now)) self.old self.new (W.tape out.old) (W.tape out.new) }
     {
         let node = call.number(0);
@@ -223,7 +224,7 @@ impl<S: ListSpace> Kernel<S> {
     /// RemHead list: takes the first node out and answers it, or 0 for an empty list. HANDLE where no list begins there (autodoc
     /// exec.library/RemHead; the alert: own choice).
     fn rem_head<W: Sink>(&mut self, t: TaskId, call: &Call, out: &mut W)
-        requires { t < length self.old.scripts.programs }
+        requires { HasTask t self.old }
         ensures { Follows (does_rem_head t (call_view call.now)) self.old self.new (W.tape out.old) (W.tape out.new) }
     {
         let list = call.number(0);
@@ -234,7 +235,7 @@ impl<S: ListSpace> Kernel<S> {
     /// RemTail list: takes the last node out and answers it, or 0 for an empty list. HANDLE where no list begins there (autodoc
     /// exec.library/RemTail; the alert: own choice).
     fn rem_tail<W: Sink>(&mut self, t: TaskId, call: &Call, out: &mut W)
-        requires { t < length self.old.scripts.programs }
+        requires { HasTask t self.old }
         ensures { Follows (does_rem_tail t (call_view call.now)) self.old self.new (W.tape out.old) (W.tape out.new) }
     {
         let list = call.number(0);
@@ -247,7 +248,7 @@ impl<S: ListSpace> Kernel<S> {
     /// First list: answers the first node, or 0 for an empty list. HANDLE where no list begins there (RKM Libraries, Exec Lists and
     /// Queues: scanning a list; the alert: own choice).
     fn first<W: Sink>(&mut self, t: TaskId, call: &Call, out: &mut W)
-        requires { t < length self.old.scripts.programs }
+        requires { HasTask t self.old }
         ensures { Follows (does_first t (call_view call.now)) self.old self.new (W.tape out.old) (W.tape out.new) }
     {
         let list = call.number(0);
@@ -258,7 +259,7 @@ impl<S: ListSpace> Kernel<S> {
     /// Last list: answers the last node, or 0 for an empty list. HANDLE where no list begins there (RKM Libraries, Exec Lists and
     /// Queues: scanning a list; the alert: own choice).
     fn last<W: Sink>(&mut self, t: TaskId, call: &Call, out: &mut W)
-        requires { t < length self.old.scripts.programs }
+        requires { HasTask t self.old }
         ensures { Follows (does_last t (call_view call.now)) self.old self.new (W.tape out.old) (W.tape out.new) }
     {
         let list = call.number(0);
@@ -269,7 +270,7 @@ impl<S: ListSpace> Kernel<S> {
     /// Succ node: answers the node after a linked one, or 0. HANDLE where none begins there, LINK where it is not linked (RKM Libraries,
     /// Exec Lists and Queues: `ln_Succ`; the alerts: own choice).
     fn succ<W: Sink>(&mut self, t: TaskId, call: &Call, out: &mut W)
-        requires { t < length self.old.scripts.programs }
+        requires { HasTask t self.old }
         ensures { Follows (does_succ t (call_view call.now)) self.old self.new (W.tape out.old) (W.tape out.new) }
     {
         let node = call.number(0);
@@ -280,7 +281,7 @@ impl<S: ListSpace> Kernel<S> {
     /// Pred node: answers the node before a linked one, or 0. HANDLE where none begins there, LINK where it is not linked (RKM Libraries,
     /// Exec Lists and Queues: `ln_Pred`; the alerts: own choice).
     fn pred<W: Sink>(&mut self, t: TaskId, call: &Call, out: &mut W)
-        requires { t < length self.old.scripts.programs }
+        requires { HasTask t self.old }
         ensures { Follows (does_pred t (call_view call.now)) self.old self.new (W.tape out.old) (W.tape out.new) }
     {
         let node = call.number(0);
@@ -302,7 +303,7 @@ impl<S: ListSpace> Kernel<S> {
     /// FindName start name: answers the first node of that name in a list, or after a linked node, or 0. HANDLE where neither begins at
     /// the start, LINK where the node is not linked (autodoc exec.library/FindName; the alerts: own choice).
     fn find_name<W: Sink>(&mut self, t: TaskId, call: &Call, out: &mut W)
-        requires { t < length self.old.scripts.programs }
+        requires { HasTask t self.old }
         ensures { Follows (does_find_name t (call_view call.now)) self.old self.new (W.tape out.old) (W.tape out.new) }
     {
         let start = call.number(0);
@@ -318,7 +319,7 @@ impl<S: ListSpace> Kernel<S> {
         call: &Call,
         out: &mut W,
     )
-        requires { t < length self.old.scripts.programs }
+        requires { HasTask t self.old }
         ensures { Follows (does_lists word t (call_view call.now)) self.old self.new (W.tape out.old) (W.tape out.new) }
     {
         match word {

@@ -1,9 +1,10 @@
 //! Memory: blocks that AllocMem gives and FreeMem takes back.
-ghost use Rattle.std.specs.Prelude.{◌≡◌, ◌<◌, length, true, false};
+ghost use Rattle.std.specs.Prelude.{◌≡◌, true, false};
 ghost use Rattle.memlist.specs.Fit.{avail};
 ghost use Rattle.execmodel.specs.State.{Plain};
 ghost use Rattle.execmodel.specs.GivingWay.{after_asking};
 ghost use Rattle.execmodel.specs.Memory.{block_at, can_be_asked, does_alloc_mem, does_avail_mem, does_free_mem, extents, freed, has_only, is_named, place_for, placed, does_memory};
+ghost use Rattle.execsim.specs.Callers.{HasTask};
 ghost use Rattle.execsim.specs.Agreement.{Follows};
 ghost use Rattle.execsim.specs.Views.{call_view};
 
@@ -11,19 +12,15 @@ use crate::command::Call;
 use crate::kernel::Kernel;
 use execlist::space::ListSpace;
 use exectrace::Sink;
+use memlist::{MEMF_CHIP, MEMF_CLEAR, MEMF_FAST, MEMF_LARGEST, MEMF_PUBLIC, MEMF_TOTAL};
 use taskq::TaskId;
 use taskscript::MemoryWord;
 
-/// MEMF_PUBLIC, MEMF_CHIP, MEMF_FAST and MEMF_CLEAR.
-const ALLOC_BITS: u32 = 0x1_0007;
+/// What AllocMem may be asked for.
+const ALLOC_BITS: u32 = MEMF_PUBLIC | MEMF_CHIP | MEMF_FAST | MEMF_CLEAR;
 
-/// Those of `ALLOC_BITS`, MEMF_LARGEST and MEMF_TOTAL.
-const AVAIL_BITS: u32 = 0xb_0007;
-
-/// MEMF_LARGEST and MEMF_TOTAL.
-const MEMF_LARGEST: u32 = 0x2_0000;
-
-const MEMF_TOTAL: u32 = 0x8_0000;
+/// What AvailMem may be asked for.
+const AVAIL_BITS: u32 = ALLOC_BITS | MEMF_LARGEST | MEMF_TOTAL;
 
 /// Whether requirements have no other bits than these.
 fn has_only(bits: u32, reqs: u32) -> bool
@@ -69,7 +66,7 @@ impl<S: ListSpace> Kernel<S> {
     /// 0. VALUE where the requirements have other bits than MEMF_PUBLIC, MEMF_CHIP, MEMF_FAST and MEMF_CLEAR (autodoc
     /// exec.library/AllocMem; size 0, and the alert: own choice).
     fn alloc_mem<W: Sink>(&mut self, t: TaskId, call: &Call, out: &mut W)
-        requires { t < length self.old.scripts.programs }
+        requires { HasTask t self.old }
         ensures { Follows (does_alloc_mem t (call_view call.now)) self.old self.new (W.tape out.old) (W.tape out.new) }
     {
         let size = call.number(0);
@@ -84,7 +81,7 @@ impl<S: ListSpace> Kernel<S> {
 
     /// FreeMem addr size (autodoc exec.library/FreeMem).
     fn free_mem<W: Sink>(&mut self, t: TaskId, call: &Call, out: &mut W)
-        requires { t < length self.old.scripts.programs }
+        requires { HasTask t self.old }
         ensures { Follows (does_free_mem t (call_view call.now)) self.old self.new (W.tape out.old) (W.tape out.new) }
     {
         let address = call.number(0);
@@ -98,7 +95,7 @@ impl<S: ListSpace> Kernel<S> {
 
     /// AvailMem reqs (autodoc exec.library/AvailMem).
     fn avail_mem<W: Sink>(&mut self, t: TaskId, call: &Call, out: &mut W)
-        requires { t < length self.old.scripts.programs }
+        requires { HasTask t self.old }
         ensures { Follows (does_avail_mem t (call_view call.now)) self.old self.new (W.tape out.old) (W.tape out.new) }
     {
         let reqs = call.number(0);
@@ -118,7 +115,7 @@ impl<S: ListSpace> Kernel<S> {
         call: &Call,
         out: &mut W,
     )
-        requires { t < length self.old.scripts.programs }
+        requires { HasTask t self.old }
         ensures { Follows (does_memory word t (call_view call.now)) self.old self.new (W.tape out.old) (W.tape out.new) }
     {
         match word {

@@ -1,9 +1,10 @@
 //! Forbid and Disable of the running task.
-ghost use Rattle.std.specs.Prelude.{◌≡◌, ◌<◌, length, Some};
+ghost use Rattle.std.specs.Prelude.{◌≡◌};
 ghost use Rattle.std.specs.Option.{is_some};
 ghost use Rattle.forbid.specs.Nesting.{after_forbid, after_permit, after_disable, after_enable};
 ghost use Rattle.scheduler.specs.Schedule.{nesting_of, nested};
 ghost use Rattle.execmodel.specs.Nesting.{done_or_nest, does_forbid, does_permit, does_disable, does_enable, does_nesting};
+ghost use Rattle.execsim.specs.Callers.{HasTask, Runs};
 ghost use Rattle.execsim.specs.Agreement.{Follows};
 ghost use Rattle.execsim.specs.Views.{call_view};
 
@@ -17,7 +18,7 @@ use taskscript::NestingWord;
 impl<S: ListSpace> Kernel<S> {
     /// Counts one more Forbid of the running task, and answers whether its count has room for it.
     fn count_forbid(&mut self, t: TaskId) -> bool
-        requires { self.old.schedule.running ≡ Some t }
+        requires { Runs t self.old }
         ensures answer { result ≡ is_some (after_forbid (nesting_of self.old.schedule t)) }
         ensures next { self.new ≡ record self.old { schedule = nested t (after_forbid (nesting_of self.old.schedule t)) self.old.schedule } }
     {
@@ -26,7 +27,7 @@ impl<S: ListSpace> Kernel<S> {
 
     /// Takes back one Forbid of the running task, and answers whether there was one.
     fn count_permit(&mut self, t: TaskId) -> bool
-        requires { self.old.schedule.running ≡ Some t }
+        requires { Runs t self.old }
         ensures answer { result ≡ is_some (after_permit (nesting_of self.old.schedule t)) }
         ensures next { self.new ≡ record self.old { schedule = nested t (after_permit (nesting_of self.old.schedule t)) self.old.schedule } }
     {
@@ -35,7 +36,7 @@ impl<S: ListSpace> Kernel<S> {
 
     /// Counts one more Disable of the running task, and answers whether its count has room for it.
     fn count_disable(&mut self, t: TaskId) -> bool
-        requires { self.old.schedule.running ≡ Some t }
+        requires { Runs t self.old }
         ensures answer { result ≡ is_some (after_disable (nesting_of self.old.schedule t)) }
         ensures next { self.new ≡ record self.old { schedule = nested t (after_disable (nesting_of self.old.schedule t)) self.old.schedule } }
     {
@@ -44,7 +45,7 @@ impl<S: ListSpace> Kernel<S> {
 
     /// Takes back one Disable of the running task, and answers whether there was one.
     fn count_enable(&mut self, t: TaskId) -> bool
-        requires { self.old.schedule.running ≡ Some t }
+        requires { Runs t self.old }
         ensures answer { result ≡ is_some (after_enable (nesting_of self.old.schedule t)) }
         ensures next { self.new ≡ record self.old { schedule = nested t (after_enable (nesting_of self.old.schedule t)) self.old.schedule } }
     {
@@ -53,7 +54,7 @@ impl<S: ListSpace> Kernel<S> {
 
     /// A call that has counted is done; one that could not is refused.
     fn counted<W: Sink>(&mut self, fits: bool, t: TaskId, call: &Call, out: &mut W)
-        requires { t < length self.old.scripts.programs }
+        requires { HasTask t self.old }
         ensures { Follows (done_or_nest fits t (call_view call.now)) self.old self.new (W.tape out.old) (W.tape out.new) }
     {
         if fits {
@@ -65,8 +66,8 @@ impl<S: ListSpace> Kernel<S> {
 
     /// Forbid (autodoc exec.library/Forbid).
     fn forbid<W: Sink>(&mut self, t: TaskId, call: &Call, out: &mut W)
-        requires known { t < length self.old.scripts.programs }
-        requires runs { self.old.schedule.running ≡ Some t }
+        requires known { HasTask t self.old }
+        requires runs { Runs t self.old }
         ensures { Follows (does_forbid t (call_view call.now)) self.old self.new (W.tape out.old) (W.tape out.new) }
     {
         let fits = self.count_forbid(t);
@@ -75,8 +76,8 @@ impl<S: ListSpace> Kernel<S> {
 
     /// Permit (autodoc exec.library/Permit).
     fn permit<W: Sink>(&mut self, t: TaskId, call: &Call, out: &mut W)
-        requires known { t < length self.old.scripts.programs }
-        requires runs { self.old.schedule.running ≡ Some t }
+        requires known { HasTask t self.old }
+        requires runs { Runs t self.old }
         ensures { Follows (does_permit t (call_view call.now)) self.old self.new (W.tape out.old) (W.tape out.new) }
     {
         let fits = self.count_permit(t);
@@ -85,8 +86,8 @@ impl<S: ListSpace> Kernel<S> {
 
     /// Disable (autodoc exec.library/Disable).
     fn disable<W: Sink>(&mut self, t: TaskId, call: &Call, out: &mut W)
-        requires known { t < length self.old.scripts.programs }
-        requires runs { self.old.schedule.running ≡ Some t }
+        requires known { HasTask t self.old }
+        requires runs { Runs t self.old }
         ensures { Follows (does_disable t (call_view call.now)) self.old self.new (W.tape out.old) (W.tape out.new) }
     {
         let fits = self.count_disable(t);
@@ -95,8 +96,8 @@ impl<S: ListSpace> Kernel<S> {
 
     /// Enable (autodoc exec.library/Enable).
     fn enable<W: Sink>(&mut self, t: TaskId, call: &Call, out: &mut W)
-        requires known { t < length self.old.scripts.programs }
-        requires runs { self.old.schedule.running ≡ Some t }
+        requires known { HasTask t self.old }
+        requires runs { Runs t self.old }
         ensures { Follows (does_enable t (call_view call.now)) self.old self.new (W.tape out.old) (W.tape out.new) }
     {
         let fits = self.count_enable(t);
@@ -111,8 +112,8 @@ impl<S: ListSpace> Kernel<S> {
         call: &Call,
         out: &mut W,
     )
-        requires known { t < length self.old.scripts.programs }
-        requires runs { self.old.schedule.running ≡ Some t }
+        requires known { HasTask t self.old }
+        requires runs { Runs t self.old }
         ensures { Follows (does_nesting word t (call_view call.now)) self.old self.new (W.tape out.old) (W.tape out.new) }
     {
         match word {

@@ -1,9 +1,10 @@
 //! Plain words: they set variables, calculate, jump and print, and ask nothing of Exec.
-ghost use Rattle.std.specs.Prelude.{◌≡◌, ◌<◌, length, if◌then◌else◌};
+ghost use Rattle.std.specs.Prelude.{◌≡◌, if◌then◌else◌};
 ghost use Rattle.exectrace.specs.Sink.{Tape};
 ghost use Rattle.execmodel.specs.Plain.{does_set_by, does_add_by, does_sub_by, does_and_by, does_or_by, jumps, does_jump, does_jump_zero, does_jump_not_zero, does_print, does_plain};
+ghost use Rattle.execsim.specs.Callers.{HasTask, HasCaller};
 ghost use Rattle.execsim.specs.Agreement.{Follows};
-ghost use Rattle.execsim.specs.Views.{IsCaller, call_view, caller_view};
+ghost use Rattle.execsim.specs.Views.{call_view, caller_view};
 
 use crate::command::{Call, Caller};
 use crate::kernel::Kernel;
@@ -22,7 +23,7 @@ fn place_if(test: bool, there: usize, here: usize) -> usize
 impl<S: ListSpace> Kernel<S> {
     /// Set a: answers a.
     pub(crate) fn set(&mut self, caller: &Caller, call: &Call)
-        requires { IsCaller (length self.old.scripts.programs) caller.now }
+        requires { HasCaller caller.now self.old }
         ensures { (tape : Tape) → Follows (does_set_by (caller_view caller.now) (call_view call.now)) self.old self.new tape tape }
     {
         self.silent_by(caller, call, call.number(0));
@@ -30,7 +31,7 @@ impl<S: ListSpace> Kernel<S> {
 
     /// Add a b: answers the sum.
     pub(crate) fn add_words(&mut self, caller: &Caller, call: &Call)
-        requires { IsCaller (length self.old.scripts.programs) caller.now }
+        requires { HasCaller caller.now self.old }
         ensures { (tape : Tape) → Follows (does_add_by (caller_view caller.now) (call_view call.now)) self.old self.new tape tape }
     {
         self.silent_by(caller, call, call.number(0).wrapping_add(call.number(1)));
@@ -38,7 +39,7 @@ impl<S: ListSpace> Kernel<S> {
 
     /// Sub a b: answers the difference.
     pub(crate) fn sub_words(&mut self, caller: &Caller, call: &Call)
-        requires { IsCaller (length self.old.scripts.programs) caller.now }
+        requires { HasCaller caller.now self.old }
         ensures { (tape : Tape) → Follows (does_sub_by (caller_view caller.now) (call_view call.now)) self.old self.new tape tape }
     {
         self.silent_by(caller, call, call.number(0).wrapping_sub(call.number(1)));
@@ -46,7 +47,7 @@ impl<S: ListSpace> Kernel<S> {
 
     /// And a b: answers the bits that both have.
     pub(crate) fn and_words(&mut self, caller: &Caller, call: &Call)
-        requires { IsCaller (length self.old.scripts.programs) caller.now }
+        requires { HasCaller caller.now self.old }
         ensures { (tape : Tape) → Follows (does_and_by (caller_view caller.now) (call_view call.now)) self.old self.new tape tape }
     {
         self.silent_by(caller, call, call.number(0) & call.number(1));
@@ -54,7 +55,7 @@ impl<S: ListSpace> Kernel<S> {
 
     /// Or a b: answers the bits that either has.
     pub(crate) fn or_words(&mut self, caller: &Caller, call: &Call)
-        requires { IsCaller (length self.old.scripts.programs) caller.now }
+        requires { HasCaller caller.now self.old }
         ensures { (tape : Tape) → Follows (does_or_by (caller_view caller.now) (call_view call.now)) self.old self.new tape tape }
     {
         self.silent_by(caller, call, call.number(0) | call.number(1));
@@ -62,7 +63,7 @@ impl<S: ListSpace> Kernel<S> {
 
     /// Task t goes on at that place.
     fn jump_to(&mut self, t: TaskId, place: usize)
-        requires { t < length self.old.scripts.programs }
+        requires { HasTask t self.old }
         ensures { (tape : Tape) → Follows (jumps t place) self.old self.new tape tape }
     {
         self.go_on(t, place);
@@ -70,7 +71,7 @@ impl<S: ListSpace> Kernel<S> {
 
     /// Jump l: goes on at l.
     fn jump(&mut self, t: TaskId, call: &Call)
-        requires { t < length self.old.scripts.programs }
+        requires { HasTask t self.old }
         ensures { (tape : Tape) → Follows (does_jump t (call_view call.now)) self.old self.new tape tape }
     {
         self.jump_to(t, call.number(0) as usize);
@@ -78,7 +79,7 @@ impl<S: ListSpace> Kernel<S> {
 
     /// JumpZ a l: goes on at l if a is 0.
     fn jump_zero(&mut self, t: TaskId, call: &Call)
-        requires { t < length self.old.scripts.programs }
+        requires { HasTask t self.old }
         ensures { (tape : Tape) → Follows (does_jump_zero t (call_view call.now)) self.old self.new tape tape }
     {
         let place = place_if(call.number(0) == 0, call.number(1) as usize, call.next);
@@ -87,7 +88,7 @@ impl<S: ListSpace> Kernel<S> {
 
     /// JumpNZ a l: goes on at l if a is not 0.
     fn jump_not_zero(&mut self, t: TaskId, call: &Call)
-        requires { t < length self.old.scripts.programs }
+        requires { HasTask t self.old }
         ensures { (tape : Tape) → Follows (does_jump_not_zero t (call_view call.now)) self.old self.new tape tape }
     {
         let place = place_if(call.number(0) == 0, call.next, call.number(1) as usize);
@@ -97,7 +98,7 @@ impl<S: ListSpace> Kernel<S> {
     /// Print a: its line shows the value.
     #[tactic(auto, unfolding(execmodel::specs::Plain::does_print))]
     fn print<W: Sink>(&mut self, t: TaskId, call: &Call, out: &mut W)
-        requires { t < length self.old.scripts.programs }
+        requires { HasTask t self.old }
         ensures { Follows (does_print t (call_view call.now)) self.old self.new (W.tape out.old) (W.tape out.new) }
     {
         self.done(t, call, out);
@@ -111,7 +112,7 @@ impl<S: ListSpace> Kernel<S> {
         call: &Call,
         out: &mut W,
     )
-        requires { t < length self.old.scripts.programs }
+        requires { HasTask t self.old }
         ensures { Follows (does_plain word t (call_view call.now)) self.old self.new (W.tape out.old) (W.tape out.new) }
     {
         match word {

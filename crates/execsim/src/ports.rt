@@ -1,6 +1,6 @@
 //! Ports and messages: how they are made and freed, made public, and how messages are put, replied, taken and waited for. An object is
 //! named by the address of its block. The calls of `Heap` have the effects on memory; what a message does to a task is done here.
-ghost use Rattle.std.specs.Prelude.{◌≡◌, ◌^◌, ◌<◌, ◌≤◌, negsuc, [], find, length, true, IfOk, IfSome, IsTrue, OnErr, OnOk, None, Some};
+ghost use Rattle.std.specs.Prelude.{◌≡◌, ◌^◌, ◌<◌, ◌≤◌, negsuc, [], find, true, IfOk, IfSome, IsTrue, OnErr, OnOk, None, Some};
 ghost use Rattle.std.specs.Int.{cast_signed, w32};
 ghost use Rattle.std.specs.Option.{option_map, unwrap_or};
 ghost use Rattle.execlist.specs.Disciplines.{by_priority};
@@ -18,9 +18,10 @@ ghost use Rattle.execmodel.specs.Ports.{does_create_msg_port, does_delete_msg_po
 ghost use Rattle.execmodel.specs.Ports.{does_new_msg, does_free_msg, does_msg_word, does_set_msg_word, does_msg_type, does_put_msg_by, does_get_msg_by, does_wait_port, does_reply_msg_by};
 ghost use Rattle.execheap.specs.Listing.{listed};
 ghost use Rattle.execheap.specs.Refusals.{alert_of};
+ghost use Rattle.execsim.specs.Callers.{HasTask, Runs, HasCaller};
 ghost use Rattle.execsim.specs.Actions.{given_back_or_alerted, performed, performed_or_alerted_by};
 ghost use Rattle.execsim.specs.Agreement.{Follows};
-ghost use Rattle.execsim.specs.Views.{IsCaller, call_view, caller_view};
+ghost use Rattle.execsim.specs.Views.{call_view, caller_view};
 
 use crate::command::{Call, Caller};
 use crate::kernel::Kernel;
@@ -50,7 +51,7 @@ impl<S: ListSpace> Kernel<S> {
 
     /// The signal that the running task would get if it asked for any.
     fn next_signal(&self, t: TaskId) -> Option<u32>
-        requires { self.now.schedule.running ≡ Some t }
+        requires { Runs t self.now }
         ensures value { result ≡ grant (negsuc 0) (signals_of self.now.schedule t) }
         ensures own { IfSome result (λ bit. 16 ≤ bit) }
         ensures signal { IfSome result (λ bit. bit < 32) }
@@ -75,8 +76,8 @@ impl<S: ListSpace> Kernel<S> {
     /// signal left, and then no library is asked to give way, or there is no room for the port (autodoc exec.library/CreateMsgPort; when
     /// libraries are asked: own choice).
     fn create_msg_port<W: Sink>(&mut self, t: TaskId, call: &Call, out: &mut W)
-        requires known { t < length self.old.scripts.programs }
-        requires runs { self.old.schedule.running ≡ Some t }
+        requires known { HasTask t self.old }
+        requires runs { Runs t self.old }
         ensures { Follows (does_create_msg_port t (call_view call.now)) self.old self.new (W.tape out.old) (W.tape out.new) }
     {
         match self.next_signal(t) {
@@ -109,7 +110,7 @@ impl<S: ListSpace> Kernel<S> {
         call: &Call,
         out: &mut W,
     )
-        requires known { t < length self.old.scripts.programs }
+        requires known { HasTask t self.old }
         requires own { IfOk tried (λ owner. 16 ≤ owner.1) }
         requires signal { IfOk tried (λ owner. owner.1 < 32) }
         ensures { Follows (given_back_or_alerted tried t (call_view call.now)) self.old self.new (W.tape out.old) (W.tape out.new) }
@@ -126,7 +127,7 @@ impl<S: ListSpace> Kernel<S> {
     /// DeleteMsgPort port: frees a port and gives its signal back to its task; 0 does nothing. HANDLE where no port begins there, PORT
     /// where it has messages, is public, or is the reply port of a request under way (autodoc exec.library/DeleteMsgPort; the alerts: own choice).
     fn delete_msg_port<W: Sink>(&mut self, t: TaskId, call: &Call, out: &mut W)
-        requires { t < length self.old.scripts.programs }
+        requires { HasTask t self.old }
         ensures { Follows (does_delete_msg_port t (call_view call.now)) self.old self.new (W.tape out.old) (W.tape out.new) }
     {
         let port = call.number(0);
@@ -156,7 +157,7 @@ impl<S: ListSpace> Kernel<S> {
     /// AddPort port name pri: makes a port public. HANDLE where no port begins there, VALUE where the priority, read as a signed word, is
     /// not in -128 to 127, LINK where the port is public (autodoc exec.library/AddPort; the alerts: own choice).
     fn add_port<W: Sink>(&mut self, t: TaskId, call: &Call, out: &mut W)
-        requires { t < length self.old.scripts.programs }
+        requires { HasTask t self.old }
         ensures { Follows (does_add_port t (call_view call.now)) self.old self.new (W.tape out.old) (W.tape out.new) }
     {
         let port = call.number(0);
@@ -174,7 +175,7 @@ impl<S: ListSpace> Kernel<S> {
     /// RemPort port: makes a port public no more. HANDLE where no port begins there, LINK where it is not public (autodoc
     /// exec.library/RemPort; the alerts: own choice).
     fn rem_port<W: Sink>(&mut self, t: TaskId, call: &Call, out: &mut W)
-        requires { t < length self.old.scripts.programs }
+        requires { HasTask t self.old }
         ensures { Follows (does_rem_port t (call_view call.now)) self.old self.new (W.tape out.old) (W.tape out.new) }
     {
         let port = call.number(0);
@@ -194,7 +195,7 @@ impl<S: ListSpace> Kernel<S> {
 
     /// FindPort name: answers the public port of that name, or 0 (autodoc exec.library/FindPort).
     fn find_port<W: Sink>(&mut self, t: TaskId, call: &Call, out: &mut W)
-        requires { t < length self.old.scripts.programs }
+        requires { HasTask t self.old }
         ensures { Follows (does_find_port t (call_view call.now)) self.old self.new (W.tape out.old) (W.tape out.new) }
     {
         let port = self.public_port(call.name(0));
@@ -206,7 +207,7 @@ impl<S: ListSpace> Kernel<S> {
     /// PortSignal port: the port signals its task, as a new port does. HANDLE where no port begins there (RKM Libraries, Exec Messages and
     /// Ports: mp_Flags, PA_SIGNAL; that there is a call for it: own choice).
     fn port_signal<W: Sink>(&mut self, t: TaskId, call: &Call, out: &mut W)
-        requires { t < length self.old.scripts.programs }
+        requires { HasTask t self.old }
         ensures { Follows (does_port_signal t (call_view call.now)) self.old self.new (W.tape out.old) (W.tape out.new) }
     {
         let port = call.number(0);
@@ -217,7 +218,7 @@ impl<S: ListSpace> Kernel<S> {
     /// PortCause port name: the port causes the software interrupt of that name. HANDLE where no port begins there (RKM Libraries, Exec
     /// Messages and Ports: mp_Flags, PA_SOFTINT; that there is a call for it: own choice).
     fn port_cause<W: Sink>(&mut self, t: TaskId, call: &Call, out: &mut W)
-        requires { t < length self.old.scripts.programs }
+        requires { HasTask t self.old }
         ensures { Follows (does_port_cause t (call_view call.now)) self.old self.new (W.tape out.old) (W.tape out.new) }
     {
         let port = call.number(0);
@@ -229,7 +230,7 @@ impl<S: ListSpace> Kernel<S> {
     /// PortIgnore port: the port does nothing where a message arrives. HANDLE where no port begins there (RKM Libraries, Exec Messages and
     /// Ports: mp_Flags, PA_IGNORE; that there is a call for it: own choice).
     fn port_ignore<W: Sink>(&mut self, t: TaskId, call: &Call, out: &mut W)
-        requires { t < length self.old.scripts.programs }
+        requires { HasTask t self.old }
         ensures { Follows (does_port_ignore t (call_view call.now)) self.old self.new (W.tape out.old) (W.tape out.new) }
     {
         let port = call.number(0);
@@ -242,7 +243,7 @@ impl<S: ListSpace> Kernel<S> {
     /// NewMsg port word: answers the address of a new message with that reply port, or none for 0, and that word; or 0. HANDLE where the
     /// reply port is not 0 and no port begins there (own choice).
     fn new_msg<W: Sink>(&mut self, t: TaskId, call: &Call, out: &mut W)
-        requires { t < length self.old.scripts.programs }
+        requires { HasTask t self.old }
         ensures { Follows (does_new_msg t (call_view call.now)) self.old self.new (W.tape out.old) (W.tape out.new) }
     {
         let reply = call.number(0);
@@ -255,7 +256,7 @@ impl<S: ListSpace> Kernel<S> {
 
     /// FreeMsg message: frees a message. HANDLE where none begins there, LINK where a port has it (own choice).
     fn free_msg<W: Sink>(&mut self, t: TaskId, call: &Call, out: &mut W)
-        requires { t < length self.old.scripts.programs }
+        requires { HasTask t self.old }
         ensures { Follows (does_free_msg t (call_view call.now)) self.old self.new (W.tape out.old) (W.tape out.new) }
     {
         let message = call.number(0);
@@ -267,7 +268,7 @@ impl<S: ListSpace> Kernel<S> {
 
     /// MsgWord message: answers its word. HANDLE where no message begins there (own choice).
     fn msg_word<W: Sink>(&mut self, t: TaskId, call: &Call, out: &mut W)
-        requires { t < length self.old.scripts.programs }
+        requires { HasTask t self.old }
         ensures { Follows (does_msg_word t (call_view call.now)) self.old self.new (W.tape out.old) (W.tape out.new) }
     {
         let message = call.number(0);
@@ -277,7 +278,7 @@ impl<S: ListSpace> Kernel<S> {
 
     /// SetMsgWord message word: gives the message another word. HANDLE where no message begins there (own choice).
     fn set_msg_word<W: Sink>(&mut self, t: TaskId, call: &Call, out: &mut W)
-        requires { t < length self.old.scripts.programs }
+        requires { HasTask t self.old }
         ensures { Follows (does_set_msg_word t (call_view call.now)) self.old self.new (W.tape out.old) (W.tape out.new) }
     {
         let message = call.number(0);
@@ -300,7 +301,7 @@ impl<S: ListSpace> Kernel<S> {
     /// MsgType message: answers its type, 0 for a new one. HANDLE where no message begins there (RKM Libraries, Exec Messages and Ports:
     /// ln_Type; that a new one has type 0, and the alert: own choice).
     fn msg_type<W: Sink>(&mut self, t: TaskId, call: &Call, out: &mut W)
-        requires { t < length self.old.scripts.programs }
+        requires { HasTask t self.old }
         ensures { Follows (does_msg_type t (call_view call.now)) self.old self.new (W.tape out.old) (W.tape out.new) }
     {
         let message = call.number(0);
@@ -338,7 +339,7 @@ impl<S: ListSpace> Kernel<S> {
         call: &Call,
         out: &mut W,
     )
-        requires { IsCaller (length self.old.scripts.programs) caller.now }
+        requires { HasCaller caller.now self.old }
         ensures { Follows (performed_or_alerted_by tried (caller_view caller.now) (call_view call.now)) self.old self.new (W.tape out.old) (W.tape out.new) }
     {
         match tried {
@@ -353,7 +354,7 @@ impl<S: ListSpace> Kernel<S> {
     /// PutMsg port message: puts a message at a port, behind those that it has. HANDLE where either is none, LINK where a port has the
     /// message (autodoc exec.library/PutMsg; the alerts: own choice).
     pub(crate) fn put_msg<W: Sink>(&mut self, caller: &Caller, call: &Call, out: &mut W)
-        requires { IsCaller (length self.old.scripts.programs) caller.now }
+        requires { HasCaller caller.now self.old }
         ensures { Follows (does_put_msg_by (caller_view caller.now) (call_view call.now)) self.old self.new (W.tape out.old) (W.tape out.new) }
     {
         let port = call.number(0);
@@ -366,7 +367,7 @@ impl<S: ListSpace> Kernel<S> {
     /// LINK where a port has it, HANDLE where no port begins at its reply port's address (autodoc exec.library/ReplyMsg; the alerts: own
     /// choice).
     pub(crate) fn reply_msg<W: Sink>(&mut self, caller: &Caller, call: &Call, out: &mut W)
-        requires { IsCaller (length self.old.scripts.programs) caller.now }
+        requires { HasCaller caller.now self.old }
         ensures { Follows (does_reply_msg_by (caller_view caller.now) (call_view call.now)) self.old self.new (W.tape out.old) (W.tape out.new) }
     {
         let message = call.number(0);
@@ -379,7 +380,7 @@ impl<S: ListSpace> Kernel<S> {
     /// GetMsg port: answers the first message, which leaves the port, or 0. HANDLE where no port begins there (autodoc
     /// exec.library/GetMsg; the alert: own choice).
     pub(crate) fn get_msg<W: Sink>(&mut self, caller: &Caller, call: &Call, out: &mut W)
-        requires { IsCaller (length self.old.scripts.programs) caller.now }
+        requires { HasCaller caller.now self.old }
         ensures { Follows (does_get_msg_by (caller_view caller.now) (call_view call.now)) self.old self.new (W.tape out.old) (W.tape out.new) }
     {
         let port = call.number(0);
@@ -389,7 +390,7 @@ impl<S: ListSpace> Kernel<S> {
 
     /// The running task clears its signals of the mask, and waits for new ones.
     fn clear_and_wait(&mut self, t: TaskId, mask: u32)
-        requires { self.old.schedule.running ≡ Some t }
+        requires { Runs t self.old }
         ensures { self.new ≡ record self.old { schedule = clears_and_waits t mask self.old.schedule } }
     {
         self.sched.wait_clear(mask);
@@ -403,8 +404,8 @@ impl<S: ListSpace> Kernel<S> {
         call: &Call,
         out: &mut W,
     )
-        requires known { t < length self.old.scripts.programs }
-        requires runs { self.old.schedule.running ≡ Some t }
+        requires known { HasTask t self.old }
+        requires runs { Runs t self.old }
         ensures { Follows (looked None mask t (call_view call.now)) self.old self.new (W.tape out.old) (W.tape out.new) }
     {
         self.clear_and_wait(t, mask);
@@ -413,7 +414,7 @@ impl<S: ListSpace> Kernel<S> {
 
     /// The running task clears its signals of the mask.
     pub(crate) fn lose(&mut self, t: TaskId, mask: u32)
-        requires { self.old.schedule.running ≡ Some t }
+        requires { Runs t self.old }
         ensures next { self.new ≡ record self.old { schedule = loses t mask self.old.schedule } }
         ensures runs { self.new.schedule.running ≡ Some t }
     {
@@ -422,8 +423,8 @@ impl<S: ListSpace> Kernel<S> {
 
     /// The call at a port with that first message, or with none, and with that signal: it answers the message, or waits.
     fn look<W: Sink>(&mut self, message: Option<u32>, bit: u32, t: TaskId, call: &Call, out: &mut W)
-        requires known { t < length self.old.scripts.programs }
-        requires runs { self.old.schedule.running ≡ Some t }
+        requires known { HasTask t self.old }
+        requires runs { Runs t self.old }
         requires signal { bit < 32 }
         ensures { Follows (looked message (2 ^ bit) t (call_view call.now)) self.old self.new (W.tape out.old) (W.tape out.new) }
     {
@@ -437,8 +438,8 @@ impl<S: ListSpace> Kernel<S> {
     /// signal, and looks again when it next runs, after that signal is cleared. HANDLE where no port begins there, PORT where it does not
     /// signal the caller (autodoc exec.library/WaitPort; how a task waits and looks again, and the alerts: own choice).
     fn wait_port<W: Sink>(&mut self, t: TaskId, call: &Call, out: &mut W)
-        requires known { t < length self.old.scripts.programs }
-        requires runs { self.old.schedule.running ≡ Some t }
+        requires known { HasTask t self.old }
+        requires runs { Runs t self.old }
         ensures { Follows (does_wait_port t (call_view call.now)) self.old self.new (W.tape out.old) (W.tape out.new) }
     {
         let port = call.number(0);
@@ -460,8 +461,8 @@ impl<S: ListSpace> Kernel<S> {
         call: &Call,
         out: &mut W,
     )
-        requires known { t < length self.old.scripts.programs }
-        requires runs { self.old.schedule.running ≡ Some t }
+        requires known { HasTask t self.old }
+        requires runs { Runs t self.old }
         ensures { Follows (does_ports word t (call_view call.now)) self.old self.new (W.tape out.old) (W.tape out.new) }
     {
         match word {

@@ -1,7 +1,7 @@
 //! Requests of timer.device: how they are made and freed, opened, written, begun, waited for and aborted; and how those finish whose time
 //! has come, at a tick or where system time is set. A request is named by the address of its block. The calls of `Heap` have the effects
 //! on memory; what a reply does to a task is done here.
-ghost use Rattle.std.specs.Prelude.{◌≡◌, ◌<◌, ◌^◌, length, false, true, pos, unwrap_or, IfOk, OnErr, OnOk, Some, if◌then◌else◌};
+ghost use Rattle.std.specs.Prelude.{◌≡◌, ◌^◌, false, true, pos, unwrap_or, IfOk, OnErr, OnOk, if◌then◌else◌};
 ghost use Rattle.std.specs.Int.{cast_unsigned, w32};
 ghost use Rattle.iorequest.specs.Request.{is_under_way};
 ghost use Rattle.iorequest.specs.Requests.{unit_error};
@@ -13,6 +13,7 @@ ghost use Rattle.execmodel.specs.Requests.{does_create_io_request, does_delete_i
 ghost use Rattle.execmodel.specs.Requests.{does_check_io, does_wait_io, does_abort_io, does_io_secs, does_io_micros, does_io_error, does_io_flags};
 ghost use Rattle.execheap.specs.Listing.{IsSignal, ended_if, finishing};
 ghost use Rattle.execheap.specs.Refusals.{alert_of};
+ghost use Rattle.execsim.specs.Callers.{HasTask, Runs};
 ghost use Rattle.execsim.specs.Actions.{aborts_or_alerted, finishes_all_until, finishes_with, tells_or_waits};
 ghost use Rattle.execsim.specs.Agreement.{Follows};
 ghost use Rattle.execsim.specs.Time.{HasTimeFor};
@@ -70,7 +71,7 @@ impl<S: ListSpace> Kernel<S> {
     /// CreateIORequest port: answers the address of a new request with that reply port, or 0; 0 for port 0. HANDLE where the port is not 0
     /// and none begins there (autodoc exec.library/CreateIORequest; the alert: own choice).
     fn create_io_request<W: Sink>(&mut self, t: TaskId, call: &Call, out: &mut W)
-        requires { t < length self.old.scripts.programs }
+        requires { HasTask t self.old }
         ensures { Follows (does_create_io_request t (call_view call.now)) self.old self.new (W.tape out.old) (W.tape out.new) }
     {
         let port = call.number(0);
@@ -87,7 +88,7 @@ impl<S: ListSpace> Kernel<S> {
     /// DeleteIORequest request: frees a request; 0 does nothing. HANDLE where none begins there, IO where it is under way, LINK where its
     /// reply is queued (autodoc exec.library/DeleteIORequest; the alerts: own choice).
     fn delete_io_request<W: Sink>(&mut self, t: TaskId, call: &Call, out: &mut W)
-        requires { t < length self.old.scripts.programs }
+        requires { HasTask t self.old }
         ensures { Follows (does_delete_io_request t (call_view call.now)) self.old self.new (W.tape out.old) (W.tape out.new) }
     {
         let request = call.number(0);
@@ -118,7 +119,7 @@ impl<S: ListSpace> Kernel<S> {
     /// there is no such device or unit, and the request is then not open. HANDLE where no request begins there, IO where it is under way
     /// (autodoc exec.library/OpenDevice; the alerts: own choice).
     fn open_device<W: Sink>(&mut self, t: TaskId, call: &Call, out: &mut W)
-        requires { t < length self.old.scripts.programs }
+        requires { HasTask t self.old }
         ensures { Follows (does_open_device t (call_view call.now)) self.old self.new (W.tape out.old) (W.tape out.new) }
     {
         let unit = timer_unit(name_or_empty(call.name(0)), call.number(1));
@@ -129,7 +130,7 @@ impl<S: ListSpace> Kernel<S> {
     /// CloseDevice request: the request is not open. HANDLE where none begins there, IO where it is under way (autodoc
     /// exec.library/CloseDevice; the alerts: own choice).
     fn close_device<W: Sink>(&mut self, t: TaskId, call: &Call, out: &mut W)
-        requires { t < length self.old.scripts.programs }
+        requires { HasTask t self.old }
         ensures { Follows (does_close_device t (call_view call.now)) self.old self.new (W.tape out.old) (W.tape out.new) }
     {
         let request = call.number(0);
@@ -141,7 +142,7 @@ impl<S: ListSpace> Kernel<S> {
     /// there, VALUE where the command is above 65535, IO where the request is under way (RKM Devices, Introduction to Amiga System Devices:
     /// io_Command; Devices, timer device: tr_time; that there is a call for it, and the alerts: own choice).
     fn set_io<W: Sink>(&mut self, t: TaskId, call: &Call, out: &mut W)
-        requires { t < length self.old.scripts.programs }
+        requires { HasTask t self.old }
         ensures { Follows (does_set_io t (call_view call.now)) self.old self.new (W.tape out.old) (W.tape out.new) }
     {
         let request = call.number(0);
@@ -164,7 +165,7 @@ impl<S: ListSpace> Kernel<S> {
     /// there, IO where it is under way or not open, LINK where its reply is queued, HANDLE where no port begins at its reply port's address
     /// (autodoc exec.library/SendIO; the alerts: own choice).
     fn send_io<W: Sink>(&mut self, t: TaskId, call: &Call, out: &mut W)
-        requires { t < length self.old.scripts.programs }
+        requires { HasTask t self.old }
         ensures { Follows (does_send_io t (call_view call.now)) self.old self.new (W.tape out.old) (W.tape out.new) }
     {
         let request = call.number(0);
@@ -174,8 +175,8 @@ impl<S: ListSpace> Kernel<S> {
 
     /// The call that looks for a request answers its error, or waits for its reply port's signal.
     fn look_for<W: Sink>(&mut self, found: Awaited, t: TaskId, call: &Call, out: &mut W)
-        requires known { t < length self.old.scripts.programs }
-        requires runs { self.old.schedule.running ≡ Some t }
+        requires known { HasTask t self.old }
+        requires runs { Runs t self.old }
         requires signal { IsSignal found }
         ensures { Follows (tells_or_waits found t (call_view call.now)) self.old self.new (W.tape out.old) (W.tape out.new) }
     {
@@ -190,8 +191,8 @@ impl<S: ListSpace> Kernel<S> {
     /// there, IO where it never was begun, LINK where it was replied and its reply is not queued, PORT where it is under way and its reply
     /// port does not signal the caller (autodoc exec.library/WaitIO; how a task waits and looks again, and the alerts: own choice).
     fn wait_io<W: Sink>(&mut self, t: TaskId, call: &Call, out: &mut W)
-        requires known { t < length self.old.scripts.programs }
-        requires runs { self.old.schedule.running ≡ Some t }
+        requires known { HasTask t self.old }
+        requires runs { Runs t self.old }
         ensures { Follows (does_wait_io t (call_view call.now)) self.old self.new (W.tape out.old) (W.tape out.new) }
     {
         let request = call.number(0);
@@ -208,8 +209,8 @@ impl<S: ListSpace> Kernel<S> {
     /// by WaitIO. The call of a task that has waited begins nothing: it is WaitIO's. Alerts as SendIO's, and PORT where the reply port does
     /// not signal the caller (autodoc exec.library/DoIO; the alerts: own choice).
     fn do_io<W: Sink>(&mut self, t: TaskId, call: &Call, out: &mut W)
-        requires known { t < length self.old.scripts.programs }
-        requires runs { self.old.schedule.running ≡ Some t }
+        requires known { HasTask t self.old }
+        requires runs { Runs t self.old }
         ensures { Follows (does_do_io t (call_view call.now)) self.old self.new (W.tape out.old) (W.tape out.new) }
     {
         if self.is_tried_again(t) {
@@ -237,7 +238,7 @@ impl<S: ListSpace> Kernel<S> {
     /// CheckIO request: answers 0 for a request that is under way, and else the request, and leaves its reply where it is. HANDLE where no
     /// request begins there (autodoc exec.library/CheckIO; the alert: own choice).
     fn check_io<W: Sink>(&mut self, t: TaskId, call: &Call, out: &mut W)
-        requires { t < length self.old.scripts.programs }
+        requires { HasTask t self.old }
         ensures { Follows (does_check_io t (call_view call.now)) self.old self.new (W.tape out.old) (W.tape out.new) }
     {
         let request = call.number(0);
@@ -254,7 +255,7 @@ impl<S: ListSpace> Kernel<S> {
         call: &Call,
         out: &mut W,
     )
-        requires { t < length self.old.scripts.programs }
+        requires { HasTask t self.old }
         ensures { Follows (aborts_or_alerted tried t (call_view call.now)) self.old self.new (W.tape out.old) (W.tape out.new) }
     {
         match tried {
@@ -272,7 +273,7 @@ impl<S: ListSpace> Kernel<S> {
     /// AbortIO request: a request that is under way is replied at once, with the error IOERR_ABORTED (-2), and 0 is answered; for any other
     /// the word of -1. HANDLE where no request begins there (autodoc exec.library/AbortIO; the alert: own choice).
     fn abort_io<W: Sink>(&mut self, t: TaskId, call: &Call, out: &mut W)
-        requires { t < length self.old.scripts.programs }
+        requires { HasTask t self.old }
         ensures { Follows (does_abort_io t (call_view call.now)) self.old self.new (W.tape out.old) (W.tape out.new) }
     {
         let request = call.number(0);
@@ -285,7 +286,7 @@ impl<S: ListSpace> Kernel<S> {
     /// IOSecs request: answers the seconds of its time. HANDLE where no request begins there (Devices, timer device: tr_time; that there is
     /// a call for it, and the alert: own choice).
     fn io_secs<W: Sink>(&mut self, t: TaskId, call: &Call, out: &mut W)
-        requires { t < length self.old.scripts.programs }
+        requires { HasTask t self.old }
         ensures { Follows (does_io_secs t (call_view call.now)) self.old self.new (W.tape out.old) (W.tape out.new) }
     {
         let tried = self.memory.secs(call.number(0));
@@ -295,7 +296,7 @@ impl<S: ListSpace> Kernel<S> {
     /// IOMicros request: answers the microseconds of its time. HANDLE where no request begins there (Devices, timer device: tr_time; that
     /// there is a call for it, and the alert: own choice).
     fn io_micros<W: Sink>(&mut self, t: TaskId, call: &Call, out: &mut W)
-        requires { t < length self.old.scripts.programs }
+        requires { HasTask t self.old }
         ensures { Follows (does_io_micros t (call_view call.now)) self.old self.new (W.tape out.old) (W.tape out.new) }
     {
         let tried = self.memory.micros(call.number(0));
@@ -317,7 +318,7 @@ impl<S: ListSpace> Kernel<S> {
     /// no request begins there (RKM Devices, Introduction to Amiga System Devices: io_Error; that there is a call for it, and the alert: own
     /// choice).
     fn io_error<W: Sink>(&mut self, t: TaskId, call: &Call, out: &mut W)
-        requires { t < length self.old.scripts.programs }
+        requires { HasTask t self.old }
         ensures { Follows (does_io_error t (call_view call.now)) self.old self.new (W.tape out.old) (W.tape out.new) }
     {
         let tried = self.error(call.number(0));
@@ -338,7 +339,7 @@ impl<S: ListSpace> Kernel<S> {
     /// IOFlags request: answers 1 where IOF_QUICK is set, and else 0. HANDLE where no request begins there (RKM Devices, Introduction to
     /// Amiga System Devices: io_Flags; that there is a call for it, and the alert: own choice).
     fn io_flags<W: Sink>(&mut self, t: TaskId, call: &Call, out: &mut W)
-        requires { t < length self.old.scripts.programs }
+        requires { HasTask t self.old }
         ensures { Follows (does_io_flags t (call_view call.now)) self.old self.new (W.tape out.old) (W.tape out.new) }
     {
         let tried = self.flags(call.number(0));
@@ -353,8 +354,8 @@ impl<S: ListSpace> Kernel<S> {
         call: &Call,
         out: &mut W,
     )
-        requires known { t < length self.old.scripts.programs }
-        requires runs { self.old.schedule.running ≡ Some t }
+        requires known { HasTask t self.old }
+        requires runs { Runs t self.old }
         ensures { Follows (does_requests word t (call_view call.now)) self.old self.new (W.tape out.old) (W.tape out.new) }
     {
         match word {

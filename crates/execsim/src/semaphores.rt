@@ -1,6 +1,6 @@
 //! Signal semaphores: how they are made and freed, obtained and released. A semaphore is named by the address of its block. The calls of
 //! `Heap` have the effects on memory; which task waits and which is made ready is done here.
-ghost use Rattle.std.specs.Prelude.{◌≡◌, ◌<◌, [], length, if◌then◌else◌, Some, IfOk, IfSome};
+ghost use Rattle.std.specs.Prelude.{◌≡◌, ◌<◌, [], if◌then◌else◌, IfOk, IfSome};
 ghost use Rattle.execlist.specs.Disciplines.{by_priority};
 ghost use Rattle.taskq.specs.declared.TaskState.{TaskState};
 ghost use Rattle.taskq.specs.declared.Why.{Why};
@@ -15,6 +15,7 @@ ghost use Rattle.execmodel.specs.Objects.{place_for_object};
 ghost use Rattle.execmodel.specs.Semaphores.{is_semaphore, is_tried_again, semaphore_size, does_semaphores};
 ghost use Rattle.execmodel.specs.Semaphores.{does_new_sem, does_free_sem, does_obtain_semaphore, does_attempt_semaphore, does_release_semaphore};
 ghost use Rattle.execmodel.specs.Agreement.{WaitsForNone};
+ghost use Rattle.execsim.specs.Callers.{HasTask, Runs};
 ghost use Rattle.execsim.specs.Actions.{obtains_or_alerted, passes_or_alerted};
 ghost use Rattle.execsim.specs.Agreement.{Follows};
 ghost use Rattle.execsim.specs.Reached.{IsInOrder, QueuesAgree};
@@ -52,7 +53,7 @@ impl<S: ListSpace> Kernel<S> {
     /// NewSem: answers the address of a new semaphore, which no task owns, or 0 (autodoc exec.library/InitSemaphore; that it takes the
     /// memory: own choice).
     fn new_sem<W: Sink>(&mut self, t: TaskId, call: &Call, out: &mut W)
-        requires { t < length self.old.scripts.programs }
+        requires { HasTask t self.old }
         ensures { Follows (does_new_sem t (call_view call.now)) self.old self.new (W.tape out.old) (W.tape out.new) }
     {
         let semaphore = self.make_semaphore();
@@ -61,7 +62,7 @@ impl<S: ListSpace> Kernel<S> {
 
     /// FreeSem semaphore: frees a semaphore. HANDLE where none begins there, SEM where a task owns it (own choice).
     fn free_sem<W: Sink>(&mut self, t: TaskId, call: &Call, out: &mut W)
-        requires { t < length self.old.scripts.programs }
+        requires { HasTask t self.old }
         ensures { Follows (does_free_sem t (call_view call.now)) self.old self.new (W.tape out.old) (W.tape out.new) }
     {
         let semaphore = call.number(0);
@@ -73,7 +74,7 @@ impl<S: ListSpace> Kernel<S> {
 
     /// Whether task t has waited in the call that it tries.
     pub(crate) fn is_tried_again(&self, t: TaskId) -> bool
-        requires { t < length self.now.scripts.programs }
+        requires { HasTask t self.now }
         ensures { result ≡ is_tried_again t self.now.scripts }
     {
         self.program(t).kept().is_some()
@@ -81,7 +82,7 @@ impl<S: ListSpace> Kernel<S> {
 
     /// The running task waits for a semaphore.
     fn wait_at_semaphore(&mut self, t: TaskId)
-        requires { self.old.schedule.running ≡ Some t }
+        requires { Runs t self.old }
         ensures { self.new ≡ record self.old { schedule = waits_at_semaphore t self.old.schedule } }
     {
         self.sched.wait_sem();
@@ -95,8 +96,8 @@ impl<S: ListSpace> Kernel<S> {
         call: &Call,
         out: &mut W,
     )
-        requires known { t < length self.old.scripts.programs }
-        requires runs { self.old.schedule.running ≡ Some t }
+        requires known { HasTask t self.old }
+        requires runs { Runs t self.old }
         ensures { Follows (obtains_or_alerted tried (argument 0 (call_view call.now)) t (call_view call.now)) self.old self.new (W.tape out.old) (W.tape out.new) }
     {
         match tried {
@@ -115,8 +116,8 @@ impl<S: ListSpace> Kernel<S> {
     /// behind those that asked before. The call of a task that has waited is complete. HANDLE where no semaphore begins there, SEM where the
     /// count would go past 32767 (autodoc exec.library/ObtainSemaphore; the alerts: own choice).
     fn obtain_semaphore<W: Sink>(&mut self, t: TaskId, call: &Call, out: &mut W)
-        requires known { t < length self.old.scripts.programs }
-        requires runs { self.old.schedule.running ≡ Some t }
+        requires known { HasTask t self.old }
+        requires runs { Runs t self.old }
         requires stopped { WaitsForNone t self.old.memory.heap }
         requires room { t < self.old.memory.tasks }
         ensures { Follows (does_obtain_semaphore t (call_view call.now)) self.old self.new (W.tape out.old) (W.tape out.new) }
@@ -134,7 +135,7 @@ impl<S: ListSpace> Kernel<S> {
     /// HANDLE where no semaphore begins there, SEM where the count would go past 32767 (autodoc exec.library/AttemptSemaphore; the alerts:
     /// own choice).
     fn attempt_semaphore<W: Sink>(&mut self, t: TaskId, call: &Call, out: &mut W)
-        requires { t < length self.old.scripts.programs }
+        requires { HasTask t self.old }
         ensures { Follows (does_attempt_semaphore t (call_view call.now)) self.old self.new (W.tape out.old) (W.tape out.new) }
     {
         let semaphore = call.number(0);
@@ -162,7 +163,7 @@ impl<S: ListSpace> Kernel<S> {
         call: &Call,
         out: &mut W,
     )
-        requires known { t < length self.old.scripts.programs }
+        requires known { HasTask t self.old }
         requires waits { IfOk tried (λ heir. IfSome heir (λ owner. status_of self.old.schedule owner ≡ TaskState.Waiting Why.Sem)) }
         ensures { Follows (passes_or_alerted tried (argument 0 (call_view call.now)) t (call_view call.now)) self.old self.new (W.tape out.old) (W.tape out.new) }
     {
@@ -182,7 +183,7 @@ impl<S: ListSpace> Kernel<S> {
     /// that wait there is the owner with the count 1, and ready; where none waits, no task owns it. HANDLE where no semaphore begins there,
     /// SEM where the caller does not own it (autodoc exec.library/ReleaseSemaphore; the alerts: own choice).
     fn release_semaphore<W: Sink>(&mut self, t: TaskId, call: &Call, out: &mut W)
-        requires known { t < length self.old.scripts.programs }
+        requires known { HasTask t self.old }
         requires agree { QueuesAgree self.old }
         ensures { Follows (does_release_semaphore t (call_view call.now)) self.old self.new (W.tape out.old) (W.tape out.new) }
     {
@@ -199,8 +200,8 @@ impl<S: ListSpace> Kernel<S> {
         call: &Call,
         out: &mut W,
     )
-        requires known { t < length self.old.scripts.programs }
-        requires runs { self.old.schedule.running ≡ Some t }
+        requires known { HasTask t self.old }
+        requires runs { Runs t self.old }
         requires agree { IsInOrder self.old }
         ensures { Follows (does_semaphores word t (call_view call.now)) self.old self.new (W.tape out.old) (W.tape out.new) }
     {

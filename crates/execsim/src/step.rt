@@ -1,5 +1,5 @@
 //! Steps and settling: all interleaving comes from the list of events.
-ghost use Rattle.std.specs.Prelude.{◌≡◌, ◌<◌, length, sum_by, Some, None, IfSome, if◌then◌else◌};
+ghost use Rattle.std.specs.Prelude.{◌≡◌, length, sum_by, Some, None, IfSome, if◌then◌else◌};
 ghost use Rattle.execlist.specs.Disciplines.{by_priority};
 ghost use Rattle.exectrace.specs.Sink.{Puts};
 ghost use Rattle.exectrace.specs.Trace.{printed_line};
@@ -11,6 +11,7 @@ ghost use Rattle.execmodel.specs.State.{andthen, on_schedule, program_of, unless
 ghost use Rattle.execmodel.specs.Calls.{next_call};
 ghost use Rattle.execmodel.specs.Step.{announced, switches, settle, does, ends, acts, acting, step, steps, request, tick, ticks, starts, all_added, event, events, task_step};
 ghost use Rattle.execmodel.specs.Interrupts.{interrupts};
+ghost use Rattle.execsim.specs.Callers.{HasTask, Runs};
 ghost use Rattle.execsim.specs.Actions.{running_task_step};
 ghost use Rattle.execsim.specs.Agreement.{Follows, FollowsWhileGood, Moves};
 ghost use Rattle.execsim.specs.Reached.{IsInOrder};
@@ -57,7 +58,7 @@ impl<S: ListSpace> Kernel<S> {
         match choice {
             None => {}
             Some(Switch::Idle) => put_idle(out),
-            Some(Switch::To(t)) => put_switch(&self.name(t), out),
+            Some(Switch::To(t)) => put_switch(self.name(t), out),
         }
     }
 
@@ -94,8 +95,8 @@ impl<S: ListSpace> Kernel<S> {
     /// line.
     #[tactic(auto, unfolding(execmodel::specs::Step::does))]
     fn does<W: Sink>(&mut self, t: TaskId, call: &Call, out: &mut W)
-        requires known { t < length self.old.scripts.programs }
-        requires runs { self.old.schedule.running ≡ Some t }
+        requires known { HasTask t self.old }
+        requires runs { Runs t self.old }
         requires agree { IsInOrder self.old }
         ensures { Follows (does t (call_view call.now)) self.old self.new (W.tape out.old) (W.tape out.new) }
     {
@@ -120,20 +121,20 @@ impl<S: ListSpace> Kernel<S> {
     /// A task whose commands are used up ends, as by RemTask 0.
     #[inline(never)]
     fn end<W: Sink>(&mut self, t: TaskId, out: &mut W)
-        requires known { t < length self.old.scripts.programs }
-        requires runs { self.old.schedule.running ≡ Some t }
+        requires known { HasTask t self.old }
+        requires runs { Runs t self.old }
         ensures { Follows (ends t) self.old self.new (W.tape out.old) (W.tape out.new) }
     {
         let name = self.name(t);
-        put_call(&name, "RemTask", &[Arg::Value(0)], CallOutcome::Done, out);
+        put_call(name, "RemTask", &[Arg::Value(0)], CallOutcome::Done, out);
         self.leave(t);
     }
 
     /// Task t, which runs, makes this call, which is its next one.
     #[inline(always)]
     fn make<W: Sink>(&mut self, t: TaskId, call: &Call, out: &mut W)
-        requires known { t < length self.old.scripts.programs }
-        requires runs { self.old.schedule.running ≡ Some t }
+        requires known { HasTask t self.old }
+        requires runs { Runs t self.old }
         requires agree { IsInOrder self.old }
         requires next { next_call t self.old.scripts ≡ Some (call_view call.now) }
         ensures { Follows (task_step (Some t)) self.old self.new (W.tape out.old) (W.tape out.new) }
@@ -144,8 +145,8 @@ impl<S: ListSpace> Kernel<S> {
     /// Task t, which runs and has no call left to make, ends.
     #[inline(always)]
     fn make_none<W: Sink>(&mut self, t: TaskId, out: &mut W)
-        requires known { t < length self.old.scripts.programs }
-        requires runs { self.old.schedule.running ≡ Some t }
+        requires known { HasTask t self.old }
+        requires runs { Runs t self.old }
         requires next { next_call t self.old.scripts ≡ None }
         ensures { Follows (task_step (Some t)) self.old self.new (W.tape out.old) (W.tape out.new) }
     {
@@ -155,8 +156,8 @@ impl<S: ListSpace> Kernel<S> {
     /// Task t, which runs, tries the call again that it waits in, or makes that of its next command, or ends.
     #[inline(never)]
     fn make_call<W: Sink>(&mut self, t: TaskId, out: &mut W)
-        requires known { t < length self.old.scripts.programs }
-        requires runs { self.old.schedule.running ≡ Some t }
+        requires known { HasTask t self.old }
+        requires runs { Runs t self.old }
         requires agree { IsInOrder self.old }
         ensures { Follows (task_step (Some t)) self.old self.new (W.tape out.old) (W.tape out.new) }
     {
@@ -188,8 +189,8 @@ impl<S: ListSpace> Kernel<S> {
 
     /// Task t, which runs, does one command, or ends. A plain word that prints nothing is done at once, and no call is made of it.
     fn run_command<W: Sink>(&mut self, t: TaskId, out: &mut W)
-        requires known { t < length self.old.scripts.programs }
-        requires runs { self.old.schedule.running ≡ Some t }
+        requires known { HasTask t self.old }
+        requires runs { Runs t self.old }
         requires agree { IsInOrder self.old }
         ensures { Follows (task_step (Some t)) self.old self.new (W.tape out.old) (W.tape out.new) }
     {
@@ -223,7 +224,7 @@ impl<S: ListSpace> Kernel<S> {
 
     fn running(&self) -> Option<TaskId>
         ensures value { result ≡ self.now.schedule.running }
-        ensures known { IfSome result (λ t. t < length self.now.scripts.programs) }
+        ensures known { IfSome result (λ t. HasTask t self.now) }
     {
         self.sched.running()
     }
@@ -333,7 +334,7 @@ impl<S: ListSpace> Kernel<S> {
 
     /// Task t is added, if it starts with the machine.
     fn start_task(&mut self, t: TaskId)
-        requires { t < length self.old.scripts.programs }
+        requires { HasTask t self.old }
         ensures { self.new ≡ record self.old {
           schedule =
               (if (program_of self.old.scripts t).starts then added by_priority t self.old.schedule else self.old.schedule);

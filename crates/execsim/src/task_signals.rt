@@ -1,13 +1,14 @@
 //! Signals of tasks.
-ghost use Rattle.std.specs.Prelude.{◌≡◌, ◌<◌, ◌-◌, length, Some, true, nat_eq};
+ghost use Rattle.std.specs.Prelude.{◌≡◌, ◌-◌, true, nat_eq};
 ghost use Rattle.std.specs.Int.{cast_signed, cast_unsigned, w32};
 ghost use Rattle.execlist.specs.Disciplines.{by_priority};
 ghost use Rattle.scheduler.specs.Schedule.{signals_of, come_for, after_wait, allocates, frees, sets_signals};
 ghost use Rattle.scheduler.specs.Dispatch.{signalled};
 ghost use Rattle.signals.specs.Signals.{grant, grant_number, is_own_signal};
 ghost use Rattle.execmodel.specs.Signals.{is_mask, does_alloc_signal, does_free_signal, does_set_signal, does_signal_by, does_wait, does_signals};
+ghost use Rattle.execsim.specs.Callers.{HasTask, Runs, HasCaller};
 ghost use Rattle.execsim.specs.Agreement.{Follows};
-ghost use Rattle.execsim.specs.Views.{IsCaller, call_view, caller_view};
+ghost use Rattle.execsim.specs.Views.{call_view, caller_view};
 
 use crate::command::{Call, Caller};
 use crate::kernel::Kernel;
@@ -40,7 +41,7 @@ fn is_own_signal(n: u32) -> bool
 impl<S: ListSpace> Kernel<S> {
     /// The running task allocates a signal; its number, or the word of -1 for none. The word of -1 asks for the highest free one.
     pub(crate) fn allocate_signal(&mut self, t: TaskId, asked: u32) -> u32
-        requires { self.old.schedule.running ≡ Some t }
+        requires { Runs t self.old }
         ensures answer { result ≡ cast_unsigned w32 (grant_number (grant (cast_signed w32 asked) (signals_of self.old.schedule t))) }
         ensures next { self.new ≡ record self.old { schedule = allocates t (cast_signed w32 asked) self.old.schedule } }
     {
@@ -49,7 +50,7 @@ impl<S: ListSpace> Kernel<S> {
 
     /// A signal of task t is not allocated any more.
     pub(crate) fn deallocate_signal(&mut self, t: TaskId, n: u32)
-        requires known { t < length self.old.scripts.programs }
+        requires known { HasTask t self.old }
         requires own { is_own_signal n ≡ true }
         ensures { self.new ≡ record self.old { schedule = frees t n self.old.schedule } }
     {
@@ -58,7 +59,7 @@ impl<S: ListSpace> Kernel<S> {
 
     /// The received signals of the mask become those of `new`, for the running task; its received signals before.
     pub(crate) fn change_signals(&mut self, t: TaskId, new: u32, mask: u32) -> u32
-        requires { self.old.schedule.running ≡ Some t }
+        requires { Runs t self.old }
         ensures answer { result ≡ (signals_of self.old.schedule t).received }
         ensures next { self.new ≡ record self.old { schedule = sets_signals t new mask self.old.schedule } }
     {
@@ -67,8 +68,8 @@ impl<S: ListSpace> Kernel<S> {
 
     /// AllocSignal a (autodoc exec.library/AllocSignal).
     fn alloc_signal<W: Sink>(&mut self, t: TaskId, call: &Call, out: &mut W)
-        requires known { t < length self.old.scripts.programs }
-        requires runs { self.old.schedule.running ≡ Some t }
+        requires known { HasTask t self.old }
+        requires runs { Runs t self.old }
         ensures { Follows (does_alloc_signal t (call_view call.now)) self.old self.new (W.tape out.old) (W.tape out.new) }
     {
         let signal = self.allocate_signal(t, call.number(0));
@@ -77,7 +78,7 @@ impl<S: ListSpace> Kernel<S> {
 
     /// FreeSignal a (autodoc exec.library/FreeSignal).
     fn free_signal<W: Sink>(&mut self, t: TaskId, call: &Call, out: &mut W)
-        requires { t < length self.old.scripts.programs }
+        requires { HasTask t self.old }
         ensures { Follows (does_free_signal t (call_view call.now)) self.old self.new (W.tape out.old) (W.tape out.new) }
     {
         let n = call.number(0);
@@ -93,8 +94,8 @@ impl<S: ListSpace> Kernel<S> {
 
     /// SetSignal new mask (autodoc exec.library/SetSignal).
     fn set_signal<W: Sink>(&mut self, t: TaskId, call: &Call, out: &mut W)
-        requires known { t < length self.old.scripts.programs }
-        requires runs { self.old.schedule.running ≡ Some t }
+        requires known { HasTask t self.old }
+        requires runs { Runs t self.old }
         ensures { Follows (does_set_signal t (call_view call.now)) self.old self.new (W.tape out.old) (W.tape out.new) }
     {
         let new = call.number(0);
@@ -109,7 +110,7 @@ impl<S: ListSpace> Kernel<S> {
 
     /// Task t of the file, if it is live, receives the signals.
     pub(crate) fn signal_task(&mut self, t: TaskId, mask: u32)
-        requires { t < length self.old.scripts.programs }
+        requires { HasTask t self.old }
         ensures { self.new ≡ record self.old { schedule = signalled by_priority t mask self.old.schedule } }
     {
         self.sched.signal(t, mask);
@@ -117,7 +118,7 @@ impl<S: ListSpace> Kernel<S> {
 
     /// The running task takes signals of the mask, or waits for them.
     fn wait_for(&mut self, t: TaskId, mask: u32) -> Option<u32>
-        requires { self.old.schedule.running ≡ Some t }
+        requires { Runs t self.old }
         ensures answer { result ≡ come_for mask (signals_of self.old.schedule t) }
         ensures next { self.new ≡ record self.old { schedule = after_wait t mask self.old.schedule } }
     {
@@ -127,7 +128,7 @@ impl<S: ListSpace> Kernel<S> {
     /// Signal t mask: the task of that number receives the signals of the mask. HANDLE where there is no such task, MASK where the mask
     /// holds a signal that scripts may not name (autodoc exec.library/Signal; the alerts: own choice).
     pub(crate) fn signal<W: Sink>(&mut self, caller: &Caller, call: &Call, out: &mut W)
-        requires { IsCaller (length self.old.scripts.programs) caller.now }
+        requires { HasCaller caller.now self.old }
         ensures { Follows (does_signal_by (caller_view caller.now) (call_view call.now)) self.old self.new (W.tape out.old) (W.tape out.new) }
     {
         let other = call.number(0);
@@ -144,8 +145,8 @@ impl<S: ListSpace> Kernel<S> {
 
     /// Wait mask (autodoc exec.library/Wait).
     fn wait<W: Sink>(&mut self, t: TaskId, call: &Call, out: &mut W)
-        requires known { t < length self.old.scripts.programs }
-        requires runs { self.old.schedule.running ≡ Some t }
+        requires known { HasTask t self.old }
+        requires runs { Runs t self.old }
         ensures { Follows (does_wait t (call_view call.now)) self.old self.new (W.tape out.old) (W.tape out.new) }
     {
         let mask = call.number(0);
@@ -168,8 +169,8 @@ impl<S: ListSpace> Kernel<S> {
         call: &Call,
         out: &mut W,
     )
-        requires known { t < length self.old.scripts.programs }
-        requires runs { self.old.schedule.running ≡ Some t }
+        requires known { HasTask t self.old }
+        requires runs { Runs t self.old }
         ensures { Follows (does_signals word t (call_view call.now)) self.old self.new (W.tape out.old) (W.tape out.new) }
     {
         match word {

@@ -10,6 +10,7 @@ ghost use Rattle.scheduler.specs.Dispatch.{added, reprioritized};
 ghost use Rattle.execmodel.specs.State.{on_heap};
 ghost use Rattle.execmodel.specs.Semaphores.{dropped};
 ghost use Rattle.execmodel.specs.Tasks.{is_live_task, is_priority, is_caller, found_number, does_set_task_pri, does_add_task, does_rem_task, does_find_task, does_tasks};
+ghost use Rattle.execsim.specs.Callers.{HasTask, Runs};
 ghost use Rattle.execsim.specs.Agreement.{Follows};
 ghost use Rattle.execsim.specs.Views.{call_view};
 
@@ -52,7 +53,7 @@ impl<S: ListSpace> Kernel<S> {
 
     /// Gives a task the priority that the word is, read as a signed one, and answers the old one as a word.
     fn set_pri(&mut self, t: TaskId, word: u32) -> u32
-        requires known { t < length self.old.scripts.programs }
+        requires known { HasTask t self.old }
         requires inside { IsTrue (is_priority (cast_signed w32 word)) }
         ensures answer { result ≡ cast_unsigned w32 (priority_of self.old.schedule t) }
         ensures next { self.new ≡ record self.old { schedule = reprioritized by_priority t (cast_signed w32 word) self.old.schedule } }
@@ -65,7 +66,7 @@ impl<S: ListSpace> Kernel<S> {
 
     /// Begins a task that never was added, and answers whether it is one.
     pub(crate) fn add(&mut self, t: TaskId) -> bool
-        requires { t < length self.old.scripts.programs }
+        requires { HasTask t self.old }
         ensures answer { result ≡ is_absent (status_of self.old.schedule t) }
         ensures next { self.new ≡ record self.old { schedule = added by_priority t self.old.schedule } }
     {
@@ -74,7 +75,7 @@ impl<S: ListSpace> Kernel<S> {
 
     /// Ends the running task.
     pub(crate) fn leave(&mut self, t: TaskId)
-        requires { self.old.schedule.running ≡ Some t }
+        requires { Runs t self.old }
         ensures { self.new ≡ record self.old { schedule = leaves t self.old.schedule } }
     {
         self.sched.leave();
@@ -83,7 +84,7 @@ impl<S: ListSpace> Kernel<S> {
     /// Ends a live task that does not run; where it waits for a semaphore, it does so no more.
     fn remove_task(&mut self, t: TaskId)
         requires live { IsTrue (is_live (status_of self.old.schedule t)) }
-        requires known { t < length self.old.scripts.programs }
+        requires known { HasTask t self.old }
         requires stopped { self.old.schedule.running ≢ Some t }
         requires room { t < self.old.memory.tasks }
         ensures { self.new ≡ record self.old {
@@ -97,7 +98,7 @@ impl<S: ListSpace> Kernel<S> {
 
     /// SetTaskPri task pri (autodoc exec.library/SetTaskPri).
     fn set_task_pri<W: Sink>(&mut self, t: TaskId, call: &Call, out: &mut W)
-        requires { t < length self.old.scripts.programs }
+        requires { HasTask t self.old }
         ensures { Follows (does_set_task_pri t (call_view call.now)) self.old self.new (W.tape out.old) (W.tape out.new) }
     {
         let other = call.number(0);
@@ -114,7 +115,7 @@ impl<S: ListSpace> Kernel<S> {
 
     /// AddTask task (autodoc exec.library/AddTask).
     fn add_task<W: Sink>(&mut self, t: TaskId, call: &Call, out: &mut W)
-        requires { t < length self.old.scripts.programs }
+        requires { HasTask t self.old }
         ensures { Follows (does_add_task t (call_view call.now)) self.old self.new (W.tape out.old) (W.tape out.new) }
     {
         let other = call.number(0);
@@ -128,8 +129,8 @@ impl<S: ListSpace> Kernel<S> {
 
     /// RemTask task (autodoc exec.library/RemTask).
     fn rem_task<W: Sink>(&mut self, t: TaskId, call: &Call, out: &mut W)
-        requires known { t < length self.old.scripts.programs }
-        requires runs { self.old.schedule.running ≡ Some t }
+        requires known { HasTask t self.old }
+        requires runs { Runs t self.old }
         requires room { length self.old.scripts.programs ≤ self.old.memory.tasks }
         ensures { Follows (does_rem_task t (call_view call.now)) self.old self.new (W.tape out.old) (W.tape out.new) }
     {
@@ -147,7 +148,7 @@ impl<S: ListSpace> Kernel<S> {
 
     /// The number of the live task of that name, or 0; where no name is given, that of task t.
     fn found_number(&self, t: TaskId, name: Option<Name>) -> u32
-        requires { t < length self.now.scripts.programs }
+        requires { HasTask t self.now }
         ensures { result ≡ found_number t (option_map (λ n. n.bytes) name) self.now.schedule }
     {
         match name {
@@ -161,7 +162,7 @@ impl<S: ListSpace> Kernel<S> {
 
     /// FindTask name (autodoc exec.library/FindTask).
     fn find_task<W: Sink>(&mut self, t: TaskId, call: &Call, out: &mut W)
-        requires { t < length self.old.scripts.programs }
+        requires { HasTask t self.old }
         ensures { Follows (does_find_task t (call_view call.now)) self.old self.new (W.tape out.old) (W.tape out.new) }
     {
         let answer = self.found_number(t, call.name(0));
@@ -176,8 +177,8 @@ impl<S: ListSpace> Kernel<S> {
         call: &Call,
         out: &mut W,
     )
-        requires known { t < length self.old.scripts.programs }
-        requires runs { self.old.schedule.running ≡ Some t }
+        requires known { HasTask t self.old }
+        requires runs { Runs t self.old }
         requires room { length self.old.scripts.programs ≤ self.old.memory.tasks }
         ensures { Follows (does_tasks word t (call_view call.now)) self.old self.new (W.tape out.old) (W.tape out.new) }
     {

@@ -240,12 +240,12 @@ impl<S: ListSpace> TaskQ<S> {
         self.space.pri(t)
     }
 
-    /// Answers the name of a task. RKM Libraries, Exec Tasks: `ln_Name`.
-    pub fn name(&self, t: TaskId) -> Name
+    /// Lends the name of a task. RKM Libraries, Exec Tasks: `ln_Name`.
+    pub fn name(&self, t: TaskId) -> &Name
         requires { t < length self.now.states }
-        ensures { result.bytes ≡ name_at self.now.names t }
+        ensures { result.now.bytes ≡ name_at self.now.names t }
     {
-        self.names[t]
+        &self.names[t]
     }
 
     /// Answers the state of a task. RKM Libraries, Exec Tasks: `tc_State`.

@@ -76,7 +76,7 @@ impl<S: ListSpace> Driver<S> {
     }
 
     /// The name of a task.
-    fn name(&self, t: TaskId) -> Option<Name> {
+    fn name(&self, t: TaskId) -> Option<&Name> {
         if t < self.tasks {
             Some(self.queue.name(t))
         } else {
@@ -137,7 +137,7 @@ impl<S: ListSpace> Driver<S> {
 }
 
 /// The text of a name, if there is one.
-fn text_of(name: &Option<Name>) -> Option<&str> {
+fn text_of(name: Option<&Name>) -> Option<&str> {
     match name {
         Some(name) => Some(name.as_str()),
         None => None,
@@ -149,7 +149,7 @@ fn take<S: ListSpace>(rt: &impl Abort, d: &mut Driver<S>, case: &str, number: us
     match step {
         HasState(t, wanted) => same(rt, case, number, d.state(t), wanted),
         HasPri(t, wanted) => same(rt, case, number, d.pri(t), wanted),
-        HasName(t, wanted) => same(rt, case, number, text_of(&d.name(t)), wanted),
+        HasName(t, wanted) => same(rt, case, number, text_of(d.name(t)), wanted),
         MakesReady(t, wanted) => same(rt, case, number, d.make_ready(t), wanted),
         Picks(wanted) => same(rt, case, number, d.queue.pick(), wanted),
         RunsNext(wanted) => same(rt, case, number, d.run_next(), wanted),
