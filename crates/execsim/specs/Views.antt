@@ -1,6 +1,5 @@
 -- What the calls and the bodies of the machine show.
 use Rattle.std.specs.Prelude.{◌≡◌, ◌<◌, ℕ, List, map, take}
-use Rattle.std.specs.Option.{option_map}
 use Rattle.exectrace.specs.Short.{short_argument}
 use Rattle.taskscript.specs.Commands.{CommandData, command_view}
 use Rattle.taskscript.specs.File.{SoftintData, ServerData}

@@ -465,6 +465,7 @@ impl<S: ListSpace> Kernel<S> {
         requires runs { Runs t self.old }
         ensures { Follows (does_ports word t (call_view call.now)) self.old self.new (W.tape out.old) (W.tape out.new) }
     {
+        let caller = Caller::Task(t);
         match word {
             PortWord::CreateMsgPort => self.create_msg_port(t, call, out),
             PortWord::DeleteMsgPort => self.delete_msg_port(t, call, out),
@@ -479,10 +480,10 @@ impl<S: ListSpace> Kernel<S> {
             PortWord::MsgWord => self.msg_word(t, call, out),
             PortWord::SetMsgWord => self.set_msg_word(t, call, out),
             PortWord::MsgType => self.msg_type(t, call, out),
-            PortWord::PutMsg => self.put_msg(&Caller::Task(t), call, out),
-            PortWord::GetMsg => self.get_msg(&Caller::Task(t), call, out),
+            PortWord::PutMsg => self.put_msg(&caller, call, out),
+            PortWord::GetMsg => self.get_msg(&caller, call, out),
             PortWord::WaitPort => self.wait_port(t, call, out),
-            PortWord::ReplyMsg => self.reply_msg(&Caller::Task(t), call, out),
+            PortWord::ReplyMsg => self.reply_msg(&caller, call, out),
         }
     }
 }

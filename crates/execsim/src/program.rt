@@ -10,7 +10,7 @@ ghost use Rattle.execsim.specs.Views.{call_view};
 use crate::command::Call;
 use exectrace::{Name, ShortArg};
 use std::marker::Model;
-use taskscript::Command;
+use taskscript::{Command, PlainWord, Word};
 
 /// How many variables of its own a task has.
 pub const PRIVATE_VARIABLES: usize = 32;
@@ -70,19 +70,33 @@ pub fn command_at(code: &[Command], place: usize) -> Option<&Command>
     code.get(place)
 }
 
+/// A call that stands where no task waits in one.
+fn no_call() -> Call {
+    Call {
+        word: Word::Plain(PlainWord::Print),
+        target: None,
+        arguments: [ShortArg::Value(0); 4],
+        count: 0,
+        quoted: Name::new(),
+        next: 0,
+        awaited: 0,
+    }
+}
+
 /// The program of a task.
 #[derive(Drop)]
 pub struct Program {
     code: Vec<Command>,
     place: usize,
     variables: [u32; PRIVATE_VARIABLES],
-    kept: Option<Call>,
+    // The call that the task waits in, where `waits` says that it does. They stand apart so that one that goes on writes one byte.
+    call: Call,
+    waits: bool,
     starts: bool,
 }
 
 impl Model for Program {
-    ghost use Rattle.std.specs.Prelude.{map};
-    ghost use Rattle.std.specs.Option.{option_map};
+    ghost use Rattle.std.specs.Prelude.{map, Some, None, if◌then◌else◌};
     ghost use Rattle.execmodel.specs.State as model;
     ghost use Rattle.taskscript.specs.Commands.{command_view};
     ghost use Rattle.execsim.specs.Views.{call_view};
@@ -93,7 +107,7 @@ impl Model for Program {
       code = map command_view p.code.items;
       place = p.place;
       variables = p.variables;
-      kept = option_map call_view p.kept;
+      kept = (if p.waits then Some (call_view p.call) else None);
       starts = p.starts;
     } };
 }
@@ -109,7 +123,8 @@ impl Program {
             code,
             place: 0,
             variables: [0; PRIVATE_VARIABLES],
-            kept: None,
+            call: no_call(),
+            waits: false,
             starts,
         }
     }
@@ -129,7 +144,7 @@ impl Program {
     pub fn kept(&self) -> Option<&Call>
         ensures { option_map call_view (option_copied result) ≡ self.now.kept }
     {
-        self.kept.as_ref()
+        if self.waits { Some(&self.call) } else { None }
     }
 
     /// The next command, if any is left.
@@ -178,9 +193,7 @@ impl Program {
         ensures { self.new ≡ record self.old { place = next; kept = None } }
     {
         self.place = next;
-        if self.kept.is_some() {
-            self.kept = None;
-        }
+        self.waits = false;
     }
 
     /// The task will try this call again.
@@ -189,6 +202,7 @@ impl Program {
     pub fn keep(&mut self, call: &Call)
         ensures { self.new ≡ record self.old { kept = Some (call_view call.now) } }
     {
-        self.kept = Some(*call);
+        self.call = *call;
+        self.waits = true;
     }
 }

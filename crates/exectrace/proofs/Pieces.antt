@@ -186,6 +186,11 @@ adds_then {a} {b} {c} {built} {between} {after} {xs} {ys} text p q e = record {
       ∙ ap (λ zs. p.handed ++ zs) q.whole ∙ sym (append_assoc p.handed q.handed after);
 }
 
+-- one text after another, the second of two parts
+pub adds_both : {a b c : Tape} {built between after xs : List ℕ} (ys zs : List ℕ)
+    → Adds a b built between xs → Adds b c between after (ys ++ zs) → Adds a c built after ((xs ++ ys) ++ zs)
+adds_both {a} {b} {c} {built} {between} {after} {xs} ys zs p q = adds_then _ p q (append_assoc xs ys zs)
+
 -- another spelling of the same bytes
 pub add_same : {a b : Tape} {built after xs : List ℕ} (ys : List ℕ) → Adds a b built after xs → ys ≡ xs → Adds a b built after ys
 add_same ys p e = rw e p

@@ -195,17 +195,45 @@ fn add_short_arguments<W: Sink>(
     }
 }
 
+/// How the line of a call that answers ends.
+fn answer_end(n: u32) -> [u8; 14]
+    ensures { result ≡ codes " -> " ++ value_text n ++ codes "\n" }
+{
+    let [dollar, a, b, c, d, e, f, g, h] = value_digits(n);
+    [
+        b' ', b'-', b'>', b' ', dollar, a, b, c, d, e, f, g, h, b'\n',
+    ]
+}
+
+/// Adds the answer and the line feed.
 #[inline(always)]
-fn add_outcome<W: Sink>(line: &mut Draft, outcome: CallOutcome, out: &mut W)
-    ensures { Adds (W.tape out.old) (W.tape out.new) line.old.items line.new.items (outcome_text (shown_outcome outcome)) }
+fn add_answer<W: Sink>(line: &mut Draft, n: u32, out: &mut W)
+    ensures { Adds (W.tape out.old) (W.tape out.new) line.old.items line.new.items (codes " -> " ++ value_text n ++ codes "\n") }
+{
+    match line.try_extend_from_slice(&answer_end(n)) {
+        Ok(()) => {}
+        Err(_) => add_answer_beyond(line, n, out),
+    }
+}
+
+/// Hands over the line, the answer and the line feed, which do not fit its room, and begins the line anew.
+#[cold]
+#[inline(never)]
+fn add_answer_beyond<W: Sink>(line: &mut Draft, n: u32, out: &mut W)
+    ensures { Adds (W.tape out.old) (W.tape out.new) line.old.items line.new.items (codes " -> " ++ value_text n ++ codes "\n") }
+{
+    add_beyond(line, &answer_end(n), out);
+}
+
+/// Adds how a call ended, and the line feed.
+#[inline(always)]
+fn add_end<W: Sink>(line: &mut Draft, outcome: CallOutcome, out: &mut W)
+    ensures { Adds (W.tape out.old) (W.tape out.new) line.old.items line.new.items (outcome_text (shown_outcome outcome) ++ codes "\n") }
 {
     match outcome {
-        CallOutcome::Done => (),
-        CallOutcome::Answers(n) => {
-            add(line, b" ->", out);
-            add_value(line, n, out);
-        }
-        CallOutcome::Waits => add(line, b" waits", out),
+        CallOutcome::Done => add(line, b"\n", out),
+        CallOutcome::Answers(n) => add_answer(line, n, out),
+        CallOutcome::Waits => add(line, b" waits\n", out),
     }
 }
 
@@ -248,8 +276,7 @@ pub fn put_call<W: Sink>(
     add(&mut line, b" ", out);
     add_text(&mut line, word, out);
     add_arguments(&mut line, arguments, out);
-    add_outcome(&mut line, outcome, out);
-    add(&mut line, b"\n", out);
+    add_end(&mut line, outcome, out);
     hand_over(&line, out);
 }
 
@@ -273,8 +300,7 @@ pub fn put_short_call<W: Sink>(
     add(&mut line, b" ", out);
     add_text(&mut line, word, out);
     add_short_arguments(&mut line, arguments, quoted, out);
-    add_outcome(&mut line, outcome, out);
-    add(&mut line, b"\n", out);
+    add_end(&mut line, outcome, out);
     hand_over(&line, out);
 }
 

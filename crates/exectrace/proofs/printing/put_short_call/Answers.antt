@@ -1,5 +1,8 @@
 use Rattle.std.proofs.Common.{refl}
-use Rattle.exectrace.proofs.Pieces.{adds_then, adds_all}
+use Rattle.std.specs.Prelude.{codes}
+use Rattle.exectrace.specs.Trace.{outcome_text}
+use Rattle.exectrace.specs.Shown.{shown_outcome}
+use Rattle.exectrace.proofs.Pieces.{adds_then, adds_both, adds_all}
 use Rattle.exectrace.proofs.printing.put_short_call.Goals as goal
 
 pub returns : goal.returns
@@ -7,5 +10,4 @@ returns g c =
     let named = adds_then _ c.add_name.ensures c.add.ensures refl in
     let worded = adds_then _ named c.add_text.ensures refl in
     let given = adds_then _ worded c.add_short_arguments.ensures refl in
-    let told = adds_then _ given c.add_outcome.ensures refl in
-    adds_all c.new-line.ensures (adds_then _ told c.add-2.ensures refl) c.hand_over.ensures
+    adds_all c.new-line.ensures (adds_both (outcome_text (shown_outcome c.args.outcome)) (codes "\n") given c.add_end.ensures) c.hand_over.ensures
