@@ -7,6 +7,7 @@ ghost use Rattle.exectrace.specs.Trace.{printed_line};
 ghost use Rattle.execmodel.specs.Calls.{done, done_by, answered, answered_by, waiting, silent, silent_by, alerted, alerted_by};
 ghost use Rattle.execsim.specs.Callers.{HasTask, HasCaller};
 ghost use Rattle.execsim.specs.Agreement.{Follows, line_seen};
+ghost use Rattle.execsim.specs.Endings.{answered_or_alerted, answered_or_alerted_by, done_or_alerted};
 ghost use Rattle.execsim.specs.Views.{call_view, caller_view};
 ghost use Rattle.execheap.specs.Refusals.{code_of};
 
@@ -149,5 +150,66 @@ impl<S: ListSpace> Kernel<S> {
         ensures { Follows (alerted_by (code_of why) (caller_view caller.now) (call_view call.now)) self.old self.new (W.tape out.old) (W.tape out.new) }
     {
         self.alerted_by(why.code(), caller, call, out);
+    }
+
+    // ---- a call on an object: done, or refused
+
+    /// A refused call stops the machine by the alert of its refusal.
+    pub(crate) fn refused<W: Sink>(&mut self, why: Refusal, t: TaskId, call: &Call, out: &mut W)
+        requires { HasTask t self.old }
+        ensures { Follows (alerted (code_of why) t (call_view call.now)) self.old self.new (W.tape out.old) (W.tape out.new) }
+    {
+        self.alerted(why.code(), t, call, out);
+    }
+
+    /// A call that answers nothing: it is done, or refused by its alert.
+    pub(crate) fn concluded<W: Sink>(
+        &mut self,
+        tried: Result<(), Refusal>,
+        t: TaskId,
+        call: &Call,
+        out: &mut W,
+    )
+        requires { HasTask t self.old }
+        ensures { Follows (done_or_alerted tried t (call_view call.now)) self.old self.new (W.tape out.old) (W.tape out.new) }
+    {
+        match tried {
+            Ok(()) => self.done(t, call, out),
+            Err(why) => self.refused(why, t, call, out),
+        }
+    }
+
+    /// A call that answers: it does, or is refused by its alert.
+    pub(crate) fn concluded_with<W: Sink>(
+        &mut self,
+        tried: Result<u32, Refusal>,
+        t: TaskId,
+        call: &Call,
+        out: &mut W,
+    )
+        requires { HasTask t self.old }
+        ensures { Follows (answered_or_alerted tried t (call_view call.now)) self.old self.new (W.tape out.old) (W.tape out.new) }
+    {
+        match tried {
+            Ok(value) => self.answered(t, call, value, out),
+            Err(why) => self.refused(why, t, call, out),
+        }
+    }
+
+    /// A call that answers, of a task or of a body: it does, or is refused by its alert.
+    pub(crate) fn concluded_by<W: Sink>(
+        &mut self,
+        tried: Result<u32, Refusal>,
+        caller: &Caller,
+        call: &Call,
+        out: &mut W,
+    )
+        requires { HasCaller caller.now self.old }
+        ensures { Follows (answered_or_alerted_by tried (caller_view caller.now) (call_view call.now)) self.old self.new (W.tape out.old) (W.tape out.new) }
+    {
+        match tried {
+            Ok(value) => self.answered_by(caller, call, value, out),
+            Err(why) => self.refused_by(why, caller, call, out),
+        }
     }
 }

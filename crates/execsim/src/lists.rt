@@ -4,7 +4,6 @@ ghost use Rattle.std.specs.Prelude.{◌≡◌, [], IfOk, IsTrue};
 ghost use Rattle.std.specs.Int.{cast_signed, w32};
 ghost use Rattle.std.specs.Option.{option_map, unwrap_or};
 ghost use Rattle.execmodel.specs.State.{ListHead, Node};
-ghost use Rattle.execmodel.specs.Calls.{alerted};
 ghost use Rattle.execmodel.specs.Memory.{placed};
 ghost use Rattle.execmodel.specs.GivingWay.{after_asking_for_object};
 ghost use Rattle.execmodel.specs.Objects.{place_for_object};
@@ -12,13 +11,12 @@ ghost use Rattle.execmodel.specs.Tasks.{is_priority};
 ghost use Rattle.execmodel.specs.Lists.{find_alert, found_node, is_list, is_node, list_size, node_size, does_lists};
 ghost use Rattle.execmodel.specs.Lists.{does_new_list, does_free_list, does_new_node, does_free_node, does_add_head, does_add_tail, does_enqueue, does_insert};
 ghost use Rattle.execmodel.specs.Lists.{does_remove, does_rem_head, does_rem_tail, does_first, does_last, does_succ, does_pred, does_find_name};
-ghost use Rattle.execheap.specs.Refusals.{alert_of, code_of};
-ghost use Rattle.execsim.specs.Callers.{HasTask, HasCaller};
+ghost use Rattle.execheap.specs.Refusals.{alert_of};
+ghost use Rattle.execsim.specs.Callers.{HasTask};
 ghost use Rattle.execsim.specs.Agreement.{Follows};
-ghost use Rattle.execsim.specs.Endings.{answered_or_alerted, answered_or_alerted_by, done_or_alerted};
-ghost use Rattle.execsim.specs.Views.{call_view, caller_view};
+ghost use Rattle.execsim.specs.Views.{call_view};
 
-use crate::command::{Call, Caller};
+use crate::command::Call;
 use crate::kernel::Kernel;
 use crate::tasks::is_priority;
 use execheap::Refusal;
@@ -28,67 +26,6 @@ use taskq::TaskId;
 use taskscript::ListWord;
 
 impl<S: ListSpace> Kernel<S> {
-    // ---- how a call on an object ends
-
-    /// A refused call stops the machine by the alert of its refusal.
-    pub(crate) fn refused<W: Sink>(&mut self, why: Refusal, t: TaskId, call: &Call, out: &mut W)
-        requires { HasTask t self.old }
-        ensures { Follows (alerted (code_of why) t (call_view call.now)) self.old self.new (W.tape out.old) (W.tape out.new) }
-    {
-        self.alerted(why.code(), t, call, out);
-    }
-
-    /// A call that answers nothing: it is done, or refused by its alert.
-    pub(crate) fn concluded<W: Sink>(
-        &mut self,
-        tried: Result<(), Refusal>,
-        t: TaskId,
-        call: &Call,
-        out: &mut W,
-    )
-        requires { HasTask t self.old }
-        ensures { Follows (done_or_alerted tried t (call_view call.now)) self.old self.new (W.tape out.old) (W.tape out.new) }
-    {
-        match tried {
-            Ok(()) => self.done(t, call, out),
-            Err(why) => self.refused(why, t, call, out),
-        }
-    }
-
-    /// A call that answers: it does, or is refused by its alert.
-    pub(crate) fn concluded_with<W: Sink>(
-        &mut self,
-        tried: Result<u32, Refusal>,
-        t: TaskId,
-        call: &Call,
-        out: &mut W,
-    )
-        requires { HasTask t self.old }
-        ensures { Follows (answered_or_alerted tried t (call_view call.now)) self.old self.new (W.tape out.old) (W.tape out.new) }
-    {
-        match tried {
-            Ok(value) => self.answered(t, call, value, out),
-            Err(why) => self.refused(why, t, call, out),
-        }
-    }
-
-    /// A call that answers, of a task or of a body: it does, or is refused by its alert.
-    pub(crate) fn concluded_by<W: Sink>(
-        &mut self,
-        tried: Result<u32, Refusal>,
-        caller: &Caller,
-        call: &Call,
-        out: &mut W,
-    )
-        requires { HasCaller caller.now self.old }
-        ensures { Follows (answered_or_alerted_by tried (caller_view caller.now) (call_view call.now)) self.old self.new (W.tape out.old) (W.tape out.new) }
-    {
-        match tried {
-            Ok(value) => self.answered_by(caller, call, value, out),
-            Err(why) => self.refused_by(why, caller, call, out),
-        }
-    }
-
     // ---- made and freed
 
     /// A new empty list, if there is room for one once libraries were asked to give way to it.
