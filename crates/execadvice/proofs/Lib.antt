@@ -1,3 +1,4 @@
+mod EventLemmas
 mod KeyTurns
 mod LimitTurns
 mod LocateLemmas

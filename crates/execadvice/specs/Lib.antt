@@ -1,3 +1,4 @@
+pub mod EventsTold
 pub mod Findings
 pub mod KeysTold
 pub mod LabelsTold

@@ -1,6 +1,7 @@
 //! What is found in an event text.
-ghost use Rattle.std.specs.Prelude.{◌≡◌, Some, IfOk};
+ghost use Rattle.std.specs.Prelude.{◌≡◌, ◌++◌, [], Some, IfOk, OnOk, string_bytes};
 ghost use Rattle.taskscript.specs.Events.{script_of};
+ghost use Rattle.execadvice.specs.EventsTold.{Tells, TellsTooMany, head, line_at, line_behind, marked, text_or_nothing};
 ghost use Rattle.execadvice.specs.Findings.{fault_of};
 
 use crate::near::{nearest, proposal};
@@ -120,14 +121,36 @@ fn event_advice(alloc: Global, line: &str) -> Result<Advice, AllocError> {
     })
 }
 
-/// The line of a number, from 1, as text; one that is no text is shown as the empty line.
-fn line_at(bytes: &[u8], number: usize) -> &str {
-    for (i, line) in bytes.split(|b| *b == 10).enumerate() {
-        if i.saturating_add(1) == number {
-            return from_utf8(line).unwrap_or("");
-        }
+/// Bytes as text; what is no text is shown as the empty line.
+#[tactic(auto, using(crate::proofs::EventLemmas::a_text, crate::proofs::EventLemmas::no_text))]
+fn text_or_nothing(line: &[u8]) -> &str
+    ensures { result.now ≡ text_or_nothing line.now }
+{
+    match from_utf8(line) {
+        Ok(text) => text,
+        Err(_) => "",
     }
-    ""
+}
+
+/// The line before which so many stand, as text.
+fn line_behind(bytes: &[u8], before: usize) -> &str
+    ensures { result.now ≡ line_behind before bytes.now }
+{
+    match bytes.split(|b| *b == 10).nth(before) {
+        None => "",
+        Some(line) => text_or_nothing(line),
+    }
+}
+
+/// The line of a number, from 1, as text.
+fn line_at(bytes: &[u8], number: usize) -> &str
+    ensures { result.now ≡ line_at number bytes.now }
+{
+    if number == 0 {
+        ""
+    } else {
+        line_behind(bytes, number - 1)
+    }
 }
 
 /// The sums so far, and the first of the limits that they are past.
@@ -196,7 +219,10 @@ fn push_line(
     number: usize,
     name: &str,
     advice: &Advice,
-) -> Result<(), AllocError> {
+) -> Result<(), AllocError>
+    ensures { OnOk result (string_bytes out.new ≡ string_bytes out.old ++ head path.now number name.now
+        ++ marked (line_at number bytes.now) advice.now.span (string_bytes advice.now.reason)) }
+{
     let head = format!(in alloc; "{path}:{number}: {name}\n")?;
     out.push_str(head.as_str())?;
     push_marked(out, line_at(bytes, number), advice)
@@ -208,7 +234,10 @@ fn push_too_many(
     out: &mut String,
     path: &str,
     bytes: &[u8],
-) -> Result<(), AllocError> {
+) -> Result<(), AllocError>
+    requires { string_bytes out.old ≡ [] }
+    ensures { OnOk result (TellsTooMany path.now bytes.now (string_bytes out.new)) }
+{
     match past_limit(bytes) {
         None => {
             let head = format!(in alloc; "{path}: TooMany\n")?;
@@ -238,7 +267,8 @@ fn refusal(
     bytes: &[u8],
     fault: EventFault,
 ) -> Result<EventsFinding, AllocError>
-    ensures { IfOk result (λ finding. finding.fault ≡ Some fault) }
+    ensures fault { IfOk result (λ finding. finding.fault ≡ Some fault) }
+    ensures told { IfOk result (λ finding. Tells path.now bytes.now (Some fault) (string_bytes finding.text)) }
 {
     let mut text = String::new(alloc);
     match fault {
@@ -257,7 +287,9 @@ fn refusal(
 
 /// What the bytes of an event text are refused for, and at which line. `path` stands before each place.
 ///
-/// The text is refused just where `execsim` refuses it, with that fault; that of BadLine is the number of the line.
+/// The text is refused just where `execsim` refuses it, with that fault; that of BadLine is the number of the line. What is said of it
+/// begins with its place and the name of the fault, and shows that line with marks under a part of it and a reason; of too many events a
+/// line is shown, or none. Nothing is said of a text that is accepted.
 ///
 /// # Errors
 ///
@@ -265,7 +297,8 @@ fn refusal(
 ///
 /// Source: own choice.
 pub fn check_events(alloc: Global, path: &str, bytes: &[u8]) -> Result<EventsFinding, AllocError>
-    ensures { IfOk result (λ finding. finding.fault ≡ fault_of (script_of bytes.now)) }
+    ensures fault { IfOk result (λ finding. finding.fault ≡ fault_of (script_of bytes.now)) }
+    ensures told { IfOk result (λ finding. Tells path.now bytes.now finding.fault (string_bytes finding.text)) }
 {
     match read_events(alloc, bytes) {
         Ok(_) => Ok(EventsFinding {
