@@ -1,6 +1,6 @@
 -- How the public calls follow from what the machine does without its failure to write.
-use Rattle.std.proofs.Common.{◌≡◌, Bool, true, false, refl, ap, sym, ◌∙◌}
-use Rattle.std.specs.Prelude.{List, Result, Ok, Err}
+use Rattle.std.proofs.Common.{◌≡◌, ℕ, ◌+◌, Bool, true, false, refl, ap, sym, ◌∙◌, arith}
+use Rattle.std.specs.Prelude.{List, Result, Ok, Err, IsOk}
 use Rattle.exectrace.specs.Sink.{Tape}
 use Rattle.exectrace.specs.declared.sinks.SinkState.TheVariants.{Good}
 use Rattle.exectrace.specs.declared.sinks.WriteFault.{WriteFault}
@@ -14,7 +14,8 @@ use Rattle.execmodel.specs.Step.{starts, events, run}
 use Rattle.execsim.specs.Agreement.{Seen, Agrees, FollowsWhileGood}
 use Rattle.execsim.specs.declared.machine.Flow.{Flow}
 use Rattle.execsim.specs.Reached.{IsReached}
-use Rattle.execsim.specs.Time.{IsKnown}
+use Rattle.execsim.specs.Time.{HasTimeFor, IsInTime, IsKnown}
+use Rattle.execsim.proofs.Clock.{Gains, time_left}
 use Rattle.execsim.specs.Headline.{Shown, Acts, Finishes, Simulates, flow_of, end_of, end_for, ended}
 
 pub acts_by : {next : State → Outcome} {old new : Shown} {a b : Tape} {result : Result Flow WriteFault}
@@ -39,6 +40,14 @@ known_after_action {next} {m} {n} {failed} {a} {b} {result} reaches known follow
       reached = reaches known.state known.reached;
     }
     by_result (Err why) finishes = let bad : true ≡ false = sym finishes.failing ∙ going in absurd cc
+
+-- of the time that a machine has, an action that was written whole takes no more than what it brings of ticks
+pub time_after : {next : State → Outcome} {m n : Seen} {failed : Bool} {a b : Tape} {result : Result Flow WriteFault} (spent : ℕ)
+    → ((s : State) → Gains spent s (next s).state) → ((s : State) → IsReached s → IsReached (next s).state)
+    → IsKnown m → FollowsWhileGood next m n a b → Finishes n.stopped failed b result
+    → IsOk result → (ticks : ℕ) → HasTimeFor (spent + ticks) m → HasTimeFor ticks n
+time_after spent gains reaches known follows finishes whole ticks enough =
+    (time_left spent ticks (spent + ticks) (omega arith) gains reaches (λ good. record { known = known; time = enough }) follows (finishes.written.0 whole)).time
 
 end-flow : (b : Bool) → end_for (flow_of b) ≡ end_of b
 end-flow true = refl

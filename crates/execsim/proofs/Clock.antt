@@ -143,7 +143,7 @@ ticks_gain (suc n) s =
     subst (λ (k : ℕ). Gains k s (tick (ticks n s).state).state) all
     (gains_then n 1 s (ticks n s).state (tick (ticks n s).state).state (ticks_gain n s) (tick_gains (ticks n s).state))
 
-event_gains : (e : Event) (s : State) → Gains (ticks_of e) s (event e s).state
+pub event_gains : (e : Event) (s : State) → Gains (ticks_of e) s (event e s).state
 unfolding event
 event_gains (Run n) s = steps_gain n s
 event_gains (Tick n) s = ticks_gain n s

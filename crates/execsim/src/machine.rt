@@ -1,5 +1,5 @@
 //! The machine as its callers see it: made from a machine file, started once, and given one event after another.
-ghost use Rattle.std.specs.Prelude.{◌≡◌, true, false, sum_by, IfOk};
+ghost use Rattle.std.specs.Prelude.{◌≡◌, ◌+◌, ℕ, true, false, sum_by, IfOk, IsOk};
 ghost use Rattle.exectrace.specs.Sink.{Writes};
 ghost use Rattle.exectrace.specs.Trace.{printed};
 ghost use Rattle.exectrace.specs.declared.sinks.SinkState.{SinkState};
@@ -104,6 +104,8 @@ impl<S: ListSpace> Machine<S> {
     pub fn start<W: Sink>(&mut self, out: &mut W) -> Result<Flow, WriteFault>
         requires { self.old.failed ≡ false → (W.tape out.old).state ≡ SinkState.Good }
         ensures acts { self.old.failed ≡ false → Acts starts self.old self.new (W.tape out.old) (W.tape out.new) result }
+        ensures time_left { self.old.failed ≡ false → IsOk result
+            → (ticks : ℕ) → HasTimeFor ticks self.old.seen → HasTimeFor ticks self.new.seen }
         ensures failed { self.old.failed ≡ true → StaysFailed self.old self.new (W.tape out.old) (W.tape out.new) result }
     {
         if self.failed {
@@ -130,6 +132,8 @@ impl<S: ListSpace> Machine<S> {
         requires good { self.old.failed ≡ false → (W.tape out.old).state ≡ SinkState.Good }
         requires time { self.old.failed ≡ false → HasTimeFor (ticks_of one) self.old.seen }
         ensures acts { self.old.failed ≡ false → Acts (event one) self.old self.new (W.tape out.old) (W.tape out.new) result }
+        ensures time_left { self.old.failed ≡ false → IsOk result
+            → (ticks : ℕ) → HasTimeFor (ticks_of one + ticks) self.old.seen → HasTimeFor ticks self.new.seen }
         ensures failed { self.old.failed ≡ true → StaysFailed self.old self.new (W.tape out.old) (W.tape out.new) result }
     {
         if self.failed {
