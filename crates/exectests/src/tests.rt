@@ -1,6 +1,5 @@
 //! A module for each part of Exec and for each kind of text. A test is a table of steps where its calls have one shape, and says what a
 //! call answers, not how.
-mod chunk_walks;
 mod chunks;
 mod comparing;
 mod event_texts;

@@ -1,25 +1,14 @@
 //! How a test compares.
-use std::fmt::Debug;
+use std::fmt::{Debug, Display};
 use std::process::Abort;
 
-/// Asserts that a step of a case, or a row of a table, answered what is wanted; the message has its number.
-pub(super) fn same<T: PartialEq + Debug + Copy>(
+/// Asserts that what a case comes to at a place is what is wanted: at a step, by its number, or at a part, by its name.
+pub(super) fn same<T: PartialEq + Debug + Copy, P: Display + Copy>(
     rt: &impl Abort,
     case: &str,
-    number: usize,
+    place: P,
     answer: T,
     wanted: T,
 ) {
-    assert_eq!(rt; answer, wanted, "{case}, number {number}");
-}
-
-/// Asserts that what stands at a place of a case is what is wanted.
-pub(super) fn same_at<T: PartialEq + Debug + Copy>(
-    rt: &impl Abort,
-    case: &str,
-    place: &str,
-    value: T,
-    wanted: T,
-) {
-    assert_eq!(rt; value, wanted, "{case}: at {place}");
+    assert_eq!(rt; answer, wanted, "{case}, at {place}");
 }

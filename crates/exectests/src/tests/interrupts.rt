@@ -3,6 +3,7 @@ ghost use Rattle.std.specs.Prelude.{◌≡◌, length};
 
 use super::comparing::same;
 use execlist::plain::PlainSpace;
+use execlist::space::ListSpace;
 use softint::caused::IntId;
 use softint::chain::ServerId;
 use softint::interrupt::{Server, Soft};
@@ -14,8 +15,8 @@ use std::test::*;
 
 /// Interrupts whose conditions are tested.
 #[derive(Drop)]
-struct Driver {
-    ints: Ints<PlainSpace>,
+struct Driver<S: ListSpace> {
+    ints: Ints<S>,
     softs: usize,
     ghost known: { softs ≡ length ints.priorities },
 }
@@ -119,7 +120,7 @@ static STEPS: [Step; 41] = [
     Server(Source::Vertb, 0, None),
 ];
 
-impl Driver {
+impl<S: ListSpace> Driver<S> {
     /// The interrupts and servers above.
     fn new(alloc: Global) -> Result<Self, AllocError> {
         let ints = Ints::new(alloc, &SOFTS, &SERVERS)?;
@@ -135,7 +136,7 @@ impl Driver {
 }
 
 /// Takes one step.
-fn take(rt: &impl Abort, d: &mut Driver, number: usize, step: Step) {
+fn take<S: ListSpace>(rt: &impl Abort, d: &mut Driver<S>, number: usize, step: Step) {
     match step {
         Causes(i) => d.cause(i),
         Next(wanted) => same(rt, "interrupts", number, d.ints.next(), wanted),
@@ -151,7 +152,7 @@ fn take(rt: &impl Abort, d: &mut Driver, number: usize, step: Step) {
 
 #[test]
 fn each_call_answers_as_its_step_says(rt: HostRuntime) -> Result<(), Fail> {
-    let mut d = Driver::new(rt.alloc())?;
+    let mut d: Driver<PlainSpace> = Driver::new(rt.alloc())?;
     for (number, step) in STEPS.iter().enumerate() {
         take(&rt, &mut d, number, *step);
     }

@@ -10,6 +10,7 @@ use execlib::library::LibInit;
 use execlib::libs::{LibId, Libs};
 use execlist::key::Name;
 use execlist::plain::PlainSpace;
+use execlist::space::ListSpace;
 use memlist::{MemList, Region};
 use std::alloc::Global;
 use std::marker::Model;
@@ -18,12 +19,12 @@ use std::test::*;
 
 /// At most three libraries, and their memory.
 #[derive(Drop)]
-struct Driver {
-    libraries: Libs<PlainSpace>,
+struct Driver<S: ListSpace> {
+    libraries: Libs<S>,
     memory: MemList,
 }
 
-impl Model for Driver {
+impl<S: ListSpace> Model for Driver<S> {
     ghost Value = { Lent };
 
     ghost view = { λ d. lent d.libraries d.memory };
@@ -250,7 +251,7 @@ static ASKING: [Case; 5] = [
     },
 ];
 
-impl Driver {
+impl<S: ListSpace> Driver<S> {
     /// Whether a library is absent, or lies in a block with its tag.
     fn is_placed(&self, i: LibId) -> bool
         ensures { result ≡ true → (base : ℕ) → base_at i self.now.libraries ≡ Some base → tag_at base self.now.memory.blocks ≡ Some (library_tag i) }
@@ -356,7 +357,7 @@ impl Driver {
 }
 
 /// Takes one step of a case.
-fn take(rt: &impl Abort, d: &mut Driver, case: &str, number: usize, step: Step) {
+fn take<S: ListSpace>(rt: &impl Abort, d: &mut Driver<S>, case: &str, number: usize, step: Step) {
     match step {
         Opens(name, version, wanted) => {
             let base = d.open(name, version);
@@ -375,7 +376,7 @@ fn take(rt: &impl Abort, d: &mut Driver, case: &str, number: usize, step: Step) 
 }
 
 /// Takes the steps of a case.
-fn take_all(rt: &impl Abort, d: &mut Driver, case: &str, steps: &[Step]) {
+fn take_all<S: ListSpace>(rt: &impl Abort, d: &mut Driver<S>, case: &str, steps: &[Step]) {
     for (number, step) in steps.iter().enumerate() {
         take(rt, d, case, number, *step);
     }
@@ -391,7 +392,7 @@ fn library(name: &str, version: u16, size: u32) -> LibInit {
 }
 
 /// The libraries of each case, none of them loaded, in a memory of 4,096 bytes. They are asked to give way or are not.
-fn lent(alloc: Global, asks: bool) -> Result<Driver, Fail> {
+fn lent<S: ListSpace>(alloc: Global, asks: bool) -> Result<Driver<S>, Fail> {
     let known = [
         library("x.library", 37, 100),
         library("y.library", 1, 24),
@@ -411,7 +412,7 @@ fn lent(alloc: Global, asks: bool) -> Result<Driver, Fail> {
 #[test]
 fn each_call_answers_as_its_case_says(rt: HostRuntime) -> Result<(), Fail> {
     for case in &CASES {
-        let mut d = lent(rt.alloc(), false)?;
+        let mut d: Driver<PlainSpace> = lent(rt.alloc(), false)?;
         take_all(&rt, &mut d, case.name, case.steps);
     }
     Ok(())
@@ -420,7 +421,7 @@ fn each_call_answers_as_its_case_says(rt: HostRuntime) -> Result<(), Fail> {
 #[test]
 fn libraries_give_way_where_they_are_asked(rt: HostRuntime) -> Result<(), Fail> {
     for case in &ASKING {
-        let mut d = lent(rt.alloc(), true)?;
+        let mut d: Driver<PlainSpace> = lent(rt.alloc(), true)?;
         take_all(&rt, &mut d, case.name, case.steps);
     }
     Ok(())

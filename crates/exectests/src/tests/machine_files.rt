@@ -1,5 +1,5 @@
 //! Machine files: what an accepted one holds, and the numbers of the faults. Files of text that are refused are whole runs.
-use super::comparing::same_at;
+use super::comparing::same;
 use memlist::Region;
 use std::alloc::Global;
 use std::process::Abort;
@@ -287,50 +287,50 @@ fn fault_of(alloc: Global, file: &[u8]) -> Option<FileFault> {
 
 /// The commands of a body have the words that are wanted.
 fn holds_words(rt: &impl Abort, name: &str, code: &[Command], words: &[Word]) {
-    same_at(rt, name, "code", code.len(), words.len());
+    same(rt, name, "code", code.len(), words.len());
     for (command, word) in code.iter().zip(words) {
-        same_at(rt, name, "word", command.word, *word);
+        same(rt, name, "word", command.word, *word);
     }
 }
 
 /// The libraries are those that are wanted.
 fn holds_libraries(rt: &impl Abort, name: &str, found: &[LibraryRecord], wanted: &[Library]) {
-    same_at(rt, name, "libraries", found.len(), wanted.len());
+    same(rt, name, "libraries", found.len(), wanted.len());
     for (library, (text, version, size)) in found.iter().zip(wanted) {
-        same_at(rt, name, "library", library.name.as_str(), *text);
+        same(rt, name, "library", library.name.as_str(), *text);
         let shown = (library.version, library.size);
-        same_at(rt, name, "library", shown, (*version, *size));
+        same(rt, name, "library", shown, (*version, *size));
     }
 }
 
 /// The software interrupts are those that are wanted.
 fn holds_softints(rt: &impl Abort, name: &str, found: &[SoftintRecord], wanted: &[Softint]) {
-    same_at(rt, name, "softints", found.len(), wanted.len());
+    same(rt, name, "softints", found.len(), wanted.len());
     for (softint, (text, pri, words)) in found.iter().zip(wanted) {
         let head = (softint.name.as_str(), softint.pri);
-        same_at(rt, name, "head", head, (*text, *pri));
+        same(rt, name, "head", head, (*text, *pri));
         holds_words(rt, name, softint.code.as_slice(), *words);
     }
 }
 
 /// The servers are those that are wanted.
 fn holds_servers(rt: &impl Abort, name: &str, found: &[ServerRecord], wanted: &[Server]) {
-    same_at(rt, name, "servers", found.len(), wanted.len());
+    same(rt, name, "servers", found.len(), wanted.len());
     for (server, (text, source, pri, claim, words)) in found.iter().zip(wanted) {
-        same_at(rt, name, "name", server.name.as_str(), *text);
-        same_at(rt, name, "source", server.source, *source);
+        same(rt, name, "name", server.name.as_str(), *text);
+        same(rt, name, "source", server.source, *source);
         let head = (server.pri, server.claim);
-        same_at(rt, name, "head", head, (*pri, *claim));
+        same(rt, name, "head", head, (*pri, *claim));
         holds_words(rt, name, server.code.as_slice(), *words);
     }
 }
 
 /// The tasks are those that are wanted.
 fn holds_tasks(rt: &impl Abort, name: &str, found: &[TaskRecord], wanted: &[Task]) {
-    same_at(rt, name, "tasks", found.len(), wanted.len());
+    same(rt, name, "tasks", found.len(), wanted.len());
     for (task, (text, pri, start, words)) in found.iter().zip(wanted) {
         let head = (task.name.as_str(), task.pri, task.start);
-        same_at(rt, name, "head", head, (*text, *pri, *start));
+        same(rt, name, "head", head, (*text, *pri, *start));
         holds_words(rt, name, task.code.as_slice(), *words);
     }
 }
@@ -338,29 +338,29 @@ fn holds_tasks(rt: &impl Abort, name: &str, found: &[TaskRecord], wanted: &[Task
 /// The machine of an accepted file holds the parts that are wanted.
 fn holds(rt: &impl Abort, alloc: Global, wanted: &Machine) {
     let machine = read_machine(alloc, wanted.file.as_bytes()).expect(rt, wanted.name);
-    same_at(
+    same(
         rt,
         wanted.name,
         "version",
         machine.version(),
         wanted.version,
     );
-    same_at(
+    same(
         rt,
         wanted.name,
         "quantum",
         machine.quantum(),
         wanted.quantum,
     );
-    same_at(
+    same(
         rt,
         wanted.name,
         "tick_micros",
         machine.tick_micros(),
         wanted.tick_micros,
     );
-    same_at(rt, wanted.name, "pool", machine.pool(), wanted.pool);
-    same_at(
+    same(rt, wanted.name, "pool", machine.pool(), wanted.pool);
+    same(
         rt,
         wanted.name,
         "regions",
@@ -376,7 +376,7 @@ fn holds(rt: &impl Abort, alloc: Global, wanted: &Machine) {
 #[test]
 fn faults_are_numbered_from_1(rt: HostRuntime) {
     for (fault, number) in &NUMBERS {
-        same_at(
+        same(
             &rt,
             "faults are numbered from 1",
             "a fault",
@@ -396,7 +396,7 @@ fn an_accepted_file_gives_its_machine(rt: HostRuntime) {
 #[test]
 fn bytes_that_are_no_text_are_not_toml(rt: HostRuntime) {
     let found = fault_of(rt.alloc(), b"# \xff\n");
-    same_at(
+    same(
         &rt,
         "bytes that are no text",
         "$FF",
@@ -409,7 +409,7 @@ fn bytes_that_are_no_text_are_not_toml(rt: HostRuntime) {
 fn a_tick_has_1_to_1000000_microseconds(rt: HostRuntime) {
     for (file, fault) in &TICKS {
         let found = fault_of(rt.alloc(), file.as_bytes());
-        same_at(&rt, "files with a tick", file, found, *fault);
+        same(&rt, "files with a tick", file, found, *fault);
     }
 }
 
@@ -417,7 +417,7 @@ fn a_tick_has_1_to_1000000_microseconds(rt: HostRuntime) {
 fn the_version_is_1_or_2_and_bounds_the_regions(rt: HostRuntime) {
     for (file, fault) in &VERSIONS {
         let found = fault_of(rt.alloc(), file.as_bytes());
-        same_at(&rt, "files with a version", file, found, *fault);
+        same(&rt, "files with a version", file, found, *fault);
     }
 }
 
@@ -425,7 +425,7 @@ fn the_version_is_1_or_2_and_bounds_the_regions(rt: HostRuntime) {
 fn the_first_faulty_place_of_libraries_decides(rt: HostRuntime) {
     for (file, fault) in &LIBRARIES {
         let found = fault_of(rt.alloc(), file.as_bytes());
-        same_at(&rt, "files of libraries", file, found, *fault);
+        same(&rt, "files of libraries", file, found, *fault);
     }
 }
 
@@ -445,9 +445,9 @@ fn libraries_named(alloc: Global, firsts: &[u8], seconds: &[u8]) -> Result<Vec<u
 #[test]
 fn a_machine_has_at_most_32_libraries(rt: HostRuntime) -> Result<(), Fail> {
     let file = libraries_named(rt.alloc(), b"abcd", b"abcdefgh")?;
-    same_at(&rt, "libraries", "32", fault_of(rt.alloc(), &file), None);
+    same(&rt, "libraries", "32", fault_of(rt.alloc(), &file), None);
     let file = libraries_named(rt.alloc(), b"abc", b"abcdefghijk")?;
-    same_at(
+    same(
         &rt,
         "libraries",
         "33",

@@ -3,6 +3,7 @@
 use super::comparing::same;
 use execlist::key::Name;
 use execlist::plain::PlainSpace;
+use execlist::space::ListSpace;
 use msgport::action::{Action, PortAction, TaskId};
 use msgport::fault::PortFault;
 use msgport::message::{NT_FREEMSG, NT_MESSAGE, NT_REPLYMSG};
@@ -315,7 +316,7 @@ static CASES: [Case; 15] = [
 ];
 
 /// The number that a call gives. A signal of a number past 31 is unknown.
-fn made(ports: &mut Ports<PlainSpace>, call: Making) -> Result<usize, PortFault> {
+fn made<S: ListSpace>(ports: &mut Ports<S>, call: Making) -> Result<usize, PortFault> {
     match call {
         CreatePort(task, bit) if bit < 32 => ports.create_port(task, bit),
         CreatePort(_, _) => Err(UNKNOWN),
@@ -324,7 +325,7 @@ fn made(ports: &mut Ports<PlainSpace>, call: Making) -> Result<usize, PortFault>
 }
 
 /// Whether a call is done, or why it is refused.
-fn changed(ports: &mut Ports<PlainSpace>, call: Change) -> Result<(), PortFault> {
+fn changed<S: ListSpace>(ports: &mut Ports<S>, call: Change) -> Result<(), PortFault> {
     match call {
         FreeMsg(m) => ports.free_msg(m),
         ReplyNone(m) => ports.reply_none(m),
@@ -336,7 +337,7 @@ fn changed(ports: &mut Ports<PlainSpace>, call: Change) -> Result<(), PortFault>
 }
 
 /// What is to be done for a message that is put at a port.
-fn delivered(ports: &mut Ports<PlainSpace>, call: Delivery) -> Result<Action, PortFault> {
+fn delivered<S: ListSpace>(ports: &mut Ports<S>, call: Delivery) -> Result<Action, PortFault> {
     match call {
         Put(p, m) => ports.put(p, m),
         Reply(p, m) => ports.reply(p, m),
@@ -344,7 +345,7 @@ fn delivered(ports: &mut Ports<PlainSpace>, call: Delivery) -> Result<Action, Po
 }
 
 /// The number that a call answers.
-fn found(ports: &mut Ports<PlainSpace>, call: Search) -> Option<usize> {
+fn found<S: ListSpace>(ports: &mut Ports<S>, call: Search) -> Option<usize> {
     match call {
         First(p) if ports.is_port(p) => ports.first(p),
         Get(p) if ports.is_port(p) => ports.get(p),
@@ -356,7 +357,7 @@ fn found(ports: &mut Ports<PlainSpace>, call: Search) -> Option<usize> {
 }
 
 /// Sets an action or a word, or lets a message go, and answers whether its port or message lives.
-fn set(ports: &mut Ports<PlainSpace>, call: Setting) -> bool {
+fn set<S: ListSpace>(ports: &mut Ports<S>, call: Setting) -> bool {
     match call {
         SetAction(p, action) if ports.is_port(p) => {
             ports.set_action(p, action);
@@ -375,7 +376,7 @@ fn set(ports: &mut Ports<PlainSpace>, call: Setting) -> bool {
 }
 
 /// The number of the signal by which a port that lives tells a task.
-fn wait_bit(ports: &Ports<PlainSpace>, p: PortId, task: TaskId) -> Option<u32> {
+fn wait_bit<S: ListSpace>(ports: &Ports<S>, p: PortId, task: TaskId) -> Option<u32> {
     if ports.is_port(p) {
         ports.wait_bit(p, task)
     } else {
@@ -384,7 +385,7 @@ fn wait_bit(ports: &Ports<PlainSpace>, p: PortId, task: TaskId) -> Option<u32> {
 }
 
 /// The type, the word and the reply port of a message that lives, and whether a port has it or it is held.
-fn message(ports: &Ports<PlainSpace>, m: MsgId) -> Option<(u8, u32, u32, bool)> {
+fn message<S: ListSpace>(ports: &Ports<S>, m: MsgId) -> Option<(u8, u32, u32, bool)> {
     if ports.is_message(m) {
         let kind = ports.kind(m);
         let word = ports.word(m);
@@ -396,7 +397,7 @@ fn message(ports: &Ports<PlainSpace>, m: MsgId) -> Option<(u8, u32, u32, bool)> 
 }
 
 /// Whether a port has a message that lives, and whether it is held.
-fn stands(ports: &Ports<PlainSpace>, m: MsgId) -> (bool, bool) {
+fn stands<S: ListSpace>(ports: &Ports<S>, m: MsgId) -> (bool, bool) {
     if ports.is_message(m) {
         (ports.is_queued(m), ports.is_held(m))
     } else {
@@ -405,12 +406,18 @@ fn stands(ports: &Ports<PlainSpace>, m: MsgId) -> (bool, bool) {
 }
 
 /// Whether a port lives and is public.
-fn is_public(ports: &Ports<PlainSpace>, p: PortId) -> bool {
+fn is_public<S: ListSpace>(ports: &Ports<S>, p: PortId) -> bool {
     ports.is_port(p) && ports.is_public(p)
 }
 
 /// Takes one step of a case.
-fn take(rt: &impl Abort, ports: &mut Ports<PlainSpace>, case: &str, number: usize, step: Step) {
+fn take<S: ListSpace>(
+    rt: &impl Abort,
+    ports: &mut Ports<S>,
+    case: &str,
+    number: usize,
+    step: Step,
+) {
     match step {
         Makes(call, wanted) => same(rt, case, number, made(ports, call), wanted),
         Does(call, wanted) => same(rt, case, number, changed(ports, call), wanted),
@@ -426,7 +433,7 @@ fn take(rt: &impl Abort, ports: &mut Ports<PlainSpace>, case: &str, number: usiz
 }
 
 /// Takes the steps of a case.
-fn take_all(rt: &impl Abort, ports: &mut Ports<PlainSpace>, case: &str, steps: &[Step]) {
+fn take_all<S: ListSpace>(rt: &impl Abort, ports: &mut Ports<S>, case: &str, steps: &[Step]) {
     for (number, step) in steps.iter().enumerate() {
         take(rt, ports, case, number, *step);
     }

@@ -1,6 +1,6 @@
 //! The bodies of tasks: the commands that their lines give, with the values that the format gives. Each case is a machine file with a
 //! task for each body. Bodies that are refused are whole runs.
-use super::comparing::same_at;
+use super::comparing::same;
 use std::alloc::{AllocError, Global};
 use std::process::Abort;
 use std::test::*;
@@ -653,17 +653,17 @@ fn written<'a>(argument: &Argument, name: &'a Name) -> Said<'a> {
 /// The command is the one that is wanted, with as many arguments as its word has.
 fn speaks(rt: &impl Abort, test: &str, case: &str, command: &Command, wanted: Spoken) {
     let (word, target, arguments) = wanted;
-    same_at(
+    same(
         rt,
         test,
         case,
         (command.word, command.target),
         (word, target),
     );
-    same_at(rt, test, case, word.kinds().len(), arguments.len());
-    same_at(rt, test, case, command.count as usize, arguments.len());
+    same(rt, test, case, word.kinds().len(), arguments.len());
+    same(rt, test, case, command.count as usize, arguments.len());
     for (argument, wanted) in command.arguments.iter().zip(arguments) {
-        same_at(rt, test, case, written(argument, &command.name), *wanted);
+        same(rt, test, case, written(argument, &command.name), *wanted);
     }
 }
 
@@ -678,9 +678,9 @@ fn gives(
     let file = file_of(alloc, bodies)?;
     let machine = read_machine(alloc, &file).expect(rt, case);
     let tasks = machine.tasks();
-    same_at(rt, test, case, tasks.len(), codes.len());
+    same(rt, test, case, tasks.len(), codes.len());
     for (task, code) in tasks.iter().zip(codes) {
-        same_at(rt, test, case, task.code.len(), code.len());
+        same(rt, test, case, task.code.len(), code.len());
         for (command, wanted) in task.code.iter().zip(*code) {
             speaks(rt, test, case, command, *wanted);
         }

@@ -4,6 +4,7 @@ ghost use Rattle.std.specs.Prelude.{◌≡◌, ◌≤◌, length};
 
 use super::comparing::same;
 use execlist::plain::PlainSpace;
+use execlist::space::ListSpace;
 use sigsem::fault::SemFault;
 use sigsem::semaphore::{Obtained, TaskId};
 use sigsem::sems::{SemId, Sems};
@@ -13,8 +14,8 @@ use std::test::*;
 
 /// Semaphores whose conditions are tested.
 #[derive(Drop)]
-struct Driver {
-    sems: Sems<PlainSpace>,
+struct Driver<S: ListSpace> {
+    sems: Sems<S>,
     tasks: usize,
     ghost known: { tasks ≡ length sems.places },
 }
@@ -197,7 +198,7 @@ static CASES: [Case; 9] = [
     },
 ];
 
-impl Driver {
+impl<S: ListSpace> Driver<S> {
     /// Room for so many semaphores and tasks.
     fn new(alloc: Global, sems: usize, tasks: usize) -> Result<Self, AllocError>
         requires few_sems { sems ≤ 4096 }
@@ -284,7 +285,7 @@ impl Driver {
 }
 
 /// Takes one step of a case.
-fn take(rt: &impl Abort, d: &mut Driver, case: &str, number: usize, step: Step) {
+fn take<S: ListSpace>(rt: &impl Abort, d: &mut Driver<S>, case: &str, number: usize, step: Step) {
     match step {
         Makes(wanted) => same(rt, case, number, d.sems.make(), wanted),
         Frees(s, wanted) => same(rt, case, number, d.free(s), wanted),
@@ -300,7 +301,7 @@ fn take(rt: &impl Abort, d: &mut Driver, case: &str, number: usize, step: Step) 
 }
 
 /// Takes the steps of a case.
-fn take_all(rt: &impl Abort, d: &mut Driver, case: &str, steps: &[Step]) {
+fn take_all<S: ListSpace>(rt: &impl Abort, d: &mut Driver<S>, case: &str, steps: &[Step]) {
     for (number, step) in steps.iter().enumerate() {
         take(rt, d, case, number, *step);
     }
@@ -309,7 +310,7 @@ fn take_all(rt: &impl Abort, d: &mut Driver, case: &str, steps: &[Step]) {
 #[test]
 fn each_call_answers_as_its_case_says(rt: HostRuntime) -> Result<(), Fail> {
     for case in &CASES {
-        let mut d = Driver::new(rt.alloc(), 2, 4)?;
+        let mut d: Driver<PlainSpace> = Driver::new(rt.alloc(), 2, 4)?;
         take_all(&rt, &mut d, case.name, case.steps);
     }
     Ok(())

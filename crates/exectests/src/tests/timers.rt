@@ -3,6 +3,7 @@ ghost use Rattle.std.specs.Prelude.{◌≡◌, ◌≤◌};
 
 use super::comparing::same;
 use execlist::plain::PlainSpace;
+use execlist::space::ListSpace;
 use std::alloc::{AllocError, Global};
 use std::process::Abort;
 use std::test::*;
@@ -10,8 +11,8 @@ use timerdev::timer::{ReqId, Timer};
 
 /// A timer whose conditions are tested.
 #[derive(Drop)]
-struct Driver {
-    timer: Timer<PlainSpace>,
+struct Driver<S: ListSpace> {
+    timer: Timer<S>,
     requests: usize,
     ghost known: { requests ≡ timer.room },
     ghost slow: { timer.timer.tick_micros ≡ 20000 },
@@ -176,7 +177,7 @@ static CASES: [Case; 6] = [
     },
 ];
 
-impl Driver {
+impl<S: ListSpace> Driver<S> {
     /// Room for so many requests.
     fn new(alloc: Global, requests: usize) -> Result<Self, AllocError>
         requires { requests ≤ 4096 }
@@ -227,7 +228,7 @@ impl Driver {
 }
 
 /// Takes one step of a case.
-fn take(rt: &impl Abort, d: &mut Driver, case: &str, number: usize, step: Step) {
+fn take<S: ListSpace>(rt: &impl Abort, d: &mut Driver<S>, case: &str, number: usize, step: Step) {
     match step {
         Adds(r, due, wanted) => same(rt, case, number, d.add(r, due), wanted),
         AddsUntil(r, at, wanted) => same(rt, case, number, d.add_until(r, at), wanted),
@@ -242,7 +243,7 @@ fn take(rt: &impl Abort, d: &mut Driver, case: &str, number: usize, step: Step) 
 }
 
 /// Takes the steps of a case, tick by tick.
-fn take_all(rt: &impl Abort, d: &mut Driver, case: &str, ticks: &[&[Step]]) {
+fn take_all<S: ListSpace>(rt: &impl Abort, d: &mut Driver<S>, case: &str, ticks: &[&[Step]]) {
     for steps in ticks {
         for (number, step) in steps.iter().enumerate() {
             take(rt, d, case, number, *step);
@@ -254,7 +255,7 @@ fn take_all(rt: &impl Abort, d: &mut Driver, case: &str, ticks: &[&[Step]]) {
 #[test]
 fn each_call_answers_as_its_case_says(rt: HostRuntime) -> Result<(), Fail> {
     for case in &CASES {
-        let mut d = Driver::new(rt.alloc(), 6)?;
+        let mut d: Driver<PlainSpace> = Driver::new(rt.alloc(), 6)?;
         take_all(&rt, &mut d, case.name, case.ticks);
     }
     Ok(())

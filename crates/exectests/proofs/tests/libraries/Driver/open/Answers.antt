@@ -3,6 +3,6 @@ use Rattle.exectests.proofs.Lent.{few_opened}
 use Rattle.exectests.proofs.tests.libraries.Driver.open.Goals as goal
 
 pub invariant_of-self : goal.invariant_of-self
-invariant_of-self c =
+invariant_of-self g c =
     few_opened (library_to_open c.args.name.now c.args.version c.self.inside.libraries) c.open.result (lent c.self.inside.libraries c.self.inside.memory) c.open.new.self
     c.self.invariant c.open.ensures.libraries
