@@ -14,7 +14,7 @@ use Rattle.execmodel.specs.Step.{starts, events, run}
 use Rattle.execsim.specs.Agreement.{Seen, Agrees, FollowsWhileGood}
 use Rattle.execsim.specs.declared.machine.Flow.{Flow}
 use Rattle.execsim.specs.Reached.{IsReached}
-use Rattle.execsim.specs.Time.{HasTimeFor, IsInTime, IsKnown}
+use Rattle.execsim.specs.Time.{HasTimeFor, IsKnown}
 use Rattle.execsim.proofs.Clock.{Gains, time_left}
 use Rattle.execsim.specs.Headline.{Shown, Acts, Finishes, Simulates, flow_of, end_of, end_for, ended}
 

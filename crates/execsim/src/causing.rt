@@ -1,4 +1,4 @@
-//! Calls on interrupts.
+//! The word Cause: a software interrupt is caused by its name.
 ghost use Rattle.execmodel.specs.Causing.{does_cause_by, does_interrupts};
 ghost use Rattle.execsim.specs.Callers.{HasTask, HasCaller};
 ghost use Rattle.execsim.specs.Agreement.{Follows};

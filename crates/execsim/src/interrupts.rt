@@ -155,7 +155,7 @@ impl<S: ListSpace> Kernel<S> {
         }
     }
 
-    /// A source is served, whose latch is cleared.
+    /// A source is served, whose latch is cleared: VERTB counts the quantum and finishes the requests that are due, and then the servers run.
     #[inline(never)]
     fn serve<W: Sink>(&mut self, source: Source, out: &mut W)
         ensures { Follows (served source) self.old self.new (W.tape out.old) (W.tape out.new) }

@@ -1,7 +1,9 @@
-use Rattle.std.proofs.Common.{ap, sym, ◌∙◌}
+use Rattle.std.proofs.Common.{◌≡◌, ℕ, ◌+◌, ap, sym, subst, ◌∙◌, arith}
 use Rattle.execsim.specs.Headline.{Shown}
 use Rattle.execsim.specs.Reached.{after_start}
-use Rattle.execsim.proofs.Acting.{known_after_action}
+use Rattle.execsim.specs.Time.{HasTimeFor}
+use Rattle.execsim.proofs.Acting.{known_after_action, time_after}
+use Rattle.execsim.proofs.Clock.{start_gains}
 use Rattle.execsim.proofs.Following.{while_good}
 use Rattle.execsim.proofs.machine.Machine.start.Goals as goal
 
@@ -10,3 +12,13 @@ pub invariant_of-self : goal.invariant_of-self
 invariant_of-self g c = λ going. known_after_action after_start (c.self.invariant c.if-self.false)
     (while_good (c.requires (ap (λ (x : Shown). x.failed) (sym c.self.view_is) ∙ c.if-self.false)) c.start.ensures)
     (rw c.is_stopped-stopped.ensures at c.finish.ensures) going
+
+-- (a start brings no ticks)
+pub returns-clause-time_left : goal.returns-clause-time_left
+returns-clause-time_left g c = λ going whole ticks enough.
+    time_after 0 start_gains after_start (c.self.invariant c.if-self.false)
+    (while_good (c.requires going) c.start.ensures)
+    (rw c.is_stopped-stopped.ensures at c.finish.ensures) whole ticks
+    (let none : ticks ≡ 0 + ticks = omega arith in
+    subst (λ (x : Shown). HasTimeFor (0 + ticks) x.seen) (sym c.self.view_is)
+    (subst (λ (n : ℕ). HasTimeFor n c.args.self.now.seen) none enough))
