@@ -1,10 +1,13 @@
+mod CodeTurns
 mod EventLemmas
 mod KeyTurns
 mod LimitTurns
 mod LocateLemmas
+mod MachineTurns
 mod RegionTurns
 mod SpacingTurns
 mod SpanLemmas
 mod SpokenTurns
 mod ToldTurns
 mod WarningTurns
+mod WordTurns

@@ -4,12 +4,14 @@ use Rattle.std.specs.List.{list_any}
 use Rattle.std.specs.Option.{option_or}
 use Rattle.std.proofs.lemmas.List.{drop_more}
 use Rattle.toml.specs.declared.value.Value.{Value}
+use Rattle.toml.specs.Data.{Items}
 use Rattle.toml.specs.View.{view, items_view}
 use Rattle.taskscript.specs.Code.{line_in, lines_in}
+use Rattle.taskscript.specs.File.{code_lines}
 use Rattle.taskscript.specs.Numbering.{Names}
 use Rattle.taskscript.proofs.BodyReading.{next_line}
-use Rattle.execadvice.specs.declared.show.Span.{Span}
-use Rattle.execadvice.specs.Limits.{first_line_past, first_past, is_one_too_many, texts, values_of, with_lines, with_part, with_parts}
+use Rattle.taskscript.proofs.OwnerTurns.{next_item}
+use Rattle.execadvice.specs.Limits.{first_line_past, first_past, first_past_among, is_one_too_many, only_shared, shared_after, shared_after_all, texts, values_of, with_lines, with_part, with_parts}
 use Rattle.execadvice.specs.Saying.{value_view}
 use Rattle.execadvice.specs.Told.{span_of, told_at}
 
@@ -38,3 +40,17 @@ lines_turn names i items v line lt is text = ap (with_lines names) (next_line it
 pub among_turn : (name : List ℕ) (held : List (Bor (List ℕ))) (i : ℕ) (d : Bor (List ℕ)) → i < length held
     → list_any (bytes_eq name) (texts (drop i held)) ≡ (bytes_eq name (get_or held i d).now || list_any (bytes_eq name) (texts (drop (i + 1) held)))
 among_turn name held i d lt = ap (λ (ns : List (Bor (List ℕ))). list_any (bytes_eq name) (texts ns)) (drop_more held i d lt)
+
+pub body_turn : (shared : List (List ℕ)) (vs : List Value) (i : ℕ) (v : Value) (lines : List (List ℕ)) → i < length vs → v ≡ get_or vs i v → lines ≡ code_lines (view v)
+    → first_past_among shared (items_view (drop i vs)) ≡ option_or (first_line_past 0 (only_shared shared) lines) (first_past_among (shared_after shared lines) (items_view (drop (i + 1) vs)))
+body_turn shared vs i v lines lt is read =
+    let rest : Items = items_view (drop (i + 1) vs) in
+    ap (first_past_among shared) (next_item vs i v lt is)
+    ∙ ap (λ (ls : List (List ℕ)). option_or (first_line_past 0 (only_shared shared) ls) (first_past_among (shared_after shared ls) rest)) (sym read)
+
+pub bodies_turn : (shared : List (List ℕ)) (vs : List Value) (i : ℕ) (v : Value) (lines : List (List ℕ)) → i < length vs → v ≡ get_or vs i v → lines ≡ code_lines (view v)
+    → shared_after_all shared (items_view (drop i vs)) ≡ shared_after_all (shared_after shared lines) (items_view (drop (i + 1) vs))
+bodies_turn shared vs i v lines lt is read =
+    let rest : Items = items_view (drop (i + 1) vs) in
+    ap (shared_after_all shared) (next_item vs i v lt is)
+    ∙ ap (λ (ls : List (List ℕ)). shared_after_all (shared_after shared ls) rest) (sym read)

@@ -3,6 +3,8 @@ use Rattle.std.specs.Prelude.{ℕ, ◌+◌, Bool, false, not, ◌&&◌, ◌==◌
 use Rattle.std.specs.Borrow.{Bor}
 use Rattle.std.specs.List.{list_any}
 use Rattle.std.specs.Option.{option_or}
+use Rattle.toml.specs.Data.{Items, no_items, item, Members}
+use Rattle.taskscript.specs.File.{code_lines, servers_in, softints_in, tasks_in}
 use Rattle.taskscript.specs.Numbering.{Names, seen_after}
 use Rattle.taskscript.specs.Parsing.{variable_of}
 use Rattle.taskscript.specs.declared.word.Word.{Word}
@@ -58,10 +60,37 @@ first_line_past at names [] = None
 first_line_past at names (line ∷ others) =
     option_or (option_map (told_at at) (option_map (span_of line) (first_past names (values_of line)))) (first_line_past (at + 1) (with_parts names (values_of line)) others)
 
+-- a body begins with no private variable
+abbrev pub only_shared : List (List ℕ) → Names
+only_shared shared = record { private = []; shared = shared }
+
 -- the names that were seen, after some lines
 abbrev pub with_lines : Names → List (List ℕ) → Names
 with_lines names [] = names
 with_lines names (line ∷ others) = with_lines (with_parts names (values_of line)) others
+
+-- the shared ones, after a body
+abbrev pub shared_after : List (List ℕ) → List (List ℕ) → List (List ℕ)
+shared_after shared lines = (with_lines (only_shared shared) lines).shared
+
+-- ---- in a file
+
+-- the first variable past its limit in some bodies, each after the shared variables of those before it
+abbrev pub first_past_among : List (List ℕ) → Items → Option Told
+first_past_among shared no_items = None
+first_past_among shared (item body others) =
+    option_or (first_line_past 0 (only_shared shared) (code_lines body)) (first_past_among (shared_after shared (code_lines body)) others)
+
+abbrev pub shared_after_all : List (List ℕ) → Items → List (List ℕ)
+shared_after_all shared no_items = shared
+shared_after_all shared (item body others) = shared_after_all (shared_after shared (code_lines body)) others
+
+-- that of a file: in the bodies of the software interrupts, of the servers and of the tasks
+unfoldable pub first_past_in : Members → Option Told
+first_past_in tree =
+    let after_softints = shared_after_all [] (softints_in tree) in
+    option_or (first_past_among [] (softints_in tree))
+    (option_or (first_past_among after_softints (servers_in tree)) (first_past_among (shared_after_all after_softints (servers_in tree)) (tasks_in tree)))
 
 -- ---- what the code holds
 

@@ -1,5 +1,5 @@
 //! What is found in an event text.
-ghost use Rattle.std.specs.Prelude.{◌≡◌, ◌++◌, [], Some, IfOk, OnOk, string_bytes};
+ghost use Rattle.std.specs.Prelude.{◌≡◌, ◌++◌, Some, IfOk, string_bytes};
 ghost use Rattle.taskscript.specs.Events.{script_of};
 ghost use Rattle.execadvice.specs.EventsTold.{Tells, TellsTooMany, head, line_at, line_behind, marked, text_or_nothing};
 ghost use Rattle.execadvice.specs.Findings.{fault_of};
@@ -122,8 +122,10 @@ fn event_advice(alloc: Global, line: &str) -> Result<Advice, AllocError> {
 }
 
 /// Bytes as text; what is no text is shown as the empty line.
+///
+/// Source: own choice.
 #[tactic(auto, using(crate::proofs::EventLemmas::a_text, crate::proofs::EventLemmas::no_text))]
-fn text_or_nothing(line: &[u8]) -> &str
+pub fn text_or_nothing(line: &[u8]) -> &str
     ensures { result.now ≡ text_or_nothing line.now }
 {
     match from_utf8(line) {
@@ -210,44 +212,53 @@ fn past_limit(bytes: &[u8]) -> Option<(usize, &'static str)> {
     None
 }
 
-/// Adds a line of an event text with what is wrong with it.
-fn push_line(
+/// What there is to say of a line of an event text: the line with what is wrong with it.
+fn line_text(
     alloc: Global,
-    out: &mut String,
     path: &str,
     bytes: &[u8],
     number: usize,
     name: &str,
     advice: &Advice,
-) -> Result<(), AllocError>
-    ensures { OnOk result (string_bytes out.new ≡ string_bytes out.old ++ head path.now number name.now
+) -> Result<String, AllocError>
+    ensures { IfOk result (λ told. string_bytes told ≡ head path.now number name.now
         ++ marked (line_at number bytes.now) advice.now.span (string_bytes advice.now.reason)) }
 {
-    let head = format!(in alloc; "{path}:{number}: {name}\n")?;
-    out.push_str(head.as_str())?;
-    push_marked(out, line_at(bytes, number), advice)
+    let mut told = format!(in alloc; "{path}:{number}: {name}\n")?;
+    push_marked(&mut told, line_at(bytes, number), advice)?;
+    Ok(told)
 }
 
-/// Adds why the events are too many.
-fn push_too_many(
-    alloc: Global,
-    out: &mut String,
-    path: &str,
-    bytes: &[u8],
-) -> Result<(), AllocError>
-    requires { string_bytes out.old ≡ [] }
-    ensures { OnOk result (TellsTooMany path.now bytes.now (string_bytes out.new)) }
+/// What there is to say where the events are too many.
+fn too_many_text(alloc: Global, path: &str, bytes: &[u8]) -> Result<String, AllocError>
+    ensures { IfOk result (λ told. TellsTooMany path.now bytes.now (string_bytes told)) }
 {
     match past_limit(bytes) {
-        None => {
-            let head = format!(in alloc; "{path}: TooMany\n")?;
-            out.push_str(head.as_str())
-        }
+        None => format!(in alloc; "{path}: TooMany\n"),
         Some((number, reason)) => {
             let width = line_at(bytes, number).chars().count();
             let advice = Advice::new(alloc, Span { start: 0, width }, reason)?;
-            push_line(alloc, out, path, bytes, number, "TooMany", &advice)
+            line_text(alloc, path, bytes, number, "TooMany", &advice)
         }
+    }
+}
+
+/// What there is to say of a fault.
+fn fault_text(
+    alloc: Global,
+    path: &str,
+    bytes: &[u8],
+    fault: EventFault,
+) -> Result<String, AllocError>
+    ensures { IfOk result (λ told. Tells path.now bytes.now (Some fault) (string_bytes told)) }
+{
+    match fault {
+        EventFault::BadLine(number) => {
+            let advice = event_advice(alloc, line_at(bytes, number))?;
+            line_text(alloc, path, bytes, number, "BadLine", &advice)
+        }
+        EventFault::TooMany => too_many_text(alloc, path, bytes),
+        EventFault::OutOfMemory => Err(AllocError),
     }
 }
 
@@ -270,15 +281,7 @@ fn refusal(
     ensures fault { IfOk result (λ finding. finding.fault ≡ Some fault) }
     ensures told { IfOk result (λ finding. Tells path.now bytes.now (Some fault) (string_bytes finding.text)) }
 {
-    let mut text = String::new(alloc);
-    match fault {
-        EventFault::BadLine(number) => {
-            let advice = event_advice(alloc, line_at(bytes, number))?;
-            push_line(alloc, &mut text, path, bytes, number, "BadLine", &advice)?;
-        }
-        EventFault::TooMany => push_too_many(alloc, &mut text, path, bytes)?,
-        EventFault::OutOfMemory => return Err(AllocError),
-    }
+    let text = fault_text(alloc, path, bytes, fault)?;
     Ok(EventsFinding {
         fault: Some(fault),
         text,

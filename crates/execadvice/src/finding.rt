@@ -1,26 +1,33 @@
 //! What is found in a machine file, as text.
-ghost use Rattle.std.specs.Prelude.{◌≡◌, Some, IfOk};
+ghost use Rattle.std.specs.Prelude.{◌≡◌, ◌++◌, [], Some, None, IfOk, OnOk, map, option_map, string_bytes};
+ghost use Rattle.std.specs.Str.Lines.{lines};
+ghost use Rattle.toml.specs.View.{table_view};
 ghost use Rattle.taskscript.specs.File.{file_of};
 ghost use Rattle.taskscript.specs.Tree.{document_of};
+ghost use Rattle.execadvice.specs.CodeLines.{body_at, line_at};
+ghost use Rattle.execadvice.specs.EventsTold.{marked};
+ghost use Rattle.execadvice.specs.FaultNames.{fault_name};
 ghost use Rattle.execadvice.specs.Findings.{fault_of};
+ghost use Rattle.execadvice.specs.MachineTold.{TellsFault, TellsLine, TellsMachine, TellsReason, TellsReasons, TellsWarnings, code_line, first_line, reason_lines, reasoned, tree_line, warning_text, warnings_text};
+ghost use Rattle.execadvice.specs.Parts.{MarksPart, part_alone, part_told};
+ghost use Rattle.execadvice.specs.Told.{told};
 ghost use Rattle.execcheck.specs.FilePlaces.{place_at, place_in};
 
 use crate::advice::line_advice;
+use crate::code::{body_at, line_at, line_of_code};
+use crate::events::text_or_nothing;
 use crate::labels::{Found, bad_label};
-use crate::limits::past_limit;
-use crate::locate::{line_of_place, section_of};
+use crate::limits::past_limit_in;
+use crate::locate::line_of_place;
+use crate::places::{line_words, tree_words};
 use crate::reasons::{key_at, tree_reason};
 use crate::show::{Advice, push_marked, push_reason};
 use crate::stands::not_in_interrupt;
-use crate::warnings::warnings_of;
-use execcheck::{
-    Array, LinePlace, Owner, Place, TablePlace, TreePlace, items_at, line_in, lines_of, name_of,
-    place_of_fault,
-};
+use crate::warnings::{Warning, warnings_of};
+use execcheck::{LinePlace, Place, TreePlace, items_at, place_of_fault};
 use std::alloc::{AllocError, Global};
-use std::str::from_utf8;
 use taskscript::{FileFault, read_machine};
-use toml::{Table, Value};
+use toml::Table;
 
 /// What was found in a machine file.
 #[derive(Drop)]
@@ -34,7 +41,9 @@ pub struct Finding {
 }
 
 /// The name of a fault.
-fn fault_name(fault: FileFault) -> &'static str {
+fn fault_name(fault: FileFault) -> &'static str
+    ensures { result.now ≡ fault_name fault }
+{
     match fault {
         FileFault::NotToml => "NotToml",
         FileFault::UnknownKey => "UnknownKey",
@@ -50,231 +59,94 @@ fn fault_name(fault: FileFault) -> &'static str {
     }
 }
 
-/// The array of what has a body.
-fn array_of(owner: Owner) -> Array
-    ensures softint { owner ≡ Owner.Softint → result ≡ Array.Softint }
-    ensures server { owner ≡ Owner.Server → result ≡ Array.Server }
-    ensures task { owner ≡ Owner.Task → result ≡ Array.Task }
-{
-    match owner {
-        Owner::Softint => Array::Softint,
-        Owner::Server => Array::Server,
-        Owner::Task => Array::Task,
-    }
-}
-
-/// What an array's items are in words.
-fn words_of(array: Array) -> &'static str {
-    match array {
-        Array::Region => "region",
-        Array::Library => "library",
-        Array::Softint => "software interrupt",
-        Array::Server => "server",
-        Array::Task => "task",
-    }
-}
-
-/// The path of a file, and a line of it where that is known.
-fn push_path(
+/// The path of a file, a line of it where that is known, a place in words, and a name.
+fn first_line(
     alloc: Global,
-    out: &mut String,
     path: &str,
     line: Option<usize>,
-) -> Result<(), AllocError> {
-    let start = match line {
-        None => format!(in alloc; "{path}: ")?,
-        Some(line) => format!(in alloc; "{path}:{line}: ")?,
-    };
-    out.push_str(start.as_str())
-}
-
-/// The name of an item, where it can be shown.
-fn shown_name(table: &Table, array: Array, item: usize) -> &str {
-    let name = match items_at(table, array.key()).get(item) {
-        None => "",
-        Some(value) => name_of(value),
-    };
-    if name.len() > 31 || name.chars().any(|c| c.is_control()) {
-        ""
-    } else {
-        name
+    words: &str,
+    name: &str,
+) -> Result<String, AllocError>
+    ensures { IfOk result (λ text. string_bytes text ≡ first_line path.now line words.now name.now) }
+{
+    match line {
+        None => format!(in alloc; "{path}: {words}{name}\n"),
+        Some(line) => format!(in alloc; "{path}:{line}: {words}{name}\n"),
     }
 }
 
-/// An item of an array, by its number from 1 and its name.
-fn item_text(
+/// The first line of what is said of a place of the tree.
+#[tactic(auto, unfolding(crate::specs::MachineTold::tree_line))]
+fn tree_line(
     alloc: Global,
-    table: &Table,
-    array: Array,
-    item: usize,
-) -> Result<String, AllocError> {
-    let what = words_of(array);
-    let number = item.saturating_add(1);
-    let name = shown_name(table, array, item);
-    if name.is_empty() {
-        format!(in alloc; "in {what} {number}")
-    } else {
-        format!(in alloc; "in {what} {number} (\"{name}\")")
-    }
-}
-
-/// A key of a table, by the table and the key.
-fn key_place_text(
-    alloc: Global,
-    table: &Table,
-    of: TablePlace,
-    key: &str,
-) -> Result<String, AllocError> {
-    match of {
-        TablePlace::Top => format!(in alloc; "in the top table, key {key}: "),
-        TablePlace::Item(array, item) => {
-            let named = item_text(alloc, table, array, item)?;
-            format!(in alloc; "{named}, key {key}: ")
-        }
-    }
-}
-
-/// A place of the tree, by its path.
-fn place_text(
-    alloc: Global,
-    table: &Table,
-    place: TreePlace,
-    key: &str,
-) -> Result<String, AllocError> {
-    match place {
-        TreePlace::UnknownKey(of) | TreePlace::Key(of, _) => {
-            key_place_text(alloc, table, of, key)
-        }
-        TreePlace::Array(array) => { key_place_text(alloc, table, TablePlace::Top, array.key()) }
-        TreePlace::Item(array, item) => {
-            let named = item_text(alloc, table, array, item)?;
-            format!(in alloc; "{named}: ")
-        }
-    }
-}
-
-/// The text of a fault of the tree.
-fn push_tree_fault(
-    alloc: Global,
-    out: &mut String,
     path: &str,
     text: &str,
     table: &Table,
     place: TreePlace,
-    fault: FileFault,
-) -> Result<(), AllocError> {
+    name: &str,
+) -> Result<String, AllocError>
+    ensures { IfOk result (λ told. string_bytes told ≡ tree_line path.now (lines text.now) (table_view table.now) place name.now) }
+{
     let key = key_at(place, table);
     let line = line_of_place(alloc, text, place, key, table)?;
-    push_path(alloc, out, path, line)?;
-    let at = place_text(alloc, table, place, key)?;
-    out.push_str(at.as_str())?;
-    out.push_str(fault_name(fault))?;
-    out.push_str("\n")?;
-    let reason = tree_reason(alloc, place, fault, table)?;
-    push_reason(out, reason.as_str())
+    let words = tree_words(alloc, table, place, key)?;
+    first_line(alloc, path, line, words.as_str(), name)
 }
 
-/// The line of the file at which a line of a body is written, where the file shows it.
-fn line_of_code(
+/// The first line of what is said of a line of a body.
+#[tactic(auto, unfolding(crate::specs::MachineTold::code_line))]
+fn code_line(
     alloc: Global,
-    text: &str,
-    table: &Table,
-    place: LinePlace,
-) -> Result<Option<usize>, AllocError> {
-    let array = array_of(place.owner);
-    let owners = items_at(table, array.key());
-    let Some(owner) = owners.get(place.item) else {
-        return Ok(None);
-    };
-    let lines = lines_of(owner);
-    let Some(item) = lines.get(place.line) else {
-        return Ok(None);
-    };
-    let wanted = line_in(item);
-    let mut before = 0usize;
-    let mut count = 0usize;
-    for (i, other) in lines.iter().enumerate() {
-        if line_in(other) == wanted {
-            if i < place.line {
-                before = before.saturating_add(1);
-            }
-            count = count.saturating_add(1);
-        }
-    }
-    match section_of(alloc, text, array.key(), place.item, owners.len())? {
-        None => Ok(None),
-        Some(section) => section.line_of_string(alloc, wanted, before, count),
-    }
-}
-
-/// The name and the body of what has a line.
-fn push_line_place(
-    alloc: Global,
-    out: &mut String,
     path: &str,
     text: &str,
     table: &Table,
     place: LinePlace,
-) -> Result<(), AllocError> {
-    let array = array_of(place.owner);
+    name: &str,
+) -> Result<String, AllocError>
+    ensures { IfOk result (λ told. string_bytes told ≡ code_line path.now (lines text.now) (table_view table.now) place name.now) }
+{
     let line = line_of_code(alloc, text, table, place)?;
-    push_path(alloc, out, path, line)?;
-    let name = match items_at(table, array.key()).get(place.item) {
-        None => "",
-        Some(value) => name_of(value),
-    };
-    let what = words_of(array);
-    let number = place.line.saturating_add(1);
-    let named = format!(in alloc; "in {what} \"{name}\", line {number} of its code: ")?;
-    out.push_str(named.as_str())
+    let words = line_words(alloc, table, place)?;
+    first_line(alloc, path, line, words.as_str(), name)
 }
 
-/// The line at a place, or the empty text.
-fn text_at_place<'a>(table: &'a Table, place: LinePlace) -> &'a str {
-    match items_at(table, array_of(place.owner).key()).get(place.item) {
-        None => "",
-        Some(owner) => match lines_of(owner).get(place.line) {
-            None => "",
-            Some(item) => line_in(item),
-        },
-    }
-}
-
-/// What is wrong in one body with regard to labels, variables and interrupts.
-fn found_in_body<'a>(
+/// What there is to say of a fault of the tree.
+fn tree_fault(
     alloc: Global,
-    fault: FileFault,
-    owner: Owner,
-    lines: &'a [Value],
-    shared: &mut Vec<&'a str>,
-) -> Result<Option<Found>, AllocError> {
-    match fault {
-        FileFault::BadLabel => bad_label(alloc, lines),
-        FileFault::TooMany => past_limit(alloc, lines, shared),
-        FileFault::NotInInterrupt => match owner {
-            Owner::Task => Ok(None),
-            _ => not_in_interrupt(alloc, lines),
-        },
-        _ => Ok(None),
-    }
-}
-
-/// What is wrong where a fault of lines other than BadCommand stands.
-fn found_in_lines(
-    alloc: Global,
-    fault: FileFault,
+    path: &str,
+    text: &str,
     table: &Table,
-) -> Result<Option<Found>, AllocError> {
-    let mut shared = Vec::new(alloc);
-    for owner in [Owner::Softint, Owner::Server, Owner::Task] {
-        for value in items_at(table, array_of(owner).key()) {
-            let found = found_in_body(alloc, fault, owner, lines_of(value), &mut shared)?;
-            if found.is_some() {
-                return Ok(found);
-            }
-        }
+    place: TreePlace,
+    fault: FileFault,
+) -> Result<String, AllocError>
+    ensures { IfOk result (λ told. TellsReason (tree_line path.now (lines text.now) (table_view table.now) place (fault_name fault)) (string_bytes told)) }
+{
+    let mut told = tree_line(alloc, path, text, table, place, fault_name(fault))?;
+    let reason = tree_reason(alloc, place, fault, table)?;
+    push_reason(&mut told, reason.as_str())?;
+    Ok(told)
+}
+
+/// What is wrong with the line at a place by itself.
+fn advice_alone(alloc: Global, table: &Table, place: LinePlace) -> Result<Advice, AllocError>
+    ensures { IfOk result (λ advice. advice.span ≡ part_alone (table_view table.now) place) }
+{
+    line_advice(alloc, items_at(table, "softint"), line_at(table, place))
+}
+
+/// What is wrong where something was found in a body, or else with the line at a place by itself.
+fn advice_of(
+    alloc: Global,
+    table: &Table,
+    place: LinePlace,
+    found: Option<Found>,
+) -> Result<Advice, AllocError>
+    ensures { IfOk result (λ advice. advice.span ≡ part_told (option_map told found) (part_alone (table_view table.now) place)) }
+{
+    match found {
+        None => advice_alone(alloc, table, place),
+        Some(found) => Ok(found.advice),
     }
-    Ok(None)
 }
 
 /// What is wrong with the line at a place.
@@ -283,71 +155,102 @@ fn advice_at(
     table: &Table,
     fault: FileFault,
     place: LinePlace,
-) -> Result<Advice, AllocError> {
-    match found_in_lines(alloc, fault, table)? {
-        Some(found) => Ok(found.advice),
-        None => {
-            let softints = items_at(table, "softint");
-            line_advice(alloc, softints, text_at_place(table, place))
+) -> Result<Advice, AllocError>
+    ensures { IfOk result (λ advice. MarksPart (table_view table.now) fault place advice.span) }
+{
+    match fault {
+        FileFault::BadLabel => {
+            let found = bad_label(alloc, body_at(table, place))?;
+            advice_of(alloc, table, place, found)
         }
+        FileFault::NotInInterrupt => {
+            let found = not_in_interrupt(alloc, body_at(table, place))?;
+            advice_of(alloc, table, place, found)
+        }
+        FileFault::TooMany => {
+            let found = past_limit_in(alloc, table)?;
+            advice_of(alloc, table, place, found)
+        }
+        _ => advice_alone(alloc, table, place),
     }
 }
 
-/// The text of a fault of a line.
-fn push_line_fault(
+/// What there is to say of a line of a body: its place with a name, and the line with marks under a part of it and a reason.
+fn line_text(
     alloc: Global,
-    out: &mut String,
     path: &str,
     text: &str,
     table: &Table,
-    fault: FileFault,
     place: LinePlace,
+    name: &str,
     advice: &Advice,
-) -> Result<(), AllocError> {
-    push_line_place(alloc, out, path, text, table, place)?;
-    out.push_str(fault_name(fault))?;
-    out.push_str("\n")?;
-    push_marked(out, text_at_place(table, place), advice)
+) -> Result<String, AllocError>
+    ensures { IfOk result (λ told. string_bytes told ≡ code_line path.now (lines text.now) (table_view table.now) place name.now
+        ++ marked (line_at (table_view table.now) place) advice.now.span (string_bytes advice.now.reason)) }
+{
+    let mut told = code_line(alloc, path, text, table, place, name)?;
+    push_marked(&mut told, line_at(table, place), advice)?;
+    Ok(told)
 }
 
-/// The text of a fault of a file that has a tree.
-fn push_fault(
+/// What there is to say of a fault of a line.
+fn line_fault(
     alloc: Global,
-    out: &mut String,
+    path: &str,
+    text: &str,
+    table: &Table,
+    place: LinePlace,
+    fault: FileFault,
+) -> Result<String, AllocError>
+    ensures { IfOk result (λ told. TellsLine path.now (lines text.now) (table_view table.now) fault place (string_bytes told)) }
+{
+    let advice = advice_at(alloc, table, fault, place)?;
+    line_text(alloc, path, text, table, place, fault_name(fault), &advice)
+}
+
+/// What there is to say of a fault of a file that has a tree.
+fn fault_text(
+    alloc: Global,
     path: &str,
     text: &str,
     table: &Table,
     fault: FileFault,
     place: Option<Place>,
-) -> Result<(), AllocError> {
+) -> Result<String, AllocError>
+    ensures { IfOk result (λ told. TellsFault path.now (lines text.now) (table_view table.now) fault place (string_bytes told)) }
+{
     match place {
-        Some(Place::Tree(place)) => push_tree_fault(alloc, out, path, text, table, place, fault),
-        Some(Place::Line(place)) => {
-            let advice = advice_at(alloc, table, fault, place)?;
-            push_line_fault(alloc, out, path, text, table, fault, place, &advice)
-        }
-        None => {
-            push_path(alloc, out, path, None)?;
-            out.push_str(fault_name(fault))?;
-            out.push_str("\n")
-        }
+        None => first_line(alloc, path, None, "", fault_name(fault)),
+        Some(place) => match place {
+            Place::Tree(place) => tree_fault(alloc, path, text, table, place, fault),
+            Place::Line(place) => line_fault(alloc, path, text, table, place, fault),
+        },
     }
 }
 
-/// The text of NotToml: what the reader of TOML says.
-fn push_not_toml(
-    alloc: Global,
-    out: &mut String,
-    path: &str,
-    error: &toml::de::Error,
-) -> Result<(), AllocError> {
-    let said = format!(in alloc; "{error}")?;
-    push_path(alloc, out, path, None)?;
-    out.push_str("NotToml\n")?;
-    for line in said.as_str().lines() {
+/// Adds each line of a text as a reason.
+fn push_reasons(out: &mut String, text: &str) -> Result<(), AllocError>
+    ensures { OnOk result (string_bytes out.new ≡ string_bytes out.old ++ reason_lines (lines text.now)) }
+{
+    for line in text.lines() {
         push_reason(out, line)?;
     }
     Ok(())
+}
+
+/// What there is to say of what is no document: what the reader of TOML says.
+fn no_document_text(
+    alloc: Global,
+    path: &str,
+    fault: FileFault,
+    error: &toml::de::Error,
+) -> Result<String, AllocError>
+    ensures { IfOk result (λ told. TellsReasons (first_line path.now None [] (fault_name fault)) (string_bytes told)) }
+{
+    let reasons = format!(in alloc; "{error}")?;
+    let mut told = first_line(alloc, path, None, "", fault_name(fault))?;
+    push_reasons(&mut told, reasons.as_str())?;
+    Ok(told)
 }
 
 /// What there is to say of a refused file. A file that is no document has no place.
@@ -355,14 +258,14 @@ fn push_not_toml(
 fn refusal(alloc: Global, path: &str, bytes: &[u8], fault: FileFault) -> Result<Finding, AllocError>
     ensures fault { IfOk result (λ finding. finding.fault ≡ Some fault) }
     ensures place { IfOk result (λ finding. finding.place ≡ place_at (document_of bytes.now)) }
+    ensures told { IfOk result (λ finding. TellsMachine path.now bytes.now finding.fault (document_of bytes.now) (string_bytes finding.text)) }
 {
-    let mut text = String::new(alloc);
     match toml::table_from_slice(alloc, bytes) {
         Err(error) => {
             if error.is_memory() {
                 return Err(AllocError);
             }
-            push_not_toml(alloc, &mut text, path, &error)?;
+            let text = no_document_text(alloc, path, fault, &error)?;
             Ok(Finding {
                 fault: Some(fault),
                 place: None,
@@ -371,8 +274,7 @@ fn refusal(alloc: Global, path: &str, bytes: &[u8], fault: FileFault) -> Result<
         }
         Ok(table) => {
             let place = place_of_fault(alloc, &table)?;
-            let whole = from_utf8(bytes).unwrap_or("");
-            push_fault(alloc, &mut text, path, whole, &table, fault, place)?;
+            let text = fault_text(alloc, path, text_or_nothing(bytes), &table, fault, place)?;
             Ok(Finding {
                 fault: Some(fault),
                 place,
@@ -382,31 +284,77 @@ fn refusal(alloc: Global, path: &str, bytes: &[u8], fault: FileFault) -> Result<
     }
 }
 
-/// Adds the warnings of a file that is accepted.
-fn push_warnings(
+/// Adds a warning.
+#[tactic(auto, unfolding(crate::specs::MachineTold::warning_text))]
+fn push_warning(
     alloc: Global,
     out: &mut String,
     path: &str,
-    bytes: &[u8],
-) -> Result<(), AllocError> {
+    text: &str,
+    table: &Table,
+    warning: &Warning,
+) -> Result<(), AllocError>
+    ensures { OnOk result (string_bytes out.new ≡ string_bytes out.old ++ warning_text path.now (lines text.now) (table_view table.now) (reasoned warning.now)) }
+{
+    let told = line_text(
+        alloc,
+        path,
+        text,
+        table,
+        warning.place,
+        "warning",
+        &warning.advice,
+    )?;
+    out.push_str(told.as_str())
+}
+
+/// What there is to say of some warnings, one after the other.
+#[tactic(auto, using(crate::proofs::MachineTurns::warnings_turn))]
+fn warnings_text(
+    alloc: Global,
+    path: &str,
+    text: &str,
+    table: &Table,
+    warnings: &[Warning],
+) -> Result<String, AllocError>
+    ensures { IfOk result (λ told. string_bytes told ≡ warnings_text path.now (lines text.now) (table_view table.now) (map reasoned warnings.now)) }
+{
+    let mut told = String::new(alloc);
+    for warning in warnings {
+        push_warning(alloc, &mut told, path, text, table, warning)?;
+    }
+    Ok(told)
+}
+
+/// What there is to say of a file that has a tree and is accepted.
+fn tree_warnings(alloc: Global, path: &str, text: &str, table: &Table) -> Result<String, AllocError>
+    ensures { IfOk result (λ told. TellsWarnings path.now (lines text.now) (table_view table.now) (string_bytes told)) }
+{
+    let warnings = warnings_of(alloc, table)?;
+    warnings_text(alloc, path, text, table, &warnings)
+}
+
+/// What there is to say of a file that is accepted: its warnings.
+fn accepted_text(alloc: Global, path: &str, bytes: &[u8]) -> Result<String, AllocError>
+    ensures { IfOk result (λ told. TellsMachine path.now bytes.now None (document_of bytes.now) (string_bytes told)) }
+{
     match toml::table_from_slice(alloc, bytes) {
-        Err(_) => Ok(()),
-        Ok(table) => {
-            for warning in &warnings_of(alloc, &table)? {
-                let text = from_utf8(bytes).unwrap_or("");
-                push_line_place(alloc, out, path, text, &table, warning.place)?;
-                out.push_str("warning\n")?;
-                push_marked(out, text_at_place(&table, warning.place), &warning.advice)?;
+        Err(error) => {
+            if error.is_memory() {
+                return Err(AllocError);
             }
-            Ok(())
+            Ok(String::new(alloc))
         }
+        Ok(table) => tree_warnings(alloc, path, text_or_nothing(bytes), &table),
     }
 }
 
 /// What the bytes of a machine file are refused for, and where, or else what is worth a warning. `path` stands before each place.
 ///
 /// The file is refused just where `execsim` refuses it, with that fault. Its place is the first faulty place of the file, in the order in
-/// which the file is judged. The text names the fault, the place and the reason.
+/// which the file is judged. What is said of it begins with the path, the line of the file where that is known, the place and the name of the
+/// fault; below it stands a reason, or the line of the body with marks under a part of it. Of an accepted file its warnings are said in the
+/// same form, each with its line, and nothing else.
 ///
 /// # Errors
 ///
@@ -416,11 +364,11 @@ fn push_warnings(
 pub fn check_machine(alloc: Global, path: &str, bytes: &[u8]) -> Result<Finding, AllocError>
     ensures fault { IfOk result (λ finding. finding.fault ≡ fault_of (file_of bytes.now)) }
     ensures place { IfOk result (λ finding. finding.place ≡ place_in (file_of bytes.now) (document_of bytes.now)) }
+    ensures told { IfOk result (λ finding. TellsMachine path.now bytes.now finding.fault (document_of bytes.now) (string_bytes finding.text)) }
 {
     match read_machine(alloc, bytes) {
         Ok(_) => {
-            let mut text = String::new(alloc);
-            push_warnings(alloc, &mut text, path, bytes)?;
+            let text = accepted_text(alloc, path, bytes)?;
             Ok(Finding {
                 fault: None,
                 place: None,

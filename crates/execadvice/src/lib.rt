@@ -2,12 +2,14 @@
 #![tactic(auto)]
 
 mod advice;
+mod code;
 mod events;
 mod finding;
 mod labels;
 mod limits;
 mod locate;
 mod near;
+mod places;
 mod reads;
 mod reasons;
 mod regions;

@@ -1,19 +1,19 @@
 //! Variables past their limits.
 ghost use Rattle.std.specs.Prelude.{◌≡◌, [], IfNone, IfOk, OnOk, bytes_eq, map, option_map};
 ghost use Rattle.std.specs.List.{list_any};
-ghost use Rattle.toml.specs.View.{items_view};
+ghost use Rattle.toml.specs.View.{items_view, table_view};
 ghost use Rattle.taskscript.specs.Code.{lines_in};
 ghost use Rattle.taskscript.specs.Numbering.{seen_after};
-ghost use Rattle.execadvice.specs.Limits.{first_line_past, first_past, is_one_too_many, is_past, is_shared, names_held, texts, values_of, with_lines, with_part, with_parts};
+ghost use Rattle.execadvice.specs.Limits.{first_line_past, first_past, first_past_among, first_past_in, is_one_too_many, is_past, is_shared, names_held, shared_after_all, texts, values_of, with_lines, with_part, with_parts};
 ghost use Rattle.execadvice.specs.Saying.{value_view};
 ghost use Rattle.execadvice.specs.Told.{span_of, told};
 
 use crate::labels::Found;
 use crate::said::said_by;
 use crate::show::{Advice, field_span};
-use execcheck::{is_variable, line_in};
+use execcheck::{is_variable, items_at, line_in, lines_of};
 use std::alloc::{AllocError, Global};
-use toml::Value;
+use toml::{Table, Value};
 
 /// The greatest number of private variables of a body.
 const PRIVATE_LIMIT: usize = 32;
@@ -126,7 +126,7 @@ fn reason_of(private: usize) -> &'static str {
 ///
 /// Source: own choice.
 #[tactic(auto, using(crate::proofs::LimitTurns::line_turn, crate::proofs::LimitTurns::lines_turn))]
-pub fn past_limit<'a>(
+fn past_limit<'a>(
     alloc: Global,
     lines: &'a [Value],
     shared: &mut Vec<&'a str>,
@@ -147,4 +147,43 @@ pub fn past_limit<'a>(
         }
     }
     Ok(None)
+}
+
+/// The first variable past its limit in some bodies, after some shared variables, to which those of these bodies are added.
+#[tactic(auto, using(crate::proofs::LimitTurns::body_turn, crate::proofs::LimitTurns::bodies_turn))]
+fn past_limit_among<'a>(
+    alloc: Global,
+    bodies: &'a [Value],
+    shared: &mut Vec<&'a str>,
+) -> Result<Option<Found>, AllocError>
+    ensures found { IfOk result (λ found. option_map told found ≡ first_past_among (texts shared.old.items) (items_view bodies.now)) }
+    ensures shared { IfOk result (λ found. IfNone found (texts shared.new.items ≡ shared_after_all (texts shared.old.items) (items_view bodies.now))) }
+{
+    for body in bodies {
+        if let Some(found) = past_limit(alloc, lines_of(body), shared)? {
+            return Ok(Some(found));
+        }
+    }
+    Ok(None)
+}
+
+/// The first variable of a file past its limit, by the line of its body, with the part that it is, and why.
+///
+/// # Errors
+///
+/// Where memory is refused.
+///
+/// Source: own choice.
+#[tactic(auto, unfolding(crate::specs::Limits::first_past_in))]
+pub fn past_limit_in(alloc: Global, table: &Table) -> Result<Option<Found>, AllocError>
+    ensures { IfOk result (λ found. option_map told found ≡ first_past_in (table_view table.now)) }
+{
+    let mut shared = Vec::new(alloc);
+    if let Some(found) = past_limit_among(alloc, items_at(table, "softint"), &mut shared)? {
+        return Ok(Some(found));
+    }
+    if let Some(found) = past_limit_among(alloc, items_at(table, "server"), &mut shared)? {
+        return Ok(Some(found));
+    }
+    past_limit_among(alloc, items_at(table, "task"), &mut shared)
 }

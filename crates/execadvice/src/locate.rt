@@ -238,9 +238,15 @@ fn escaped_string(alloc: Global, text: &str) -> Result<String, AllocError>
     Ok(string)
 }
 
-/// The lines of an item of a file.
+/// The lines of an item of a file. None where the file has not as many headers as items.
+///
+/// # Errors
+///
+/// Where memory is refused.
+///
+/// Source: own choice.
 #[tactic(auto, using(taskscript::proofs::Keys::count_items_view))]
-fn item_section<'a>(
+pub fn item_section<'a>(
     alloc: Global,
     text: &'a str,
     array: Array,
