@@ -1,9 +1,11 @@
 -- The ends of the program: the status that stands for each, and which of them go without a word on standard error.
-use Rattle.std.specs.Prelude.{⊤, ℕ}
+use Rattle.std.specs.Prelude.{⊤, ℕ, List, Option}
+use Rattle.std.specs.Io.KnownBytes.{Appends, Keeps}
 use Rattle.std.specs.declared.result.Result.{Result}
 use Rattle.std.specs.declared.result.Result.TheVariants.{Ok, Err}
 use Rattle.execsim.specs.declared.simulation.End.{End}
 use Rattle.execsim.specs.declared.simulation.End.TheVariants.{Ran, Alerted}
+use Rattle.execrun.specs.Fault.{line_of}
 use Rattle.execrun.specs.declared.fault.Fault.{Fault}
 use Rattle.execrun.specs.declared.fault.Fault.TheVariants.{Machine, Events}
 use Rattle.execrun.specs.declared.ending.Ending.{Ending}
@@ -37,3 +39,11 @@ abbrev pub IsSilent : Ending → Type 0
 IsSilent ending.Done = ⊤
 IsSilent ending.Alerted = ⊤
 IsSilent ending = ⊥
+
+-- What a writer has after all that there is to say of an end was written to it: the line of a fault, and else nothing. Which text says why a
+-- command line is refused, `clap` alone says.
+abbrev pub Says : Option (List ℕ) → Option (List ℕ) → Ending → Type 0
+Says before after ending.Done = Keeps before after
+Says before after ending.Alerted = Keeps before after
+Says before after (ending.Refused error) = ⊤
+Says before after (ending.Failed fault) = Appends before after (line_of fault)

@@ -1,8 +1,8 @@
 //! How the program ends: what it says on standard error, and its status.
-ghost use Rattle.std.specs.Prelude.{◌≡◌, IfSome, OnOk, Some};
+ghost use Rattle.std.specs.Prelude.{◌≡◌, IfSome, IsOk, OnOk, Some};
 ghost use Rattle.std.specs.Io.KnownBytes.{Appends};
 ghost use Rattle.execrun.specs.Fault.{line_of};
-ghost use Rattle.execrun.specs.Ending.{IsSilent, code_of, ending_after, status_of};
+ghost use Rattle.execrun.specs.Ending.{IsSilent, Says, code_of, ending_after, status_of};
 
 use crate::fault::Fault;
 use execsim::End;
@@ -95,7 +95,26 @@ fn write_fault<E: Write>(fault: &Fault<'_>, err: &mut E) -> io::Result<()>
     err.flush()
 }
 
-/// Says on standard error why the program ends, where there is something to say, and answers its status.
+/// Says on standard error why the program ends, where there is something to say, and flushes it.
+///
+/// # Errors
+///
+/// That of the writer, where a write or the flush fails. A first part may have been written.
+///
+/// Source: own choice.
+pub fn say<E: Write>(ending: &Ending<'_>, err: &mut E) -> io::Result<()>
+    ensures says { OnOk result (Says (E.contents err.old) (E.contents err.new) ending.now) }
+    ensures silent { IsSilent ending.now → err.new ≡ err.old }
+    ensures unfailing { IsSilent ending.now → IsOk result }
+{
+    match ending {
+        Ending::Done | Ending::Alerted => Ok(()),
+        Ending::Refused(error) => write_shown(error, err),
+        Ending::Failed(fault) => write_fault(fault, err),
+    }
+}
+
+/// Says on standard error why the program ends, as `say` does, and answers its status.
 /// A write that fails there changes nothing.
 ///
 /// Source: own choice.
@@ -103,10 +122,6 @@ pub fn report<E: Write>(ending: &Ending<'_>, err: &mut E) -> Status
     ensures status { result ≡ status_of ending.now }
     ensures silent { IsSilent ending.now → err.new ≡ err.old }
 {
-    let _ = match ending {
-        Ending::Done | Ending::Alerted => Ok(()),
-        Ending::Refused(error) => write_shown(error, err),
-        Ending::Failed(fault) => write_fault(fault, err),
-    };
+    let _ = say(ending, err);
     ending.status()
 }

@@ -12,7 +12,7 @@ mod texts;
 
 pub use arguments::run_on_arguments;
 pub use command_line::Paths;
-pub use ending::{Ending, Status, report};
+pub use ending::{Ending, Status, report, say};
 pub use execsim::FILE_LIMIT;
 pub use fault::Fault;
 pub use running::{run, run_on_texts};
