@@ -1,1 +1,4 @@
-mod RunLemmas
+pub mod TraceLemmas
+pub mod StandingLemmas
+pub mod TextLemmas
+pub mod RunLemmas

@@ -1,7 +1,14 @@
 pub mod Parts
 pub mod Awaiting
-pub mod Idling
 pub mod Owned
 pub mod Owning
+pub mod Waiters
+pub mod Effects
+pub mod Standing
+pub mod Standings
+pub mod Trace
 pub mod Waiting
+pub mod Reasons
+pub mod Advice
+pub mod Following
 pub mod Running

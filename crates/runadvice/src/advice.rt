@@ -1,15 +1,58 @@
 //! What a run comes to, as text.
-ghost use Rattle.std.specs.Prelude.{◌≡◌, ◌≢◌, [], IfOk, IfSome};
+ghost use Rattle.std.specs.Prelude.{◌≡◌, ◌≢◌, ◌++◌, [], IfOk, IfSome, OnOk, option_map};
 ghost use Rattle.std.specs.String.{string_bytes};
+ghost use Rattle.std.specs.Prelude.{Ok};
+ghost use Rattle.taskscript.specs.File.{file_of};
+ghost use Rattle.taskscript.specs.Events.{script_of};
+ghost use Rattle.runadvice.specs.Advice.{advice_of, end_warning, is_alone, standing_at_end, task_warning, warning_text, warnings_from};
 ghost use Rattle.runadvice.specs.Running.{RunsToItsEnd};
+ghost use Rattle.runadvice.specs.Standings.{standing_of};
+ghost use Rattle.runadvice.specs.Waiting.{is_end};
+ghost use Rattle.std.specs.List.{list_any};
 
 use crate::course::{Run, Stage};
 use crate::reasons::{task_text, wait_reason};
+use crate::wait::Wait;
 use crate::watch::Watch;
 use execsim::{End, SimFault, simulate};
 use exectrace::WriteSink;
 use std::alloc::{AllocError, Global};
-use taskscript::{FileFault, MachineFile, read_machine};
+use taskscript::{EventFault, FileFault, MachineFile, read_machine};
+
+/// Adds the warning that names a task, by the reason why it waits.
+fn push_warning(
+    alloc: Global,
+    out: &mut String,
+    path: &str,
+    run: &Run<'_>,
+    number: usize,
+    reason: &str,
+) -> Result<(), AllocError>
+    ensures { OnOk result (string_bytes out.new ≡ string_bytes out.old ++ warning_text path.now (standing_of run.now) number reason.now) }
+{
+    let named = task_text(alloc, run, number)?;
+    let text = format!(in alloc; "{path}: in {named}: warning\n    it {reason}\n")?;
+    out.push_str(text.as_str())
+}
+
+/// Adds a warning for a task that waits, where it is known that nothing that is left ends its wait.
+fn push_wait(
+    alloc: Global,
+    out: &mut String,
+    path: &str,
+    run: &Run<'_>,
+    is_alone: bool,
+    number: usize,
+    wait: Option<Wait>,
+) -> Result<(), AllocError>
+    ensures { OnOk result (string_bytes out.new ≡ string_bytes out.old ++ task_warning path.now is_alone (standing_of run.now) number wait) }
+{
+    let Some(wait) = wait else { return Ok(()) };
+    match wait_reason(alloc, run, wait, is_alone)? {
+        None => Ok(()),
+        Some(reason) => push_warning(alloc, out, path, run, number, reason.as_str()),
+    }
+}
 
 /// Adds a warning for each task that waits when the events end, where it is known that nothing that is left ends its wait.
 fn push_waits(
@@ -18,21 +61,27 @@ fn push_waits(
     path: &str,
     run: &Run<'_>,
     is_alone: bool,
-) -> Result<(), AllocError> {
-    for (number, task) in run.tasks.iter().enumerate() {
-        let Some(wait) = task.wait else { continue };
-        if let Some(reason) = wait_reason(alloc, run, wait, is_alone)? {
-            let named = task_text(alloc, run, number)?;
-            let text = format!(in alloc; "{path}: in {named}: warning\n    it {reason}\n")?;
-            out.push_str(text.as_str())?;
-        }
+) -> Result<(), AllocError>
+    ensures { OnOk result (string_bytes out.new ≡ string_bytes out.old ++ warnings_from path.now is_alone (standing_of run.now) 0 run.now.waits.items) }
+{
+    for number in 0..run.waits.len() {
+        push_wait(alloc, out, path, run, is_alone, number, run.waits[number])?;
     }
     Ok(())
 }
 
+/// Whether one of these tasks has ended.
+fn any_ended(stages: &[Stage]) -> bool
+    ensures { result ≡ list_any is_end stages.now }
+{
+    stages.iter().any(|stage| matches!(stage, Stage::Ended))
+}
+
 /// Adds a warning where the events end while a task runs and none has ended.
-fn push_end(alloc: Global, out: &mut String, path: &str, run: &Run<'_>) -> Result<(), AllocError> {
-    if run.is_idle || run.tasks.iter().any(|task| task.stage == Stage::Ended) {
+fn push_end(alloc: Global, out: &mut String, path: &str, run: &Run<'_>) -> Result<(), AllocError>
+    ensures { OnOk result (string_bytes out.new ≡ string_bytes out.old ++ end_warning path.now (standing_of run.now)) }
+{
+    if run.is_idle || any_ended(&run.stages) {
         return Ok(());
     }
     let text = format!(in alloc;
@@ -45,18 +94,29 @@ fn push_end(alloc: Global, out: &mut String, path: &str, run: &Run<'_>) -> Resul
 fn run_of<'a>(
     alloc: Global,
     file: &'a MachineFile,
-    machine: &[u8],
+    machine: &'a [u8],
     events: &[u8],
 ) -> Result<Option<Run<'a>>, AllocError>
-    ensures { IfOk result (λ found. IfSome found (λ _. RunsToItsEnd machine.now events.now)) }
+    requires { file_of machine.now ≡ Ok file.now }
+    ensures ends { IfOk result (λ found. IfSome found (λ _. RunsToItsEnd machine.now events.now)) }
+    ensures standing { IfOk result (λ found. ∥ option_map standing_of found ≡ standing_at_end (file_of machine.now) (script_of events.now) ∥₁) }
 {
-    let mut out = WriteSink::new(Watch::new(alloc, Run::new(alloc, file)?));
+    let mut out = WriteSink::new(Watch::new(alloc, machine, file)?);
     match simulate(alloc, machine, events, &mut out) {
-        Ok(End::Ran) => Ok(Some(out.into_inner().into_run())),
+        Ok(End::Ran) => Ok(Some(out.into_inner().into_run()?)),
         Ok(End::Alerted) => Ok(None),
+        Err(SimFault::File(FileFault::OutOfMemory)) => Err(AllocError),
+        Err(SimFault::Events(EventFault::OutOfMemory)) => Err(AllocError),
         Err(SimFault::File(_)) | Err(SimFault::Events(_)) => Ok(None),
         Err(SimFault::Memory) | Err(SimFault::Write) => Err(AllocError),
     }
+}
+
+/// Whether no interrupt of a machine does anything.
+fn is_alone(file: &MachineFile) -> bool
+    ensures { result ≡ is_alone file.now }
+{
+    file.servers().is_empty() && file.softints().is_empty()
 }
 
 /// What the run of a machine file and an event text comes to that is most likely not meant, a line or more for each; nothing where that is
@@ -78,7 +138,8 @@ pub fn check_run(
     events_path: &str,
     events: &[u8],
 ) -> Result<String, AllocError>
-    ensures { IfOk result (λ text. string_bytes text ≢ [] → RunsToItsEnd machine.now events.now) }
+    ensures text { IfOk result (λ text. string_bytes text ≡ advice_of machine_path.now machine.now events_path.now events.now) }
+    ensures ends { IfOk result (λ text. string_bytes text ≢ [] → RunsToItsEnd machine.now events.now) }
 {
     let mut out = String::new(alloc);
     let file = match read_machine(alloc, machine) {
@@ -87,8 +148,7 @@ pub fn check_run(
         Err(_) => return Ok(out),
     };
     if let Some(run) = run_of(alloc, &file, machine, events)? {
-        let is_alone = file.servers().is_empty() && file.softints().is_empty();
-        push_waits(alloc, &mut out, machine_path, &run, is_alone)?;
+        push_waits(alloc, &mut out, machine_path, &run, is_alone(&file))?;
         push_end(alloc, &mut out, events_path, &run)?;
     }
     Ok(out)

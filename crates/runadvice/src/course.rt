@@ -1,10 +1,15 @@
 //! How a run goes, as its trace tells line by line: which tasks there are, what each waits for, and whether any task runs.
-ghost use Rattle.std.specs.Prelude.{◌≡◌, All, IfOk, OnOk, false};
-ghost use Rattle.runadvice.specs.Idling.{idle_after};
+ghost use Rattle.std.specs.Prelude.{◌≡◌, IfOk, OnOk, bytes_eq, false};
+ghost use Rattle.std.specs.List.{position_from};
+ghost use Rattle.runadvice.specs.Standing.{after_add, after_call, after_effect, after_end, after_handover, after_obtain, after_text, after_wait, first_standing};
+ghost use Rattle.runadvice.specs.Standings.{standing_of};
 
+use crate::effect::{Effect, effect_of};
 use crate::fields::{Fields, fields_of};
 use crate::owners::Owners;
-use crate::wait::{Awaited, Wait, awaited_by};
+use crate::start::{first_stages, first_waits, number_of, set_stage};
+use crate::wait::Wait;
+use crate::waiters::{first_waiter, is_waiting, set_wait, wait_in};
 use std::alloc::{AllocError, Global};
 use taskscript::MachineFile;
 
@@ -19,27 +24,21 @@ pub enum Stage {
     Ended,
 }
 
-/// A task of the run.
-#[derive(Clone, Copy)]
-pub struct Course<'a> {
-    pub name: &'a str,
-    pub stage: Stage,
-    /// The call that it waits in, if its last line says that it waits.
-    pub wait: Option<Wait>,
-}
-
-/// A run, up to the last line that was told.
+/// A run, up to the last line that was told. Tasks go by their numbers from 0, in the order of the file.
 #[derive(Drop)]
 pub struct Run<'a> {
-    /// The tasks, in the order of the file.
-    pub tasks: Vec<Course<'a>>,
+    pub file: &'a MachineFile,
+    /// How far each task has come.
+    pub stages: Vec<Stage>,
+    /// The call that each task waits in, if its last line says that it waits.
+    pub waits: Vec<Option<Wait>>,
     pub owners: Owners,
     /// Whether no task runs.
     pub is_idle: bool,
     /// Whether a request of the timer was begun.
     pub has_requests: bool,
-    /// How many calls have waited.
-    waits: u64,
+    /// How many lines of calls were told.
+    calls: u64,
 }
 
 impl<'a> Run<'a> {
@@ -47,115 +46,103 @@ impl<'a> Run<'a> {
     ///
     /// Source: own choice.
     pub fn new(alloc: Global, file: &'a MachineFile) -> Result<Run<'a>, AllocError>
-        ensures waits { IfOk result (λ run. All (λ task. task.wait ≡ None) run.tasks.items) }
+        ensures starts { IfOk result (λ run. standing_of run ≡ first_standing file.now.tasks) }
         ensures begins { IfOk result (λ run. (run.is_idle ≡ false) × (run.has_requests ≡ false)) }
     {
-        let mut tasks = Vec::new(alloc);
-        for task in file.tasks() {
-            tasks.push(Course {
-                name: task.name.as_str(),
-                stage: if task.start {
-                    Stage::Live
-                } else {
-                    Stage::Absent
-                },
-                wait: None,
-            })?;
-        }
+        let tasks = file.tasks();
+        let stages = first_stages(alloc, tasks)?;
+        let waits = first_waits(alloc, tasks)?;
         Ok(Run {
-            tasks,
+            file,
+            stages,
+            waits,
             owners: Owners::new(alloc),
             is_idle: false,
             has_requests: false,
-            waits: 0,
+            calls: 0,
         })
     }
 
     /// The number from 0 of the task of a name.
-    fn task_named(&self, name: &str) -> Option<usize> {
-        self.tasks.iter().position(|task| task.name == name)
-    }
-
-    /// The task of a number from 0 ends.
-    fn end(&mut self, number: usize)
-        ensures { self.new.is_idle ≡ self.old.is_idle }
+    fn task_named(&self, name: &str) -> Option<usize>
+        ensures { result ≡ position_from (λ task. bytes_eq name.now task.name) 0 self.now.file.now.tasks }
     {
-        if let Some(task) = self.tasks.get_mut(number) {
-            task.stage = Stage::Ended;
-            task.wait = None;
-        }
+        number_of(self.file.tasks(), name)
     }
 
-    /// The task that has waited for a semaphore longest.
-    fn first_waiter(&self, semaphore: u32) -> Option<usize> {
-        let mut first: Option<(usize, u64)> = None;
-        for (number, task) in self.tasks.iter().enumerate() {
-            let Some(wait) = task.wait else { continue };
-            if wait.kind != Awaited::Semaphore || wait.of != semaphore {
-                continue;
-            }
-            let is_earlier = match first {
-                None => true,
-                Some((_, since)) => wait.since < since,
-            };
-            if is_earlier {
-                first = Some((number, wait.since));
-            }
-        }
-        first.map(|found| found.0)
+    /// A task ends.
+    fn end(&mut self, task: usize)
+        ensures { standing_of self.new ≡ after_end task (standing_of self.old) }
+    {
+        set_stage(&mut self.stages, task, Stage::Ended);
+        set_wait(&mut self.waits, task, None);
+    }
+
+    /// A task is added.
+    fn add(&mut self, task: usize)
+        ensures { standing_of self.new ≡ after_add task (standing_of self.old) }
+    {
+        set_stage(&mut self.stages, task, Stage::Live);
+    }
+
+    /// A task waits in a call, or in none, as its last line tells.
+    fn begin(&mut self, task: usize, wait: Option<Wait>)
+        ensures { standing_of self.new ≡ after_wait task wait (standing_of self.old) }
+    {
+        set_wait(&mut self.waits, task, wait);
+        self.calls = self.calls.saturating_add(1);
+    }
+
+    /// A task owns a semaphore, or its owner owns it once more.
+    fn obtain(&mut self, semaphore: u32, task: usize) -> Result<(), AllocError>
+        ensures { OnOk result (standing_of self.new ≡ after_obtain semaphore task (standing_of self.old)) }
+    {
+        self.owners.obtain(semaphore, task)?;
+        Ok(())
     }
 
     /// A semaphore is released; by its last release the task that has waited longest owns it.
     fn release(&mut self, semaphore: u32) -> Result<(), AllocError>
-        ensures { self.new.is_idle ≡ self.old.is_idle }
+        ensures { OnOk result (standing_of self.new ≡ after_handover semaphore (standing_of self.old)) }
     {
-        if self.owners.release(semaphore)? {
-            if let Some(next) = self.first_waiter(semaphore) {
-                return self.owners.obtain(semaphore, next);
-            }
+        if !self.owners.release(semaphore)? {
+            return Ok(());
+        }
+        match first_waiter(semaphore, &self.waits) {
+            None => Ok(()),
+            Some(next) => self.obtain(semaphore, next),
+        }
+    }
+
+    /// Does what a call changes.
+    fn follow(&mut self, effect: Effect) -> Result<(), AllocError>
+        ensures { OnOk result (standing_of self.new ≡ after_effect effect (standing_of self.old)) }
+    {
+        match effect {
+            Effect::Nothing => {}
+            Effect::Ends(task) => self.end(task),
+            Effect::Adds(task) => self.add(task),
+            Effect::Obtains(semaphore, task) => self.obtain(semaphore, task)?,
+            Effect::Releases(semaphore) => self.release(semaphore)?,
+            Effect::Requests => self.has_requests = true,
         }
         Ok(())
     }
 
-    /// A task has obtained a semaphore, unless that was handed to it while it waited.
-    fn obtain(&mut self, task: usize, semaphore: u32, wait: Option<Wait>) -> Result<(), AllocError>
-        ensures { self.new.is_idle ≡ self.old.is_idle }
+    /// A call of a task.
+    fn call(&mut self, task: usize, line: &Fields<'_>) -> Result<(), AllocError>
+        ensures { OnOk result (standing_of self.new ≡ after_call task line.now.line.now (standing_of self.old)) }
     {
-        match wait {
-            Some(_) => Ok(()),
-            None => self.owners.obtain(semaphore, task),
-        }
-    }
-
-    /// A call of the task of a number from 0, which waited in the call `wait` before.
-    fn call(&mut self, task: usize, line: &Fields<'_>, wait: Option<Wait>) -> Result<(), AllocError>
-        ensures { self.new.is_idle ≡ self.old.is_idle }
-    {
-        match line.part(1) {
-            "RemTask" if line.value(2) == 0 => self.end(task),
-            "RemTask" => self.end((line.value(2) as usize).saturating_sub(1)),
-            "AddTask" if line.value(4) != 0 => {
-                let number = (line.value(4) as usize).saturating_sub(1);
-                if let Some(added) = self.tasks.get_mut(number) {
-                    added.stage = Stage::Live;
-                }
-            }
-            "ObtainSemaphore" if line.count == 3 => self.obtain(task, line.value(2), wait)?,
-            "AttemptSemaphore" if line.value(4) == 1 => {
-                self.owners.obtain(line.value(2), task)?;
-            }
-            "ReleaseSemaphore" => self.release(line.value(2))?,
-            "SendIO" | "DoIO" => self.has_requests = true,
-            _ => {}
-        }
-        Ok(())
+        let effect = effect_of(line, task, is_waiting(&self.waits, task));
+        self.begin(task, wait_in(line, self.calls));
+        self.follow(effect)
     }
 
     /// The next line of the trace. From a line of one part, `idle`, to the next `switch` no task runs.
     ///
     /// Source: own choice.
     pub fn tell(&mut self, line: &str) -> Result<(), AllocError>
-        ensures { OnOk result (self.new.is_idle ≡ idle_after line.now self.old.is_idle) }
+        ensures { OnOk result (standing_of self.new ≡ after_text line.now (standing_of self.old)) }
     {
         let line = fields_of(line);
         if line.count == 1 {
@@ -169,18 +156,9 @@ impl<'a> Run<'a> {
             }
             return Ok(());
         }
-        let Some(number) = self.task_named(line.part(0)) else {
-            return Ok(());
-        };
-        let kind = awaited_by(&line);
-        let of = line.value(2);
-        let since = self.waits;
-        let mut before = None;
-        if let Some(task) = self.tasks.get_mut(number) {
-            before = task.wait;
-            task.wait = kind.map(|kind| Wait { kind, of, since });
+        match self.task_named(line.part(0)) {
+            None => Ok(()),
+            Some(task) => self.call(task, &line),
         }
-        self.waits = since.saturating_add(1);
-        self.call(number, &line, before)
     }
 }

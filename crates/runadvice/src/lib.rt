@@ -4,10 +4,14 @@
 
 mod advice;
 mod course;
+mod effect;
 mod fields;
 mod owners;
+mod past;
 mod reasons;
+mod start;
 mod wait;
+mod waiters;
 mod watch;
 
 pub use advice::check_run;

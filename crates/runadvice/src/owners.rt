@@ -26,7 +26,8 @@ impl Owners {
     ///
     /// Source: own choice.
     pub fn new(alloc: Global) -> Owners
-        ensures { (semaphore : ℕ) → owner_of result semaphore ≡ None }
+        ensures owner { (semaphore : ℕ) → owner_of result semaphore ≡ None }
+        ensures owed { (semaphore : ℕ) → owed_of result semaphore ≡ 0 }
     {
         Owners {
             all: BTreeMap::new(alloc),

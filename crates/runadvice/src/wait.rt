@@ -23,7 +23,7 @@ pub struct Wait {
     pub kind: Awaited,
     /// The mask, or the address of the port, of the semaphore or of the request.
     pub of: u32,
-    /// How many waits began before it.
+    /// How many lines of calls there were before it.
     pub since: u64,
 }
 
