@@ -2,7 +2,7 @@
 mod doubles;
 
 use self::doubles::{Broken, Shelf, Told};
-use execrun::{Ending, Fault, Status, report, run, run_on_arguments, run_on_texts};
+use execrun::{Ending, Fault, Status, report, run, run_on_arguments, run_on_texts, say};
 use execsim::SimFault;
 use std::alloc::Global;
 use std::io::BufWriter;
@@ -245,4 +245,12 @@ fn refused_memory_is_no_fault_of_a_text(rt: HostRuntime) {
         assert_eq!(rt; status, Status::Failed);
         assert!(rt; err.as_slice() == b"execsim: no memory\n".as_slice());
     }
+}
+
+#[test]
+fn a_fault_is_said_in_a_line(rt: HostRuntime) {
+    let mut err = Vec::new(rt.alloc());
+    let said = say(&Ending::Failed(Fault::WriteFailed), &mut err);
+    assert!(rt; said.is_ok());
+    assert!(rt; err.as_slice() == b"execsim: write failed\n".as_slice());
 }
