@@ -3,12 +3,12 @@ use Rattle.std.proofs.Common.{◌≡◌, ℕ, ◌+◌, ◌<◌, codes, List, [],
 use Rattle.std.specs.Str.Lines.{lines}
 use Rattle.std.proofs.lemmas.List.{append-nil, drop_all, drop_more}
 use Rattle.toml.specs.Data.{Members}
+use Rattle.taskscript.specs.Faults.{file_fault_name}
 use Rattle.taskscript.specs.Tree.{document_of}
 use Rattle.taskscript.specs.declared.fault.FileFault.{FileFault}
 use Rattle.execcheck.specs.declared.place.Place.{Place}
 use Rattle.execcheck.specs.FilePlaces.{place_of}
 use Rattle.execadvice.specs.declared.warnings.Warning.{Warning}
-use Rattle.execadvice.specs.FaultNames.{fault_name}
 use Rattle.execadvice.specs.MachineTold.{Reasoned, TellsFault, TellsMachine, TellsReasons, TellsWarnings, first_line, reason_lines, reasoned, warning_text, warnings_text}
 use Rattle.execadvice.specs.Warnings.{warned, warned_in}
 use Rattle.execadvice.proofs.LocateLemmas.{next_line}
@@ -55,7 +55,7 @@ pub of_accepted : (path bytes text told : List ℕ) (tree : Members) → documen
 unfolding TellsMachine
 of_accepted path bytes text told tree is same tells = rw (is, ← same) tells
 
-pub of_no_document : (path bytes told : List ℕ) (fault : FileFault) → document_of bytes ≡ None → TellsReasons (first_line path None [] (fault_name fault)) told
+pub of_no_document : (path bytes told : List ℕ) (fault : FileFault) → document_of bytes ≡ None → TellsReasons (first_line path None [] (file_fault_name fault)) told
     → TellsMachine path bytes (Some fault) (document_of bytes) told
 unfolding TellsMachine
 of_no_document path bytes told fault none tells = rw none tells

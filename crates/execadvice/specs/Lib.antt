@@ -1,6 +1,5 @@
 pub mod CodeLines
 pub mod EventsTold
-pub mod FaultNames
 pub mod Findings
 pub mod KeysTold
 pub mod LabelsTold

@@ -6,6 +6,7 @@ use Rattle.std.specs.String.{string_bytes}
 use Rattle.std.specs.Str.Lines.{lines}
 use Rattle.toml.specs.Data.{Members}
 use Rattle.taskscript.specs.declared.fault.FileFault.{FileFault}
+use Rattle.taskscript.specs.Faults.{file_fault_name}
 use Rattle.execcheck.specs.declared.place.LinePlace.{LinePlace}
 use Rattle.execcheck.specs.declared.place.Place.{Place}
 use Rattle.execcheck.specs.declared.place.Place.TheVariants.{Tree, Line}
@@ -15,7 +16,6 @@ use Rattle.execadvice.specs.declared.show.Span.{Span}
 use Rattle.execadvice.specs.declared.warnings.Warning.{Warning}
 use Rattle.execadvice.specs.CodeLines.{line_at, line_of_code}
 use Rattle.execadvice.specs.EventsTold.{marked}
-use Rattle.execadvice.specs.FaultNames.{fault_name}
 use Rattle.execadvice.specs.KeysTold.{key_at}
 use Rattle.execadvice.specs.Locating.{line_of_place}
 use Rattle.execadvice.specs.Parts.{MarksPart}
@@ -59,12 +59,12 @@ pub record TellsLine (path : List ℕ) (lines : List (List ℕ)) (tree : Members
   pub span : Span
   pub reason : List ℕ
   pub marks : MarksPart tree fault place span
-  pub is : told ≡ code_line path lines tree place (fault_name fault) ++ marked (line_at tree place) span reason
+  pub is : told ≡ code_line path lines tree place (file_fault_name fault) ++ marked (line_at tree place) span reason
 
 -- a fault of a document, by its place: below a place of the tree stands a reason, and below one of a body that line with marks
 abbrev pub TellsFault : (path : List ℕ) (lines : List (List ℕ)) → Members → FileFault → Option Place → (told : List ℕ) → Type 0
-TellsFault path lines tree fault None told = told ≡ first_line path None [] (fault_name fault)
-TellsFault path lines tree fault (Some (Tree place)) told = TellsReason (tree_line path lines tree place (fault_name fault)) told
+TellsFault path lines tree fault None told = told ≡ first_line path None [] (file_fault_name fault)
+TellsFault path lines tree fault (Some (Tree place)) told = TellsReason (tree_line path lines tree place (file_fault_name fault)) told
 TellsFault path lines tree fault (Some (Line place)) told = TellsLine path lines tree fault place told
 
 -- ---- a file that is accepted
@@ -96,7 +96,7 @@ pub record TellsWarnings (path : List ℕ) (lines : List (List ℕ)) (tree : Mem
 unfoldable pub TellsMachine : (path bytes : List ℕ) → Option FileFault → Option Members → (told : List ℕ) → Type 0
 TellsMachine path bytes None None told = told ≡ []
 TellsMachine path bytes None (Some tree) told = TellsWarnings path (lines bytes) tree told
-TellsMachine path bytes (Some fault) None told = TellsReasons (first_line path None [] (fault_name fault)) told
+TellsMachine path bytes (Some fault) None told = TellsReasons (first_line path None [] (file_fault_name fault)) told
 TellsMachine path bytes (Some fault) (Some tree) told = TellsFault path (lines bytes) tree fault (place_of tree) told
 
 -- ---- what the code holds

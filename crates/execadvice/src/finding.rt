@@ -2,11 +2,11 @@
 ghost use Rattle.std.specs.Prelude.{◌≡◌, ◌++◌, [], Some, None, IfOk, OnOk, map, option_map, string_bytes};
 ghost use Rattle.std.specs.Str.Lines.{lines};
 ghost use Rattle.toml.specs.View.{table_view};
+ghost use Rattle.taskscript.specs.Faults.{file_fault_name};
 ghost use Rattle.taskscript.specs.File.{file_of};
 ghost use Rattle.taskscript.specs.Tree.{document_of};
 ghost use Rattle.execadvice.specs.CodeLines.{body_at, line_at};
 ghost use Rattle.execadvice.specs.EventsTold.{marked};
-ghost use Rattle.execadvice.specs.FaultNames.{fault_name};
 ghost use Rattle.execadvice.specs.Findings.{fault_of};
 ghost use Rattle.execadvice.specs.MachineTold.{TellsFault, TellsLine, TellsMachine, TellsReason, TellsReasons, TellsWarnings, code_line, first_line, reason_lines, reasoned, tree_line, warning_text, warnings_text};
 ghost use Rattle.execadvice.specs.Parts.{MarksPart, part_alone, part_told};
@@ -38,25 +38,6 @@ pub struct Finding {
     pub place: Option<Place>,
     /// What there is to say of it, a line or more for each; nothing where nothing was found.
     pub text: String,
-}
-
-/// The name of a fault.
-fn fault_name(fault: FileFault) -> &'static str
-    ensures { result.now ≡ fault_name fault }
-{
-    match fault {
-        FileFault::NotToml => "NotToml",
-        FileFault::UnknownKey => "UnknownKey",
-        FileFault::MissingKey => "MissingKey",
-        FileFault::BadValue => "BadValue",
-        FileFault::NameTwice => "NameTwice",
-        FileFault::BadRegions => "BadRegions",
-        FileFault::BadCommand => "BadCommand",
-        FileFault::BadLabel => "BadLabel",
-        FileFault::NotInInterrupt => "NotInInterrupt",
-        FileFault::TooMany => "TooMany",
-        FileFault::OutOfMemory => "OutOfMemory",
-    }
 }
 
 /// The path of a file, a line of it where that is known, a place in words, and a name.
@@ -119,9 +100,9 @@ fn tree_fault(
     place: TreePlace,
     fault: FileFault,
 ) -> Result<String, AllocError>
-    ensures { IfOk result (λ told. TellsReason (tree_line path.now (lines text.now) (table_view table.now) place (fault_name fault)) (string_bytes told)) }
+    ensures { IfOk result (λ told. TellsReason (tree_line path.now (lines text.now) (table_view table.now) place (file_fault_name fault)) (string_bytes told)) }
 {
-    let mut told = tree_line(alloc, path, text, table, place, fault_name(fault))?;
+    let mut told = tree_line(alloc, path, text, table, place, fault.name())?;
     let reason = tree_reason(alloc, place, fault, table)?;
     push_reason(&mut told, reason.as_str())?;
     Ok(told)
@@ -205,7 +186,7 @@ fn line_fault(
     ensures { IfOk result (λ told. TellsLine path.now (lines text.now) (table_view table.now) fault place (string_bytes told)) }
 {
     let advice = advice_at(alloc, table, fault, place)?;
-    line_text(alloc, path, text, table, place, fault_name(fault), &advice)
+    line_text(alloc, path, text, table, place, fault.name(), &advice)
 }
 
 /// What there is to say of a fault of a file that has a tree.
@@ -220,7 +201,7 @@ fn fault_text(
     ensures { IfOk result (λ told. TellsFault path.now (lines text.now) (table_view table.now) fault place (string_bytes told)) }
 {
     match place {
-        None => first_line(alloc, path, None, "", fault_name(fault)),
+        None => first_line(alloc, path, None, "", fault.name()),
         Some(place) => match place {
             Place::Tree(place) => tree_fault(alloc, path, text, table, place, fault),
             Place::Line(place) => line_fault(alloc, path, text, table, place, fault),
@@ -245,10 +226,10 @@ fn no_document_text(
     fault: FileFault,
     error: &toml::de::Error,
 ) -> Result<String, AllocError>
-    ensures { IfOk result (λ told. TellsReasons (first_line path.now None [] (fault_name fault)) (string_bytes told)) }
+    ensures { IfOk result (λ told. TellsReasons (first_line path.now None [] (file_fault_name fault)) (string_bytes told)) }
 {
     let reasons = format!(in alloc; "{error}")?;
-    let mut told = first_line(alloc, path, None, "", fault_name(fault))?;
+    let mut told = first_line(alloc, path, None, "", fault.name())?;
     push_reasons(&mut told, reasons.as_str())?;
     Ok(told)
 }

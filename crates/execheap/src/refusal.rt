@@ -11,10 +11,12 @@ pub enum Refusal {
     /// No live object of the kind begins at an address.
     #[error("no object of the kind begins there")]
     Handle,
-    /// A node, a message or a port is linked where it must not be, or the other way; or a list that is to be freed holds nodes.
+    /// A node, a message, a port or the reply of a request is linked where it must not be, or the other way; or a list that is to be freed
+    /// holds nodes.
     #[error("linked where it must not be, or the other way")]
     Link,
-    /// A port that is to be freed holds messages or is public, or a port to wait at is not one that signals the caller.
+    /// A port that is to be freed holds messages, is public or is the reply port of a request under way; or a port to wait at is not one that
+    /// signals the caller.
     #[error("a port in use, or not the caller's to wait at")]
     Port,
     /// A semaphore that is to be freed is owned, one that is to be released is not the caller's, or one is obtained too often.

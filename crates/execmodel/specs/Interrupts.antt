@@ -88,7 +88,8 @@ finishes_for source.Ports s = quiet s
 finishes_for source.Vertb s = finishes_all_due s
 finishes_for source.Exter s = quiet s
 
--- A source is served: its latch is cleared, and then its servers run.
+-- A source is served: its latch is cleared and the serving counted, its line is said, and then the requests finish that are due, and its
+-- servers run.
 unfoldable pub serves : Source → State → Outcome
 serves asks s =
     andthen (says (Serve (text_of_source asks))) (andthen (finishes_for asks) (runs_chain (chain_of asks s.bodies.servers)))

@@ -49,7 +49,8 @@ settle s = unless_stopped (andthen interrupts (unless_stopped switches)) s
 
 -- ---- step
 
--- a call of task t, by the group of its word; where one sets system time, those that wait for it are looked at after the call's own line
+-- A call of task t, by the group of its word. Behind a call on requests that has set system time, and after its line, the requests finish
+-- that wait for system time and whose time has come.
 abbrev pub does_word : Word → ℕ → Call → State → Outcome
 does_word (Plain word) t call s = does_plain word t call s
 does_word (Signals word) t call s = does_signals word t call s

@@ -6,7 +6,8 @@ use Rattle.execsim.specs.declared.simulation.SimFault.{SimFault}
 use Rattle.execsim.specs.declared.simulation.SimFault.TheVariants as sim
 use Rattle.execrun.specs.declared.fault.Fault.{Fault}
 use Rattle.execrun.specs.declared.fault.Fault.TheVariants.{Machine, Events, NoMemory, CannotRead, WriteFailed}
-use Rattle.execrun.specs.Message.{file_fault_name, event_fault_text}
+use Rattle.taskscript.specs.Faults.{file_fault_name}
+use Rattle.execrun.specs.Message.{event_fault_text}
 
 -- memory that a reader was refused is memory that was refused
 abbrev pub fault_of : SimFault → Fault

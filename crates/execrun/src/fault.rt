@@ -1,6 +1,5 @@
 //! What can go wrong once the command line is right, and the line that says so.
 ghost use Rattle.std.specs.Prelude.{◌≡◌, Some};
-ghost use Rattle.execrun.specs.Message.{file_fault_name};
 
 use execsim::SimFault;
 use std::fmt;
@@ -47,31 +46,12 @@ impl fmt::Display for Fault<'_> {
     fn fmt<W: fmt::Write>(&self, f: &mut fmt::Formatter<W>) -> fmt::Result {
         f.write_str("execsim: ")?;
         match self {
-            Fault::Machine(fault) => write!(f, "machine: {}", file_fault_name(*fault)),
+            Fault::Machine(fault) => write!(f, "machine: {}", fault.name()),
             Fault::Events(fault) => write!(f, "events: {}", ShownEventFault(*fault)),
             Fault::NoMemory => f.write_str("no memory"),
             Fault::CannotRead(path) => write!(f, "cannot read {path}"),
             Fault::WriteFailed => f.write_str("write failed"),
         }
-    }
-}
-
-/// The name of a fault of a machine file.
-fn file_fault_name(fault: FileFault) -> &'static str
-    ensures { result.now ≡ file_fault_name fault }
-{
-    match fault {
-        FileFault::NotToml => "NotToml",
-        FileFault::UnknownKey => "UnknownKey",
-        FileFault::MissingKey => "MissingKey",
-        FileFault::BadValue => "BadValue",
-        FileFault::NameTwice => "NameTwice",
-        FileFault::BadRegions => "BadRegions",
-        FileFault::BadCommand => "BadCommand",
-        FileFault::BadLabel => "BadLabel",
-        FileFault::NotInInterrupt => "NotInInterrupt",
-        FileFault::TooMany => "TooMany",
-        FileFault::OutOfMemory => "OutOfMemory",
     }
 }
 

@@ -1,5 +1,5 @@
--- Faults: their numbers. A text is judged by the first of all its faults in their order.
-use Rattle.std.specs.Prelude.{◌≡◌, ℕ, Bool, List, [], ◌∷◌, Some, None, Result, Ok, Err, if◌then◌else◌}
+-- Faults: their numbers and names. A text is judged by the first of all its faults in their order.
+use Rattle.std.specs.Prelude.{◌≡◌, ℕ, Bool, List, [], ◌∷◌, Some, None, Result, Ok, Err, codes, if◌then◌else◌}
 use Rattle.execlist.specs.Order.{first}
 use Rattle.taskscript.specs.declared.fault.FileFault.{FileFault}
 use Rattle.taskscript.specs.declared.fault.FileFault.TheVariants.{NotToml, UnknownKey, MissingKey, BadValue, NameTwice, BadRegions, BadCommand, BadLabel, NotInInterrupt, TooMany, OutOfMemory}
@@ -19,6 +19,20 @@ file_fault_number BadLabel = 8
 file_fault_number NotInInterrupt = 9
 file_fault_number TooMany = 10
 file_fault_number OutOfMemory = 11
+
+-- the name of a fault of a machine file (own choice)
+abbrev pub file_fault_name : FileFault → List ℕ
+file_fault_name NotToml = codes "NotToml"
+file_fault_name UnknownKey = codes "UnknownKey"
+file_fault_name MissingKey = codes "MissingKey"
+file_fault_name BadValue = codes "BadValue"
+file_fault_name NameTwice = codes "NameTwice"
+file_fault_name BadRegions = codes "BadRegions"
+file_fault_name BadCommand = codes "BadCommand"
+file_fault_name BadLabel = codes "BadLabel"
+file_fault_name NotInInterrupt = codes "NotInInterrupt"
+file_fault_name TooMany = codes "TooMany"
+file_fault_name OutOfMemory = codes "OutOfMemory"
 
 -- the number of a fault of an event text (own choice)
 abbrev pub event_fault_number : EventFault → ℕ

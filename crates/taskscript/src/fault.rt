@@ -2,7 +2,7 @@
 ghost use Rattle.std.specs.Prelude.{◌≡◌};
 ghost use Rattle.taskscript.specs.declared.fault.FileFault.TheVariants as file_fault;
 ghost use Rattle.taskscript.specs.declared.fault.EventFault.TheVariants as event_fault;
-ghost use Rattle.taskscript.specs.Faults.{file_fault_number, event_fault_number};
+ghost use Rattle.taskscript.specs.Faults.{file_fault_name, file_fault_number, event_fault_number};
 
 use std::alloc::{AllocError, AllocFailed};
 use thiserror::Error;
@@ -53,6 +53,25 @@ impl FileFault {
         ensures { result ≡ file_fault_number self }
     {
         self as u8
+    }
+
+    /// The name of the fault, as it stands here (own choice).
+    pub fn name(self) -> &'static str
+        ensures { result.now ≡ file_fault_name self }
+    {
+        match self {
+            FileFault::NotToml => "NotToml",
+            FileFault::UnknownKey => "UnknownKey",
+            FileFault::MissingKey => "MissingKey",
+            FileFault::BadValue => "BadValue",
+            FileFault::NameTwice => "NameTwice",
+            FileFault::BadRegions => "BadRegions",
+            FileFault::BadCommand => "BadCommand",
+            FileFault::BadLabel => "BadLabel",
+            FileFault::NotInInterrupt => "NotInInterrupt",
+            FileFault::TooMany => "TooMany",
+            FileFault::OutOfMemory => "OutOfMemory",
+        }
     }
 }
 

@@ -387,6 +387,12 @@ fn faults_are_numbered_from_1(rt: HostRuntime) {
 }
 
 #[test]
+fn a_fault_has_a_name(rt: HostRuntime) {
+    let name = FileFault::NotInInterrupt.name();
+    same(&rt, "a fault has a name", "its name", name, "NotInInterrupt");
+}
+
+#[test]
 fn an_accepted_file_gives_its_machine(rt: HostRuntime) {
     for machine in &MACHINES {
         holds(&rt, rt.alloc(), machine);
