@@ -1,5 +1,5 @@
 -- The places of a machine file in words.
-use Rattle.std.specs.Prelude.{ℕ, ◌+◌, ◌||◌, codes, if◌then◌else◌, length, min, nat_lt, List, [], ◌∷◌, ◌++◌}
+use Rattle.std.specs.Prelude.{ℕ, ◌+◌, ◌-◌, ◌^◌, ◌||◌, codes, if◌then◌else◌, length, min, nat_lt, List, [], ◌∷◌, ◌++◌}
 use Rattle.std.specs.Char.{is_control}
 use Rattle.std.specs.Fmt.{decimal}
 use Rattle.std.specs.List.{list_any}
@@ -28,7 +28,7 @@ item_word Task = codes "task"
 
 -- a number from 0 is told from 1, as far as 64 bits count
 abbrev pub from_one : ℕ → ℕ
-from_one number = min (number + 1) 18446744073709551615
+from_one number = min (number + 1) (2 ^ 64 - 1)
 
 -- the name of an item; where there is no such item, the empty name
 abbrev pub name_in : Members → Array → ℕ → List ℕ

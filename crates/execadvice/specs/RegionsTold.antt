@@ -1,6 +1,6 @@
 -- Why the regions of a file are refused all together, in one sentence: the first of four reasons that holds, with the first region, or the
 -- first two, of which it holds, by their numbers from 1.
-use Rattle.std.specs.Prelude.{ℕ, ℤ, pos, ◌+◌, ◌%◌, Bool, not, nat_eq, nat_lt, min, codes, if◌then◌else◌, unsigned_abs, unwrap_or, List, [], ◌∷◌, ◌++◌, Option, Some, None, option_map}
+use Rattle.std.specs.Prelude.{ℕ, ℤ, pos, ◌+◌, ◌-◌, ◌^◌, ◌%◌, Bool, not, nat_eq, nat_lt, min, codes, if◌then◌else◌, unsigned_abs, unwrap_or, List, [], ◌∷◌, ◌++◌, Option, Some, None, option_map}
 use Rattle.std.specs.Fmt.{decimal}
 use Rattle.std.specs.Int.{int_max, int_min}
 use Rattle.std.specs.Option.{option_or}
@@ -77,7 +77,7 @@ first_overlap number (region ∷ others) = option_or (overlapped number region (
 
 -- the bytes of all together, as far as 64 bits count them
 abbrev pub bytes_of : List Region → ℕ
-bytes_of regions = min (total_size regions) 18446744073709551615
+bytes_of regions = min (total_size regions) (2 ^ 64 - 1)
 
 abbrev pub regions_reason : ℕ → List Region → List ℕ
 regions_reason most regions =

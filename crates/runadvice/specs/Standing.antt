@@ -1,5 +1,5 @@
 -- What a reader of a trace knows of the tasks of a run behind some of its lines, and how each line changes that.
-use Rattle.std.specs.Prelude.{ℕ, ◌+◌, ◌-◌, ◌==◌, min, Bool, true, false, List, Option, None, Some, option_map, unwrap_or, map, slice_set, bytes_eq, codes, length, if◌then◌else◌}
+use Rattle.std.specs.Prelude.{ℕ, ◌+◌, ◌-◌, ◌^◌, ◌==◌, min, Bool, true, false, List, Option, None, Some, option_map, unwrap_or, map, slice_set, bytes_eq, codes, length, if◌then◌else◌}
 use Rattle.std.specs.List.{position_from}
 use Rattle.std.specs.Option.{option_map_or}
 use Rattle.std.specs.Str.{is_utf8}
@@ -35,7 +35,7 @@ pub record Standing : Type 0 where
 
 -- one more, up to the greatest number of 64 bits
 abbrev pub one_more : ℕ → ℕ
-one_more n = min (n + 1) 18446744073709551615
+one_more n = min (n + 1) (2 ^ 64 - 1)
 
 abbrev pub first_stage : Bool → Stage
 first_stage true = Live
