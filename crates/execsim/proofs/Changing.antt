@@ -15,7 +15,7 @@ use Rattle.execmodel.specs.Plain.{does_set, does_add, does_sub, does_and, does_o
 use Rattle.execmodel.specs.Step.{call_step, does, does_word, task_step}
 use Rattle.execsim.specs.Changes.{changes}
 use Rattle.execsim.specs.Agreement.{Seen, Follows}
-use Rattle.execsim.specs.declared.command.Change.{Change}
+use Rattle.execsim.specs.declared.change.Change.{Change}
 use Rattle.execsim.proofs.Calling.{next-command}
 use Rattle.execsim.proofs.Following.{moves_scripts, follows_as, follows_quietly}
 use Rattle.execsim.proofs.Stepping.{task_step_as}

@@ -1,6 +1,6 @@
 -- Who may make a call: a task of the machine, or a body.
 use Rattle.std.specs.Prelude.{◌≡◌, ◌<◌, ℕ, Some, length}
-use Rattle.execsim.specs.declared.command.Caller.{Caller}
+use Rattle.execsim.specs.declared.call.Caller.{Caller}
 use Rattle.execsim.specs.Agreement.{Seen}
 use Rattle.execsim.specs.Views.{IsCaller}
 

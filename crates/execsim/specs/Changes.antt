@@ -2,7 +2,7 @@
 use Rattle.std.specs.Prelude.{ℕ}
 use Rattle.execmodel.specs.State.{State, Outcome, quiet, on_scripts}
 use Rattle.execmodel.specs.Calls.{goes_on, stored}
-use Rattle.execsim.specs.declared.command.Change.{Change}
+use Rattle.execsim.specs.declared.change.Change.{Change}
 
 -- a variable of task t, or none, is given a value, and the task goes on at the place of the change
 abbrev pub changes : ℕ → Change → State → Outcome

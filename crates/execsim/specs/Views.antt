@@ -14,9 +14,9 @@ use Rattle.execsim.specs.declared.bodies.Softint.{Softint}
 use Rattle.execsim.specs.declared.bodies.Server.{Server}
 use Rattle.execsim.specs.declared.bodies.Body.{Body}
 use Rattle.execsim.specs.declared.bodies.Body.TheVariants as body
-use Rattle.execsim.specs.declared.command.Call.{Call}
-use Rattle.execsim.specs.declared.command.Caller.{Caller}
-use Rattle.execsim.specs.declared.command.Caller.TheVariants as caller
+use Rattle.execsim.specs.declared.call.Call.{Call}
+use Rattle.execsim.specs.declared.call.Caller.{Caller}
+use Rattle.execsim.specs.declared.call.Caller.TheVariants as caller
 
 -- ---- calls
 

@@ -16,7 +16,7 @@ ghost use Rattle.execsim.specs.Views.{call_view, code_of_body, name_of_body};
 ghost use Rattle.std.specs.Option.{option_map};
 
 use crate::bodies::Body;
-use crate::command::{Call, Caller};
+use crate::call::{Call, Caller};
 use crate::kernel::Kernel;
 use crate::program::command_at;
 use execlist::space::ListSpace;

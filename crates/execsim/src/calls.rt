@@ -11,7 +11,7 @@ ghost use Rattle.execsim.specs.Endings.{answered_or_alerted, answered_or_alerted
 ghost use Rattle.execsim.specs.Views.{call_view, caller_view};
 ghost use Rattle.execheap.specs.Refusals.{code_of};
 
-use crate::command::{Call, Caller};
+use crate::call::{Call, Caller};
 use crate::kernel::Kernel;
 use execheap::Refusal;
 use execlist::space::ListSpace;

@@ -4,7 +4,7 @@ ghost use Rattle.execsim.specs.Callers.{HasTask, HasCaller};
 ghost use Rattle.execsim.specs.Agreement.{Follows};
 ghost use Rattle.execsim.specs.Views.{call_view, caller_view};
 
-use crate::command::{Call, Caller};
+use crate::call::{Call, Caller};
 use crate::kernel::Kernel;
 use crate::ports::name_or_empty;
 use execlist::space::ListSpace;

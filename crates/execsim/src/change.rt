@@ -1,5 +1,5 @@
 //! Plain words that print nothing: a task does them on its command itself, with no call between.
-ghost use Rattle.std.specs.Prelude.{◌≡◌, ◌+◌, ◌-◌, ◌%◌, ◌^◌, ℕ, List, IfSome, Some, bit_and, bit_or, if◌then◌else◌, nat_eq, option_copied, slice_get, take};
+ghost use Rattle.std.specs.Prelude.{◌≡◌, ℕ, List, IfSome, Some, option_copied, slice_get, take};
 ghost use Rattle.exectrace.specs.Sink.{Tape};
 ghost use Rattle.taskscript.specs.declared.word.Word.TheVariants.{Plain};
 ghost use Rattle.execmodel.specs.State.{State};
@@ -10,45 +10,19 @@ ghost use Rattle.execsim.specs.Changes.{changes};
 ghost use Rattle.execsim.specs.Agreement.{Follows};
 ghost use Rattle.taskscript.specs.Commands.{argument_view, command_view};
 
-use crate::command::Change;
 use crate::kernel::Kernel;
+use crate::plain::{all_bits, common_bits, difference, place_at_zero, sum};
 use execlist::space::ListSpace;
 use taskq::TaskId;
-use taskscript::{Argument, Command, PlainWord, Word};
+use taskscript::{Argument, Command, PlainWord, Variable, Word};
 
-/// The sum of two words.
-fn sum(a: u32, b: u32) -> u32
-    ensures { result ≡ (a + b) % 2 ^ 32 }
-{
-    a.wrapping_add(b)
-}
-
-/// The difference of two words.
-fn difference(a: u32, b: u32) -> u32
-    ensures { result ≡ (a + (2 ^ 32 - b)) % 2 ^ 32 }
-{
-    a.wrapping_sub(b)
-}
-
-/// The bits that both words have.
-fn common_bits(a: u32, b: u32) -> u32
-    ensures { result ≡ bit_and a b }
-{
-    a & b
-}
-
-/// The bits that either word has.
-fn all_bits(a: u32, b: u32) -> u32
-    ensures { result ≡ bit_or a b }
-{
-    a | b
-}
-
-/// The first place where the number is 0, and else the second.
-fn place_at_zero(n: u32, zero: usize, other: usize) -> usize
-    ensures { result ≡ (if nat_eq n 0 then zero else other) }
-{
-    if n == 0 { zero } else { other }
+/// What a plain word that prints nothing changes: a variable of its task, or none, is given a value, and the task goes on.
+#[derive(Clone, Copy)]
+pub struct Change {
+    pub target: Option<Variable>,
+    pub value: u32,
+    /// The place of the command at which the task goes on.
+    pub next: usize,
 }
 
 /// The argument of a command, counted from 0, if it has so many.

@@ -11,7 +11,7 @@ ghost use Rattle.execsim.specs.Callers.{HasTask};
 ghost use Rattle.execsim.specs.Views.{IsFor, call_view};
 
 use crate::bodies::Bodies;
-use crate::command::Call;
+use crate::call::Call;
 use crate::program::Program;
 use execheap::Heap;
 use execlist::space::ListSpace;

@@ -6,11 +6,11 @@
 mod bodies;
 mod body_calls;
 mod boot;
+mod call;
 mod calls;
 mod causing;
 mod change;
 mod code;
-mod command;
 mod interrupts;
 mod kernel;
 mod libraries;

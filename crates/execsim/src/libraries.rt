@@ -7,7 +7,7 @@ ghost use Rattle.execsim.specs.Callers.{HasTask};
 ghost use Rattle.execsim.specs.Agreement.{Follows};
 ghost use Rattle.execsim.specs.Views.{call_view};
 
-use crate::command::Call;
+use crate::call::Call;
 use crate::kernel::Kernel;
 use crate::ports::name_or_empty;
 use execlist::space::ListSpace;

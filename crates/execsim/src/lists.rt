@@ -16,7 +16,7 @@ ghost use Rattle.execsim.specs.Callers.{HasTask};
 ghost use Rattle.execsim.specs.Agreement.{Follows};
 ghost use Rattle.execsim.specs.Views.{call_view};
 
-use crate::command::Call;
+use crate::call::Call;
 use crate::kernel::Kernel;
 use crate::tasks::is_priority;
 use execheap::Refusal;

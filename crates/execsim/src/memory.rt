@@ -8,7 +8,7 @@ ghost use Rattle.execsim.specs.Callers.{HasTask};
 ghost use Rattle.execsim.specs.Agreement.{Follows};
 ghost use Rattle.execsim.specs.Views.{call_view};
 
-use crate::command::Call;
+use crate::call::Call;
 use crate::kernel::Kernel;
 use execlist::space::ListSpace;
 use exectrace::Sink;

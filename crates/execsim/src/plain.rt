@@ -1,23 +1,51 @@
 //! Plain words: they set variables, calculate, jump and print, and ask nothing of Exec.
-ghost use Rattle.std.specs.Prelude.{◌≡◌, if◌then◌else◌};
+ghost use Rattle.std.specs.Prelude.{◌≡◌, ◌+◌, ◌-◌, ◌%◌, ◌^◌, bit_and, bit_or, if◌then◌else◌, nat_eq};
 ghost use Rattle.exectrace.specs.Sink.{Tape};
 ghost use Rattle.execmodel.specs.Plain.{does_set_by, does_add_by, does_sub_by, does_and_by, does_or_by, jumps, does_jump, does_jump_zero, does_jump_not_zero, does_print, does_plain};
 ghost use Rattle.execsim.specs.Callers.{HasTask, HasCaller};
 ghost use Rattle.execsim.specs.Agreement.{Follows};
 ghost use Rattle.execsim.specs.Views.{call_view, caller_view};
 
-use crate::command::{Call, Caller};
+use crate::call::{Call, Caller};
 use crate::kernel::Kernel;
 use execlist::space::ListSpace;
 use exectrace::Sink;
 use taskq::TaskId;
 use taskscript::PlainWord;
 
-/// One of two places, by a test.
-fn place_if(test: bool, there: usize, here: usize) -> usize
-    ensures { result ≡ (if test then there else here) }
+/// The sum of two words.
+pub(crate) fn sum(a: u32, b: u32) -> u32
+    ensures { result ≡ (a + b) % 2 ^ 32 }
 {
-    if test { there } else { here }
+    a.wrapping_add(b)
+}
+
+/// The difference of two words.
+pub(crate) fn difference(a: u32, b: u32) -> u32
+    ensures { result ≡ (a + (2 ^ 32 - b)) % 2 ^ 32 }
+{
+    a.wrapping_sub(b)
+}
+
+/// The bits that both words have.
+pub(crate) fn common_bits(a: u32, b: u32) -> u32
+    ensures { result ≡ bit_and a b }
+{
+    a & b
+}
+
+/// The bits that either word has.
+pub(crate) fn all_bits(a: u32, b: u32) -> u32
+    ensures { result ≡ bit_or a b }
+{
+    a | b
+}
+
+/// The first place where the number is 0, and else the second.
+pub(crate) fn place_at_zero(n: u32, zero: usize, other: usize) -> usize
+    ensures { result ≡ (if nat_eq n 0 then zero else other) }
+{
+    if n == 0 { zero } else { other }
 }
 
 impl<S: ListSpace> Kernel<S> {
@@ -34,7 +62,7 @@ impl<S: ListSpace> Kernel<S> {
         requires { HasCaller caller.now self.old }
         ensures { (tape : Tape) → Follows (does_add_by (caller_view caller.now) (call_view call.now)) self.old self.new tape tape }
     {
-        self.silent_by(caller, call, call.number(0).wrapping_add(call.number(1)));
+        self.silent_by(caller, call, sum(call.number(0), call.number(1)));
     }
 
     /// Sub a b: answers the difference.
@@ -42,7 +70,7 @@ impl<S: ListSpace> Kernel<S> {
         requires { HasCaller caller.now self.old }
         ensures { (tape : Tape) → Follows (does_sub_by (caller_view caller.now) (call_view call.now)) self.old self.new tape tape }
     {
-        self.silent_by(caller, call, call.number(0).wrapping_sub(call.number(1)));
+        self.silent_by(caller, call, difference(call.number(0), call.number(1)));
     }
 
     /// And a b: answers the bits that both have.
@@ -50,7 +78,7 @@ impl<S: ListSpace> Kernel<S> {
         requires { HasCaller caller.now self.old }
         ensures { (tape : Tape) → Follows (does_and_by (caller_view caller.now) (call_view call.now)) self.old self.new tape tape }
     {
-        self.silent_by(caller, call, call.number(0) & call.number(1));
+        self.silent_by(caller, call, common_bits(call.number(0), call.number(1)));
     }
 
     /// Or a b: answers the bits that either has.
@@ -58,7 +86,7 @@ impl<S: ListSpace> Kernel<S> {
         requires { HasCaller caller.now self.old }
         ensures { (tape : Tape) → Follows (does_or_by (caller_view caller.now) (call_view call.now)) self.old self.new tape tape }
     {
-        self.silent_by(caller, call, call.number(0) | call.number(1));
+        self.silent_by(caller, call, all_bits(call.number(0), call.number(1)));
     }
 
     /// Task t goes on at that place.
@@ -82,7 +110,7 @@ impl<S: ListSpace> Kernel<S> {
         requires { HasTask t self.old }
         ensures { (tape : Tape) → Follows (does_jump_zero t (call_view call.now)) self.old self.new tape tape }
     {
-        let place = place_if(call.number(0) == 0, call.number(1) as usize, call.next);
+        let place = place_at_zero(call.number(0), call.number(1) as usize, call.next);
         self.jump_to(t, place);
     }
 
@@ -91,7 +119,7 @@ impl<S: ListSpace> Kernel<S> {
         requires { HasTask t self.old }
         ensures { (tape : Tape) → Follows (does_jump_not_zero t (call_view call.now)) self.old self.new tape tape }
     {
-        let place = place_if(call.number(0) == 0, call.next, call.number(1) as usize);
+        let place = place_at_zero(call.number(0), call.next, call.number(1) as usize);
         self.jump_to(t, place);
     }
 

@@ -23,7 +23,7 @@ ghost use Rattle.execsim.specs.Actions.{given_back_or_alerted, performed, perfor
 ghost use Rattle.execsim.specs.Agreement.{Follows};
 ghost use Rattle.execsim.specs.Views.{call_view, caller_view};
 
-use crate::command::{Call, Caller};
+use crate::call::{Call, Caller};
 use crate::kernel::Kernel;
 use crate::tasks::is_priority;
 use execheap::Refusal;

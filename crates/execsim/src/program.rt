@@ -7,7 +7,7 @@ ghost use Rattle.execmodel.specs.State.{begun_with};
 ghost use Rattle.taskscript.specs.Commands.{command_view};
 ghost use Rattle.execsim.specs.Views.{call_view};
 
-use crate::command::Call;
+use crate::call::Call;
 use exectrace::{Name, ShortArg};
 use std::marker::Model;
 use taskscript::{Command, PlainWord, Word};

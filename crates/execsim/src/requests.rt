@@ -19,7 +19,7 @@ ghost use Rattle.execsim.specs.Agreement.{Follows};
 ghost use Rattle.execsim.specs.Time.{HasTimeFor};
 ghost use Rattle.execsim.specs.Views.{call_view};
 
-use crate::command::{Call, Caller};
+use crate::call::{Call, Caller};
 use crate::kernel::Kernel;
 use crate::ports::name_or_empty;
 use execheap::{Action, Awaited, Refusal};

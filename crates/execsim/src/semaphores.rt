@@ -21,7 +21,7 @@ ghost use Rattle.execsim.specs.Agreement.{Follows};
 ghost use Rattle.execsim.specs.Reached.{IsInOrder, QueuesAgree};
 ghost use Rattle.execsim.specs.Views.{call_view};
 
-use crate::command::Call;
+use crate::call::Call;
 use crate::kernel::Kernel;
 use execheap::Refusal;
 use execlist::space::ListSpace;

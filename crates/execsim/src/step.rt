@@ -18,7 +18,7 @@ ghost use Rattle.execsim.specs.Reached.{IsInOrder};
 ghost use Rattle.execsim.specs.Time.{HasTimeFor, IsInTime, IsKnown};
 ghost use Rattle.execsim.specs.Views.{call_view};
 
-use crate::command::Call;
+use crate::call::Call;
 use crate::interrupts::source_named;
 use crate::kernel::Kernel;
 use execlist::space::ListSpace;

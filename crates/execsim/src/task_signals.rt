@@ -10,7 +10,7 @@ ghost use Rattle.execsim.specs.Callers.{HasTask, Runs, HasCaller};
 ghost use Rattle.execsim.specs.Agreement.{Follows};
 ghost use Rattle.execsim.specs.Views.{call_view, caller_view};
 
-use crate::command::{Call, Caller};
+use crate::call::{Call, Caller};
 use crate::kernel::Kernel;
 use execlist::space::ListSpace;
 use exectrace::Sink;

@@ -24,15 +24,6 @@ pub struct Call {
     ghost few: { count ≤ 4 },
 }
 
-/// What a plain word that prints nothing changes: a variable of its task, or none, is given a value, and the task goes on.
-#[derive(Clone, Copy)]
-pub struct Change {
-    pub target: Option<Variable>,
-    pub value: u32,
-    /// The place of the command at which the task goes on.
-    pub next: usize,
-}
-
 /// Who makes a call.
 #[derive(Clone, Copy)]
 pub enum Caller {
