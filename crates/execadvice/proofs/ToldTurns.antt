@@ -10,7 +10,7 @@ use Rattle.taskscript.specs.declared.word.row.Kind.{Kind}
 use Rattle.taskscript.specs.Code.{line_in, lines_in}
 use Rattle.taskscript.proofs.BodyReading.{next_line}
 use Rattle.execadvice.specs.declared.show.Span.{Span}
-use Rattle.execadvice.specs.LabelsTold.{first_astray, first_repeated, is_astray, label_at, label_names, label_view, labels_placed, name_at, names_of, stood_before}
+use Rattle.execadvice.specs.LabelsTold.{first_astray, first_repeated, is_astray, label_at, label_names, label_view, labels_placed, label_named, names_of, stood_before}
 use Rattle.execadvice.specs.Misplaced.{first_private, is_private}
 use Rattle.execadvice.specs.Saying.{is_value, place_of_first, value_view, values_from}
 use Rattle.execadvice.specs.Told.{Told, first_told, span_of, told_at}
@@ -28,9 +28,9 @@ told_turn rule i items v line spot lt is text at =
 pub repeated_turn : (i : ℕ) (names : List (List ℕ)) (items : List Value) (v : Value) (line : List ℕ) (spot : Option Span) → i < length items → v ≡ get_or items i v
     → line ≡ line_in (view v) → spot ≡ cond (stood_before names line) (Some (span_of line 0)) None
     → first_repeated i names (lines_in (items_view (drop i items)))
-    ≡ option_or (option_map (told_at i) spot) (first_repeated (i + 1) (names ++ name_at line) (lines_in (items_view (drop (i + 1) items))))
+    ≡ option_or (option_map (told_at i) spot) (first_repeated (i + 1) (names ++ label_named line) (lines_in (items_view (drop (i + 1) items))))
 repeated_turn i names items v line spot lt is text at =
-    let later = first_repeated (i + 1) (names ++ name_at line) (lines_in (items_view (drop (i + 1) items))) in
+    let later = first_repeated (i + 1) (names ++ label_named line) (lines_in (items_view (drop (i + 1) items))) in
     ap (λ (ls : List (List ℕ)). first_repeated i names ls) (next_line items i v line lt is text)
     ∙ (by_test (stood_before names line) (span_of line 0) i later ∙ ap (λ (o : Option Span). option_or (option_map (told_at i) o) later) (sym at))
   where

@@ -19,8 +19,8 @@ abbrev pub line_behind : ℕ → List ℕ → List ℕ
 line_behind before text = option_map_or text_or_nothing (slice_get (text_lines text) before) []
 
 -- the line of that number, from 1
-abbrev pub line_at : ℕ → List ℕ → List ℕ
-line_at number text = if nat_eq number 0 then [] else line_behind (number - 1) text
+abbrev pub line_numbered : ℕ → List ℕ → List ℕ
+line_numbered number text = if nat_eq number 0 then [] else line_behind (number - 1) text
 
 -- the place of a line, and the name of its fault
 abbrev pub head : (path : List ℕ) (number : ℕ) (name : List ℕ) → List ℕ
@@ -33,18 +33,18 @@ marked line span reason =
     ++ codes "\n"
 
 -- a line of a text with the name of its fault, marks under some part of it, and some reason
-pub record TellsLine (path text name : List ℕ) (number : ℕ) (told : List ℕ) : Type 0 where
+pub record TellsEventLine (path text name : List ℕ) (number : ℕ) (told : List ℕ) : Type 0 where
   pub span : Span
   pub reason : List ℕ
-  pub is : told ≡ head path number name ++ marked (line_at number text) span reason
+  pub is : told ≡ head path number name ++ marked (line_numbered number text) span reason
 
 -- that there are too many events: some line is shown, or none
 abbrev pub TellsTooMany : (path text told : List ℕ) → Type 0
-TellsTooMany path text told = (told ≡ path ++ codes ": TooMany\n") ⊎ ((number : ℕ) × TellsLine path text (codes "TooMany") number told)
+TellsTooMany path text told = (told ≡ path ++ codes ": TooMany\n") ⊎ ((number : ℕ) × TellsEventLine path text (codes "TooMany") number told)
 
 -- of a line that is no event that line is shown; of a text that is accepted there is nothing to say
 abbrev pub Tells : (path text : List ℕ) → Option EventFault → List ℕ → Type 0
 Tells path text None told = told ≡ []
-Tells path text (Some (BadLine number)) told = TellsLine path text (codes "BadLine") number told
+Tells path text (Some (BadLine number)) told = TellsEventLine path text (codes "BadLine") number told
 Tells path text (Some TooMany) told = TellsTooMany path text told
 Tells path text (Some OutOfMemory) told = ⊥

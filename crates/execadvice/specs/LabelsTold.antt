@@ -28,15 +28,15 @@ unfoldable pub stood_before : List (List ℕ) → List ℕ → Bool
 stood_before names line = option_map_or (λ name. list_any (bytes_eq name) names) (label_in line) false
 
 -- the name of the label that a line is, if it is one
-unfoldable pub name_at : List ℕ → List (List ℕ)
-name_at line = option_to_list (label_in line)
+unfoldable pub label_named : List ℕ → List (List ℕ)
+label_named line = option_to_list (label_in line)
 
 -- the first label that is among the names before it, where the next line has the number `at`
 abbrev pub first_repeated : ℕ → List (List ℕ) → List (List ℕ) → Option Told
 first_repeated at names [] = None
 first_repeated at names (line ∷ others) =
     if stood_before names line then Some (told_at at (span_of line 0))
-    else first_repeated (at + 1) (names ++ name_at line) others
+    else first_repeated (at + 1) (names ++ label_named line) others
 
 -- ---- a jump astray
 

@@ -1,7 +1,7 @@
 //! What is found in an event text.
 ghost use Rattle.std.specs.Prelude.{◌≡◌, ◌++◌, Some, IfOk, string_bytes};
 ghost use Rattle.taskscript.specs.Events.{script_of};
-ghost use Rattle.execadvice.specs.EventsTold.{Tells, TellsTooMany, head, line_at, line_behind, marked, text_or_nothing};
+ghost use Rattle.execadvice.specs.EventsTold.{Tells, TellsTooMany, head, line_numbered, line_behind, marked, text_or_nothing};
 ghost use Rattle.execadvice.specs.Findings.{fault_of};
 
 use crate::near::{nearest, proposal};
@@ -145,8 +145,8 @@ fn line_behind(bytes: &[u8], before: usize) -> &str
 }
 
 /// The line of a number, from 1, as text.
-fn line_at(bytes: &[u8], number: usize) -> &str
-    ensures { result.now ≡ line_at number bytes.now }
+fn line_numbered(bytes: &[u8], number: usize) -> &str
+    ensures { result.now ≡ line_numbered number bytes.now }
 {
     if number == 0 {
         ""
@@ -222,10 +222,10 @@ fn line_text(
     advice: &Advice,
 ) -> Result<String, AllocError>
     ensures { IfOk result (λ told. string_bytes told ≡ head path.now number name.now
-        ++ marked (line_at number bytes.now) advice.now.span (string_bytes advice.now.reason)) }
+        ++ marked (line_numbered number bytes.now) advice.now.span (string_bytes advice.now.reason)) }
 {
     let mut told = format!(in alloc; "{path}:{number}: {name}\n")?;
-    push_marked(&mut told, line_at(bytes, number), advice)?;
+    push_marked(&mut told, line_numbered(bytes, number), advice)?;
     Ok(told)
 }
 
@@ -236,7 +236,7 @@ fn too_many_text(alloc: Global, path: &str, bytes: &[u8]) -> Result<String, Allo
     match past_limit(bytes) {
         None => format!(in alloc; "{path}: TooMany\n"),
         Some((number, reason)) => {
-            let width = line_at(bytes, number).chars().count();
+            let width = line_numbered(bytes, number).chars().count();
             let advice = Advice::new(alloc, Span { start: 0, width }, reason)?;
             line_text(alloc, path, bytes, number, "TooMany", &advice)
         }
@@ -254,7 +254,7 @@ fn fault_text(
 {
     match fault {
         EventFault::BadLine(number) => {
-            let advice = event_advice(alloc, line_at(bytes, number))?;
+            let advice = event_advice(alloc, line_numbered(bytes, number))?;
             line_text(alloc, path, bytes, number, "BadLine", &advice)
         }
         EventFault::TooMany => too_many_text(alloc, path, bytes),

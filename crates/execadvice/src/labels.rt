@@ -4,7 +4,7 @@ ghost use Rattle.std.specs.List.{list_any};
 ghost use Rattle.toml.specs.View.{items_view};
 ghost use Rattle.taskscript.specs.Code.{lines_in};
 ghost use Rattle.taskscript.specs.Words.{kinds};
-ghost use Rattle.execadvice.specs.LabelsTold.{astray, astray_part, bad_label, first_repeated, is_astray, label_at, label_names, label_view, labels_placed, name_at, names_of, stood_before};
+ghost use Rattle.execadvice.specs.LabelsTold.{astray, astray_part, bad_label, first_repeated, is_astray, label_at, label_names, label_view, labels_placed, label_named, names_of, stood_before};
 ghost use Rattle.execadvice.specs.Told.{first_told, span_of, told};
 
 use crate::near::{nearest, proposal};
@@ -22,14 +22,14 @@ pub struct Found {
 }
 
 /// Adds the label that a line is, with the number of the line, where it is one.
-#[tactic(auto, unfolding(crate::specs::LabelsTold::name_at))]
+#[tactic(auto, unfolding(crate::specs::LabelsTold::label_named))]
 fn push_label<'a>(
     labels: &mut Vec<(&'a str, usize)>,
     line: &'a str,
     number: usize,
 ) -> Result<(), AllocError>
     ensures placed { OnOk result (map label_view labels.new.items ≡ map label_view labels.old.items ++ label_at number line.now) }
-    ensures names { OnOk result (label_names labels.new.items ≡ label_names labels.old.items ++ name_at line.now) }
+    ensures names { OnOk result (label_names labels.new.items ≡ label_names labels.old.items ++ label_named line.now) }
 {
     match label_of(line) {
         None => Ok(()),

@@ -1,7 +1,7 @@
 -- Which lines of a body have a fault, by what the lines say.
 use Rattle.std.specs.Prelude.{ℕ, ◌+◌, Bool, true, false, not, List, [], ◌∷◌, Option, Some, None, bytes_eq, if◌then◌else◌}
 use Rattle.std.specs.List.{list_all, list_any}
-use Rattle.taskscript.specs.Interrupting.{softints_of}
+use Rattle.taskscript.specs.Interrupting.{softints_named_by}
 use Rattle.taskscript.specs.Lines.{LineData, label_line, command_line}
 use Rattle.taskscript.specs.Meaning.{says}
 use Rattle.taskscript.specs.Numbering.{labels_of_arguments}
@@ -11,7 +11,7 @@ use Rattle.execcheck.specs.Mistakes.{are_known}
 abbrev pub says_no_command : List (List ℕ) → Option LineData → Bool
 says_no_command softints None = true
 says_no_command softints (Some (label_line name)) = false
-says_no_command softints (Some (command_line c)) = not (are_known softints (softints_of c))
+says_no_command softints (Some (command_line c)) = not (are_known softints (softints_named_by c))
 
 -- the number of the first line of which a test holds, where the next one has the number `at`
 abbrev pub first_line : (Option LineData → Bool) → ℕ → List (List ℕ) → Option ℕ

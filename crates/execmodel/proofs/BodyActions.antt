@@ -26,7 +26,7 @@ use Rattle.execmodel.specs.State.{Call, Pending, State, Timer as Clock, Outcome,
 use Rattle.scheduler.specs.Dispatch.{arrives, signalled}
 use Rattle.execmodel.specs.Calls.{ByBody, argument, name_argument, unless_by, call_in_body}
 use Rattle.execmodel.specs.Signals.{signal_alert}
-use Rattle.execmodel.specs.Pending.{arrived, is_caused, causes, softint_named, taken_off}
+use Rattle.execmodel.specs.Pending.{arrived, is_caused, causes, softint_named, caused_no_more}
 use Rattle.execmodel.specs.Ports.{performed, delivered, put_alert, port_alert, reply_alert, content_of, messages_of, taken_by, replied_by}
 use Rattle.execmodel.specs.Bodies.{does_plain_by, does_signals_by, does_ports_by, does_interrupts_by, does_word_by, does_in_body, body_step, runs_body}
 use Rattle.softint.specs.declared.source.Source.{Source}
@@ -190,7 +190,7 @@ pub softint_bodily : (i : ℕ) (s : State) → Bodily s (runs_softint i s)
 unfolding runs_softint
 softint_bodily i s =
     let softint = softint_at i s.bodies in
-    let all = then_bodily (says (Softint softint.name)) (runs_body softint.name softint.code) (on_pending (taken_off i) s)
+    let all = then_bodily (says (Softint softint.name)) (runs_body softint.name softint.code) (on_pending (caused_no_more i) s)
     (record { same = refl; told = (tt, tt) }) (body_bodily softint.name softint.code) in
     record { same = all.same; told = all.told }
 

@@ -43,7 +43,7 @@ use Rattle.scheduler.specs.Dispatch.{arrives, added, reprioritized, signalled}
 use Rattle.execmodel.specs.Calls.{argument, name_argument, stored, goes_on, done, answered, waiting, silent, alerted, unless}
 use Rattle.execmodel.specs.Plain.{does_set, does_add, does_sub, does_and, does_or, jumps, does_jump, does_jump_zero, does_jump_not_zero, does_print}
 use Rattle.execmodel.specs.Signals.{mask_alert, free_signal_alert, signal_alert, waited, does_alloc_signal, does_free_signal, does_set_signal, does_signal, does_wait}
-use Rattle.execmodel.specs.Nesting.{counted, does_forbid, does_permit, does_disable, does_enable}
+use Rattle.execmodel.specs.Nesting.{gives_nesting, does_forbid, does_permit, does_disable, does_enable}
 use Rattle.execmodel.specs.Tasks.{live_task_alert, set_task_pri_alert, add_task_alert, is_caller, ends_other, does_set_task_pri, does_add_task, does_rem_task, does_find_task}
 use Rattle.execmodel.specs.Objects.{place_for_object}
 use Rattle.execmodel.specs.Memory.{allocates, makes_object, placed, place_for, alloc_alert, free_alert, avail_alert, does_alloc_mem, does_free_mem, does_avail_mem}
@@ -203,7 +203,7 @@ signal_words_change_signals_and_states signals.Wait t call s =
 
 -- ---- nesting
 
-counted_keeps : (t : ℕ) (call : Call) (nesting : Option Nesting) (s : State) → beside_nestings (counted t call nesting s).state ≡ beside_nestings s
+counted_keeps : (t : ℕ) (call : Call) (nesting : Option Nesting) (s : State) → beside_nestings (gives_nesting t call nesting s).state ≡ beside_nestings s
 unfolding done alerted
 counted_keeps t call None s = refl
 counted_keeps t call (Some nesting) s = refl

@@ -24,7 +24,7 @@ use Rattle.execmodel.specs.Ports.{is_port, is_message, is_port_at, is_message_at
 use Rattle.execmodel.specs.Semaphores.{is_semaphore, is_semaphore_at, with_semaphore, left_by_task, entered, queued, dropped, handed_on, released_once}
 use Rattle.execmodel.specs.Libraries.{is_library, is_library_at, number_in, number_of, count_in, count_of, with_library}
 use Rattle.execmodel.specs.Step.{switches, settle, ends, call_step, task_step, softint_or_task_step, acting, acts, step, tick, run}
-use Rattle.execmodel.specs.Laws.{Action, OneStep, OneTick, OneRequest, performed, IsLastClose, StaysLoaded, OpenLibrariesStay}
+use Rattle.execmodel.specs.Laws.{Action, OneStep, OneTick, OneRequest, outcome_of, IsLastClose, StaysLoaded, OpenLibrariesStay}
 use Rattle.execmodel.proofs.Heaps.{block_remade, found_rid, rid, filled, true_is_not_false}
 use Rattle.execmodel.proofs.Itself.{does_itself, ends_followed}
 use Rattle.execmodel.proofs.Formed.{placed_fresh, counted_formed, rid_formed}
@@ -398,7 +398,7 @@ module _ (base : ℕ) (s : State) (tidy : IsTidy s) (is : is_library_at base s.m
   settled r (inl stays) = inl (further base s.memory.heap r.memory.heap _ stays (of_settle (Kept base) (kept base) r))
   settled r (inr last) = inr last
 
-  at_action : (action : Action) → StaysLoaded base s.memory.heap (performed action s).state.memory.heap ⊎ ((action ≡ OneStep) × IsLastClose base s)
+  at_action : (action : Action) → StaysLoaded base s.memory.heap (outcome_of action s).state.memory.heap ⊎ ((action ≡ OneStep) × IsLastClose base s)
   unfolding step tick andthen acts
   at_action OneStep =
       elim (settled (acts s).state (acted s.stopped)) [ inl stays ↦ inl stays | inr last ↦ inr (refl, last) ]

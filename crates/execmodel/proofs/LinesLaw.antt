@@ -19,10 +19,10 @@ use Rattle.taskscript.specs.declared.event.Event.TheVariants.{Run, Tick, Irq}
 use Rattle.execmodel.specs.State.{Call, Scripts, State, Timer as Clock, Outcome, quiet, says, andthen, unless_stopped, no_program, on_schedule, on_memory, on_timer, on_pending, begun, booted}
 use Rattle.scheduler.specs.Dispatch.{arrives, added, displaced, after_switch, rescheduled, switch_of}
 use Rattle.execmodel.specs.Calls.{next_call, call_in_body}
-use Rattle.execmodel.specs.Pending.{source_named, taken_off, with_latch_of, next_softint, next_source}
+use Rattle.execmodel.specs.Pending.{source_named, caused_no_more, with_latch_of, next_softint, next_source}
 use Rattle.execmodel.specs.Bodies.{body_step, runs_body}
 use Rattle.execmodel.specs.Requests.{does_requests, finishes, finishes_each, finishes_all_due, finishes_set}
-use Rattle.execmodel.specs.Interrupts.{no_softint, no_server, softint_at, runs_softint, server_at, chain_of, runs_server, runs_chain, text_of_source, counted, finishes_for, serves, servings, interrupts}
+use Rattle.execmodel.specs.Interrupts.{no_softint, no_server, softint_at, runs_softint, server_at, chain_of, runs_server, runs_chain, text_of_source, serving_counted, finishes_for, serves, servings, interrupts}
 use Rattle.execmodel.specs.Step.{announced, switches, settle, does, ends, task_step, call_step, softint_or_task_step, acting, acts, step, steps, request, tick, ticks, started, all_added, starts, event, events, run}
 use Rattle.execmodel.specs.Laws.{FitsItsWord, CallsFitTheirWords, LinesAreShort}
 use Rattle.execmodel.proofs.BodyActions.{finishes_found}
@@ -48,9 +48,9 @@ unfolding runs_softint
 softint_says i s has =
     let softint = softint_at i s.bodies in
     let body = has.texts.softints i in
-    then_says (says (Softint softint.name)) (runs_body softint.name softint.code) (on_pending (taken_off i) s)
+    then_says (says (Softint softint.name)) (runs_body softint.name softint.code) (on_pending (caused_no_more i) s)
     (line_says (Softint softint.name) _ (softint_short softint.name body.short)) (body_says softint.name softint.code body)
-    (all_stays s (on_pending (taken_off i) s) refl refl has)
+    (all_stays s (on_pending (caused_no_more i) s) refl refl has)
 
 runs_server_says : (k : ℕ) (s : State) → Says s (runs_server k s)
 unfolding runs_server
@@ -111,7 +111,7 @@ ticked_names : (o : Option ℕ) (s : Schedule) → (ticked_for o s).queue.names 
 ticked_names None s = refl
 ticked_names (Some r) s = refl
 
-counted_names : (asks : Source) (s : Schedule) → (counted asks s).queue.names ≡ s.queue.names
+counted_names : (asks : Source) (s : Schedule) → (serving_counted asks s).queue.names ≡ s.queue.names
 unfolding quantum_ticked
 counted_names source.Ports s = refl
 counted_names source.Vertb s = ticked_names s.running s
@@ -121,12 +121,12 @@ serves_says : (asks : Source) (s : State) → Says s (serves asks s)
 unfolding serves
 serves_says asks s has =
     let cleared = on_pending (with_latch_of asks false) s in
-    let begun = on_schedule (counted asks) cleared in
+    let begun = on_schedule (serving_counted asks) cleared in
     let chain = chain_of asks s.bodies.servers in
     then_says (says (Serve (text_of_source asks))) (andthen (finishes_for asks) (runs_chain chain)) begun
     (line_says (Serve (text_of_source asks)) begun (serve_short (text_of_source asks) (source_short asks)))
     (λ r. then_says (finishes_for asks) (runs_chain chain) r (finishing_says asks r) (chain_says chain))
-    (all_stays s begun (named_alike (counted asks) cleared (counted_names asks s.schedule)) refl has)
+    (all_stays s begun (named_alike (serving_counted asks) cleared (counted_names asks s.schedule)) refl has)
 
 serving_says : (next : State → Outcome) → ((r : State) → Says r (next r)) → (found : Option Source) (s : State)
     → Says s (elim found as (λ (x : Option Source). Outcome) [ None ↦ quiet s | Some asks ↦ andthen (serves asks) (unless_stopped next) s ])

@@ -42,7 +42,7 @@ use Rattle.execmodel.specs.State.{Call, Object, Plain, ListHead, Node, MsgPort, 
 use Rattle.execmodel.specs.Calls.{ByTask, argument, name_argument, done, answered, waiting, silent, alerted, unless}
 use Rattle.execmodel.specs.Plain.{does_plain, does_set, does_add, does_sub, does_and, does_or, jumps, does_jump, does_jump_zero, does_jump_not_zero, does_print}
 use Rattle.execmodel.specs.Signals.{mask_alert, free_signal_alert, signal_alert, waited, does_signals, does_alloc_signal, does_free_signal, does_set_signal, does_signal, does_wait}
-use Rattle.execmodel.specs.Nesting.{counted, does_nesting, does_forbid, does_permit, does_disable, does_enable}
+use Rattle.execmodel.specs.Nesting.{gives_nesting, does_nesting, does_forbid, does_permit, does_disable, does_enable}
 use Rattle.execmodel.specs.Tasks.{live_task_alert, set_task_pri_alert, add_task_alert, is_caller, ends_other, does_tasks, does_set_task_pri, does_add_task, does_rem_task, does_find_task}
 use Rattle.execmodel.specs.Objects.{object_at, is_kind, is_allowed, place_for_object}
 use Rattle.execmodel.specs.GivingWay.{after_asking, after_asking_for_object}
@@ -262,7 +262,7 @@ signals_make signals.Wait t call s =
     unless_makes t call s (mask_alert (argument 0 call)) _
     (λ none. waited_makes t call (come_for (argument 0 call) (signals_of s.schedule t)) (after_wait t (argument 0 call)) s)
 
-counted_makes : (t : ℕ) (call : Call) (nesting : Option Nesting) (s : State) → Makes t call s (counted t call nesting s)
+counted_makes : (t : ℕ) (call : Call) (nesting : Option Nesting) (s : State) → Makes t call s (gives_nesting t call nesting s)
 unfolding done alerted
 counted_makes t call None s = (refl, stays)
 counted_makes t call (Some nesting) s = (refl, stays)

@@ -13,7 +13,7 @@ use Rattle.execmodel.specs.Bodies.{body_step}
 use Rattle.execmodel.specs.Objects.{object_at}
 use Rattle.execmodel.specs.Semaphores.{sem_of, waiters_of}
 use Rattle.execmodel.specs.Step.{switches, settle, ends, call_step, task_step, softint_or_task_step, acting, acts, step, tick, starts, run}
-use Rattle.execmodel.specs.Laws.{Action, OneStep, OneTick, OneRequest, performed, IsLastRelease, OwnersChangeAtTheLastRelease, FreeSemaphoresHaveNoWaiters}
+use Rattle.execmodel.specs.Laws.{Action, OneStep, OneTick, OneRequest, outcome_of, IsLastRelease, OwnersChangeAtTheLastRelease, FreeSemaphoresHaveNoWaiters}
 use Rattle.execmodel.proofs.Heaps.{true_is_not_false}
 use Rattle.execmodel.proofs.Itself.{does_itself, ends_followed}
 use Rattle.execmodel.proofs.Stretches.{Relation, HoldsOfInterrupts, HoldsOfEach, of_softint, of_set, of_settle, of_request, ticked, of_starts, of_events}
@@ -149,7 +149,7 @@ settled a s r changes =
     changes
 
 at_action : (action : Action) (a : ℕ) (s : State) → IsTidy s
-    → (owner_in (object_at a (performed action s).state.memory.heap) ≡ owner_in (object_at a s.memory.heap))
+    → (owner_in (object_at a (outcome_of action s).state.memory.heap) ≡ owner_in (object_at a s.memory.heap))
     ⊎ (owner_in (object_at a s.memory.heap) ≡ None)
     ⊎ ((action ≡ OneStep) × IsLastRelease a s)
 unfolding step tick andthen acts Changes

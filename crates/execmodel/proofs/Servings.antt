@@ -15,7 +15,7 @@ use Rattle.scheduler.specs.declared.Switch.TheVariants as switch
 use Rattle.execmodel.specs.State.{State, Outcome, quiet, andthen, unless_stopped, on_schedule, on_pending}
 use Rattle.scheduler.specs.Dispatch.{switch_of, rescheduled}
 use Rattle.execmodel.specs.Pending.{allows_interrupts, with_latch_of, next_source}
-use Rattle.execmodel.specs.Interrupts.{counted, text_of_source, finishes_for, chain_of, runs_chain, serves, servings, interrupts}
+use Rattle.execmodel.specs.Interrupts.{serving_counted, text_of_source, finishes_for, chain_of, runs_chain, serves, servings, interrupts}
 use Rattle.execmodel.specs.Step.{announced, switches, settle}
 use Rattle.execmodel.specs.Laws.{says_switch, is_serving, InterruptsKeepNestings, ThreeServingsAtMost}
 use Rattle.execmodel.proofs.Heaps.{true_is_not_false}
@@ -59,7 +59,7 @@ ticked_stands : (o : Option ℕ) (s : Schedule) → standing (ticked_for o s) �
 ticked_stands None s = refl
 ticked_stands (Some r) s = refl
 
-counted_stands : (asks : Source) (s : Schedule) → standing (counted asks s) ≡ standing s
+counted_stands : (asks : Source) (s : Schedule) → standing (serving_counted asks s) ≡ standing s
 unfolding ticked
 counted_stands source.Ports s = refl
 counted_stands source.Vertb s = ticked_stands s.running s
@@ -70,7 +70,7 @@ served_steady : (asks : Source) (s : State)
     → steady (serves asks s).state ≡ (s.schedule.running, s.schedule.nestings, with_latch asks false s.pending.latches)
 unfolding serves andthen
 served_steady asks s =
-    (served_bodily asks (chain_of asks s.bodies.servers) (on_schedule (counted asks) (on_pending (with_latch_of asks false) s))).same
+    (served_bodily asks (chain_of asks s.bodies.servers) (on_schedule (serving_counted asks) (on_pending (with_latch_of asks false) s))).same
     ∙ ap (λ (p : Option ℕ × List Nesting). (p.0, p.1, with_latch asks false s.pending.latches)) (counted_stands asks s.schedule)
 
 served_first : (name : List ℕ) (lines : List TraceLine) → AreOfBodies lines → count_by is_serving (Serve name ∷ lines) ≡ 1
@@ -79,16 +79,16 @@ served_first name lines told = sum_by-cons served (Serve name) lines ∙ ap (λ 
 served_once : (asks : Source) (s : State) → count_by is_serving (serves asks s).lines ≡ 1
 unfolding serves andthen
 served_once asks s =
-    let o = andthen (finishes_for asks) (runs_chain (chain_of asks s.bodies.servers)) (on_schedule (counted asks) (on_pending (with_latch_of asks false) s)) in
+    let o = andthen (finishes_for asks) (runs_chain (chain_of asks s.bodies.servers)) (on_schedule (serving_counted asks) (on_pending (with_latch_of asks false) s)) in
     served_first (text_of_source asks) o.lines
-    (served_bodily asks (chain_of asks s.bodies.servers) (on_schedule (counted asks) (on_pending (with_latch_of asks false) s))).told
+    (served_bodily asks (chain_of asks s.bodies.servers) (on_schedule (serving_counted asks) (on_pending (with_latch_of asks false) s))).told
 
 served_silent : (asks : Source) (s : State) → says_switch (serves asks s).lines ≡ false
 unfolding serves andthen
 served_silent asks s =
-    let o = andthen (finishes_for asks) (runs_chain (chain_of asks s.bodies.servers)) (on_schedule (counted asks) (on_pending (with_latch_of asks false) s)) in
+    let o = andthen (finishes_for asks) (runs_chain (chain_of asks s.bodies.servers)) (on_schedule (serving_counted asks) (on_pending (with_latch_of asks false) s)) in
     none_switched o.lines
-    (served_bodily asks (chain_of asks s.bodies.servers) (on_schedule (counted asks) (on_pending (with_latch_of asks false) s))).told
+    (served_bodily asks (chain_of asks s.bodies.servers) (on_schedule (serving_counted asks) (on_pending (with_latch_of asks false) s))).told
 
 -- ---- some servings
 

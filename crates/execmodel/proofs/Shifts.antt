@@ -47,7 +47,7 @@ use Rattle.scheduler.specs.Dispatch.{arrives, added, reprioritized}
 use Rattle.execmodel.specs.Calls.{ByTask, argument, done, answered, waiting, silent, alerted, unless, keeps}
 use Rattle.execmodel.specs.Plain.{does_plain, does_set, does_add, does_sub, does_and, does_or, jumps, does_jump, does_jump_zero, does_jump_not_zero, does_print}
 use Rattle.execmodel.specs.Signals.{is_task, mask_alert, free_signal_alert, waited, does_signals, does_alloc_signal, does_free_signal, does_set_signal, does_signal, does_wait}
-use Rattle.execmodel.specs.Nesting.{counted, does_nesting, does_forbid, does_permit, does_disable, does_enable}
+use Rattle.execmodel.specs.Nesting.{gives_nesting, does_nesting, does_forbid, does_permit, does_disable, does_enable}
 use Rattle.execmodel.specs.Tasks.{live_task_alert, set_task_pri_alert, add_task_alert, is_caller, does_tasks, does_set_task_pri, does_add_task, does_rem_task, does_find_task}
 use Rattle.execmodel.specs.Objects.{place_for_object}
 use Rattle.execmodel.specs.Memory.{alloc_alert, free_alert, avail_alert, does_memory, does_alloc_mem, does_free_mem, does_avail_mem}
@@ -221,7 +221,7 @@ signals_shift signals.Wait t call s word =
     unless_shifts t call s (mask_alert (argument 0 call)) _
     (λ none. waited_shifts t call (argument 0 call) (nat_eq (taken_signals (argument 0 call) (signals_of s.schedule t)) 0) s (ap is_own_taking word) refl)
 
-counted_shifts : (t : ℕ) (call : Call) (nesting : Option Nesting) (s : State) → Shifted t call s (counted t call nesting s)
+counted_shifts : (t : ℕ) (call : Call) (nesting : Option Nesting) (s : State) → Shifted t call s (gives_nesting t call nesting s)
 unfolding done alerted
 counted_shifts t call None s = (refl, stays (λ p. refl) (same s.schedule))
 counted_shifts t call (Some nesting) s =

@@ -12,11 +12,11 @@ use Rattle.softint.specs.declared.source.Source.TheVariants as source
 use Rattle.execmodel.specs.State.{Call, Pending, Timer as Clock, State, Mark, Outcome, quiet, says, andthen, unless_stopped, on_schedule, on_memory, on_timer, on_pending}
 use Rattle.scheduler.specs.Dispatch.{added}
 use Rattle.execmodel.specs.Calls.{next_call}
-use Rattle.execmodel.specs.Pending.{source_named, taken_off, with_latch_of, next_softint, next_source}
+use Rattle.execmodel.specs.Pending.{source_named, caused_no_more, with_latch_of, next_softint, next_source}
 use Rattle.execmodel.specs.Bodies.{body_step, runs_body}
 use Rattle.timerdev.specs.Timing.{ticked as clock_ticked, due_next, looked_at, until_next}
 use Rattle.execmodel.specs.Requests.{does_requests, finishes, finishes_each, finishes_all_due, finishes_set}
-use Rattle.execmodel.specs.Interrupts.{softint_at, runs_softint, server_at, chain_of, runs_server, runs_chain, text_of_source, counted, finishes_for, serves, servings, interrupts}
+use Rattle.execmodel.specs.Interrupts.{softint_at, runs_softint, server_at, chain_of, runs_server, runs_chain, text_of_source, serving_counted, finishes_for, serves, servings, interrupts}
 use Rattle.execmodel.specs.Laws.{times_waiting}
 use Rattle.execmodel.proofs.Asking.{due_stands, until_stands}
 use Rattle.execmodel.proofs.BodyActions.{finishes_found}
@@ -87,9 +87,9 @@ module _ (R : Relation) (each : HoldsOfInterrupts R) where
   unfolding runs_softint
   of_softint i s =
       let softint = softint_at i s.bodies in
-      each.joined s [] (on_pending (taken_off i) s) _ _ (each.pending (taken_off i) s)
+      each.joined s [] (on_pending (caused_no_more i) s) _ _ (each.pending (caused_no_more i) s)
       (both (says (Softint softint.name)) (runs_body softint.name softint.code) (of_saying (Softint softint.name))
-      (of_body softint.name softint.code) (on_pending (taken_off i) s))
+      (of_body softint.name softint.code) (on_pending (caused_no_more i) s))
 
   of_server : (k : ℕ) → HoldsOf R (runs_server k)
   unfolding runs_server
@@ -109,7 +109,7 @@ module _ (R : Relation) (each : HoldsOfInterrupts R) where
       both (runs_server k) (unless_stopped (if claim then quiet else runs_chain others)) (of_server k)
       (unless (if claim then quiet else runs_chain others) (unless_claimed claim (runs_chain others) (of_chain others))) s
 
-  of_counting : (asks : Source) (s : State) → R s [] (on_schedule (counted asks) s)
+  of_counting : (asks : Source) (s : State) → R s [] (on_schedule (serving_counted asks) s)
   of_counting source.Ports s = each.nothing s
   of_counting source.Vertb s = each.ticking s
   of_counting source.Exter s = each.nothing s
@@ -156,7 +156,7 @@ module _ (R : Relation) (each : HoldsOfInterrupts R) where
   unfolding serves
   of_serves asks s =
       let cleared = on_pending (with_latch_of asks false) s in
-      let begun = on_schedule (counted asks) cleared in
+      let begun = on_schedule (serving_counted asks) cleared in
       let chain = chain_of asks s.bodies.servers in
       each.joined s [] begun _ _
       (each.joined s [] cleared [] begun (each.pending (with_latch_of asks false) s) (of_counting asks cleared))

@@ -31,7 +31,7 @@ use Rattle.execmodel.specs.Semaphores.{is_tried_again, does_semaphores}
 use Rattle.execmodel.specs.Requests.{is_request, request_size, request_of, request_alert, resting_alert, delete_request_alert, send_alert, do_alert, wait_io_alert, set_io_alert, answering_port, acting_at, with_reply, ended, timer_begun, begun_at, replying_port, looks_for, begins_and_looks, aborts, finishes_set, does_requests, does_create_io_request, does_delete_io_request, does_open_device, does_close_device, does_set_io, does_do_io, does_send_io, does_check_io, does_wait_io, does_abort_io, does_io_secs, does_io_micros, does_io_error, does_io_flags}
 use Rattle.execmodel.specs.Step.{switches, settle, ends, call_step, task_step, softint_or_task_step, acting, acts, step, tick, request, run}
 use Rattle.execmodel.specs.Keeping.{beside_plain, beside_signals, beside_nestings, beside_memory, beside_ports, beside_interrupts, beside_semaphores, beside_tasks}
-use Rattle.execmodel.specs.Laws.{Action as Act, OneStep, OneTick, OneRequest, performed, IsSetting, SystemTimeGoesWithTheClock}
+use Rattle.execmodel.specs.Laws.{Action as Act, OneStep, OneTick, OneRequest, outcome_of, IsSetting, SystemTimeGoesWithTheClock}
 use Rattle.execmodel.proofs.Itself.{word_itself, ends_followed}
 use Rattle.execmodel.proofs.Stretches.{Relation, HoldsOfInterrupts, clock_gains, of_softint, of_set, of_settle, of_request}
 use Rattle.execmodel.proofs.GivingWay.{asking_for_object_keeps}
@@ -313,8 +313,8 @@ tick_offset s = tested s.stopped
         ∙ gained s.memory.timer.system s.memory.timer.clock s.memory.timer.tick_micros
 
 at_action : (action : Act) (s : State)
-    → (offset (performed action s).state.memory.timer ≡ offset s.memory.timer)
-    ⊎ ((action ≡ OneStep) × IsSetting s (system_of (performed action s).state))
+    → (offset (outcome_of action s).state.memory.timer ≡ offset s.memory.timer)
+    ⊎ ((action ≡ OneStep) × IsSetting s (system_of (outcome_of action s).state))
 at_action OneStep s =
     let goes = stepped s in
     elim goes.system [ inl same ↦ inl (same_offset s (step s).state goes.clock same) | inr sets ↦ inr (refl, sets) ]

@@ -30,7 +30,7 @@ use Rattle.sigsem.specs.declared.semaphore.Obtained.{Obtained}
 use Rattle.sigsem.specs.declared.semaphore.Obtained.TheVariants.{Owner, Waits}
 use Rattle.execmodel.specs.Plain.{does_plain, does_set, does_add, does_sub, does_and, does_or, jumps, does_jump, does_jump_zero, does_jump_not_zero, does_print}
 use Rattle.execmodel.specs.Signals.{does_signals, mask_alert, free_signal_alert, signal_alert, waited, does_alloc_signal, does_free_signal, does_set_signal, does_signal, does_wait, does_signal_by}
-use Rattle.execmodel.specs.Nesting.{does_nesting, counted, does_forbid, does_permit, does_disable, does_enable, nest_alert}
+use Rattle.execmodel.specs.Nesting.{does_nesting, gives_nesting, does_forbid, does_permit, does_disable, does_enable, nest_alert}
 use Rattle.execmodel.specs.Tasks.{does_tasks, live_task_alert, set_task_pri_alert, add_task_alert, is_caller, ends_other, does_set_task_pri, does_add_task, does_rem_task, does_find_task}
 use Rattle.execmodel.specs.Objects.{place_for_object}
 use Rattle.execmodel.specs.Memory.{does_memory, alloc_alert, free_alert, avail_alert, does_alloc_mem, does_free_mem, does_avail_mem}
@@ -285,7 +285,7 @@ waited_tells : (t : ℕ) (call : Call) (come : Option ℕ) (s r : State) → r.s
 waited_tells t call None s r same = waiting_tells t call.awaited call s r same
 waited_tells t call (Some bits) s r same = answered_tells (ByTask t) call bits s r same
 
-counted_tells : (t : ℕ) (call : Call) (nesting : Option Nesting) (s : State) → Tells (ByTask t) call s (counted t call nesting s)
+counted_tells : (t : ℕ) (call : Call) (nesting : Option Nesting) (s : State) → Tells (ByTask t) call s (gives_nesting t call nesting s)
 counted_tells t call nesting s =
     refused_tells (nest_alert (is_some nesting)) (nest_short (is_some nesting)) (ByTask t) call _ s (on_schedule (nested t nesting) s) refl
     (done_tells (ByTask t) call s _ refl)

@@ -12,7 +12,7 @@ use Rattle.taskscript.specs.Sources.{source_text}
 use Rattle.taskscript.specs.declared.source.Source.TheVariants as named
 use Rattle.scheduler.specs.Schedule.{Schedule, ticked}
 use Rattle.execmodel.specs.State.{Bodies, State, Outcome, quiet, says, andthen, unless_stopped, on_schedule, on_pending}
-use Rattle.execmodel.specs.Pending.{source_named, taken_off, with_latch_of, next_source}
+use Rattle.execmodel.specs.Pending.{source_named, caused_no_more, with_latch_of, next_source}
 use Rattle.execmodel.specs.Bodies.{runs_body}
 use Rattle.execmodel.specs.Requests.{finishes_all_due}
 
@@ -28,7 +28,7 @@ softint_at i bodies = slice_index_or bodies.softints i no_softint
 unfoldable pub runs_softint : ℕ → State → Outcome
 runs_softint i s =
     let softint = softint_at i s.bodies in
-    andthen (says (Softint softint.name)) (runs_body softint.name softint.code) (on_pending (taken_off i) s)
+    andthen (says (Softint softint.name)) (runs_body softint.name softint.code) (on_pending (caused_no_more i) s)
 
 -- ---- servers
 
@@ -77,10 +77,10 @@ text_of_source source.Vertb = source_text named.Vertb
 text_of_source source.Exter = source_text named.Exter
 
 -- for VERTB the quantum of the running task loses one serving (own choice)
-abbrev pub counted : Source → Schedule → Schedule
-counted source.Ports schedule = schedule
-counted source.Vertb schedule = ticked schedule
-counted source.Exter schedule = schedule
+abbrev pub serving_counted : Source → Schedule → Schedule
+serving_counted source.Ports schedule = schedule
+serving_counted source.Vertb schedule = ticked schedule
+serving_counted source.Exter schedule = schedule
 
 -- for VERTB all requests finish that are due (own choice)
 abbrev pub finishes_for : Source → State → Outcome
@@ -93,7 +93,7 @@ finishes_for source.Exter s = quiet s
 unfoldable pub serves : Source → State → Outcome
 serves asks s =
     andthen (says (Serve (text_of_source asks))) (andthen (finishes_for asks) (runs_chain (chain_of asks s.bodies.servers)))
-    (on_schedule (counted asks) (on_pending (with_latch_of asks false) s))
+    (on_schedule (serving_counted asks) (on_pending (with_latch_of asks false) s))
 
 -- so many servings: while interrupts are allowed and a source asks for it, the one of highest level is served
 unfoldable pub servings : ℕ → State → Outcome

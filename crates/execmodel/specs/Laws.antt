@@ -94,16 +94,16 @@ pub data Action : Type 0 where
   OneTick : Action
   OneRequest : (asks : Source) → Action
 
-abbrev pub performed : Action → State → Outcome
-performed OneStep s = step s
-performed OneTick s = tick s
-performed (OneRequest asks) s = request asks s
+abbrev pub outcome_of : Action → State → Outcome
+outcome_of OneStep s = step s
+outcome_of OneTick s = tick s
+outcome_of (OneRequest asks) s = request asks s
 
 -- Something holds of every action of a run: of the state before a step, a tick or a request, and of what that does.
 abbrev pub OfEveryAction : (Action → State → Outcome → Type 0) → Type 0
 OfEveryAction Holds =
     (machine : MachineData) (list : List Event) (action : Action) → IsMachine machine
-    → Holds action (run machine list).state (performed action (run machine list).state)
+    → Holds action (run machine list).state (outcome_of action (run machine list).state)
 
 -- the running task is to make that call: no software interrupt runs before it
 pub record IsToCall (t : ℕ) (call : Call) (s : State) : Type 0 where

@@ -14,9 +14,9 @@ unfoldable pub is_library_at : ℕ → Heap → Bool
 is_library_at base heap = is_kind is_library (object_at base heap)
 
 -- the number of a library in the order of the file, how often it is open, and whether it is to be expunged
-abbrev pub number_in : Object → ℕ
-number_in (Library number count delayed) = number
-number_in _ = 0
+abbrev pub library_number : Object → ℕ
+library_number (Library number count delayed) = number
+library_number _ = 0
 
 abbrev pub count_in : Object → ℕ
 count_in (Library number count delayed) = count
@@ -28,7 +28,7 @@ delayed_in _ = false
 
 -- the same of the library that begins at an address
 unfoldable pub number_of : ℕ → Heap → ℕ
-number_of base heap = option_map_or number_in (object_at base heap) 0
+number_of base heap = option_map_or library_number (object_at base heap) 0
 
 unfoldable pub count_of : ℕ → Heap → ℕ
 count_of base heap = option_map_or count_in (object_at base heap) 0

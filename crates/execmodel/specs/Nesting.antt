@@ -18,24 +18,24 @@ abbrev pub done_or_nest : Bool → ℕ → Call → State → Outcome
 done_or_nest fits t call s = unless (nest_alert fits) t call (done t call) s
 
 -- a call that gives task t this nesting, or none
-abbrev pub counted : ℕ → Call → Option Nesting → State → Outcome
-counted t call nesting s = done_or_nest (is_some nesting) t call (on_schedule (nested t nesting) s)
+abbrev pub gives_nesting : ℕ → Call → Option Nesting → State → Outcome
+gives_nesting t call nesting s = done_or_nest (is_some nesting) t call (on_schedule (nested t nesting) s)
 
 -- Forbid: no other task runs until the counterpart (autodoc exec.library/Forbid)
 unfoldable pub does_forbid : ℕ → Call → State → Outcome
-does_forbid t call s = counted t call (after_forbid (nesting_of s.schedule t)) s
+does_forbid t call s = gives_nesting t call (after_forbid (nesting_of s.schedule t)) s
 
 -- Permit: takes back one Forbid (autodoc exec.library/Permit)
 unfoldable pub does_permit : ℕ → Call → State → Outcome
-does_permit t call s = counted t call (after_permit (nesting_of s.schedule t)) s
+does_permit t call s = gives_nesting t call (after_permit (nesting_of s.schedule t)) s
 
 -- Disable: no other task runs and no interrupt is served until the counterpart (autodoc exec.library/Disable)
 unfoldable pub does_disable : ℕ → Call → State → Outcome
-does_disable t call s = counted t call (after_disable (nesting_of s.schedule t)) s
+does_disable t call s = gives_nesting t call (after_disable (nesting_of s.schedule t)) s
 
 -- Enable: takes back one Disable (autodoc exec.library/Enable)
 unfoldable pub does_enable : ℕ → Call → State → Outcome
-does_enable t call s = counted t call (after_enable (nesting_of s.schedule t)) s
+does_enable t call s = gives_nesting t call (after_enable (nesting_of s.schedule t)) s
 
 -- ---- the words of this group
 

@@ -45,8 +45,8 @@ unfoldable pub causes : ℕ → State → State
 causes i s = on_pending (with_caused by_arrival i s.bodies.softints) s
 
 -- software interrupt i is not caused any more
-abbrev pub taken_off : ℕ → Pending → Pending
-taken_off i pending = record pending { caused = without i pending.caused }
+abbrev pub caused_no_more : ℕ → Pending → Pending
+caused_no_more i pending = record pending { caused = without i pending.caused }
 
 -- the software interrupt, of these, that runs next, where interrupts are allowed and one is caused
 abbrev pub softint_next : Discipline → List SoftintData → Schedule → Pending → Option ℕ

@@ -9,7 +9,7 @@ use Rattle.exectrace.specs.Trace.{TraceLine, printed_line, printed}
 use Rattle.exectrace.proofs.Pieces.{puts_none, puts_nothing, puts_then, put_same}
 use Rattle.scheduler.specs.Schedule.{Schedule}
 use Rattle.execmodel.specs.State.{State, Bodies, Scripts, Memory, Pending, Outcome, Mark, leaving, quiet, says, andthen, unless_stopped, on_schedule, on_scripts, on_memory, on_pending}
-use Rattle.execmodel.specs.Pending.{causes, taken_off, with_caused, with_latch_of}
+use Rattle.execmodel.specs.Pending.{causes, caused_no_more, with_caused, with_latch_of}
 use Rattle.softint.specs.declared.source.Source.{Source}
 use Rattle.execsim.specs.Actions.{caused}
 use Rattle.execsim.specs.Agreement.{Seen, Agrees, Follows, FollowsWhileGood, Moves, in_order, queues_in_order, caused_in_order}
@@ -116,8 +116,8 @@ pub moves_caused : {m n : Seen} (i : ℕ) → n ≡ caused i m → Moves (causes
 unfolding causes
 moves_caused {m} i is = moves_pending (λ b. with_caused by_arrival i b.softints) (with_caused by_priority i m.bodies.softints) (caused-in_order i m.bodies.softints) is
 
-pub moves_taken_off : {m n : Seen} (i : ℕ) → n ≡ record m { pending = taken_off i m.pending } → Moves (on_pending (taken_off i)) m n
-moves_taken_off {m} i is = moves_pending (λ b. taken_off i) (taken_off i) (taken_off-in_order i m.bodies.softints) is
+pub moves_taken_off : {m n : Seen} (i : ℕ) → n ≡ record m { pending = caused_no_more i m.pending } → Moves (on_pending (caused_no_more i)) m n
+moves_taken_off {m} i is = moves_pending (λ b. caused_no_more i) (caused_no_more i) (taken_off-in_order i m.bodies.softints) is
 
 pub moves_latch : {m n : Seen} (asks : Source) (set : Bool) → n ≡ record m { pending = with_latch_of asks set m.pending } → Moves (on_pending (with_latch_of asks set)) m n
 moves_latch asks set is = moves_pending (λ b. with_latch_of asks set) (with_latch_of asks set) (λ y. refl) is

@@ -5,7 +5,7 @@ use Rattle.exectrace.specs.Sink.{Tape}
 use Rattle.forbid.specs.Nesting.{Nesting}
 use Rattle.scheduler.specs.Schedule.{Schedule, nesting_of, nested}
 use Rattle.execmodel.specs.State.{Call, on_schedule}
-use Rattle.execmodel.specs.Nesting.{done_or_nest, counted}
+use Rattle.execmodel.specs.Nesting.{done_or_nest, gives_nesting}
 use Rattle.execsim.specs.Agreement.{Seen, Follows, in_order}
 use Rattle.execsim.proofs.Following.{reads_schedule, moves_schedule, follows_as, follows_change}
 
@@ -16,7 +16,7 @@ nested-in_order t (Some nesting) y = refl
 -- a call that gives task t the nesting that follows its own, or none
 pub counts : {m n o : Seen} {a b : Tape} (t : ℕ) (call : Call) (next : Nesting → Option Nesting) (fits : Bool)
     → fits ≡ is_some (next (nesting_of m.schedule t)) → n ≡ record m { schedule = nested t (next (nesting_of m.schedule t)) m.schedule }
-    → Follows (done_or_nest fits t call) n o a b → Follows (λ s. counted t call (next (nesting_of s.schedule t)) s) m o a b
+    → Follows (done_or_nest fits t call) n o a b → Follows (λ s. gives_nesting t call (next (nesting_of s.schedule t)) s) m o a b
 counts {m} t call next fits fit is follows = follows_as
     {g = λ s. done_or_nest fits t call (on_schedule (nested t (next (nesting_of m.schedule t))) s)}
     (λ s e.

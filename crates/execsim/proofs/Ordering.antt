@@ -19,7 +19,7 @@ use Rattle.taskscript.specs.File.{SoftintData}
 use Rattle.softint.specs.declared.source.Source.{Source}
 use Rattle.softint.specs.declared.source.Source.TheVariants as source
 use Rattle.execmodel.specs.State.{Pending}
-use Rattle.execmodel.specs.Interrupts.{counted}
+use Rattle.execmodel.specs.Interrupts.{serving_counted}
 use Rattle.execmodel.specs.Pending as pending
 use Rattle.execmodel.specs.Pending.{is_caused, softint_pri, with_caused}
 use Rattle.execsim.specs.Agreement.{caused_in_order, in_order}
@@ -170,7 +170,7 @@ pub ticked-in_order : (y : Schedule) → ticked (in_order y) ≡ in_order (ticke
 unfolding ticked
 ticked-in_order y = ticked_for-in_order y.running y
 
-pub counted-in_order : (asks : Source) (y : Schedule) → counted asks (in_order y) ≡ in_order (counted asks y)
+pub counted-in_order : (asks : Source) (y : Schedule) → serving_counted asks (in_order y) ≡ in_order (serving_counted asks y)
 counted-in_order source.Ports y = refl
 counted-in_order source.Vertb y = ticked-in_order y
 counted-in_order source.Exter y = refl
@@ -221,5 +221,5 @@ caused-in_order i softints y =
     by_case false = refl
 
 pub taken_off-in_order : (i : ℕ) (softints : List SoftintData) (y : Pending)
-    → pending.taken_off i (caused_in_order softints y) ≡ caused_in_order softints (pending.taken_off i y)
+    → pending.caused_no_more i (caused_in_order softints y) ≡ caused_in_order softints (pending.caused_no_more i y)
 taken_off-in_order i softints y = ap (λ caused. record y { caused = caused }) (sym (order_leaves_out ℕ (softint_pri softints) (λ x. not (x == i)) y.caused))

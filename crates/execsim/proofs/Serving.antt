@@ -16,7 +16,7 @@ use Rattle.softint.specs.Interrupts as ints
 use Rattle.softint.specs.Interrupts.{Interrupts}
 use Rattle.execlist.specs.Disciplines.{pri_at, by_priority}
 use Rattle.execmodel.specs.State.{Bodies, Pending, Timer as Clock, State, Outcome, quiet, says, andthen, unless_stopped, on_pending, on_schedule}
-use Rattle.execmodel.specs.Interrupts.{by_choice, chain_of, counted, finishes_for, interrupts, runs_chain, runs_server, server_at, server_pri, servers_of, serves, servings, text_of_source}
+use Rattle.execmodel.specs.Interrupts.{by_choice, chain_of, serving_counted, finishes_for, interrupts, runs_chain, runs_server, server_at, server_pri, servers_of, serves, servings, text_of_source}
 use Rattle.execmodel.specs.Pending.{allows_interrupts, is_caused, next_softint, next_source, softint_pri, with_caused, with_latch_of}
 use Rattle.execsim.specs.Actions.{served, softint_seen, source_seen}
 use Rattle.execsim.specs.Agreement.{Seen, Agrees, Follows, Moves}
@@ -211,24 +211,24 @@ chain_done {m = m} {n = n} {b = b} asks place all known rest = follows_known (λ
 
 -- ---- serving
 
-pub serves_with : {m n o p : Seen} {a b c d : Tape} (asks : Source) → n ≡ record m { schedule = counted asks m.schedule }
+pub serves_with : {m n o p : Seen} {a b c d : Tape} (asks : Source) → n ≡ record m { schedule = serving_counted asks m.schedule }
     → Puts a b (printed_line (Serve (text_of_source asks))) → Follows (finishes_for asks) n o b c
     → Follows (runs_chain (chain_of asks o.bodies.servers)) o p c d → Follows (served asks) m p a d
 serves_with {m} {n} {o} {p} {a} {b} {c} {d} asks is puts finishes follows =
     follows_known (λ s e. follows_as
     {g = λ s. andthen (says (Serve (text_of_source asks))) (andthen (finishes_for asks) (runs_chain (chain_of asks o.bodies.servers)))
-    (on_schedule (counted asks) s)}
+    (on_schedule (serving_counted asks) s)}
     (λ s e. ap (λ (x : Bodies). andthen (says (Serve (text_of_source asks))) (andthen (finishes_for asks) (runs_chain (chain_of asks x.servers)))
-    (on_schedule (counted asks) s)) (sym (same_bodies s e)))
+    (on_schedule (serving_counted asks) s)) (sym (same_bodies s e)))
     (follows_change counts (follows_then (follows_says _ puts) (follows_then finishes follows))))
   where
-    counts : Moves (on_schedule (counted asks)) m n
-    counts = moves_schedule (counted asks) (counted asks) (counted-in_order asks) is
+    counts : Moves (on_schedule (serving_counted asks)) m n
+    counts = moves_schedule (serving_counted asks) (serving_counted asks) (counted-in_order asks) is
 
     -- no request that finishes changes the bodies
     same_bodies : (s : State) → Agrees m s → o.bodies ≡ s.bodies
     same_bodies s e =
-        let t = on_schedule (counted asks) s in
+        let t = on_schedule (serving_counted asks) s in
         (finishes.agrees t (counts.agrees s e)).bodies ∙ ap (λ (x : Bodies × Clock). x.0) (finishing_keeps asks t)
 
 -- so many servings, by the source that is served next

@@ -20,7 +20,7 @@ use Rattle.execmodel.specs.State.{Call, Scripts, State, quiet, andthen, program_
 use Rattle.execmodel.specs.Calls.{next_call}
 use Rattle.timerdev.specs.Timing.{ticked}
 use Rattle.execmodel.specs.Interrupts.{interrupts, runs_softint}
-use Rattle.execmodel.specs.Pending.{taken_off, with_latch_of}
+use Rattle.execmodel.specs.Pending.{caused_no_more, with_latch_of}
 use Rattle.execmodel.specs.Requests.{does_requests, finishes_set}
 use Rattle.execmodel.specs.Step.{announced, switches, settle, does, does_word, ends, call_step, task_step, softint_or_task_step, acting, acts, step, steps, request, tick, ticks, started, all_added, starts, event, events}
 use Rattle.execsim.specs.Actions.{running_task_step, softint_body, softint_seen}
@@ -90,10 +90,10 @@ pub running_none : {m : Seen} (t : Tape) → m.schedule.running ≡ None → Fol
 running_none {m} t none = running_as None none (follows_nothing m t)
 
 -- a software interrupt runs, or else what runs does its next call
-pub acting_softint : {m n o : Seen} {a b : Tape} (i : ℕ) → Some i ≡ softint_seen m → n ≡ record m { pending = taken_off i m.pending }
+pub acting_softint : {m n o : Seen} {a b : Tape} (i : ℕ) → Some i ≡ softint_seen m → n ≡ record m { pending = caused_no_more i m.pending }
     → Follows (softint_body i) n o a b → Follows acting m o a b
 unfolding acting runs_softint
-acting_softint i is next follows = follows_as {g = λ s. softint_body i (on_pending (taken_off i) s)}
+acting_softint i is next follows = follows_as {g = λ s. softint_body i (on_pending (caused_no_more i) s)}
     (λ s e. ap (λ (x : Option ℕ). softint_or_task_step x s) (softint_same s e ∙ sym is)) (follows_change (moves_taken_off i next) follows)
 
 pub acting_task : {m n o : Seen} {a b : Tape} → None ≡ softint_seen m → n ≡ record m { pending = m.pending }

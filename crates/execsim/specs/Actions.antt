@@ -16,8 +16,8 @@ use Rattle.execmodel.specs.State.{Call, Pending, State, Outcome, quiet, says, an
 use Rattle.execmodel.specs.Bodies.{body_step, runs_body}
 use Rattle.execmodel.specs.Calls.{Caller, ByTask, done, done_by, answered, alerted, alerted_by}
 use Rattle.execmodel.specs.Requests.{finishes_until}
-use Rattle.execmodel.specs.Interrupts.{chain_of, counted, finishes_for, runs_chain, softint_at, text_of_source}
-use Rattle.execmodel.specs.Pending.{allows_interrupts, softint_next, taken_off, with_caused, with_latch_of}
+use Rattle.execmodel.specs.Interrupts.{chain_of, serving_counted, finishes_for, runs_chain, softint_at, text_of_source}
+use Rattle.execmodel.specs.Pending.{allows_interrupts, softint_next, caused_no_more, with_caused, with_latch_of}
 use Rattle.execmodel.specs.Ports as model
 use Rattle.execmodel.specs.Semaphores.{obtains, passes}
 use Rattle.execmodel.specs.Step.{task_step}
@@ -91,7 +91,7 @@ softint_seen s = softint_next by_priority s.bodies.softints s.schedule s.pending
 -- a software interrupt, or none, is not caused any more
 abbrev pub without_softint : Option ℕ → Pending → Pending
 without_softint None pending = pending
-without_softint (Some i) pending = taken_off i pending
+without_softint (Some i) pending = caused_no_more i pending
 
 -- a software interrupt, which is not caused any more, runs its whole body
 abbrev pub softint_body : ℕ → State → Outcome
@@ -112,7 +112,7 @@ without_request (Some asks) pending = with_latch_of asks false pending
 abbrev pub served : Source → State → Outcome
 served asks s =
     andthen (says (Serve (text_of_source asks))) (andthen (finishes_for asks) (runs_chain (chain_of asks s.bodies.servers)))
-    (on_schedule (counted asks) s)
+    (on_schedule (serving_counted asks) s)
 
 -- a command of the body of that name is done, where there is one, unless an alert has stopped the machine
 abbrev pub does_at_place : List ℕ → Option CommandData → State → Outcome

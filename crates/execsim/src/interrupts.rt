@@ -2,7 +2,7 @@
 //! served (RKM Libraries, Exec Interrupts).
 ghost use Rattle.std.specs.Prelude.{◌≡◌, is_some, true, slice_get};
 ghost use Rattle.softint.specs.Sources.{highest};
-ghost use Rattle.execmodel.specs.Interrupts.{chain_of, counted, interrupts, runs_chain, runs_server, text_of_source};
+ghost use Rattle.execmodel.specs.Interrupts.{chain_of, serving_counted, interrupts, runs_chain, runs_server, text_of_source};
 ghost use Rattle.execmodel.specs.Pending.{softint_named, source_named, with_latch_of};
 ghost use Rattle.execsim.specs.Actions.{caused, served, softint_body, softint_seen, source_seen, without_request, without_softint};
 ghost use Rattle.execsim.specs.Agreement.{Follows};
@@ -147,7 +147,7 @@ impl<S: ListSpace> Kernel<S> {
 
     /// For VERTB the quantum of the running task loses one serving.
     fn count_serving(&mut self, source: Source)
-        ensures { self.new ≡ record self.old { schedule = counted source self.old.schedule } }
+        ensures { self.new ≡ record self.old { schedule = serving_counted source self.old.schedule } }
     {
         match source {
             Source::Vertb => self.sched.quantum_tick(),

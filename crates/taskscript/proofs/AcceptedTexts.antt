@@ -8,7 +8,7 @@ use Rattle.taskscript.specs.declared.event.Event.{Event}
 use Rattle.taskscript.specs.declared.fault.EventFault.{EventFault}
 use Rattle.taskscript.specs.declared.fault.EventFault.TheVariants.{TooMany}
 use Rattle.taskscript.specs.declared.fault.FileFault.{FileFault}
-use Rattle.taskscript.specs.Events.{event_of, is_skipped, events_of, is_within, fault_by, line_faults, faults as line_by_line, text_lines, script_of, turns, AreWithin}
+use Rattle.taskscript.specs.Events.{event_of, is_skipped, events_of, is_within, fault_by, event_line_faults, event_faults as line_by_line, text_lines, script_of, turns, AreWithin}
 use Rattle.execlist.specs.Order.{first}
 use Rattle.execlist.specs.Answers.{fault_or}
 use Rattle.taskscript.specs.File.{MachineData, faults, machine_of, file_of_document, file_of}
@@ -43,15 +43,15 @@ with_event : (event : Option Event) (number : ℕ) (events : List Event) → All
 with_event None number events some h = absurd cc
 with_event (Some e) number events some h = tells events (is_within events) some refl h
 
-after_line : (skipped : Bool) (before : List (List ℕ)) (line : List ℕ) → is_skipped line ≡ skipped → AreWithin (events_of before) → first (line_faults before line) ≡ None → AreWithin (events_of (before ++ line ∷ []))
+after_line : (skipped : Bool) (before : List (List ℕ)) (line : List ℕ) → is_skipped line ≡ skipped → AreWithin (events_of before) → first (event_line_faults before line) ≡ None → AreWithin (events_of (before ++ line ∷ []))
 after_line true before line is so_far h = rw (events_push before line, is, append-nil (events_of before)) so_far
 after_line false before line is so_far h = with_event (event_of line) (length before + 1) (events_of (before ++ line ∷ [])) (events_some (before ++ line ∷ [])) (rw is at h)
 
 after_lines : (before lines : List (List ℕ)) → AreWithin (events_of before) → first (line_by_line before lines) ≡ None → AreWithin (events_of (before ++ lines))
 after_lines before [] so_far h = rw append-nil so_far
 after_lines before (line ∷ lines) so_far h =
-    let here = after_line (is_skipped line) before line refl so_far (first_left (line_faults before line) _ h) in
-    rw (← append_assoc before (line ∷ []) lines) (after_lines (before ++ line ∷ []) lines here (first_right (line_faults before line) _ h))
+    let here = after_line (is_skipped line) before line refl so_far (first_left (event_line_faults before line) _ h) in
+    rw (← append_assoc before (line ∷ []) lines) (after_lines (before ++ line ∷ []) lines here (first_right (event_line_faults before line) _ h))
 
 of_lines : (lines : List (List ℕ)) (events : List Event) (fault : Option EventFault) → first (line_by_line [] lines) ≡ fault → fault_or fault (events_of lines) ≡ Ok events → AreWithin events
 of_lines lines events None none is =

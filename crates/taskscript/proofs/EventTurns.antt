@@ -9,7 +9,7 @@ use Rattle.taskscript.specs.declared.event.Event.{Event}
 use Rattle.taskscript.specs.declared.fault.EventFault.{EventFault}
 use Rattle.taskscript.specs.declared.fault.EventFault.TheVariants.{BadLine, TooMany, OutOfMemory}
 use Rattle.execlist.specs.Order.{first}
-use Rattle.taskscript.specs.Events.{event_of, is_skipped, events_on, events_of, steps, ticks, are_within, is_within, line_faults, faults, text_lines, script_of, JudgesLines, AreWithin}
+use Rattle.taskscript.specs.Events.{event_of, is_skipped, events_on, events_of, steps, ticks, are_within, is_within, event_line_faults, event_faults, text_lines, script_of, JudgesLines, AreWithin}
 use Rattle.taskscript.proofs.EventSizes.{events_some}
 
 abbrev pub nowhere : Bor (List ℕ)
@@ -37,21 +37,21 @@ events_push (x ∷ ts) t = ap (λ (es : List Event). events_on x ++ es) (events_
 first_none : (a b : List EventFault) → a ≡ [] → first (a ++ b) ≡ first b
 first_none a b h = rw h
 
-here : (ls : List (Bor (List ℕ))) (i : ℕ) → i < length ls → faults (take i (texts ls)) (drop i (texts ls)) ≡ line_faults (take i (texts ls)) (text_at ls i) ++ faults (take (i + 1) (texts ls)) (drop (i + 1) (texts ls))
-here ls i lt = ap (faults (take i (texts ls))) (next_drop ls i lt) ∙ ap (λ (before : List (List ℕ)). line_faults (take i (texts ls)) (text_at ls i) ++ faults before (drop (i + 1) (texts ls))) (sym (next_take ls i lt))
+here : (ls : List (Bor (List ℕ))) (i : ℕ) → i < length ls → event_faults (take i (texts ls)) (drop i (texts ls)) ≡ event_line_faults (take i (texts ls)) (text_at ls i) ++ event_faults (take (i + 1) (texts ls)) (drop (i + 1) (texts ls))
+here ls i lt = ap (event_faults (take i (texts ls))) (next_drop ls i lt) ∙ ap (λ (before : List (List ℕ)). event_line_faults (take i (texts ls)) (text_at ls i) ++ event_faults before (drop (i + 1) (texts ls))) (sym (next_take ls i lt))
 
 -- a line that is skipped
-skips : (before : List (List ℕ)) (t : List ℕ) → is_skipped t ≡ true → line_faults before t ≡ []
+skips : (before : List (List ℕ)) (t : List ℕ) → is_skipped t ≡ true → event_line_faults before t ≡ []
 skips before t h = rw h
 
 pub skip_found : (ls : List (Bor (List ℕ))) (i : ℕ) → i < length ls → is_skipped (text_at ls i) ≡ true → events_of (take i (texts ls)) ≡ events_of (take (i + 1) (texts ls))
 skip_found ls i lt h = sym (ap events_of (next_take ls i lt) ∙ events_push (take i (texts ls)) (text_at ls i) ∙ rw h (append-nil (events_of (take i (texts ls)))))
 
-pub skip_judged : (ls : List (Bor (List ℕ))) (i : ℕ) → i < length ls → is_skipped (text_at ls i) ≡ true → first (faults (take i (texts ls)) (drop i (texts ls))) ≡ first (faults (take (i + 1) (texts ls)) (drop (i + 1) (texts ls)))
+pub skip_judged : (ls : List (Bor (List ℕ))) (i : ℕ) → i < length ls → is_skipped (text_at ls i) ≡ true → first (event_faults (take i (texts ls)) (drop i (texts ls))) ≡ first (event_faults (take (i + 1) (texts ls)) (drop (i + 1) (texts ls)))
 skip_judged ls i lt h = ap first (here ls i lt) ∙ first_none _ _ (skips (take i (texts ls)) (text_at ls i) h)
 
 -- a line with no event
-pub bad_line : (ls : List (Bor (List ℕ))) (i : ℕ) → i < length ls → is_skipped (text_at ls i) ≡ false → None ≡ event_of (text_at ls i) → first (faults (take i (texts ls)) (drop i (texts ls))) ≡ Some (BadLine (i + 1))
+pub bad_line : (ls : List (Bor (List ℕ))) (i : ℕ) → i < length ls → is_skipped (text_at ls i) ≡ false → None ≡ event_of (text_at ls i) → first (event_faults (take i (texts ls)) (drop i (texts ls))) ≡ Some (BadLine (i + 1))
 bad_line ls i lt h none =
     let len : length (take i (texts ls)) ≡ i = length-take-le i (texts ls) (rw length-map (omega arith)) in
     ap first (here ls i lt) ∙ rw (h, ← none, len)
@@ -68,16 +68,16 @@ pub counted : (es : List Event) (e : Event) (s t : ℕ) → s ≡ sum_by steps e
 counted es e s t p q = rw (sum_by_push steps es e, sum_by_push ticks es e, length_push es e, ← p, ← q)
 
 judged_here : (ls : List (Bor (List ℕ))) (i : ℕ) (e : Event) (es : List Event) (b : Bool) → i < length ls → is_skipped (text_at ls i) ≡ false → Some e ≡ event_of (text_at ls i) → es ≡ events_of (take i (texts ls)) → is_within (es ++ e ∷ []) ≡ b
-    → line_faults (take i (texts ls)) (text_at ls i) ≡ (if b then [] else TooMany ∷ [])
+    → event_line_faults (take i (texts ls)) (text_at ls i) ≡ (if b then [] else TooMany ∷ [])
 judged_here ls i e es b lt h some so_far within =
     rw (h, ← some, event_found ls i e lt h some, ← so_far, within)
 
 pub too_many : (ls : List (Bor (List ℕ))) (i : ℕ) (e : Event) (es : List Event) → i < length ls → is_skipped (text_at ls i) ≡ false → Some e ≡ event_of (text_at ls i) → es ≡ events_of (take i (texts ls)) → is_within (es ++ e ∷ []) ≡ false
-    → first (faults (take i (texts ls)) (drop i (texts ls))) ≡ Some TooMany
+    → first (event_faults (take i (texts ls)) (drop i (texts ls))) ≡ Some TooMany
 too_many ls i e es lt h some so_far within = ap first (here ls i lt) ∙ rw (judged_here ls i e es false lt h some so_far within)
 
 pub goes_on : (ls : List (Bor (List ℕ))) (i : ℕ) (e : Event) (es : List Event) → i < length ls → is_skipped (text_at ls i) ≡ false → Some e ≡ event_of (text_at ls i) → es ≡ events_of (take i (texts ls)) → is_within (es ++ e ∷ []) ≡ true
-    → first (faults (take i (texts ls)) (drop i (texts ls))) ≡ first (faults (take (i + 1) (texts ls)) (drop (i + 1) (texts ls)))
+    → first (event_faults (take i (texts ls)) (drop i (texts ls))) ≡ first (event_faults (take (i + 1) (texts ls)) (drop (i + 1) (texts ls)))
 goes_on ls i e es lt h some so_far within = ap first (here ls i lt) ∙ first_none _ _ (judged_here ls i e es true lt h some so_far within)
 
 pub limits : (s t n : ℕ) → are_within s t n ≡ true → (s ≤ 1000000) × (t ≤ 1000000) × (n ≤ 100000)
@@ -87,7 +87,7 @@ limits s t n h = (grind (arith, nat_tests), grind (arith, nat_tests), grind (ari
 pub all_within : (es : List Event) (lines : List (List ℕ)) (s t : ℕ) → es ≡ events_of lines → s ≡ sum_by steps es → t ≡ sum_by ticks es → s ≤ 1000000 → t ≤ 1000000 → length es ≤ 100000 → AreWithin es
 all_within es lines s t found p q few short count = record { some = rw found (events_some lines); steps = omega arith; ticks = omega arith; count = count }
 
-pub decided : (text : List ℕ) (ls : List (List ℕ)) (r : Result (List Event) EventFault) → ls ≡ text_lines text → JudgesLines r (faults [] ls) (λ v. v ≡ events_of ls)
+pub decided : (text : List ℕ) (ls : List (List ℕ)) (r : Result (List Event) EventFault) → ls ≡ text_lines text → JudgesLines r (event_faults [] ls) (λ v. v ≡ events_of ls)
     → MatchResult r (λ v. script_of text ≡ Ok v) (λ f. ¬ (f ≡ OutOfMemory) → script_of text ≡ Err f)
 unfolding script_of
 decided text ls (Ok v) same h = rw (← same, h.0) (ap Ok (sym h.1))

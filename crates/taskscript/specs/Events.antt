@@ -71,14 +71,14 @@ fault_by None number events = BadLine number ∷ []
 fault_by (Some event) number events = if is_within events then [] else TooMany ∷ []
 
 -- the fault of a line after the lines before it
-abbrev pub line_faults : List (List ℕ) → List ℕ → List EventFault
-line_faults before line =
+abbrev pub event_line_faults : List (List ℕ) → List ℕ → List EventFault
+event_line_faults before line =
     if is_skipped line then [] else fault_by (event_of line) (length before + 1) (events_of (before ++ line ∷ []))
 
 -- the faults of all lines in their order, each judged by itself after the lines before it
-abbrev pub faults : List (List ℕ) → List (List ℕ) → List EventFault
-faults before [] = []
-faults before (line ∷ lines) = line_faults before line ++ faults (before ++ line ∷ []) lines
+abbrev pub event_faults : List (List ℕ) → List (List ℕ) → List EventFault
+event_faults before [] = []
+event_faults before (line ∷ lines) = event_line_faults before line ++ event_faults (before ++ line ∷ []) lines
 
 -- a text is cut at its line feeds
 abbrev pub text_lines : List ℕ → List (List ℕ)
@@ -86,7 +86,7 @@ text_lines text = slice_split (λ b. b == 10) text
 
 -- the events of a text, or the fault of its first faulty line
 unfoldable pub script_of : List ℕ → Result (List Event) EventFault
-script_of text = fault_or (first (faults [] (text_lines text))) (events_of (text_lines text))
+script_of text = fault_or (first (event_faults [] (text_lines text))) (events_of (text_lines text))
 
 -- ---- what a reader of lines answers
 

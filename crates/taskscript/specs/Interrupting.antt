@@ -66,12 +66,12 @@ abbrev pub softints_among : List Kind → List NamedArgumentData → List (List 
 softints_among (kind ∷ kinds) (a ∷ others) = cons_option (softint_named kind a) (softints_among kinds others)
 softints_among _ _ = []
 
-abbrev pub softints_of : NamedCommandData → List (List ℕ)
-softints_of c = softints_among (kinds c.word) c.arguments
+abbrev pub softints_named_by : NamedCommandData → List (List ℕ)
+softints_named_by c = softints_among (kinds c.word) c.arguments
 
 -- each software interrupt that a command names is one of the file
 abbrev pub names_softints : Setting → NamedCommandData → Bool
-names_softints setting c = list_all (λ name. list_any (bytes_eq name) setting.softints) (softints_of c)
+names_softints setting c = list_all (λ name. list_any (bytes_eq name) setting.softints) (softints_named_by c)
 
 -- ---- one argument, as the code judges it
 

@@ -1,6 +1,6 @@
 //! Reading an event text: bytes, cut at line feeds and never decoded.
 ghost use Rattle.std.specs.Prelude.{◌≡◌, map, [], IfOk, Ok, Err, MatchResult};
-ghost use Rattle.taskscript.specs.Events.{turns_of, event_of, is_skipped, are_within, text_lines, faults, events_of, script_of, JudgesLines};
+ghost use Rattle.taskscript.specs.Events.{turns_of, event_of, is_skipped, are_within, text_lines, event_faults, events_of, script_of, JudgesLines};
 ghost use Rattle.taskscript.specs.Sources.{requested_source_of};
 ghost use Rattle.taskscript.specs.declared.fault.EventFault.TheVariants.{OutOfMemory};
 
@@ -84,7 +84,7 @@ fn are_within(steps: u64, ticks: u64, count: usize) -> bool
 }
 
 fn events_of(alloc: Global, lines: &[&[u8]]) -> Result<Events, EventFault>
-    ensures { JudgesLines result (faults [] (map (λ l. l.now) lines.now)) (λ v. v ≡ events_of (map (λ l. l.now) lines.now)) }
+    ensures { JudgesLines result (event_faults [] (map (λ l. l.now) lines.now)) (λ v. v ≡ events_of (map (λ l. l.now) lines.now)) }
 {
     let mut events = Vec::new(alloc);
     let mut steps = 0u64;

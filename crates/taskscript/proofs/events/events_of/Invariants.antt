@@ -1,5 +1,5 @@
 use Rattle.std.proofs.Common.{◌≡◌, ◌≤◌, take, drop, map, length, sum_by, []}
-use Rattle.taskscript.specs.Events.{events_of, steps, ticks, faults}
+use Rattle.taskscript.specs.Events.{events_of, steps, ticks, event_faults}
 use Rattle.execlist.specs.Order.{first}
 use Rattle.taskscript.proofs.events.events_of.Given as goal
 
@@ -11,5 +11,5 @@ invariant-loop-i l = let lines = map (λ l. l.now) l.lines in record {
   steps_limit : l.steps ≤ 1000000;
   ticks_limit : l.ticks ≤ 1000000;
   count_limit : length l.events.items ≤ 100000;
-  judged : first (faults (take l.i lines) (drop l.i lines)) ≡ first (faults [] lines);
+  judged : first (event_faults (take l.i lines) (drop l.i lines)) ≡ first (event_faults [] lines);
 }
