@@ -76,6 +76,21 @@ fn spacing_reason(line: &str) -> Option<(usize, &'static str)> {
     None
 }
 
+/// Why the first word of a line begins no event.
+fn word_advice(alloc: Global, line: &str, word: &str) -> Result<Advice, AllocError> {
+    let question = proposal(
+        alloc,
+        "",
+        nearest(alloc, word, &["run", "tick", "irq"])?,
+        "",
+    )?;
+    let reason = format!(in alloc; "a line is run N, tick N or irq S{question}")?;
+    Ok(Advice {
+        span: field_span(line, 0),
+        reason,
+    })
+}
+
 /// Why a line is no event.
 fn event_advice(alloc: Global, line: &str) -> Result<Advice, AllocError> {
     if let Some((start, reason)) = spacing_reason(line) {
@@ -108,17 +123,7 @@ fn event_advice(alloc: Global, line: &str) -> Result<Advice, AllocError> {
             reason,
         });
     }
-    let question = proposal(
-        alloc,
-        "",
-        nearest(alloc, word, &["run", "tick", "irq"])?,
-        "",
-    )?;
-    let reason = format!(in alloc; "a line is run N, tick N or irq S{question}")?;
-    Ok(Advice {
-        span: field_span(line, 0),
-        reason,
-    })
+    word_advice(alloc, line, word)
 }
 
 /// Bytes as text; what is no text is shown as the empty line.
