@@ -83,7 +83,7 @@ module _ (s : Numbered) (sound : IsSound s.table) (i : ℕ) where
 
     pub number_there : model.number_of a (shown_heap s) ≡ i
     unfolding model.number_of
-    number_there = ap (λ o. option_map_or model.number_in o 0) library_begins
+    number_there = ap (λ o. option_map_or model.library_number o 0) library_begins
 
     pub count_there : model.count_of a (shown_heap s) ≡ count_of i s.table.libs
     unfolding model.count_of

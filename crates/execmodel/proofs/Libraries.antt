@@ -22,7 +22,7 @@ use Rattle.execmodel.specs.Memory.{extents, block_at}
 use Rattle.execmodel.specs.Lists.{is_list, is_list_at, with_nodes, unlinked, left_by}
 use Rattle.execmodel.specs.Ports.{is_port, is_message, is_port_at, is_message_at, with_port, with_action, appended, taken_off}
 use Rattle.execmodel.specs.Semaphores.{is_semaphore, is_semaphore_at, with_semaphore, left_by_task, entered, queued, dropped, handed_on, released_once}
-use Rattle.execmodel.specs.Libraries.{is_library, is_library_at, number_in, number_of, count_in, count_of, with_library}
+use Rattle.execmodel.specs.Libraries.{is_library, is_library_at, library_number, number_of, count_in, count_of, with_library}
 use Rattle.execmodel.specs.Step.{switches, settle, ends, call_step, task_step, softint_or_task_step, acting, acts, step, tick, run}
 use Rattle.execmodel.specs.Laws.{Action, OneStep, OneTick, OneRequest, outcome_of, IsLastClose, StaysLoaded, OpenLibrariesStay}
 use Rattle.execmodel.proofs.Heaps.{block_remade, found_rid, rid, filled, true_is_not_false}
@@ -144,7 +144,7 @@ pub still : (base : ℕ) (old new : Heap) → is_library_at base old ≡ true �
 unfolding number_of
 still base old new is e = record {
   loaded = still_library base old new is e;
-  number = ap (λ found. option_map_or number_in (option_map (λ (block : Block). block.object) found) 0) e;
+  number = ap (λ found. option_map_or library_number (option_map (λ (block : Block). block.object) found) 0) e;
   block = ap (λ found. option_map (λ (b : Block). b.size) found) e;
 }
 
@@ -164,7 +164,7 @@ same_count base old new e = ap (λ found. option_map_or count_in (option_map (λ
 
 pub record IsCounted (n c : ℕ) (found new : Option Block) : Type 0 where
   pub loaded : is_kind is_library (option_map (λ (block : Block). block.object) new) ≡ true
-  pub number : option_map_or number_in (option_map (λ (block : Block). block.object) new) 0 ≡ n
+  pub number : option_map_or library_number (option_map (λ (block : Block). block.object) new) 0 ≡ n
   pub count : option_map_or count_in (option_map (λ (block : Block). block.object) new) 0 ≡ c
   pub size : option_map (λ (b : Block). b.size) new ≡ option_map (λ (b : Block). b.size) found
 
@@ -178,12 +178,12 @@ counted_there : (base count : ℕ) (delayed : Bool) (old : Heap) → is_library_
     → IsCounted (number_of base old) count (block_at base old) (block_at base (with_library base count delayed old))
 unfolding is_library_at number_of with_library
 counted_there base count delayed old is =
-    let object = Library (option_map_or number_in (object_at base old) 0) count delayed in
+    let object = Library (option_map_or library_number (object_at base old) 0) count delayed in
     let there =
     block_remade (λ k block. if nat_eq k base then record block { object = object } else block) base old
     ∙ ap (λ test. option_map (λ (block : Block). if test then record block { object = object } else block) (block_at base old)) (nat_eq-same base) in
-    subst (λ new. IsCounted (option_map_or number_in (object_at base old) 0) count (block_at base old) new) (sym there)
-    (counted_found (option_map_or number_in (object_at base old) 0) count delayed (block_at base old) is)
+    subst (λ new. IsCounted (option_map_or library_number (object_at base old) 0) count (block_at base old) new) (sym there)
+    (counted_found (option_map_or library_number (object_at base old) 0) count delayed (block_at base old) is)
 
 -- a library that is open stays loaded and open
 record StaysOpen (base : ℕ) (old new : Heap) : Type 0 where

@@ -11,7 +11,7 @@ use Rattle.execmodel.specs.Calls.{argument, name_argument, done, answered, unles
 use Rattle.execmodel.specs.Places.{freed, place_for, placed}
 use Rattle.execlib.specs.Libraries.{public_memory, most_openings, only_if}
 use Rattle.execmodel.specs.GivingWay.{after_asking}
-unfoldable pub use Rattle.execmodel.specs.Loaded.{is_library, is_library_at, number_in, count_in, delayed_in, number_of, count_of, is_delayed, with_library, is_numbered, base_of, removed}
+unfoldable pub use Rattle.execmodel.specs.Loaded.{is_library, is_library_at, library_number, count_in, delayed_in, number_of, count_of, is_delayed, with_library, is_numbered, base_of, removed}
 
 -- ---- refusals
 
