@@ -1,5 +1,5 @@
 //! A machine that gets its events one by one: it writes what the whole run does, and nothing more after an alert or a failed write.
-ghost use Rattle.std.specs.Prelude.{◌≡◌, false, true, OnErr};
+ghost use Rattle.std.specs.Prelude.{◌≡◌, false, true, IfOk, IsOk, OnErr};
 ghost use Rattle.exectrace.specs.declared.sinks.SinkState.{SinkState};
 ghost use Rattle.execmodel.specs.State.{State};
 ghost use Rattle.execsim.specs.Agreement.{Agrees};
@@ -10,6 +10,7 @@ use execlist::plain::PlainSpace;
 use execlist::space::ListSpace;
 use execsim::{End, Flow, Machine, simulate};
 use exectrace::{Sink, WriteFault, WriteSink};
+use std::alloc::Global;
 use std::process::Abort;
 use std::test::*;
 use taskscript::{Event, read_machine};
@@ -22,6 +23,35 @@ const EVENTS: &[u8] = b"run 2\ntick 1\nrun 8\n";
 const TRACE: &str =
     "switch a\na Print $00000001\na Wait $00001000 waits\nidle\nserve VERTB\nserver s\ns Signal $00000001 $00001000\nswitch a\na Wait $00001000 -> $00001000\nalert HANDLE a Signal\n";
 
+/// Starts a machine, and lets it take two steps.
+fn begin<S: ListSpace, W: Sink>(machine: &mut Machine<S>, out: &mut W) -> Result<Flow, WriteFault>
+    requires agrees { (s : State) × Agrees machine.old.seen s }
+    requires whole { machine.old.failed ≡ false }
+    requires good { (W.tape out.old).state ≡ SinkState.Good }
+    requires time { HasTimeFor 1000000 machine.old.seen }
+    ensures agrees { IsOk result → (s : State) × Agrees machine.new.seen s }
+    ensures whole { IsOk result → machine.new.failed ≡ false }
+    ensures good { IsOk result → (W.tape out.new).state ≡ SinkState.Good }
+    ensures time { IsOk result → HasTimeFor 1000000 machine.new.seen }
+    ensures failed { OnErr result (machine.new.failed ≡ true) }
+{
+    machine.start(out)?;
+    machine.event(Event::Run(2), out)
+}
+
+/// Gives a machine a tick, steps that end at an alert, and one step more.
+fn go_on<S: ListSpace, W: Sink>(machine: &mut Machine<S>, out: &mut W) -> Result<Flow, WriteFault>
+    requires agrees { (s : State) × Agrees machine.old.seen s }
+    requires whole { machine.old.failed ≡ false }
+    requires good { (W.tape out.old).state ≡ SinkState.Good }
+    requires time { HasTimeFor 1000000 machine.old.seen }
+    ensures { OnErr result (machine.new.failed ≡ true) }
+{
+    machine.event(Event::Tick(1), out)?;
+    machine.event(Event::Run(8), out)?;
+    machine.event(Event::Run(1), out)
+}
+
 /// Starts a machine and gives it the events of `EVENTS`, and one more.
 fn one_by_one<S: ListSpace, W: Sink>(
     machine: &mut Machine<S>,
@@ -33,11 +63,8 @@ fn one_by_one<S: ListSpace, W: Sink>(
     requires time { HasTimeFor 1000000 machine.old.seen }
     ensures { OnErr result (machine.new.failed ≡ true) }
 {
-    machine.start(out)?;
-    machine.event(Event::Run(2), out)?;
-    machine.event(Event::Tick(1), out)?;
-    machine.event(Event::Run(8), out)?;
-    machine.event(Event::Run(1), out)
+    begin(machine, out)?;
+    go_on(machine, out)
 }
 
 #[test]
@@ -77,16 +104,34 @@ fn goes_on_in_vain<S: ListSpace, W: Sink>(rt: &impl Abort, machine: &mut Machine
     }
 }
 
-#[test]
-fn nothing_follows_a_failed_write(rt: HostRuntime) -> Result<(), Fail> {
-    let alloc = rt.alloc();
-    let file = read_machine(alloc, MACHINE)?;
-    let mut machine: Machine<LinkSpace> = Machine::boot(alloc, &file)?;
-    let mut room = [0; 10];
-    let mut out = WriteSink::new(&mut room[..]);
-    goes_on_in_vain(&rt, &mut machine, &mut out);
+/// The same before a sink over so many bytes as `room` has, which has to fill it.
+fn fills(rt: &impl Abort, machine: &mut Machine<LinkSpace>, room: &mut [u8])
+    requires agrees { (s : State) × Agrees machine.old.seen s }
+    requires whole { machine.old.failed ≡ false }
+    requires time { HasTimeFor 1000000 machine.old.seen }
+{
+    let mut out = WriteSink::new(room);
+    goes_on_in_vain(rt, machine, &mut out);
     let left = out.into_inner().len();
     assert_eq!(rt; left, 0);
+}
+
+/// A machine before its start.
+fn booted<S: ListSpace>(alloc: Global) -> Result<Machine<S>, Fail>
+    ensures agrees { IfOk result (λ m. (s : State) × Agrees m.seen s) }
+    ensures whole { IfOk result (λ m. m.failed ≡ false) }
+    ensures time { IfOk result (λ m. HasTimeFor 1000000 m.seen) }
+{
+    let file = read_machine(alloc, MACHINE)?;
+    let machine = Machine::boot(alloc, &file)?;
+    Ok(machine)
+}
+
+#[test]
+fn nothing_follows_a_failed_write(rt: HostRuntime) -> Result<(), Fail> {
+    let mut machine: Machine<LinkSpace> = booted(rt.alloc())?;
+    let mut room = [0; 10];
+    fills(&rt, &mut machine, &mut room);
     assert!(rt; room == *b"switch a\na");
     Ok(())
 }
