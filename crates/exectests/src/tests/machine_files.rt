@@ -389,7 +389,13 @@ fn faults_are_numbered_from_1(rt: HostRuntime) {
 #[test]
 fn a_fault_has_a_name(rt: HostRuntime) {
     let name = FileFault::NotInInterrupt.name();
-    same(&rt, "a fault has a name", "its name", name, "NotInInterrupt");
+    same(
+        &rt,
+        "a fault has a name",
+        "its name",
+        name,
+        "NotInInterrupt",
+    );
 }
 
 #[test]
