@@ -1,4 +1,4 @@
-//! A list space in vectors and one of linked cells: known sequences, and mixed calls of which each is compared with plain vectors.
+//! A list space in vectors and one of linked cells: known sequences, and mixed calls to which each has to answer what the other does.
 //! `Driver` tests at run time what a call of the space asks, so that any call may be tried.
 ghost use Rattle.std.specs.Prelude.{◌≡◌, ◌≤◌, length};
 
@@ -161,203 +161,13 @@ impl<S: ListSpace> Driver<S> {
     }
 }
 
-/// What a space holds, in plain vectors: each call makes a list anew.
-#[derive(Drop)]
-struct Vectors {
-    alloc: Global,
-    lists: Vec<Vec<NodeId>>,
-    keys: Vec<(i8, Option<&'static str>)>,
-}
-
-impl Vectors {
-    /// So many empty lists, and as many keys as there are nodes.
-    fn new(alloc: Global, headers: usize, nodes: usize) -> Result<Self, AllocError> {
-        let mut lists = Vec::new(alloc);
-        for _ in 0..headers {
-            lists.push(Vec::new(alloc))?;
-        }
-        let keys = Vec::from_elem(alloc, (0, None), nodes)?;
-        Ok(Vectors { alloc, lists, keys })
-    }
-
-    /// The list that has the node.
-    fn home(&self, n: NodeId) -> Option<HeaderId> {
-        self.lists.iter().position(|list| list.contains(&n))
-    }
-
-    /// The priority of a node, 0 where there is no such node.
-    fn pri(&self, n: NodeId) -> i8 {
-        match self.keys.get(n) {
-            Some(key) => key.0,
-            None => 0,
-        }
-    }
-
-    /// Whether the node has the name.
-    fn is_named(&self, n: NodeId, name: &str) -> bool {
-        match self.keys.get(n) {
-            Some((_, Some(own))) => *own == name,
-            _ => false,
-        }
-    }
-
-    /// Puts a list in place of another.
-    fn set_list(&mut self, h: HeaderId, list: Vec<NodeId>) {
-        if h < self.lists.len() {
-            self.lists[h] = list;
-        }
-    }
-
-    /// Makes the list with the node put before that of a place, or last where the place is behind the end.
-    fn put(&mut self, h: HeaderId, n: NodeId, at: usize) -> Result<(), AllocError> {
-        let mut list = Vec::new(self.alloc);
-        if h < self.lists.len() {
-            for (i, m) in self.lists[h].iter().enumerate() {
-                if i == at {
-                    list.push(n)?;
-                }
-                list.push(*m)?;
-            }
-            if self.lists[h].len() <= at {
-                list.push(n)?;
-            }
-        }
-        self.set_list(h, list);
-        Ok(())
-    }
-
-    /// Makes the list without the node.
-    fn leave_out(&mut self, h: HeaderId, n: NodeId) -> Result<(), AllocError> {
-        let mut list = Vec::new(self.alloc);
-        if h < self.lists.len() {
-            for m in &self.lists[h] {
-                if *m != n {
-                    list.push(*m)?;
-                }
-            }
-        }
-        self.set_list(h, list);
-        Ok(())
-    }
-
-    /// The place where an unlinked node goes, none where the call is refused.
-    fn place_for(&self, h: HeaderId, n: NodeId, place: Place) -> Option<usize> {
-        if n >= self.keys.len() || self.home(n).is_some() {
-            return None;
-        }
-        let list = self.lists.get(h)?;
-        match place {
-            Head | Place::First => Some(0),
-            Tail => Some(list.len()),
-            After(pred) => list.iter().position(|m| *m == pred)?.checked_add(1),
-            ByPriority => {
-                let lower = list.iter().position(|m| self.pri(*m) < self.pri(n));
-                Some(lower.unwrap_or(list.len()))
-            }
-        }
-    }
-
-    /// Takes a node out, if there is one.
-    fn take(&mut self, h: HeaderId, end: Option<NodeId>) -> Result<Answer, AllocError> {
-        if let Some(n) = end {
-            self.leave_out(h, n)?;
-        }
-        Ok(Node(end))
-    }
-
-    /// Makes a call that changes the lists.
-    fn change(&mut self, call: Change) -> Result<Answer, AllocError> {
-        match call {
-            SetKey(n, pri, name) => {
-                if n >= self.keys.len() || self.home(n).is_some() {
-                    return Ok(Refused);
-                }
-                self.keys[n] = (pri, name);
-                Ok(Done)
-            }
-            Put(h, n, place) => match self.place_for(h, n, place) {
-                None => Ok(Refused),
-                Some(at) => {
-                    self.put(h, n, at)?;
-                    Ok(Done)
-                }
-            },
-            Remove(n) => match self.home(n) {
-                None => Ok(Refused),
-                Some(h) => {
-                    self.leave_out(h, n)?;
-                    Ok(Done)
-                }
-            },
-            RemHead(h) => match self.look(Look::First(h)) {
-                Node(end) => self.take(h, end),
-                other => Ok(other),
-            },
-            RemTail(h) => match self.look(Last(h)) {
-                Node(end) => self.take(h, end),
-                other => Ok(other),
-            },
-        }
-    }
-
-    /// The first of some nodes that has the name.
-    fn named(&self, nodes: &[NodeId], name: &str) -> Option<NodeId> {
-        for n in nodes {
-            if self.is_named(*n, name) {
-                return Some(*n);
-            }
-        }
-        None
-    }
-
-    /// Makes a call that reads the lists beside a linked node.
-    fn look_beside(&self, n: NodeId, call: Look) -> Option<Answer> {
-        let list = self.lists.get(self.home(n)?)?;
-        let at = list.iter().position(|m| *m == n)?;
-        let rest = list.get(at + 1..)?;
-        match call {
-            Succ(_) => Some(Node(rest.first().copied())),
-            Pred(_) => Some(Node(list.get(..at)?.last().copied())),
-            FindNameAfter(_, name) => Some(Node(self.named(rest, name))),
-            _ => None,
-        }
-    }
-
-    /// Makes a call that reads a list.
-    fn look_into(&self, h: HeaderId, call: Look) -> Option<Answer> {
-        let list = self.lists.get(h)?;
-        match call {
-            Look::First(_) => Some(Node(list.first().copied())),
-            Last(_) => Some(Node(list.last().copied())),
-            FindName(_, name) => Some(Node(self.named(list, name))),
-            _ => None,
-        }
-    }
-
-    /// Makes a call that reads the lists.
-    fn look(&self, call: Look) -> Answer {
-        match call {
-            Home(n) if n < self.keys.len() => Header(self.home(n)),
-            Pri(n) if n < self.keys.len() => Priority(self.pri(n)),
-            HasName(n, name) if n < self.keys.len() => Is(self.is_named(n, name)),
-            Succ(n) | Pred(n) | FindNameAfter(n, _) => {
-                self.look_beside(n, call).unwrap_or(Refused)
-            }
-            Look::First(h) | Last(h) | FindName(h, _) => {
-                self.look_into(h, call).unwrap_or(Refused)
-            }
-            _ => Refused,
-        }
-    }
-}
-
 /// A call after the step of that number, counted from 0, has the answer that is wanted, at a node or a header of that number.
 fn same(rt: &impl Abort, number: usize, place: usize, answer: Answer, wanted: Answer) {
     assert_eq!(rt; answer, wanted, "in step {number}, at {place}");
 }
 
-/// Compares the whole of a space of two headers and eight nodes with the vectors, also at a header and a node that are not there.
-fn compare<S: ListSpace>(rt: &impl Abort, number: usize, d: &Driver<S>, v: &Vectors) {
+/// Compares the whole of two spaces of two headers and eight nodes, also at a header and a node that are not there.
+fn compare(rt: &impl Abort, number: usize, linked: &Driver<LinkSpace>, plain: &Driver<PlainSpace>) {
     for n in 0..9 {
         for call in [
             Home(n),
@@ -371,7 +181,7 @@ fn compare<S: ListSpace>(rt: &impl Abort, number: usize, d: &Driver<S>, v: &Vect
             FindNameAfter(n, "y"),
             FindNameAfter(n, "z"),
         ] {
-            same(rt, number, n, d.look(call), v.look(call));
+            same(rt, number, n, linked.look(call), plain.look(call));
         }
     }
     for h in 0..3 {
@@ -382,7 +192,7 @@ fn compare<S: ListSpace>(rt: &impl Abort, number: usize, d: &Driver<S>, v: &Vect
             FindName(h, "y"),
             FindName(h, "z"),
         ] {
-            same(rt, number, h, d.look(call), v.look(call));
+            same(rt, number, h, linked.look(call), plain.look(call));
         }
     }
 }
@@ -408,26 +218,19 @@ fn call_of(x: u32) -> Change {
     }
 }
 
-/// Makes a thousand calls on a space and on vectors, and compares them after each.
-fn run_mixed_calls<S: ListSpace>(rt: &impl Abort, alloc: Global) -> Result<(), Fail> {
-    let mut d: Driver<S> = Driver::new(alloc, 2, 8)?;
-    let mut v = Vectors::new(alloc, 2, 8)?;
+/// A thousand calls of both spaces, which are compared after each.
+#[test]
+fn mixed_calls_agree(rt: HostRuntime) -> Result<(), Fail> {
+    let mut linked: Driver<LinkSpace> = Driver::new(rt.alloc(), 2, 8)?;
+    let mut plain: Driver<PlainSpace> = Driver::new(rt.alloc(), 2, 8)?;
     let mut x: u32 = 1;
     for number in 0..1000 {
         x = x.wrapping_mul(1664525).wrapping_add(1013904223);
         let call = call_of(x / 512);
-        let answer = d.change(call);
-        let wanted = v.change(call)?;
-        same(rt, number, 0, answer, wanted);
-        compare(rt, number, &d, &v);
+        same(&rt, number, 0, linked.change(call), plain.change(call));
+        compare(&rt, number, &linked, &plain);
     }
     Ok(())
-}
-
-#[test]
-fn mixed_calls_agree_with_vectors(rt: HostRuntime) -> Result<(), Fail> {
-    run_mixed_calls::<PlainSpace>(&rt, rt.alloc())?;
-    run_mixed_calls::<LinkSpace>(&rt, rt.alloc())
 }
 
 /// The nodes 0 to 5: each has a priority and a name.

@@ -611,6 +611,12 @@ static BODIES: [Bodies; 6] = [
     },
 ];
 
+/// Writes a line of a task's code, in which no single quote stands.
+fn write_line(alloc: Global, file: &mut Vec<u8>, line: &str) -> Result<(), AllocError> {
+    let quoted = format!(in alloc; "'{line}',")?;
+    file.extend_from_slice(quoted.as_bytes())
+}
+
 /// Writes a task of these lines, with this number in its name.
 fn write_task(
     alloc: Global,
@@ -621,13 +627,9 @@ fn write_task(
     let head = format!(in alloc; "[[task]]\nname = \"t{number}\"\ncode = [")?;
     file.extend_from_slice(head.as_bytes())?;
     for line in lines {
-        // No line has a single quote.
-        file.extend_from_slice(b"'")?;
-        file.extend_from_slice(line.as_bytes())?;
-        file.extend_from_slice(b"',")?;
+        write_line(alloc, file, line)?;
     }
-    file.extend_from_slice(b"]\n")?;
-    Ok(())
+    file.extend_from_slice(b"]\n")
 }
 
 /// The file of these bodies, and of the software interrupt that lines name.

@@ -202,13 +202,14 @@ fn take_all<S: ListSpace>(rt: &impl Abort, heap: &mut Heap<S>, case: &Case) {
     }
 }
 
-/// The memory of so many bytes and of these libraries, which are asked to give way or are not.
-fn heap_of<S: ListSpace>(
+/// Takes the steps of a case over a memory of so many bytes and of these libraries.
+fn expect(
+    rt: &impl Abort,
     alloc: Global,
     size: u32,
     libraries: &[LibInit],
-    asks: bool,
-) -> Result<Heap<S>, AllocError>
+    case: &Case,
+) -> Result<(), AllocError>
     requires { length libraries.now ≤ 32 }
 {
     let region = Region {
@@ -217,14 +218,23 @@ fn heap_of<S: ListSpace>(
         attrs: 1,
         pri: 0,
     };
-    Heap::new(alloc, &[region], 2, 8, libraries, asks, 20_000)
+    let mut heap: Heap<PlainSpace> = Heap::new(
+        alloc,
+        &[region],
+        2,
+        8,
+        libraries,
+        case.asks,
+        20_000,
+    )?;
+    take_all(rt, &mut heap, case);
+    Ok(())
 }
 
 #[test]
 fn requests_wait_and_are_finished(rt: HostRuntime) -> Result<(), Fail> {
     for case in &REQUESTS {
-        let mut heap: Heap<PlainSpace> = heap_of(rt.alloc(), 256, &[], case.asks)?;
-        take_all(&rt, &mut heap, case);
+        expect(&rt, rt.alloc(), 256, &[], case)?;
     }
     Ok(())
 }
@@ -237,8 +247,7 @@ fn a_library_gives_way_where_it_is_asked_and_is_not_open(rt: HostRuntime) -> Res
             version: 1,
             size: 40,
         };
-        let mut heap: Heap<PlainSpace> = heap_of(rt.alloc(), 40, &[library], case.asks)?;
-        take_all(&rt, &mut heap, case);
+        expect(&rt, rt.alloc(), 40, &[library], case)?;
     }
     Ok(())
 }

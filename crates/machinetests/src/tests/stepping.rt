@@ -1,5 +1,5 @@
 //! A machine that gets its events one by one: it writes what the whole run does, and nothing more after an alert or a failed write.
-ghost use Rattle.std.specs.Prelude.{◌≡◌, false, true, IfOk, IsOk, OnErr};
+ghost use Rattle.std.specs.Prelude.{◌≡◌, false, true, IsOk, OnErr};
 ghost use Rattle.exectrace.specs.declared.sinks.SinkState.{SinkState};
 ghost use Rattle.execmodel.specs.State.{State};
 ghost use Rattle.execsim.specs.Agreement.{Agrees};
@@ -39,7 +39,23 @@ fn begin<S: ListSpace, W: Sink>(machine: &mut Machine<S>, out: &mut W) -> Result
     machine.event(Event::Run(2), out)
 }
 
-/// Gives a machine a tick, steps that end at an alert, and one step more.
+/// Gives a machine a tick, and steps that end at an alert.
+fn alert<S: ListSpace, W: Sink>(machine: &mut Machine<S>, out: &mut W) -> Result<Flow, WriteFault>
+    requires agrees { (s : State) × Agrees machine.old.seen s }
+    requires whole { machine.old.failed ≡ false }
+    requires good { (W.tape out.old).state ≡ SinkState.Good }
+    requires time { HasTimeFor 1000000 machine.old.seen }
+    ensures agrees { IsOk result → (s : State) × Agrees machine.new.seen s }
+    ensures whole { IsOk result → machine.new.failed ≡ false }
+    ensures good { IsOk result → (W.tape out.new).state ≡ SinkState.Good }
+    ensures time { IsOk result → HasTimeFor 999999 machine.new.seen }
+    ensures failed { OnErr result (machine.new.failed ≡ true) }
+{
+    machine.event(Event::Tick(1), out)?;
+    machine.event(Event::Run(8), out)
+}
+
+/// Gives a machine the same, and one step more.
 fn go_on<S: ListSpace, W: Sink>(machine: &mut Machine<S>, out: &mut W) -> Result<Flow, WriteFault>
     requires agrees { (s : State) × Agrees machine.old.seen s }
     requires whole { machine.old.failed ≡ false }
@@ -47,8 +63,7 @@ fn go_on<S: ListSpace, W: Sink>(machine: &mut Machine<S>, out: &mut W) -> Result
     requires time { HasTimeFor 1000000 machine.old.seen }
     ensures { OnErr result (machine.new.failed ≡ true) }
 {
-    machine.event(Event::Tick(1), out)?;
-    machine.event(Event::Run(8), out)?;
+    alert(machine, out)?;
     machine.event(Event::Run(1), out)
 }
 
@@ -67,13 +82,43 @@ fn one_by_one<S: ListSpace, W: Sink>(
     go_on(machine, out)
 }
 
+/// Starts a machine, gives it the events of `EVENTS` and more, and answers what came of them. Where a write failed, one more event answers so
+/// too.
+fn stepped<S: ListSpace, W: Sink>(
+    rt: &impl Abort,
+    machine: &mut Machine<S>,
+    out: &mut W,
+) -> Result<Flow, WriteFault>
+    requires agrees { (s : State) × Agrees machine.old.seen s }
+    requires whole { machine.old.failed ≡ false }
+    requires good { (W.tape out.old).state ≡ SinkState.Good }
+    requires time { HasTimeFor 1000000 machine.old.seen }
+{
+    let flow = one_by_one(machine, out);
+    if let Err(WriteFault) = flow {
+        let answer = machine.event(Event::Run(1), out);
+        assert_eq!(rt; answer, Err(WriteFault));
+    }
+    flow
+}
+
+/// The same with a machine before its start.
+fn run<S: ListSpace, W: Sink>(
+    rt: &impl Abort,
+    alloc: Global,
+    out: &mut W,
+) -> Result<Result<Flow, WriteFault>, Fail>
+    requires { (W.tape out.old).state ≡ SinkState.Good }
+{
+    let file = read_machine(alloc, MACHINE)?;
+    let mut machine: Machine<S> = Machine::boot(alloc, &file)?;
+    Ok(stepped(rt, &mut machine, out))
+}
+
 #[test]
 fn events_one_by_one_write_the_whole_run(rt: HostRuntime) -> Result<(), Fail> {
-    let alloc = rt.alloc();
-    let file = read_machine(alloc, MACHINE)?;
-    let mut machine: Machine<PlainSpace> = Machine::boot(alloc, &file)?;
-    let mut out = WriteSink::new(Vec::new(alloc));
-    let flow = one_by_one(&mut machine, &mut out);
+    let mut out = WriteSink::new(Vec::new(rt.alloc()));
+    let flow = run::<PlainSpace, _>(&rt, rt.alloc(), &mut out)?;
     assert_eq!(rt; flow, Ok(Flow::Alerted));
     assert!(rt; out.into_inner().as_slice() == TRACE.as_bytes());
     Ok(())
@@ -88,50 +133,14 @@ fn the_whole_run_writes_the_same(rt: HostRuntime) {
     assert!(rt; out.into_inner().as_slice() == TRACE.as_bytes());
 }
 
-/// Starts a machine before a sink that fails, and gives it one more event.
-fn goes_on_in_vain<S: ListSpace, W: Sink>(rt: &impl Abort, machine: &mut Machine<S>, out: &mut W)
-    requires agrees { (s : State) × Agrees machine.old.seen s }
-    requires whole { machine.old.failed ≡ false }
-    requires good { (W.tape out.old).state ≡ SinkState.Good }
-    requires time { HasTimeFor 1000000 machine.old.seen }
-{
-    match one_by_one(machine, out) {
-        Ok(_) => panic!(rt; "no write failed"),
-        Err(WriteFault) => {
-            let answer = machine.event(Event::Run(1), out);
-            assert_eq!(rt; answer, Err(WriteFault));
-        }
-    }
-}
-
-/// The same before a sink over so many bytes as `room` has, which has to fill it.
-fn fills(rt: &impl Abort, machine: &mut Machine<LinkSpace>, room: &mut [u8])
-    requires agrees { (s : State) × Agrees machine.old.seen s }
-    requires whole { machine.old.failed ≡ false }
-    requires time { HasTimeFor 1000000 machine.old.seen }
-{
-    let mut out = WriteSink::new(room);
-    goes_on_in_vain(rt, machine, &mut out);
-    let left = out.into_inner().len();
-    assert_eq!(rt; left, 0);
-}
-
-/// A machine before its start.
-fn booted<S: ListSpace>(alloc: Global) -> Result<Machine<S>, Fail>
-    ensures agrees { IfOk result (λ m. (s : State) × Agrees m.seen s) }
-    ensures whole { IfOk result (λ m. m.failed ≡ false) }
-    ensures time { IfOk result (λ m. HasTimeFor 1000000 m.seen) }
-{
-    let file = read_machine(alloc, MACHINE)?;
-    let machine = Machine::boot(alloc, &file)?;
-    Ok(machine)
-}
-
+/// A sink over ten bytes takes the first ten of the trace, and no room is left.
 #[test]
 fn nothing_follows_a_failed_write(rt: HostRuntime) -> Result<(), Fail> {
-    let mut machine: Machine<LinkSpace> = booted(rt.alloc())?;
     let mut room = [0; 10];
-    fills(&rt, &mut machine, &mut room);
+    let mut out = WriteSink::new(&mut room[..]);
+    let flow = run::<LinkSpace, _>(&rt, rt.alloc(), &mut out)?;
+    assert_eq!(rt; flow, Err(WriteFault));
+    assert_eq!(rt; out.into_inner().len(), 0);
     assert!(rt; room == *b"switch a\na");
     Ok(())
 }
