@@ -1,4 +1,4 @@
-/* Stands in front of the C library's allocation, by LD_PRELOAD: counts the growths of a program, which are the calls that ask for memory,
+/* Is in front of the C library's allocation, by LD_PRELOAD: counts the allocations of a program, which are the calls that ask for memory,
    and refuses the one of the number in GROWTH_REFUSED, from 1, and the one after it, by which a vector asks again where it cannot be made longer in its
    place. At its end the program writes how many there were to the file GROWTH_COUNT. */
 #include <errno.h>

@@ -1,4 +1,4 @@
-/* Stands in front of the C library's `write`, by LD_PRELOAD: counts the calls that a program makes to standard output, and takes of each what
+/* Is in front of the C library's `write`, by LD_PRELOAD: counts the calls that a program makes to standard output, and takes of each what
    the habit in WRITING_HABIT says. At its end the program writes to the file WRITING_COUNT how many calls there were, and how many of them took
    nothing.
 
@@ -37,7 +37,7 @@ __attribute__((destructor)) static void end(void) {
 
 static int is(const char *word) { return strcmp(habit, word) == 0; }
 
-/* How many of so many bytes are taken of the call that was counted last, or -1 where it fails. */
+/* How many of that many bytes are taken of the call that was counted last, or -1 if it fails. */
 static ssize_t taken_of(size_t count) {
     size_t left = most - taken;
     if (is("all")) return count;

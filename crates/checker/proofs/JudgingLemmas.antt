@@ -6,12 +6,12 @@ use Rattle.execrun.specs.Texts.{IsTextAt, Opens, TextAt}
 use Rattle.checker.specs.Judging.{IsRefusedMachine, IsRefusedScript, JudgesEvents, JudgesTexts}
 use Rattle.checker.specs.declared.command_line.Paths.{Paths}
 
--- what is told of a text is what a reader has before it
+-- what is reported of a text is what a reader has before it
 pub read_whole : (told remaining : Option (List ℕ)) (bytes : List ℕ) → Opens told remaining → IfSome remaining (λ all. bytes ≡ all) → IfSome told (λ all. bytes ≡ all)
 read_whole None remaining bytes opens read = tt
 read_whole (Some all) remaining bytes opens read = rw opens at read
 
--- an event text and its run, where a run refuses nothing
+-- an event text and its run, if a run refuses nothing
 pub judges_events : (text_at : TextAt) (path : List ℕ) (status of_text of_run : ℕ) (events : List ℕ) → IsTextAt text_at path events
     → ((of_text ≡ 1) ↔ IsRefusedScript events) → of_run ≢ 1 → ((status ≡ 1) ↔ ((of_text ≡ 1) ⊎ (of_run ≡ 1))) → JudgesEvents text_at path status
 judges_events text_at path status of_text of_run events are refused accepted either = record {
@@ -23,7 +23,7 @@ judges_events text_at path status of_text of_run events are refused accepted eit
   );
 }
 
--- both texts, where the status is 1 just where that of one of them is
+-- both texts, if the status is 1 exactly if that of one of them is
 pub judges_both : (text_at : TextAt) (paths : Paths) (path : Bor (List ℕ)) (status of_machine of_events : ℕ) (machine : List ℕ)
     → IsTextAt text_at paths.machine.now machine → paths.events ≡ Some path → ((of_machine ≡ 1) ↔ IsRefusedMachine machine)
     → JudgesEvents text_at path.now of_events → ((status ≡ 1) ↔ ((of_machine ≡ 1) ⊎ (of_events ≡ 1))) → JudgesTexts text_at paths status

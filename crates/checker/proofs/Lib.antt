@@ -1,2 +1,3 @@
+-- The lemma files of `checker`.
 mod CommandLemmas
 mod JudgingLemmas

@@ -19,11 +19,11 @@ required_rule name = record (new_rule name) { required = true; action = Some Set
 abbrev pub nameless_app : App
 nameless_app = record (new_app (codes "execcheck")) { top = record (new_app (codes "execcheck")).top { no_binary_name = true } }
 
--- a machine file and, where it is given, an event text, with no name of the program before them
+-- a machine file and, if it is given, an event text, with no name of the program before them
 abbrev pub one_path_or_two : App
 one_path_or_two = with_rule (with_rule nameless_app (required_rule (codes "MACHINE"))) (optional_rule (codes "EVENTS"))
 
--- a command that takes a machine file, and may take an event text: where a parse of it succeeds, it has the first
+-- a command that takes a machine file, and may take an event text: if a parse of it succeeds, it has the first
 pub record TakesPaths (c : Command) : Type 0 where
   pub app : app_of c ≡ one_path_or_two
   pub machine : (m : ArgMatches) → IsParsedFrom c m → is_some (first_value (found_of m) (codes "MACHINE")) ≡ true

@@ -16,14 +16,14 @@ IsRefusedMachine bytes = IsSome (fault_of (file_of bytes))
 abbrev pub IsRefusedScript : List ℕ → Type 0
 IsRefusedScript bytes = IsSome (fault_of (script_of bytes))
 
--- The event text at a path was read, as far as it is told what stands there, and the status is 1 just where it is refused.
+-- The event text at a path was read, as far as it is reported what is there, and the status is 1 exactly if it is refused.
 pub record JudgesEvents (text_at : TextAt) (path : List ℕ) (status : ℕ) : Type 0 where
   pub events : List ℕ
   pub events_are : IsTextAt text_at path events
   pub refused : (status ≡ 1) ↔ IsRefusedScript events
 
--- The machine file was read, and the event text where there is a path for it: they are those at the paths, as far as it is told what
--- stands there. The status is 1 just where one of the two is refused.
+-- The machine file was read, and the event text if there is a path for it: they are those at the paths, as far as it is reported what
+-- is there. The status is 1 exactly if one of the two is refused.
 pub record JudgesTexts (text_at : TextAt) (paths : Paths) (status : ℕ) : Type 0 where
   pub machine : List ℕ
   pub events : Option (List ℕ)

@@ -13,13 +13,13 @@ use std::alloc::Global;
 use std::io;
 use std::io::Write;
 
-/// The status where nothing was found.
+/// The status if nothing was found.
 const CLEAN: u8 = 0;
 
-/// The status where a text is refused.
+/// The status if a text is refused.
 const REFUSED: u8 = 1;
 
-/// The status where there are warnings alone.
+/// The status if there are warnings alone.
 const WARNED: u8 = 3;
 
 /// The bytes of the text at a path.
@@ -77,7 +77,7 @@ fn write_whole<W: Write>(text: &str, out: &mut W) -> io::Result<()> {
     out.flush()
 }
 
-/// Writes what was found, so that it stands before what comes later, on standard error too.
+/// Writes what was found, so that it is before what comes later, on standard error too.
 fn write_text<'a, W: Write>(text: &str, out: &mut W) -> Result<(), Failure<'a>> {
     match write_whole(text, out) {
         Ok(()) => Ok(()),
@@ -157,14 +157,12 @@ fn check_events_at<'a, T: Texts, W: Write>(
     Ok(worse(of_text, of_run))
 }
 
-/// Reads the machine file, checks it, and writes what was found in it; and then does the same of the event text, where there is a path
-/// for it, and of the run. So what is wrong with the machine file is told also where the event text cannot be read.
+/// Reads the machine file, checks it, and writes what was found in it; and then does the same of the event text, if there is a path
+/// for it, and of the run. So what is wrong with the machine file is reported also if the event text cannot be read.
 ///
 /// # Errors
 ///
-/// Where memory is refused, a text cannot be read, or what was found cannot be written.
-///
-/// Source: own choice.
+/// If memory is refused, a text cannot be read, or what was found cannot be written.
 pub fn check_texts<'a, T: Texts, W: Write>(
     texts: &T,
     alloc: Global,

@@ -58,9 +58,7 @@ fn command<'a>(alloc: Global) -> Result<Command<'a>, AllocError>
 ///
 /// # Errors
 ///
-/// What `clap` answers: the text of the help where it is asked for, a mistake in the words, or that memory was refused.
-///
-/// Source: own choice.
+/// What `clap` answers: the text of the help if it is asked for, a mistake in the words, or that memory was refused.
 pub fn paths_given<'a>(alloc: Global, words: &'a [&'a str]) -> Result<Paths<'a>, Error>
     ensures given { IfOk result (AreGivenBy (texts words.now)) }
     ensures refused { FailsBy (fault_of one_path_or_two (texts words.now)) result }

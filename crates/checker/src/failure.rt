@@ -5,7 +5,7 @@ use execsim::ReadFault;
 use std::alloc::AllocError;
 use std::io::Write;
 
-/// The status with which the program ends where there is no answer.
+/// The status with which the program ends if there is no answer.
 const FAILED: u8 = 4;
 
 /// Why there is no answer. Its text is what the program says of it.
@@ -27,8 +27,6 @@ impl From<AllocError> for Failure<'_> {
 
 impl<'a> Failure<'a> {
     /// What a fault of reading the file at this path is to the program.
-    ///
-    /// Source: own choice.
     pub fn at(path: &'a str, fault: ReadFault) -> Failure<'a>
         ensures memory { fault ≡ ReadFault.OutOfMemory → result ≡ Failure.NoMemory }
         ensures failed { fault ≡ ReadFault.Failed → result ≡ Failure.CannotRead path.entry }
@@ -41,9 +39,7 @@ impl<'a> Failure<'a> {
     }
 }
 
-/// Says on standard error why there is no answer, and answers the status that stands for that. A write that fails there changes nothing.
-///
-/// Source: own choice.
+/// Says on standard error why there is no answer, and answers the status that represents that. A write that fails there changes nothing.
 pub fn report<E: Write>(failure: &Failure<'_>, err: &mut E) -> u8
     ensures { result ≡ 4 }
 {

@@ -17,10 +17,10 @@ use std::io::Write;
 use std::rt::Files;
 use std::{env, io};
 
-/// The status where the help was printed.
+/// The status if the help was printed.
 const DONE: u8 = 0;
 
-/// The status where the command line is refused.
+/// The status if the command line is refused.
 const COMMAND_LINE_REFUSED: u8 = 2;
 
 /// Answers a command line that gives no paths: the help, or why it is refused.
@@ -45,13 +45,11 @@ fn answer_without_paths<W: Write, E: Write>(error: clap::Error, out: &mut W, err
     }
 }
 
-/// Does what the words of a command line ask for, over any texts, and answers the status: 0 where nothing was found or the help was
-/// printed, 1 where a text is refused, 2 where the command line is, 3 where there are warnings alone, and 4 where memory, reading or
+/// Does what the words of a command line ask for, over any texts, and answers the status: 0 if nothing was found or the help was
+/// printed, 1 if a text is refused, 2 if the command line is, 3 if there are warnings alone, and 4 if memory, reading or
 /// writing failed.
 ///
 /// What was found goes to `out`, and what went wrong to `err`, where a write that fails changes nothing.
-///
-/// Source: own choice.
 pub fn run_on_texts<T: Texts, W: Write, E: Write>(
     texts: &T,
     alloc: Global,
@@ -61,7 +59,7 @@ pub fn run_on_texts<T: Texts, W: Write, E: Write>(
 ) -> u8
     ensures status { result ≤ 4 }
     ensures right { AreRight (words_of words.now) → result ≢ 2 }
-    // A command line is also refused for want of memory, with 4.
+    // A command line is also refused when out of memory, with 4.
     ensures refused { AreRefused (words_of words.now) → (result ≡ 2) ⊎ (result ≡ 4) }
     ensures judged { AreRight (words_of words.now) → result ≢ 4 → JudgesGiven (T.text_at texts.now) (words_of words.now) result }
     ensures help { AskForHelp (words_of words.now) → (result ≡ 0) ⊎ (result ≡ 4) }
@@ -85,11 +83,9 @@ fn words_of<R: Env + AllocGlobal>(rt: &R) -> io::Result<Vec<String>> {
 /// Runs the program over the system's files on the process's arguments, and answers the status with which it ends.
 ///
 /// Arguments that are no text are refused as a command line is.
-///
-/// Source: own choice.
-pub fn run_on_arguments<R: Env + Files + AllocGlobal, W: Write, E: Write>(
+pub fn run_on_arguments<R: Env + Files + AllocGlobal, W: Write + Drop, E: Write>(
     rt: &R,
-    out: &mut W,
+    mut out: W,
     err: &mut E,
 ) -> u8
     ensures status { result ≤ 4 }
@@ -106,6 +102,6 @@ pub fn run_on_arguments<R: Env + Files + AllocGlobal, W: Write, E: Write>(
         .collect::<Vec<&str>>(alloc)
     {
         Err(_) => report(&Failure::NoMemory, err),
-        Ok(words) => run_on_texts(&SystemTexts(rt), alloc, &words, out, err),
+        Ok(words) => run_on_texts(&SystemTexts(rt), alloc, &words, &mut out, err),
     }
 }

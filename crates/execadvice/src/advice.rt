@@ -1,24 +1,11 @@
-//! Why a line says no command, in one sentence, with a proposal where one is near.
-ghost use Rattle.std.specs.Prelude.{◌≡◌, ◌-◌, ◌^◌, ◌<◌, ◌≤◌, IfOk};
-ghost use Rattle.toml.specs.View.{items_view};
-ghost use Rattle.taskscript.specs.File.{item_names};
-ghost use Rattle.taskscript.specs.Lines.{fields};
-ghost use Rattle.taskscript.specs.Parsing.{cut_target};
-ghost use Rattle.execadvice.specs.Limits.{texts};
-ghost use Rattle.execadvice.specs.LinesTold.{line_told, part_of};
-ghost use Rattle.execadvice.specs.Saying.{place_of_word, target_of};
-ghost use Rattle.execadvice.specs.Told.{span_of};
+//! Why a line says no command, in one sentence, with a proposal if one is near.
 
 use crate::near::{nearest, proposal};
 use crate::show::{Advice, field_span};
 use crate::spacing::spacing_advice;
-use crate::words::WORDS;
-use execcheck::{
-    Mistake, fields_of, is_identifier, is_name, is_variable, mistake_in, name_of, number_of,
-    quoted_in,
-};
+use execcheck::{Mistake, fields_of, is_variable, mistake_in, name_of, quoted_in};
 use std::alloc::{AllocError, Global};
-use taskscript::{Kind, Word, word_of};
+use taskscript::{Kind, Word, is_identifier, is_name, number_of, word_of, words};
 use toml::Value;
 
 /// Whether a part is a word, with a target and `=` that no spaces separate.
@@ -49,6 +36,15 @@ fn lower_case(alloc: Global, text: &str) -> Result<String, AllocError> {
     Ok(lower)
 }
 
+/// The texts of all words.
+fn word_texts(alloc: Global) -> Result<Vec<&'static str>, AllocError> {
+    let mut texts = Vec::new(alloc);
+    for word in &words(alloc)? {
+        texts.push(word.text())?;
+    }
+    Ok(texts)
+}
+
 /// Why a text is no word.
 fn word_reason(alloc: Global, fields: &[&str], at: usize) -> Result<String, AllocError> {
     let Some(text) = fields.get(at).copied() else {
@@ -73,7 +69,8 @@ fn word_reason(alloc: Global, fields: &[&str], at: usize) -> Result<String, Allo
     if text.ends_with(":") {
         return format!(in alloc; "a label stands on a line of its own");
     }
-    let near = nearest(alloc, text, &WORDS)?;
+    let texts = word_texts(alloc)?;
+    let near = nearest(alloc, text, &texts)?;
     let question = proposal(alloc, "", near, "")?;
     match near {
         Some(word) if text.eq_ignore_ascii_case(word) => {
@@ -93,7 +90,7 @@ fn target_reason(alloc: Global, field: &str) -> Result<String, AllocError> {
     )
 }
 
-/// A part without the zeros before it, or none where that is no number.
+/// A part without the zeros before it, or none if that is no number.
 fn without_zeros(field: &str) -> Option<&str> {
     let short = field.trim_start_matches('0');
     if short.len() < field.len() && number_of(short.as_bytes()).is_some() {
@@ -103,7 +100,7 @@ fn without_zeros(field: &str) -> Option<&str> {
     }
 }
 
-/// The digits behind `0x`, `0X` or `$`.
+/// The digits after `0x`, `0X` or `$`.
 fn base_sixteen(field: &str) -> Option<&str> {
     if let Some(digits) = field.strip_prefix("0x") {
         return Some(digits);
@@ -248,10 +245,8 @@ fn argument_reason(
     }
 }
 
-/// The number of the part that is the word: the first, or the third where a target and `=` stand before it.
-fn word_place(fields: &[&str]) -> usize
-    ensures { result ≡ place_of_word (cut_target (texts fields.now)).0 }
-{
+/// The number of the part that is the word: the first, or the third if a target and `=` are before it.
+fn word_place(fields: &[&str]) -> usize {
     match fields {
         [_, equals, ..] if *equals == "=" => 2,
         _ => 0,
@@ -259,15 +254,12 @@ fn word_place(fields: &[&str]) -> usize
 }
 
 /// The part in which a mistake is, by its number, as far as a number goes.
-fn part_of(fields: &[&str], mistake: Mistake) -> usize
-    ensures within { part_of (cut_target (texts fields.now)).0 mistake < 2 ^ 64 → result ≡ part_of (cut_target (texts fields.now)).0 mistake }
-    ensures past { 2 ^ 64 ≤ part_of (cut_target (texts fields.now)).0 mistake → result ≡ 2 ^ 64 - 1 }
-{
+fn part_of(fields: &[&str], mistake: Mistake) -> usize {
     let at = word_place(fields);
     match mistake {
         Mistake::NoWord | Mistake::UnknownWord => at,
         Mistake::NoAnswer | Mistake::Target => 0,
-        Mistake::Argument(number) => (at + 1).saturating_add(number),
+        Mistake::Argument(number) => at.saturating_add(1).saturating_add(number),
     }
 }
 
@@ -304,10 +296,7 @@ fn mistake_advice(
     line: &str,
     parts: &[&str],
     mistake: Mistake,
-) -> Result<Advice, AllocError>
-    requires { texts parts.now ≡ fields line.now }
-    ensures { IfOk result (λ advice. advice.span ≡ span_of line.now (part_of (target_of line.now) mistake)) }
-{
+) -> Result<Advice, AllocError> {
     let reason = mistake_reason(alloc, softints, parts, mistake)?;
     Ok(Advice {
         span: field_span(line, part_of(parts, mistake)),
@@ -322,13 +311,8 @@ fn mistake_advice(
 ///
 /// # Errors
 ///
-/// Where memory is refused.
-///
-/// Source: own choice.
-#[tactic(auto, unfolding(crate::specs::LinesTold::line_told))]
-pub fn line_advice(alloc: Global, softints: &[Value], line: &str) -> Result<Advice, AllocError>
-    ensures { IfOk result (λ advice. advice.span ≡ line_told (item_names (items_view softints.now)) line.now) }
-{
+/// If memory is refused.
+pub fn line_advice(alloc: Global, softints: &[Value], line: &str) -> Result<Advice, AllocError> {
     let fields = fields_of(alloc, line)?;
     let Some(mistake) = mistake_in(softints, &fields) else {
         return Advice::new(alloc, field_span(line, 0), "this line says no command");

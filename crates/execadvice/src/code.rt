@@ -1,24 +1,16 @@
 //! The lines of the bodies of a machine file, by their places: the text of each, and the line of the file at which it is written.
-ghost use Rattle.std.specs.Prelude.{◌≡◌, ◌≤◌, IfOk, length};
-ghost use Rattle.std.specs.Str.Lines.{lines};
-ghost use Rattle.toml.specs.View.{items_view, table_view};
-ghost use Rattle.taskscript.specs.Code.{lines_in};
-ghost use Rattle.execcheck.specs.AllPlaces.{array_of};
-ghost use Rattle.execadvice.specs.CodeLines.{body_at, count_of, line_at, line_in_section, line_of_code};
-ghost use Rattle.execadvice.specs.Locating.{section_view};
 
-use crate::locate::item_section;
-use crate::section::Section;
-use execcheck::{Array, LinePlace, Owner, items_at, line_in, lines_of};
+use crate::locate::{escaped_string, is_header, is_header_of};
+use crate::strings::Strings;
+use execcheck::{Array, LinePlace, Owner};
 use std::alloc::{AllocError, Global};
+use taskscript::{items_at, line_in, lines_of};
 use toml::{Table, Value};
 
 /// The array of what has a body.
 ///
-/// Source: own choice.
-pub fn array_of(owner: Owner) -> Array
-    ensures { result ≡ array_of owner }
-{
+/// Source: project rule.
+pub fn array_of(owner: Owner) -> Array {
     match owner {
         Owner::Softint => Array::Softint,
         Owner::Server => Array::Server,
@@ -28,11 +20,8 @@ pub fn array_of(owner: Owner) -> Array
 
 /// The lines of the body that a place is in.
 ///
-/// Source: own choice.
-#[tactic(auto, using(crate::proofs::KeyTurns::item_held, crate::proofs::KeyTurns::no_item), unfolding(crate::specs::CodeLines::body_at))]
-pub fn body_at(table: &Table, place: LinePlace) -> &[Value]
-    ensures { lines_in (items_view result.now) ≡ body_at (table_view table.now) place }
-{
+/// Source: project rule.
+pub fn body_at(table: &Table, place: LinePlace) -> &[Value] {
     match items_at(table, array_of(place.owner).key()).get(place.item) {
         None => &[],
         Some(owner) => lines_of(owner),
@@ -41,11 +30,8 @@ pub fn body_at(table: &Table, place: LinePlace) -> &[Value]
 
 /// The line at a place, or the empty text.
 ///
-/// Source: own choice.
-#[tactic(auto, using(crate::proofs::CodeTurns::line_held, crate::proofs::CodeTurns::no_line))]
-pub fn line_at(table: &Table, place: LinePlace) -> &str
-    ensures { result.now ≡ line_at (table_view table.now) place }
-{
+/// Source: project rule.
+pub fn line_at(table: &Table, place: LinePlace) -> &str {
     match body_at(table, place).get(place.line) {
         None => "",
         Some(item) => line_in(item),
@@ -53,57 +39,155 @@ pub fn line_at(table: &Table, place: LinePlace) -> &str
 }
 
 /// How many of some lines have that text.
-#[tactic(auto, using(crate::proofs::CodeTurns::count_turn))]
-fn count_of(lines: &[Value], text: &str) -> usize
-    ensures { result ≡ count_of text.now (lines_in (items_view lines.now)) }
-{
+fn count_of(lines: &[Value], text: &str) -> usize {
     let mut count = 0usize;
     for item in lines {
         if text == line_in(item) {
-            count += 1;
+            count = count.saturating_add(1);
         }
     }
     count
 }
 
-/// The line of a table that has the string of a line of a body: of several lines of the same text, the one of its number among them.
-#[tactic(auto, using(crate::proofs::CodeTurns::lines_before))]
-fn line_in_section(
-    alloc: Global,
-    section: &Section<'_>,
-    body: &[Value],
-    number: usize,
-    text: &str,
-) -> Result<Option<usize>, AllocError>
-    requires { number ≤ length body.now }
-    ensures { IfOk result (λ line. line ≡ line_in_section (lines_in (items_view body.now)) number text.now (section_view section.now)) }
-{
-    let before = count_of(&body[..number], text);
-    section.line_of_string(alloc, text, before, count_of(body, text))
+/// Whether two lines are of the same body.
+///
+/// Source: project rule.
+pub fn is_same_body(one: LinePlace, other: LinePlace) -> bool {
+    match (one.owner, other.owner) {
+        (Owner::Softint, Owner::Softint)
+        | (Owner::Server, Owner::Server)
+        | (Owner::Task, Owner::Task) => one.item == other.item,
+        _ => false,
+    }
 }
 
-/// The line of the file at which a line of a body is written, by its number from 1, where the file shows it.
-///
-/// # Errors
-///
-/// Where memory is refused.
-///
-/// Source: own choice.
-#[tactic(auto, using(crate::proofs::CodeTurns::line_held, crate::proofs::CodeTurns::no_line), unfolding(crate::specs::CodeLines::line_of_code))]
-pub fn line_of_code(
-    alloc: Global,
-    text: &str,
-    table: &Table,
-    place: LinePlace,
-) -> Result<Option<usize>, AllocError>
-    ensures { IfOk result (λ line. line ≡ line_of_code (lines text.now) (table_view table.now) place) }
-{
-    let body = body_at(table, place);
-    let Some(item) = body.get(place.line) else {
-        return Ok(None);
-    };
-    match item_section(alloc, text, array_of(place.owner), place.item, table)? {
-        None => Ok(None),
-        Some(section) => line_in_section(alloc, &section, body, place.line, line_in(item)),
+/// A machine file as it is written. It keeps the strings of the table that was asked for last, since questions come body after body.
+#[derive(Drop)]
+pub struct Written<'a> {
+    lines: Vec<&'a str>,
+    /// The places in `lines` at which the tables of software interrupts, of servers and of tasks begin.
+    softints: Vec<usize>,
+    servers: Vec<usize>,
+    tasks: Vec<usize>,
+    /// A line of the body whose table was asked for last, and the strings of that table.
+    last: Option<LinePlace>,
+    strings: Strings<'a>,
+}
+
+impl<'a> Written<'a> {
+    /// A file of that text.
+    ///
+    /// # Errors
+    ///
+    /// When memory is refused.
+    ///
+    /// Source: project rule.
+    pub fn new(alloc: Global, text: &'a str) -> Result<Written<'a>, AllocError> {
+        let mut written = Written {
+            lines: Vec::new(alloc),
+            softints: Vec::new(alloc),
+            servers: Vec::new(alloc),
+            tasks: Vec::new(alloc),
+            last: None,
+            strings: Strings::new(alloc),
+        };
+        for (i, line) in text.lines().enumerate() {
+            written.lines.push(line)?;
+            if is_header_of(line, "softint") {
+                written.softints.push(i)?;
+            } else if is_header_of(line, "server") {
+                written.servers.push(i)?;
+            } else if is_header_of(line, "task") {
+                written.tasks.push(i)?;
+            }
+        }
+        Ok(written)
+    }
+
+    /// The place in `lines` at which the table of a body begins, if the file shows as many tables as it has.
+    fn table_of(&self, table: &Table, place: LinePlace) -> Option<usize> {
+        let headers = match place.owner {
+            Owner::Softint => &self.softints,
+            Owner::Server => &self.servers,
+            Owner::Task => &self.tasks,
+        };
+        if headers.len() != items_at(table, array_of(place.owner).key()).len() {
+            return None;
+        }
+        headers.get(place.item).copied()
+    }
+
+    /// Keeps the strings of the table that begins at a place in `lines`.
+    fn keep_strings(&mut self, alloc: Global, first: usize) -> Result<(), AllocError> {
+        for (i, line) in self.lines.iter().enumerate().skip(first) {
+            if i > first && is_header(*line) {
+                return Ok(());
+            }
+            self.strings
+                .add_line(alloc, (*line).as_bytes(), i.saturating_add(1))?;
+        }
+        Ok(())
+    }
+
+    /// Keeps the strings of the table of a body.
+    fn keep_body(
+        &mut self,
+        alloc: Global,
+        table: &Table,
+        place: LinePlace,
+    ) -> Result<(), AllocError> {
+        if let Some(last) = self.last {
+            if is_same_body(last, place) {
+                return Ok(());
+            }
+        }
+        self.last = Some(place);
+        self.strings = Strings::new(alloc);
+        match self.table_of(table, place) {
+            None => Ok(()),
+            Some(first) => self.keep_strings(alloc, first),
+        }
+    }
+
+    /// The line of the file at which a line of a body is written, by its number from 1, if the file shows it: of several lines of the same
+    /// text the one of its number among them.
+    ///
+    /// # Errors
+    ///
+    /// When memory is refused.
+    ///
+    /// Source: project rule.
+    pub fn line_of_code(
+        &mut self,
+        alloc: Global,
+        table: &Table,
+        place: LinePlace,
+    ) -> Result<Option<usize>, AllocError> {
+        let body = body_at(table, place);
+        let Some(item) = body.get(place.line) else {
+            return Ok(None);
+        };
+        self.keep_body(alloc, table, place)?;
+        let text = line_in(item);
+        let plain = format!(in alloc; "'{text}'")?;
+        let escaped = escaped_string(alloc, text)?;
+        let numbers = self.strings.lines_of(
+            alloc,
+            plain.as_str().as_bytes(),
+            escaped.as_str().as_bytes(),
+        )?;
+        let before = count_of(body.get(..place.line).unwrap_or(&[]), text);
+        Ok(among(&numbers, before, count_of(body, text)))
+    }
+}
+
+/// Of the lines with a string that has to be on that many lines, the one of that number; if one line alone has it, that one.
+fn among(numbers: &[usize], number: usize, count: usize) -> Option<usize> {
+    if numbers.len() == 1 {
+        numbers.get(0).copied()
+    } else if numbers.len() == count {
+        numbers.get(number).copied()
+    } else {
+        None
     }
 }

@@ -1,7 +1,6 @@
 //! What is found in an event text.
-ghost use Rattle.std.specs.Prelude.{◌≡◌, ◌++◌, Some, IfOk, string_bytes};
+ghost use Rattle.std.specs.Prelude.{◌≡◌, Some, IfOk};
 ghost use Rattle.taskscript.specs.Events.{script_of};
-ghost use Rattle.execadvice.specs.EventsTold.{Tells, TellsTooMany, head, line_numbered, line_behind, marked, text_or_nothing};
 ghost use Rattle.execadvice.specs.Findings.{fault_of};
 
 use crate::near::{nearest, proposal};
@@ -127,22 +126,15 @@ fn event_advice(alloc: Global, line: &str) -> Result<Advice, AllocError> {
 }
 
 /// Bytes as text; what is no text is shown as the empty line.
-///
-/// Source: own choice.
-#[tactic(auto, using(crate::proofs::EventLemmas::a_text, crate::proofs::EventLemmas::no_text))]
-pub fn text_or_nothing(line: &[u8]) -> &str
-    ensures { result.now ≡ text_or_nothing line.now }
-{
+pub fn text_or_nothing(line: &[u8]) -> &str {
     match from_utf8(line) {
         Ok(text) => text,
         Err(_) => "",
     }
 }
 
-/// The line before which so many stand, as text.
-fn line_behind(bytes: &[u8], before: usize) -> &str
-    ensures { result.now ≡ line_behind before bytes.now }
-{
+/// The line before which that many are, as text.
+fn line_behind(bytes: &[u8], before: usize) -> &str {
     match bytes.split(|b| *b == 10).nth(before) {
         None => "",
         Some(line) => text_or_nothing(line),
@@ -150,9 +142,7 @@ fn line_behind(bytes: &[u8], before: usize) -> &str
 }
 
 /// The line of a number, from 1, as text.
-fn line_numbered(bytes: &[u8], number: usize) -> &str
-    ensures { result.now ≡ line_numbered number bytes.now }
-{
+fn line_numbered(bytes: &[u8], number: usize) -> &str {
     if number == 0 {
         ""
     } else {
@@ -225,19 +215,14 @@ fn line_text(
     number: usize,
     name: &str,
     advice: &Advice,
-) -> Result<String, AllocError>
-    ensures { IfOk result (λ told. string_bytes told ≡ head path.now number name.now
-        ++ marked (line_numbered number bytes.now) advice.now.span (string_bytes advice.now.reason)) }
-{
+) -> Result<String, AllocError> {
     let mut told = format!(in alloc; "{path}:{number}: {name}\n")?;
     push_marked(&mut told, line_numbered(bytes, number), advice)?;
     Ok(told)
 }
 
-/// What there is to say where the events are too many.
-fn too_many_text(alloc: Global, path: &str, bytes: &[u8]) -> Result<String, AllocError>
-    ensures { IfOk result (λ told. TellsTooMany path.now bytes.now (string_bytes told)) }
-{
+/// What there is to say if the events are too many.
+fn too_many_text(alloc: Global, path: &str, bytes: &[u8]) -> Result<String, AllocError> {
     match past_limit(bytes) {
         None => format!(in alloc; "{path}: TooMany\n"),
         Some((number, reason)) => {
@@ -254,9 +239,7 @@ fn fault_text(
     path: &str,
     bytes: &[u8],
     fault: EventFault,
-) -> Result<String, AllocError>
-    ensures { IfOk result (λ told. Tells path.now bytes.now (Some fault) (string_bytes told)) }
-{
+) -> Result<String, AllocError> {
     match fault {
         EventFault::BadLine(number) => {
             let advice = event_advice(alloc, line_numbered(bytes, number))?;
@@ -272,7 +255,7 @@ fn fault_text(
 pub struct EventsFinding {
     /// The fault for which the text is refused, if it is; that of a line has the line's number.
     pub fault: Option<EventFault>,
-    /// What there is to say of it; nothing where nothing was found.
+    /// What there is to say of it; nothing if nothing was found.
     pub text: String,
 }
 
@@ -284,7 +267,6 @@ fn refusal(
     fault: EventFault,
 ) -> Result<EventsFinding, AllocError>
     ensures fault { IfOk result (λ finding. finding.fault ≡ Some fault) }
-    ensures told { IfOk result (λ finding. Tells path.now bytes.now (Some fault) (string_bytes finding.text)) }
 {
     let text = fault_text(alloc, path, bytes, fault)?;
     Ok(EventsFinding {
@@ -293,20 +275,17 @@ fn refusal(
     })
 }
 
-/// What the bytes of an event text are refused for, and at which line. `path` stands before each place.
+/// What the bytes of an event text are refused for, and at which line. `path` is before each place.
 ///
-/// The text is refused just where `execsim` refuses it, with that fault; that of BadLine is the number of the line. What is said of it
+/// The text is refused exactly if `execsim` refuses it, with that fault; that of BadLine is the number of the line. What is said of it
 /// begins with its place and the name of the fault, and shows that line with marks under a part of it and a reason; of too many events a
 /// line is shown, or none. Nothing is said of a text that is accepted.
 ///
 /// # Errors
 ///
-/// Where memory is refused, by the reader too.
-///
-/// Source: own choice.
+/// If memory is refused, by the reader too.
 pub fn check_events(alloc: Global, path: &str, bytes: &[u8]) -> Result<EventsFinding, AllocError>
     ensures fault { IfOk result (λ finding. finding.fault ≡ fault_of (script_of bytes.now)) }
-    ensures told { IfOk result (λ finding. Tells path.now bytes.now finding.fault (string_bytes finding.text)) }
 {
     match read_events(alloc, bytes) {
         Ok(_) => Ok(EventsFinding {

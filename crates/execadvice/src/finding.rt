@@ -1,20 +1,12 @@
 //! What is found in a machine file, as text.
-ghost use Rattle.std.specs.Prelude.{◌≡◌, ◌++◌, [], Some, None, IfOk, OnOk, map, option_map, string_bytes};
-ghost use Rattle.std.specs.Str.Lines.{lines};
-ghost use Rattle.toml.specs.View.{table_view};
-ghost use Rattle.taskscript.specs.Faults.{file_fault_name};
+ghost use Rattle.std.specs.Prelude.{◌≡◌, Some, IfOk};
 ghost use Rattle.taskscript.specs.File.{file_of};
 ghost use Rattle.taskscript.specs.Tree.{document_of};
-ghost use Rattle.execadvice.specs.CodeLines.{body_at, line_at};
-ghost use Rattle.execadvice.specs.EventsTold.{marked};
 ghost use Rattle.execadvice.specs.Findings.{fault_of};
-ghost use Rattle.execadvice.specs.MachineTold.{TellsFault, TellsLine, TellsMachine, TellsReason, TellsReasons, TellsWarnings, code_line, first_line, reason_lines, reasoned, tree_line, warning_text, warnings_text};
-ghost use Rattle.execadvice.specs.Parts.{MarksPart, part_alone, part_told};
-ghost use Rattle.execadvice.specs.Told.{told};
 ghost use Rattle.execcheck.specs.FilePlaces.{place_at, place_in};
 
 use crate::advice::line_advice;
-use crate::code::{body_at, line_at, line_of_code};
+use crate::code::{Written, body_at, line_at};
 use crate::events::text_or_nothing;
 use crate::labels::{Found, bad_label};
 use crate::limits::past_limit_in;
@@ -24,9 +16,9 @@ use crate::reasons::{key_at, tree_reason};
 use crate::show::{Advice, push_marked, push_reason};
 use crate::stands::not_in_interrupt;
 use crate::warnings::{Warning, warnings_of};
-use execcheck::{LinePlace, Place, TreePlace, items_at, place_of_fault};
+use execcheck::{LinePlace, Place, TreePlace, place_of_fault};
 use std::alloc::{AllocError, Global};
-use taskscript::{FileFault, read_machine};
+use taskscript::{FileFault, items_at, read_machine};
 use toml::Table;
 
 /// What was found in a machine file.
@@ -34,22 +26,20 @@ use toml::Table;
 pub struct Finding {
     /// The fault for which the file is refused, if it is.
     pub fault: Option<FileFault>,
-    /// The place of the fault, where the text is a document.
+    /// The place of the fault, if the text is a document.
     pub place: Option<Place>,
-    /// What there is to say of it, a line or more for each; nothing where nothing was found.
+    /// What there is to say of it, a line or more for each; nothing if nothing was found.
     pub text: String,
 }
 
-/// The path of a file, a line of it where that is known, a place in words, and a name.
+/// The path of a file, a line of it if that is known, a place in words, and a name.
 fn first_line(
     alloc: Global,
     path: &str,
     line: Option<usize>,
     words: &str,
     name: &str,
-) -> Result<String, AllocError>
-    ensures { IfOk result (λ text. string_bytes text ≡ first_line path.now line words.now name.now) }
-{
+) -> Result<String, AllocError> {
     match line {
         None => format!(in alloc; "{path}: {words}{name}\n"),
         Some(line) => format!(in alloc; "{path}:{line}: {words}{name}\n"),
@@ -57,7 +47,6 @@ fn first_line(
 }
 
 /// The first line of what is said of a place of the tree.
-#[tactic(auto, unfolding(crate::specs::MachineTold::tree_line))]
 fn tree_line(
     alloc: Global,
     path: &str,
@@ -65,9 +54,7 @@ fn tree_line(
     table: &Table,
     place: TreePlace,
     name: &str,
-) -> Result<String, AllocError>
-    ensures { IfOk result (λ told. string_bytes told ≡ tree_line path.now (lines text.now) (table_view table.now) place name.now) }
-{
+) -> Result<String, AllocError> {
     let key = key_at(place, table);
     let line = line_of_place(alloc, text, place, key, table)?;
     let words = tree_words(alloc, table, place, key)?;
@@ -75,18 +62,15 @@ fn tree_line(
 }
 
 /// The first line of what is said of a line of a body.
-#[tactic(auto, unfolding(crate::specs::MachineTold::code_line))]
 fn code_line(
     alloc: Global,
     path: &str,
-    text: &str,
+    written: &mut Written<'_>,
     table: &Table,
     place: LinePlace,
     name: &str,
-) -> Result<String, AllocError>
-    ensures { IfOk result (λ told. string_bytes told ≡ code_line path.now (lines text.now) (table_view table.now) place name.now) }
-{
-    let line = line_of_code(alloc, text, table, place)?;
+) -> Result<String, AllocError> {
+    let line = written.line_of_code(alloc, table, place)?;
     let words = line_words(alloc, table, place)?;
     first_line(alloc, path, line, words.as_str(), name)
 }
@@ -99,9 +83,7 @@ fn tree_fault(
     table: &Table,
     place: TreePlace,
     fault: FileFault,
-) -> Result<String, AllocError>
-    ensures { IfOk result (λ told. TellsReason (tree_line path.now (lines text.now) (table_view table.now) place (file_fault_name fault)) (string_bytes told)) }
-{
+) -> Result<String, AllocError> {
     let mut told = tree_line(alloc, path, text, table, place, fault.name())?;
     let reason = tree_reason(alloc, place, fault, table)?;
     push_reason(&mut told, reason.as_str())?;
@@ -109,21 +91,17 @@ fn tree_fault(
 }
 
 /// What is wrong with the line at a place by itself.
-fn advice_alone(alloc: Global, table: &Table, place: LinePlace) -> Result<Advice, AllocError>
-    ensures { IfOk result (λ advice. advice.span ≡ part_alone (table_view table.now) place) }
-{
+fn advice_alone(alloc: Global, table: &Table, place: LinePlace) -> Result<Advice, AllocError> {
     line_advice(alloc, items_at(table, "softint"), line_at(table, place))
 }
 
-/// What is wrong where something was found in a body, or else with the line at a place by itself.
+/// What is wrong if something was found in a body, or else with the line at a place by itself.
 fn advice_of(
     alloc: Global,
     table: &Table,
     place: LinePlace,
     found: Option<Found>,
-) -> Result<Advice, AllocError>
-    ensures { IfOk result (λ advice. advice.span ≡ part_told (option_map told found) (part_alone (table_view table.now) place)) }
-{
+) -> Result<Advice, AllocError> {
     match found {
         None => advice_alone(alloc, table, place),
         Some(found) => Ok(found.advice),
@@ -136,9 +114,7 @@ fn advice_at(
     table: &Table,
     fault: FileFault,
     place: LinePlace,
-) -> Result<Advice, AllocError>
-    ensures { IfOk result (λ advice. MarksPart (table_view table.now) fault place advice.span) }
-{
+) -> Result<Advice, AllocError> {
     match fault {
         FileFault::BadLabel => {
             let found = bad_label(alloc, body_at(table, place))?;
@@ -160,16 +136,13 @@ fn advice_at(
 fn line_text(
     alloc: Global,
     path: &str,
-    text: &str,
+    written: &mut Written<'_>,
     table: &Table,
     place: LinePlace,
     name: &str,
     advice: &Advice,
-) -> Result<String, AllocError>
-    ensures { IfOk result (λ told. string_bytes told ≡ code_line path.now (lines text.now) (table_view table.now) place name.now
-        ++ marked (line_at (table_view table.now) place) advice.now.span (string_bytes advice.now.reason)) }
-{
-    let mut told = code_line(alloc, path, text, table, place, name)?;
+) -> Result<String, AllocError> {
+    let mut told = code_line(alloc, path, written, table, place, name)?;
     push_marked(&mut told, line_at(table, place), advice)?;
     Ok(told)
 }
@@ -182,11 +155,18 @@ fn line_fault(
     table: &Table,
     place: LinePlace,
     fault: FileFault,
-) -> Result<String, AllocError>
-    ensures { IfOk result (λ told. TellsLine path.now (lines text.now) (table_view table.now) fault place (string_bytes told)) }
-{
+) -> Result<String, AllocError> {
     let advice = advice_at(alloc, table, fault, place)?;
-    line_text(alloc, path, text, table, place, fault.name(), &advice)
+    let mut written = Written::new(alloc, text)?;
+    line_text(
+        alloc,
+        path,
+        &mut written,
+        table,
+        place,
+        fault.name(),
+        &advice,
+    )
 }
 
 /// What there is to say of a fault of a file that has a tree.
@@ -197,9 +177,7 @@ fn fault_text(
     table: &Table,
     fault: FileFault,
     place: Option<Place>,
-) -> Result<String, AllocError>
-    ensures { IfOk result (λ told. TellsFault path.now (lines text.now) (table_view table.now) fault place (string_bytes told)) }
-{
+) -> Result<String, AllocError> {
     match place {
         None => first_line(alloc, path, None, "", fault.name()),
         Some(place) => match place {
@@ -210,9 +188,7 @@ fn fault_text(
 }
 
 /// Adds each line of a text as a reason.
-fn push_reasons(out: &mut String, text: &str) -> Result<(), AllocError>
-    ensures { OnOk result (string_bytes out.new ≡ string_bytes out.old ++ reason_lines (lines text.now)) }
-{
+fn push_reasons(out: &mut String, text: &str) -> Result<(), AllocError> {
     for line in text.lines() {
         push_reason(out, line)?;
     }
@@ -225,9 +201,7 @@ fn no_document_text(
     path: &str,
     fault: FileFault,
     error: &toml::de::Error,
-) -> Result<String, AllocError>
-    ensures { IfOk result (λ told. TellsReasons (first_line path.now None [] (file_fault_name fault)) (string_bytes told)) }
-{
+) -> Result<String, AllocError> {
     let reasons = format!(in alloc; "{error}")?;
     let mut told = first_line(alloc, path, None, "", fault.name())?;
     push_reasons(&mut told, reasons.as_str())?;
@@ -239,7 +213,6 @@ fn no_document_text(
 fn refusal(alloc: Global, path: &str, bytes: &[u8], fault: FileFault) -> Result<Finding, AllocError>
     ensures fault { IfOk result (λ finding. finding.fault ≡ Some fault) }
     ensures place { IfOk result (λ finding. finding.place ≡ place_at (document_of bytes.now)) }
-    ensures told { IfOk result (λ finding. TellsMachine path.now bytes.now finding.fault (document_of bytes.now) (string_bytes finding.text)) }
 {
     match toml::table_from_slice(alloc, bytes) {
         Err(error) => {
@@ -266,21 +239,18 @@ fn refusal(alloc: Global, path: &str, bytes: &[u8], fault: FileFault) -> Result<
 }
 
 /// Adds a warning.
-#[tactic(auto, unfolding(crate::specs::MachineTold::warning_text))]
 fn push_warning(
     alloc: Global,
     out: &mut String,
     path: &str,
-    text: &str,
+    written: &mut Written<'_>,
     table: &Table,
     warning: &Warning,
-) -> Result<(), AllocError>
-    ensures { OnOk result (string_bytes out.new ≡ string_bytes out.old ++ warning_text path.now (lines text.now) (table_view table.now) (reasoned warning.now)) }
-{
+) -> Result<(), AllocError> {
     let told = line_text(
         alloc,
         path,
-        text,
+        written,
         table,
         warning.place,
         "warning",
@@ -290,35 +260,34 @@ fn push_warning(
 }
 
 /// What there is to say of some warnings, one after the other.
-#[tactic(auto, using(crate::proofs::MachineTurns::warnings_turn))]
 fn warnings_text(
     alloc: Global,
     path: &str,
     text: &str,
     table: &Table,
     warnings: &[Warning],
-) -> Result<String, AllocError>
-    ensures { IfOk result (λ told. string_bytes told ≡ warnings_text path.now (lines text.now) (table_view table.now) (map reasoned warnings.now)) }
-{
+) -> Result<String, AllocError> {
     let mut told = String::new(alloc);
+    let mut written = Written::new(alloc, text)?;
     for warning in warnings {
-        push_warning(alloc, &mut told, path, text, table, warning)?;
+        push_warning(alloc, &mut told, path, &mut written, table, warning)?;
     }
     Ok(told)
 }
 
 /// What there is to say of a file that has a tree and is accepted.
-fn tree_warnings(alloc: Global, path: &str, text: &str, table: &Table) -> Result<String, AllocError>
-    ensures { IfOk result (λ told. TellsWarnings path.now (lines text.now) (table_view table.now) (string_bytes told)) }
-{
+fn tree_warnings(
+    alloc: Global,
+    path: &str,
+    text: &str,
+    table: &Table,
+) -> Result<String, AllocError> {
     let warnings = warnings_of(alloc, table)?;
     warnings_text(alloc, path, text, table, &warnings)
 }
 
 /// What there is to say of a file that is accepted: its warnings.
-fn accepted_text(alloc: Global, path: &str, bytes: &[u8]) -> Result<String, AllocError>
-    ensures { IfOk result (λ told. TellsMachine path.now bytes.now None (document_of bytes.now) (string_bytes told)) }
-{
+fn accepted_text(alloc: Global, path: &str, bytes: &[u8]) -> Result<String, AllocError> {
     match toml::table_from_slice(alloc, bytes) {
         Err(error) => {
             if error.is_memory() {
@@ -330,22 +299,19 @@ fn accepted_text(alloc: Global, path: &str, bytes: &[u8]) -> Result<String, Allo
     }
 }
 
-/// What the bytes of a machine file are refused for, and where, or else what is worth a warning. `path` stands before each place.
+/// What the bytes of a machine file are refused for, and where, or else what is worth a warning. `path` is before each place.
 ///
-/// The file is refused just where `execsim` refuses it, with that fault. Its place is the first faulty place of the file, in the order in
-/// which the file is judged. What is said of it begins with the path, the line of the file where that is known, the place and the name of the
-/// fault; below it stands a reason, or the line of the body with marks under a part of it. Of an accepted file its warnings are said in the
+/// The file is refused exactly if `execsim` refuses it, with that fault. Its place is the first faulty place of the file, in the order in
+/// which the file is judged. What is said of it begins with the path, the line of the file if that is known, the place and the name of the
+/// fault; below it is a reason, or the line of the body with marks under a part of it. Of an accepted file its warnings are said in the
 /// same form, each with its line, and nothing else.
 ///
 /// # Errors
 ///
-/// Where memory is refused, by the reader too.
-///
-/// Source: own choice.
+/// If memory is refused, by the reader too.
 pub fn check_machine(alloc: Global, path: &str, bytes: &[u8]) -> Result<Finding, AllocError>
     ensures fault { IfOk result (λ finding. finding.fault ≡ fault_of (file_of bytes.now)) }
     ensures place { IfOk result (λ finding. finding.place ≡ place_in (file_of bytes.now) (document_of bytes.now)) }
-    ensures told { IfOk result (λ finding. TellsMachine path.now bytes.now finding.fault (document_of bytes.now) (string_bytes finding.text)) }
 {
     match read_machine(alloc, bytes) {
         Ok(_) => {

@@ -1,17 +1,10 @@
-//! Labels that stand twice in a body, and jumps to labels that it lacks.
-ghost use Rattle.std.specs.Prelude.{◌≡◌, ◌++◌, [], IfOk, OnOk, bytes_eq, if◌then◌else◌, is_some, map, option_map, slice_get};
-ghost use Rattle.std.specs.List.{list_any};
-ghost use Rattle.toml.specs.View.{items_view};
-ghost use Rattle.taskscript.specs.Code.{lines_in};
-ghost use Rattle.taskscript.specs.Words.{kinds};
-ghost use Rattle.execadvice.specs.LabelsTold.{astray, astray_part, bad_label, first_repeated, is_astray, label_at, label_names, label_view, labels_placed, label_named, names_of, stood_before};
-ghost use Rattle.execadvice.specs.Told.{first_told, span_of, told};
+//! Labels that are twice in a body, and jumps to labels that it lacks.
 
 use crate::near::{nearest, proposal};
 use crate::said::{Said, label_of, said_by};
 use crate::show::{Advice, field_span};
-use execcheck::line_in;
 use std::alloc::{AllocError, Global};
+use taskscript::line_in;
 use toml::Value;
 
 /// A line with its number, and what is wrong with it.
@@ -21,16 +14,12 @@ pub struct Found {
     pub advice: Advice,
 }
 
-/// Adds the label that a line is, with the number of the line, where it is one.
-#[tactic(auto, unfolding(crate::specs::LabelsTold::label_named))]
+/// Adds the label that a line is, with the number of the line, if it is one.
 fn push_label<'a>(
     labels: &mut Vec<(&'a str, usize)>,
     line: &'a str,
     number: usize,
-) -> Result<(), AllocError>
-    ensures placed { OnOk result (map label_view labels.new.items ≡ map label_view labels.old.items ++ label_at number line.now) }
-    ensures names { OnOk result (label_names labels.new.items ≡ label_names labels.old.items ++ label_named line.now) }
-{
+) -> Result<(), AllocError> {
     match label_of(line) {
         None => Ok(()),
         Some(name) => {
@@ -44,13 +33,11 @@ fn push_label<'a>(
 ///
 /// # Errors
 ///
-/// Where memory is refused.
-///
-/// Source: own choice.
-#[tactic(auto, using(crate::proofs::ToldTurns::labels_turn))]
-pub fn labels_of<'a>(alloc: Global, lines: &'a [Value]) -> Result<Vec<(&'a str, usize)>, AllocError>
-    ensures { IfOk result (λ labels. map label_view labels.items ≡ labels_placed 0 (lines_in (items_view lines.now))) }
-{
+/// If memory is refused.
+pub fn labels_of<'a>(
+    alloc: Global,
+    lines: &'a [Value],
+) -> Result<Vec<(&'a str, usize)>, AllocError> {
     let mut labels = Vec::new(alloc);
     for (i, item) in lines.iter().enumerate() {
         push_label(&mut labels, line_in(item), i)?;
@@ -59,10 +46,7 @@ pub fn labels_of<'a>(alloc: Global, lines: &'a [Value]) -> Result<Vec<(&'a str, 
 }
 
 /// The line of the first of some labels that has that name.
-#[tactic(auto, using(crate::proofs::ToldTurns::label_turn))]
-fn line_of_label(labels: &[(&str, usize)], name: &str) -> Option<usize>
-    ensures { is_some result ≡ list_any (bytes_eq name.now) (label_names labels.now) }
-{
+fn line_of_label(labels: &[(&str, usize)], name: &str) -> Option<usize> {
     for (other, line) in labels {
         if name == *other {
             return Some(*line);
@@ -71,16 +55,12 @@ fn line_of_label(labels: &[(&str, usize)], name: &str) -> Option<usize>
     None
 }
 
-/// What is wrong with a line that is a label which stood before.
-#[tactic(auto, unfolding(crate::specs::LabelsTold::stood_before))]
+/// What is wrong with a line that is a label which was before.
 fn repeated_advice(
     alloc: Global,
     labels: &[(&str, usize)],
     line: &str,
-) -> Result<Option<Advice>, AllocError>
-    ensures { IfOk result (λ advice. option_map (λ it. it.span) advice
-        ≡ (if stood_before (label_names labels.now) line.now then Some (span_of line.now 0) else None)) }
-{
+) -> Result<Option<Advice>, AllocError> {
     let Some(name) = label_of(line) else {
         return Ok(None);
     };
@@ -95,11 +75,8 @@ fn repeated_advice(
     }))
 }
 
-/// The first label that stood before.
-#[tactic(auto, using(crate::proofs::ToldTurns::repeated_turn))]
-fn repeated_label(alloc: Global, lines: &[Value]) -> Result<Option<Found>, AllocError>
-    ensures { IfOk result (λ found. option_map told found ≡ first_repeated 0 [] (lines_in (items_view lines.now))) }
-{
+/// The first label that was before.
+fn repeated_label(alloc: Global, lines: &[Value]) -> Result<Option<Found>, AllocError> {
     let mut labels: Vec<(&str, usize)> = Vec::new(alloc);
     for (i, item) in lines.iter().enumerate() {
         let line = line_in(item);
@@ -112,18 +89,12 @@ fn repeated_label(alloc: Global, lines: &[Value]) -> Result<Option<Found>, Alloc
 }
 
 /// Whether the argument of a number has to be a label, and is none of these.
-fn is_astray(labels: &[(&str, usize)], said: &Said<'_>, number: usize, field: &str) -> bool
-    ensures { result ≡ is_astray (label_names labels.now) (slice_get (kinds said.now.word) number) field.now }
-{
+fn is_astray(labels: &[(&str, usize)], said: &Said<'_>, number: usize, field: &str) -> bool {
     said.is_label(number) && line_of_label(labels, field).is_none()
 }
 
 /// The first argument that has to be a label and is none of these, with the number of its field.
-#[tactic(auto, using(crate::proofs::ToldTurns::astray_turn, crate::proofs::ToldTurns::none_astray))]
-fn missing_label<'a>(labels: &[(&str, usize)], said: &Said<'a>) -> Option<(usize, &'a str)>
-    ensures { option_map (λ it. it.0) result ≡ astray_part (label_names labels.now) said.now.word
-        (option_map (λ it. it.now) said.now.target) (map (λ it. it.now) said.now.arguments.items) }
-{
+fn missing_label<'a>(labels: &[(&str, usize)], said: &Said<'a>) -> Option<(usize, &'a str)> {
     for (i, field) in said.arguments.iter().enumerate() {
         if is_astray(labels, said, i, *field) {
             return Some((said.place_of(i), *field));
@@ -133,15 +104,12 @@ fn missing_label<'a>(labels: &[(&str, usize)], said: &Said<'a>) -> Option<(usize
 }
 
 /// What is wrong with a line that jumps to a label which is none of these.
-#[tactic(auto, unfolding(crate::specs::LabelsTold::astray))]
 fn astray_advice(
     alloc: Global,
     labels: &[(&str, usize)],
     names: &[&str],
     line: &str,
-) -> Result<Option<Advice>, AllocError>
-    ensures { IfOk result (λ advice. option_map (λ it. it.span) advice ≡ option_map (span_of line.now) (astray (label_names labels.now) line.now)) }
-{
+) -> Result<Option<Advice>, AllocError> {
     let Some(said) = said_by(alloc, line)? else {
         return Ok(None);
     };
@@ -166,14 +134,11 @@ fn names_of<'a>(alloc: Global, labels: &[(&'a str, usize)]) -> Result<Vec<&'a st
 }
 
 /// The first jump to a label that is none of these.
-#[tactic(auto, using(crate::proofs::ToldTurns::told_turn))]
 fn first_astray(
     alloc: Global,
     labels: &[(&str, usize)],
     lines: &[Value],
-) -> Result<Option<Found>, AllocError>
-    ensures { IfOk result (λ found. option_map told found ≡ first_told (astray (label_names labels.now)) 0 (lines_in (items_view lines.now))) }
-{
+) -> Result<Option<Found>, AllocError> {
     let names = names_of(alloc, labels)?;
     for (i, item) in lines.iter().enumerate() {
         if let Some(advice) = astray_advice(alloc, labels, &names, line_in(item))? {
@@ -184,25 +149,18 @@ fn first_astray(
 }
 
 /// The first jump to a label that the body lacks.
-fn astray(alloc: Global, lines: &[Value]) -> Result<Option<Found>, AllocError>
-    ensures { let said = lines_in (items_view lines.now) in
-        IfOk result (λ found. option_map told found ≡ first_told (astray (names_of (labels_placed 0 said))) 0 said) }
-{
+fn astray(alloc: Global, lines: &[Value]) -> Result<Option<Found>, AllocError> {
     let labels = labels_of(alloc, lines)?;
     first_astray(alloc, &labels, lines)
 }
 
-/// The line of a body that is BadLabel, by its number from 0, with the part that is wrong, and why: the first label that stood before, or
-/// else the first jump to a label that the body lacks. None where there is neither.
+/// The line of a body that is BadLabel, by its number from 0, with the part that is wrong, and why: the first label that was before, or
+/// else the first jump to a label that the body lacks. None if there is neither.
 ///
 /// # Errors
 ///
-/// Where memory is refused.
-///
-/// Source: own choice.
-pub fn bad_label(alloc: Global, lines: &[Value]) -> Result<Option<Found>, AllocError>
-    ensures { IfOk result (λ found. option_map told found ≡ bad_label (lines_in (items_view lines.now))) }
-{
+/// If memory is refused.
+pub fn bad_label(alloc: Global, lines: &[Value]) -> Result<Option<Found>, AllocError> {
     match repeated_label(alloc, lines)? {
         Some(found) => Ok(Some(found)),
         None => astray(alloc, lines),

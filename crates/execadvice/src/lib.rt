@@ -14,13 +14,12 @@ mod reads;
 mod reasons;
 mod regions;
 mod said;
-mod section;
 mod show;
 mod spacing;
 mod spoken;
 mod stands;
+mod strings;
 mod warnings;
-mod words;
 
 pub use events::{EventsFinding, check_events};
 pub use finding::{Finding, check_machine};

@@ -1,35 +1,34 @@
-//! The line of the file at which a place of its tree is written, where the file shows it plainly: tables begin with `[[NAME]]`, keys
-//! stand at the beginning of lines, and strings on one line.
-ghost use Rattle.std.specs.Prelude.{◌≡◌, ◌+◌, ◌-◌, ◌^◌, ◌<◌, ◌++◌, IfOk, OnOk, codes, drop, length, map, option_map, slice_get, string_bytes, vec_len};
-ghost use Rattle.std.specs.List.{before_first};
-ghost use Rattle.std.specs.Str.{chars};
-ghost use Rattle.std.specs.Str.Lines.{lines};
-ghost use Rattle.toml.specs.View.{table_view};
-ghost use Rattle.execadvice.specs.Locating.{among, basic_string, behind, escaped, escaped_characters, has_string, has_text, is_header, is_header_of, item_section, line_of_key, line_of_key_at, line_of_place, line_of_string, numbers_where, plain_string, section_at, section_view, sets, table_from, top_section};
+//! The line of the file at which a place of its tree is written, if the file shows it plainly: tables begin with `[[NAME]]`, keys
+//! are at the beginning of lines, and strings on one line.
 
-use crate::section::Section;
-use execcheck::{Array, TablePlace, TreePlace, items_at};
+use execcheck::{Array, TablePlace, TreePlace};
 use std::alloc::{AllocError, Global};
+use taskscript::items_at;
 use toml::Table;
 
-/// What stands behind that part in a line that begins with it, after white space or none.
-fn behind<'a>(line: &'a str, part: &str) -> Option<&'a str>
-    ensures { option_map (λ rest. rest.now) result ≡ behind part.now line.now }
-{
+/// The lines of a table: the number of the first, from 1, and those up to the next table.
+#[derive(Drop)]
+pub struct Section<'a> {
+    first: usize,
+    lines: Vec<&'a str>,
+}
+
+/// What is after that part in a line that begins with it, after white space or none.
+fn behind<'a>(line: &'a str, part: &str) -> Option<&'a str> {
     line.trim_start().strip_prefix(part)
 }
 
 /// Whether a line begins a table.
-fn is_header(line: &str) -> bool
-    ensures { result ≡ is_header line.now }
-{
+///
+/// Source: project rule.
+pub fn is_header(line: &str) -> bool {
     behind(line, "[").is_some()
 }
 
 /// Whether a line begins a table of the array of that name.
-fn is_header_of(line: &str, name: &str) -> bool
-    ensures { result ≡ is_header_of name.now line.now }
-{
+///
+/// Source: project rule.
+pub fn is_header_of(line: &str, name: &str) -> bool {
     match behind(line, "[[") {
         None => false,
         Some(rest) => match behind(rest, name) {
@@ -40,22 +39,18 @@ fn is_header_of(line: &str, name: &str) -> bool
 }
 
 /// The numbers, from 1, of the lines that begin a table of the array of that name.
-fn headers_of(alloc: Global, text: &str, name: &str) -> Result<Vec<usize>, AllocError>
-    ensures { IfOk result (λ numbers. numbers.items ≡ numbers_where (is_header_of name.now) 1 (lines text.now)) }
-{
+fn headers_of(alloc: Global, text: &str, name: &str) -> Result<Vec<usize>, AllocError> {
     let mut numbers = Vec::new(alloc);
     for (i, line) in text.lines().enumerate() {
         if is_header_of(line, name) {
-            numbers.push(i + 1)?;
+            numbers.push(i.saturating_add(1))?;
         }
     }
     Ok(numbers)
 }
 
 /// The lines of the table whose header has that number.
-fn table_from<'a>(alloc: Global, text: &'a str, first: usize) -> Result<Vec<&'a str>, AllocError>
-    ensures { IfOk result (λ table. map (λ line. line.now) table.items ≡ table_from (drop (first - 1) (lines text.now))) }
-{
+fn table_from<'a>(alloc: Global, text: &'a str, first: usize) -> Result<Vec<&'a str>, AllocError> {
     let mut table = Vec::new(alloc);
     for line in text.lines().skip(first.saturating_sub(1)) {
         if !table.is_empty() && is_header(line) {
@@ -66,26 +61,19 @@ fn table_from<'a>(alloc: Global, text: &'a str, first: usize) -> Result<Vec<&'a 
     Ok(table)
 }
 
-/// The header of that number, where there are as many.
-fn header_at(headers: &[usize], item: usize) -> Option<usize>
-    ensures { result ≡ slice_get headers.now item }
-{
+/// The header of that number, if there are as many.
+fn header_at(headers: &[usize], item: usize) -> Option<usize> {
     headers.get(item).copied()
 }
 
-/// The lines of the item of that number of an array of so many items, with its header. None where the file has not as many headers.
-///
-/// Source: own choice.
-#[tactic(auto, unfolding(crate::specs::Locating::section_at))]
+/// The lines of the item of that number of an array of that many items, with its header. None if the file has not as many headers.
 pub fn section_of<'a>(
     alloc: Global,
     text: &'a str,
     name: &str,
     item: usize,
     count: usize,
-) -> Result<Option<Section<'a>>, AllocError>
-    ensures { IfOk result (λ found. option_map section_view found ≡ section_at name.now item count (lines text.now)) }
-{
+) -> Result<Option<Section<'a>>, AllocError> {
     let headers = headers_of(alloc, text, name)?;
     if headers.len() != count {
         return Ok(None);
@@ -98,9 +86,7 @@ pub fn section_of<'a>(
 }
 
 /// The lines before the first table.
-fn lines_before_tables(alloc: Global, text: &str) -> Result<Vec<&str>, AllocError>
-    ensures { IfOk result (λ found. map (λ line. line.now) found.items ≡ before_first is_header (lines text.now)) }
-{
+fn lines_before_tables(alloc: Global, text: &str) -> Result<Vec<&str>, AllocError> {
     let mut found = Vec::new(alloc);
     for line in text.lines() {
         if is_header(line) {
@@ -112,112 +98,42 @@ fn lines_before_tables(alloc: Global, text: &str) -> Result<Vec<&str>, AllocErro
 }
 
 /// The top table: the lines before the first table.
-///
-/// Source: own choice.
-#[tactic(auto, unfolding(crate::specs::Locating::top_section))]
-pub fn top_section(alloc: Global, text: &str) -> Result<Section<'_>, AllocError>
-    ensures { IfOk result (λ section. section_view section ≡ top_section (lines text.now)) }
-{
+pub fn top_section(alloc: Global, text: &str) -> Result<Section<'_>, AllocError> {
     let lines = lines_before_tables(alloc, text)?;
     Ok(Section { first: 1, lines })
 }
 
 /// Whether a line gives a value to that key.
-fn sets(line: &str, key: &str) -> bool
-    ensures { result ≡ sets key.now line.now }
-{
+fn sets(line: &str, key: &str) -> bool {
     match behind(line, key) {
         None => false,
         Some(rest) => behind(rest, "=").is_some(),
     }
 }
 
-/// Whether the text stands somewhere in a line.
-fn has_text(line: &str, text: &str) -> bool
-    ensures { result ≡ has_text text.now line.now }
-{
-    line.contains(text)
-}
-
-/// Whether a line has that string, as a literal string or as a basic one.
-fn has_string(line: &str, plain: &str, escaped: &str) -> bool
-    ensures { result ≡ has_string plain.now escaped.now line.now }
-{
-    has_text(line, plain) || has_text(line, escaped)
-}
-
 impl Section<'_> {
     /// The number of its first line.
-    ///
-    /// Source: own choice.
-    pub fn header(&self) -> usize
-        ensures { result ≡ (section_view self.now).first }
-    {
+    pub fn header(&self) -> usize {
         self.first
     }
 
-    /// The number of the one line that gives a value to that key; none where no line does, or more than one.
-    ///
-    /// Source: own choice.
-    #[tactic(auto, unfolding(crate::specs::Locating::line_of_key))]
-    pub fn line_of_key(&self, key: &str) -> Option<usize>
-        ensures { result ≡ line_of_key key.now (section_view self.now) }
-    {
+    /// The number of the one line that gives a value to that key; none if no line does, or more than one.
+    pub fn line_of_key(&self, key: &str) -> Option<usize> {
         let mut found = None;
         for (i, line) in self.lines.iter().enumerate() {
             if sets(*line, key) {
                 if found.is_some() {
                     return None;
                 }
-                found = Some(self.first + i);
+                found = Some(self.first.saturating_add(i));
             }
         }
         found
     }
-
-    /// The number of the line that has a string of this text, where as many lines have it as are wanted, or one has it; the one of
-    /// that number among them.
-    ///
-    /// Source: own choice.
-    #[tactic(auto, unfolding(crate::specs::Locating::line_of_string))]
-    pub fn line_of_string(
-        &self,
-        alloc: Global,
-        text: &str,
-        number: usize,
-        count: usize,
-    ) -> Result<Option<usize>, AllocError>
-        ensures { IfOk result (λ line. line ≡ line_of_string text.now number count (section_view self.now)) }
-    {
-        let plain = format!(in alloc; "'{text}'")?;
-        let escaped = escaped_string(alloc, text)?;
-        let mut numbers = Vec::new(alloc);
-        for (i, line) in self.lines.iter().enumerate() {
-            if has_string(*line, plain.as_str(), escaped.as_str()) {
-                numbers.push(self.first + i)?;
-            }
-        }
-        Ok(among(&numbers, number, count))
-    }
 }
 
-/// Of the lines with a string that has to stand on so many lines, the one of that number; where one line alone has it, that one.
-fn among(numbers: &[usize], number: usize, count: usize) -> Option<usize>
-    ensures { result ≡ among numbers.now number count }
-{
-    if numbers.len() == 1 {
-        numbers.get(0).copied()
-    } else if numbers.len() == count {
-        numbers.get(number).copied()
-    } else {
-        None
-    }
-}
-
-/// Adds a character as it stands in a basic string of TOML.
-fn push_escaped(string: &mut String, c: char) -> Result<(), AllocError>
-    ensures { OnOk result (string_bytes string.new ≡ string_bytes string.old ++ escaped c) }
-{
+/// Adds a character as it is in a basic string of TOML.
+fn push_escaped(string: &mut String, c: char) -> Result<(), AllocError> {
     match c {
         '"' => string.push_str("\\\""),
         '\\' => string.push_str("\\\\"),
@@ -227,9 +143,13 @@ fn push_escaped(string: &mut String, c: char) -> Result<(), AllocError>
 }
 
 /// A text as a basic string of TOML.
-fn escaped_string(alloc: Global, text: &str) -> Result<String, AllocError>
-    ensures { IfOk result (λ string. string_bytes string ≡ basic_string text.now) }
-{
+///
+/// # Errors
+///
+/// When memory is refused.
+///
+/// Source: project rule.
+pub fn escaped_string(alloc: Global, text: &str) -> Result<String, AllocError> {
     let mut string = format!(in alloc; "\"")?;
     for c in text.chars() {
         push_escaped(&mut string, c)?;
@@ -238,37 +158,30 @@ fn escaped_string(alloc: Global, text: &str) -> Result<String, AllocError>
     Ok(string)
 }
 
-/// The lines of an item of a file. None where the file has not as many headers as items.
+/// The lines of an item of a file. None if the file has not as many headers as items.
 ///
 /// # Errors
 ///
-/// Where memory is refused.
-///
-/// Source: own choice.
-#[tactic(auto, using(taskscript::proofs::Keys::count_items_view))]
+/// If memory is refused.
 pub fn item_section<'a>(
     alloc: Global,
     text: &'a str,
     array: Array,
     item: usize,
     table: &Table,
-) -> Result<Option<Section<'a>>, AllocError>
-    ensures { IfOk result (λ found. option_map section_view found ≡ item_section (lines text.now) (table_view table.now) array item) }
-{
+) -> Result<Option<Section<'a>>, AllocError> {
     let count = items_at(table, array.key()).len();
     section_of(alloc, text, array.key(), item, count)
 }
 
-/// The line of a key of a table, or else that of the table, where the file shows it.
+/// The line of a key of a table, or else that of the table, if the file shows it.
 fn line_of_key_at(
     alloc: Global,
     text: &str,
     of: TablePlace,
     key: &str,
     table: &Table,
-) -> Result<Option<usize>, AllocError>
-    ensures { IfOk result (λ line. line ≡ line_of_key_at (lines text.now) (table_view table.now) key.now of) }
-{
+) -> Result<Option<usize>, AllocError> {
     match of {
         TablePlace::Top => {
             let top = top_section(alloc, text)?;
@@ -284,19 +197,15 @@ fn line_of_key_at(
     }
 }
 
-/// The line of a place of the tree, by its number from 1, where the file shows it: that of the key, else of the table's header. It is a line
+/// The line of a place of the tree, by its number from 1, if the file shows it: that of the key, else of the table's header. It is a line
 /// of the text.
-///
-/// Source: own choice.
 pub fn line_of_place(
     alloc: Global,
     text: &str,
     place: TreePlace,
     key: &str,
     table: &Table,
-) -> Result<Option<usize>, AllocError>
-    ensures { IfOk result (λ line. line ≡ line_of_place (lines text.now) (table_view table.now) key.now place) }
-{
+) -> Result<Option<usize>, AllocError> {
     match place {
         TreePlace::UnknownKey(of) | TreePlace::Key(of, _) => {
             line_of_key_at(alloc, text, of, key, table)

@@ -1,8 +1,4 @@
 //! The nearest of some texts, for proposals.
-ghost use Rattle.std.specs.Prelude.{◌≡◌, ◌<◌, ◌≤◌, ◌⊎◌, ◌++◌, [], All, Any, Contains, IfNone, IfOk, IfSome, IsSomeAnd, List, ℕ, codes, length};
-ghost use Rattle.std.specs.Borrow.{Bor};
-ghost use Rattle.std.specs.String.{string_bytes};
-ghost use Rattle.execadvice.specs.Near.{AreAlike, IsFar, IsNearest};
 
 use std::alloc::{AllocError, Global};
 use strsim::osa_distance;
@@ -11,11 +7,7 @@ use strsim::osa_distance;
 const LONGEST: usize = 40;
 
 /// The one of some texts that differs in upper and lower case alone.
-fn in_other_case<'a>(text: &str, among: &[&'a str]) -> Option<&'a str>
-    ensures known { IfSome result (Contains among.now) }
-    ensures alike { IfSome result (λ other. AreAlike text.now other.now) }
-    ensures none { IfNone result (All (λ other. ¬ AreAlike text.now other.now) among.now) }
-{
+fn in_other_case<'a>(text: &str, among: &[&'a str]) -> Option<&'a str> {
     for other in among {
         if text.eq_ignore_ascii_case(*other) {
             return Some(*other);
@@ -26,19 +18,11 @@ fn in_other_case<'a>(text: &str, among: &[&'a str]) -> Option<&'a str>
 
 /// The one of some texts that was likely meant: it differs in upper and lower case alone, or few edits lead to it, and to no other
 /// fewer. Two characters that changed places are one edit.
-///
-/// Source: own choice.
 pub fn nearest<'a>(
     alloc: Global,
     text: &str,
     among: &[&'a str],
-) -> Result<Option<&'a str>, AllocError>
-    ensures known { IfOk result (λ near. IfSome near (Contains among.now)) }
-    ensures near { IfOk result (λ near. IfSome near (λ other. AreAlike text.now other.now ⊎ IsNearest text.now among.now other.now)) }
-    ensures case { length text.now ≤ 40 → Any (λ other. AreAlike text.now other.now) among.now → IfOk result (λ near. IsSomeAnd near (λ other. AreAlike text.now other.now)) }
-    ensures none { length text.now ≤ 40 → IfOk result (λ near. IfNone near (All (λ other. IsFar text.now other.now) among.now)) }
-    ensures long { 40 < length text.now → IfOk result (λ near. near ≡ None) }
-{
+) -> Result<Option<&'a str>, AllocError> {
     if text.len() > LONGEST {
         return Ok(None);
     }
@@ -57,26 +41,18 @@ pub fn nearest<'a>(
     Ok(found)
 }
 
-/// The question that proposes a text, with what stands before and after it.
-fn question(alloc: Global, before: &str, text: &str, after: &str) -> Result<String, AllocError>
-    ensures { IfOk result (λ said. string_bytes said ≡ codes "; did you mean " ++ (before.now ++ (text.now ++ (after.now ++ codes "?")))) }
-{
+/// The question that proposes a text, with what is before and after it.
+fn question(alloc: Global, before: &str, text: &str, after: &str) -> Result<String, AllocError> {
     format!(in alloc; "; did you mean {before}{text}{after}?")
 }
 
-/// The question that proposes a text, with what stands before and after it, or nothing.
-///
-/// Source: own choice.
+/// The question that proposes a text, with what is before and after it, or nothing.
 pub fn proposal(
     alloc: Global,
     before: &str,
     near: Option<&str>,
     after: &str,
-) -> Result<String, AllocError>
-    ensures none { near.entry ≡ None → IfOk result (λ said. string_bytes said ≡ []) }
-    ensures some { (text : Bor (List ℕ)) → near.entry ≡ Some text
-        → IfOk result (λ said. string_bytes said ≡ codes "; did you mean " ++ (before.now ++ (text.now ++ (after.now ++ codes "?")))) }
-{
+) -> Result<String, AllocError> {
     match near {
         None => Ok(String::new(alloc)),
         Some(text) => question(alloc, before, text, after),

@@ -1,15 +1,12 @@
-//! The variables that lines read.
-ghost use Rattle.std.specs.Prelude.{◌≡◌, ◌++◌, IfOk, OnOk, map};
-ghost use Rattle.std.specs.List.{list_any};
-ghost use Rattle.execadvice.specs.Saying.{value_view};
-ghost use Rattle.execadvice.specs.Spoken.{spoken_view};
-ghost use Rattle.execadvice.specs.Warnings.{is_same_body, is_same_variable, is_target, read_among, read_at, read_view, reads_in, reads_of};
+//! The variables that lines read and that no line sets.
 
+use crate::code::is_same_body;
 use crate::limits::is_shared;
 use crate::show::{Span, field_span};
 use crate::spoken::Spoken;
-use execcheck::{LinePlace, Owner, is_variable};
+use execcheck::{LinePlace, is_variable};
 use std::alloc::{AllocError, Global};
+use std::collections::HashSet;
 
 /// A read of a variable, with the part of the line that reads it.
 #[derive(Drop)]
@@ -19,130 +16,117 @@ pub struct Read<'a> {
     pub name: &'a str,
 }
 
-/// Adds a part of a line, where it is a variable.
-fn push_read<'a>(
-    one: &Spoken<'a>,
-    part: usize,
-    field: &'a str,
-    reads: &mut Vec<Read<'a>>,
-) -> Result<(), AllocError>
-    ensures { OnOk result (map read_view reads.new.items ≡ map read_view reads.old.items ++ read_at (spoken_view one.now) (part, field.now)) }
-{
-    if is_variable(field.as_bytes()) {
-        reads.push(Read {
-            place: one.place,
-            span: field_span(one.line, part),
-            name: field,
-        })?;
+/// Some variables: private ones of one body, and shared ones of the file.
+#[derive(Drop)]
+struct Variables<'a> {
+    private: HashSet<&'a str>,
+    shared: HashSet<&'a str>,
+}
+
+impl<'a> Variables<'a> {
+    fn new(alloc: Global) -> Variables<'a> {
+        Variables {
+            private: HashSet::new(alloc),
+            shared: HashSet::new(alloc),
+        }
+    }
+
+    fn has(&self, name: &'a str) -> bool {
+        if is_shared(name) {
+            self.shared.contains(name)
+        } else {
+            self.private.contains(name)
+        }
+    }
+
+    fn add(&mut self, name: &'a str) -> Result<(), AllocError> {
+        if is_shared(name) {
+            self.shared.insert(name)?;
+        } else {
+            self.private.insert(name)?;
+        }
+        Ok(())
+    }
+
+    /// Forgets the private ones.
+    fn leave_body(&mut self, alloc: Global) {
+        self.private = HashSet::new(alloc);
+    }
+}
+
+/// Adds the shared variables that some lines set.
+fn add_shared<'a>(set: &mut Variables<'a>, all: &[Spoken<'a>]) -> Result<(), AllocError> {
+    for one in all {
+        if let Some(name) = one.said.target {
+            if is_shared(name) {
+                set.add(name)?;
+            }
+        }
     }
     Ok(())
 }
 
-/// Adds those of some parts that are variables.
-#[tactic(auto, using(crate::proofs::WarningTurns::parts_turn))]
-fn push_among<'a>(
-    one: &Spoken<'a>,
-    parts: &[(usize, &'a str)],
-    reads: &mut Vec<Read<'a>>,
-) -> Result<(), AllocError>
-    ensures { OnOk result (map read_view reads.new.items ≡ map read_view reads.old.items ++ read_among (spoken_view one.now) (map value_view parts.now)) }
-{
-    for (part, field) in parts {
-        push_read(one, *part, *field, reads)?;
+/// Adds the variables that the first of some lines and those after it in the same body set.
+fn add_body<'a>(
+    set: &mut Variables<'a>,
+    place: LinePlace,
+    lines: &[Spoken<'a>],
+) -> Result<(), AllocError> {
+    for one in lines {
+        if !is_same_body(place, one.place) {
+            return Ok(());
+        }
+        if let Some(name) = one.said.target {
+            set.add(name)?;
+        }
     }
     Ok(())
 }
 
-/// Adds what a line reads.
-#[tactic(auto, unfolding(crate::specs::Warnings::reads_of))]
-fn push_reads<'a>(
+/// Adds those parts of a line that are variables which are neither set nor seen, and then were seen.
+fn push_unset<'a>(
     alloc: Global,
     one: &Spoken<'a>,
+    set: &Variables<'a>,
+    seen: &mut Variables<'a>,
     reads: &mut Vec<Read<'a>>,
-) -> Result<(), AllocError>
-    ensures { OnOk result (map read_view reads.new.items ≡ map read_view reads.old.items ++ reads_of (spoken_view one.now)) }
-{
+) -> Result<(), AllocError> {
     let parts = one.said.read_values(alloc)?;
-    push_among(one, &parts, reads)
+    for (part, field) in &parts {
+        let name = *field;
+        if is_variable(name.as_bytes()) && !set.has(name) && !seen.has(name) {
+            seen.add(name)?;
+            reads.push(Read {
+                place: one.place,
+                span: field_span(one.line, *part),
+                name,
+            })?;
+        }
+    }
+    Ok(())
 }
 
-/// What some lines read, in their order.
+/// The first read of each variable that is never set, in the same body or, if it is shared, in any, in their order.
 ///
 /// # Errors
 ///
-/// Where memory is refused.
+/// When memory is refused.
 ///
-/// Source: own choice.
-#[tactic(auto, using(crate::proofs::WarningTurns::reads_turn))]
-pub fn reads_in<'a>(alloc: Global, all: &[Spoken<'a>]) -> Result<Vec<Read<'a>>, AllocError>
-    ensures { IfOk result (λ reads. map read_view reads.items ≡ reads_in (map spoken_view all.now)) }
-{
+/// Source: project rule.
+pub fn unset_reads<'a>(alloc: Global, all: &[Spoken<'a>]) -> Result<Vec<Read<'a>>, AllocError> {
+    let mut set = Variables::new(alloc);
+    let mut seen = Variables::new(alloc);
     let mut reads = Vec::new(alloc);
-    for one in all {
-        push_reads(alloc, one, &mut reads)?;
+    let mut last: Option<LinePlace> = None;
+    add_shared(&mut set, all)?;
+    for (i, one) in all.iter().enumerate() {
+        if !last.is_some_and(|last| is_same_body(last, one.place)) {
+            set.leave_body(alloc);
+            seen.leave_body(alloc);
+            add_body(&mut set, one.place, &all[i..])?;
+            last = Some(one.place);
+        }
+        push_unset(alloc, one, &set, &mut seen, &mut reads)?;
     }
     Ok(reads)
-}
-
-/// Whether two lines are of the same body.
-///
-/// Source: own choice.
-pub fn is_same_body(one: LinePlace, other: LinePlace) -> bool
-    ensures { result ≡ is_same_body one other }
-{
-    match (one.owner, other.owner) {
-        (Owner::Softint, Owner::Softint)
-        | (Owner::Server, Owner::Server)
-        | (Owner::Task, Owner::Task) => one.item == other.item,
-        _ => false,
-    }
-}
-
-/// Whether two reads are of one variable.
-fn is_same_variable(read: &Read<'_>, other: &Read<'_>) -> bool
-    ensures { result ≡ is_same_variable (read_view read.now) (read_view other.now) }
-{
-    read.name == other.name && (is_shared(read.name) || is_same_body(read.place, other.place))
-}
-
-/// Whether one of some reads is of the same variable.
-///
-/// Source: own choice.
-#[tactic(auto, using(crate::proofs::WarningTurns::read_turn))]
-pub fn is_read_among(reads: &[Read<'_>], read: &Read<'_>) -> bool
-    ensures { result ≡ list_any (is_same_variable (read_view read.now)) (map read_view reads.now) }
-{
-    for other in reads {
-        if is_same_variable(read, other) {
-            return true;
-        }
-    }
-    false
-}
-
-/// Whether a line has the variable of a read as its target.
-fn is_target(read: &Read<'_>, one: &Spoken<'_>) -> bool
-    ensures { result ≡ is_target (read_view read.now) (spoken_view one.now) }
-{
-    match one.said.target {
-        None => false,
-        Some(name) => {
-            read.name == name && (is_shared(read.name) || is_same_body(read.place, one.place))
-        }
-    }
-}
-
-/// Whether one of some lines has the variable of a read as its target.
-///
-/// Source: own choice.
-#[tactic(auto, using(crate::proofs::WarningTurns::target_turn))]
-pub fn is_set(all: &[Spoken<'_>], read: &Read<'_>) -> bool
-    ensures { result ≡ list_any (is_target (read_view read.now)) (map spoken_view all.now) }
-{
-    for one in all {
-        if is_target(read, one) {
-            return true;
-        }
-    }
-    false
 }

@@ -1,16 +1,12 @@
 //! Why a place of the tree is faulty, in one sentence.
-ghost use Rattle.std.specs.Prelude.{◌≡◌};
-ghost use Rattle.toml.specs.View.{table_view};
-ghost use Rattle.execadvice.specs.KeysTold.{key_at, members_at};
 
 use crate::near::{nearest, proposal};
 use crate::regions::regions_reason;
 use execcheck::{
-    Array, Key, LINE_LIMIT, Rule, TablePlace, TreePlace, Wanted, items_at, member, name_of,
-    text_at, top_rules, unknown_key,
+    Array, Key, Rule, TablePlace, TreePlace, Wanted, name_of, text_at, top_rules, unknown_key,
 };
 use std::alloc::{AllocError, Global};
-use taskscript::FileFault;
+use taskscript::{FileFault, LINE_LIMIT, items_at, member};
 use toml::{Table, Value};
 
 /// The keys that hold a value in a table of that place.
@@ -75,7 +71,7 @@ fn wanted_text(alloc: Global, wanted: Wanted) -> Result<String, AllocError> {
     }
 }
 
-/// What stands at a place.
+/// What is at a place.
 fn held_text(alloc: Global, value: &Value) -> Result<String, AllocError> {
     if let Some(z) = value.as_integer() {
         return format!(in alloc; "{z}");
@@ -137,7 +133,7 @@ fn item_named(table: &Table, array: Array, name: &str) -> Option<usize> {
     None
 }
 
-/// The arrays in which a name may stand before that of an item.
+/// The arrays in which a name may be before that of an item.
 fn named_arrays(place: TablePlace) -> &'static [Array] {
     match place {
         TablePlace::Item(Array::Library, _) => &[Array::Library],
@@ -145,7 +141,7 @@ fn named_arrays(place: TablePlace) -> &'static [Array] {
     }
 }
 
-/// Where a name stood before.
+/// Where a name was before.
 fn twice_reason(
     alloc: Global,
     place: TablePlace,
@@ -162,11 +158,8 @@ fn twice_reason(
     format!(in alloc; "the name \"{name}\" stands before")
 }
 
-/// The table of a place; where the item is no table, the top table.
-#[tactic(auto, using(crate::proofs::KeyTurns::item_held, crate::proofs::KeyTurns::no_item))]
-fn table_at<'a>(table: &'a Table, place: TablePlace) -> &'a Table
-    ensures { table_view result.now ≡ members_at (table_view table.now) place }
-{
+/// The table of a place; if the item is no table, the top table.
+fn table_at<'a>(table: &'a Table, place: TablePlace) -> &'a Table {
     let TablePlace::Item(array, item) = place else {
         return table;
     };
@@ -227,11 +220,7 @@ fn array_reason(
 }
 
 /// The text of the key of a place: of a table with a key that it may not have, the first such key. Of an array and of an item the empty text.
-///
-/// Source: own choice.
-pub fn key_at(place: TreePlace, table: &Table) -> &str
-    ensures { result.now ≡ key_at (table_view table.now) place }
-{
+pub fn key_at(place: TreePlace, table: &Table) -> &str {
     match place {
         TreePlace::UnknownKey(of) => match unknown_key(of, table_at(table, of)) {
             None => "",
@@ -243,8 +232,6 @@ pub fn key_at(place: TreePlace, table: &Table) -> &str
 }
 
 /// Why a place of the tree is faulty.
-///
-/// Source: own choice.
 pub fn tree_reason(
     alloc: Global,
     place: TreePlace,

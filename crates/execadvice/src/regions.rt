@@ -1,25 +1,16 @@
 //! Why the regions of a file are refused all together.
-ghost use Rattle.std.specs.Prelude.{◌≡◌, ◌+◌, ◌^◌, ◌<◌, IfOk, length, option_map, pos, unsigned_abs};
-ghost use Rattle.std.specs.String.{string_bytes};
-ghost use Rattle.toml.specs.Data.{get_member};
-ghost use Rattle.toml.specs.View.{table_view, view};
-ghost use Rattle.memlist.specs.Regions.{overlaps, region_end};
-ghost use Rattle.taskscript.specs.File.{total_of, version_of};
-ghost use Rattle.taskscript.specs.Tree.{integer_or, members_or_none};
-ghost use Rattle.execadvice.specs.RegionsTold.{beyond, bytes_of, end_text, first_of, first_overlap, held_between, overlap_text, overlapped, region_told, regions_reason, regions_told, too_many_bytes, unfit};
 
-use execcheck::{items_at, member, total_at};
+use execcheck::total_at;
 use memlist::{MEM_BLOCKSIZE, Region};
 use std::alloc::{AllocError, Global};
+use taskscript::{items_at, member};
 use toml::{Table, Value};
 
 /// The address that no region goes past.
 const REACH: u64 = 2_147_483_648;
 
 /// The number that the key of a region holds, or another.
-fn number_in(value: &Value, key: &str, otherwise: i64) -> i64
-    ensures { result ≡ integer_or otherwise (get_member key.now (members_or_none (view value.now))) }
-{
+fn number_in(value: &Value, key: &str, otherwise: i64) -> i64 {
     match value.as_table() {
         None => otherwise,
         Some(table) => match member(table, key) {
@@ -33,18 +24,14 @@ fn number_in(value: &Value, key: &str, otherwise: i64) -> i64
 }
 
 /// The address that the key of a region holds, or 0.
-fn address_in(value: &Value, key: &str) -> u32
-    ensures { result ≡ unsigned_abs (held_between (pos 0) (pos 4294967295) (pos 0) key.now (view value.now)) }
-{
+fn address_in(value: &Value, key: &str) -> u32 {
     number_in(value, key, 0)
         .clamp(0, 4_294_967_295)
         .unsigned_abs() as u32
 }
 
 /// A region, with what its reasons need: its base and its size.
-fn region_told(value: &Value) -> Region
-    ensures { result ≡ region_told (view value.now) }
-{
+fn region_told(value: &Value) -> Region {
     Region {
         base: address_in(value, "base"),
         size: address_in(value, "size"),
@@ -54,10 +41,7 @@ fn region_told(value: &Value) -> Region
 }
 
 /// The regions of a file.
-#[tactic(auto, using(crate::proofs::RegionTurns::regions_turn))]
-fn regions_of(alloc: Global, table: &Table) -> Result<Vec<Region>, AllocError>
-    ensures { IfOk result (λ regions. regions.items ≡ regions_told (table_view table.now)) }
-{
+fn regions_of(alloc: Global, table: &Table) -> Result<Vec<Region>, AllocError> {
     let mut regions = Vec::new(alloc);
     for value in items_at(table, "region") {
         regions.push(region_told(value))?;
@@ -66,9 +50,7 @@ fn regions_of(alloc: Global, table: &Table) -> Result<Vec<Region>, AllocError>
 }
 
 /// Which rule a region breaks by itself.
-fn unfit(alloc: Global, number: usize, region: Region) -> Result<Option<String>, AllocError>
-    ensures { IfOk result (λ reason. option_map (λ it. string_bytes it) reason ≡ unfit number region) }
-{
+fn unfit(alloc: Global, number: usize, region: Region) -> Result<Option<String>, AllocError> {
     let (base, size) = (region.base, region.size);
     let reason = if base % MEM_BLOCKSIZE != 0 {
         format!(in alloc; "region {number}: its base {base} is no multiple of 8")?
@@ -85,10 +67,7 @@ fn unfit(alloc: Global, number: usize, region: Region) -> Result<Option<String>,
 }
 
 /// The first region that breaks a rule by itself.
-#[tactic(auto, using(crate::proofs::RegionTurns::reason_turn))]
-fn first_unfit(alloc: Global, regions: &[Region]) -> Result<Option<String>, AllocError>
-    ensures { IfOk result (λ reason. option_map (λ it. string_bytes it) reason ≡ first_of unfit 1 regions.now) }
-{
+fn first_unfit(alloc: Global, regions: &[Region]) -> Result<Option<String>, AllocError> {
     for (i, region) in regions.iter().enumerate() {
         if let Some(reason) = unfit(alloc, i + 1, *region)? {
             return Ok(Some(reason));
@@ -98,9 +77,7 @@ fn first_unfit(alloc: Global, regions: &[Region]) -> Result<Option<String>, Allo
 }
 
 /// The bytes of all regions together.
-fn bytes_of(regions: &[Region]) -> u64
-    ensures { result ≡ bytes_of regions.now }
-{
+fn bytes_of(regions: &[Region]) -> u64 {
     let mut total = 0u64;
     for region in regions {
         total = total.saturating_add(u64::from(region.size));
@@ -109,9 +86,7 @@ fn bytes_of(regions: &[Region]) -> u64
 }
 
 /// Whether they have more bytes than there may be.
-fn too_many_bytes(alloc: Global, most: u64, total: u64) -> Result<Option<String>, AllocError>
-    ensures { IfOk result (λ reason. option_map (λ it. string_bytes it) reason ≡ too_many_bytes most total) }
-{
+fn too_many_bytes(alloc: Global, most: u64, total: u64) -> Result<Option<String>, AllocError> {
     if total > most {
         Ok(Some(format!(in alloc;
             "the regions have {total} bytes together; there are at most {most}"
@@ -122,23 +97,17 @@ fn too_many_bytes(alloc: Global, most: u64, total: u64) -> Result<Option<String>
 }
 
 /// The address after the last byte of a region.
-fn end_of(region: Region) -> u64
-    ensures { result ≡ region_end region }
-{
+fn end_of(region: Region) -> u64 {
     u64::from(region.base) + u64::from(region.size)
 }
 
 /// That a region ends at that address.
-fn end_text(alloc: Global, number: usize, end: u64) -> Result<String, AllocError>
-    ensures { IfOk result (λ text. string_bytes text ≡ end_text number end) }
-{
+fn end_text(alloc: Global, number: usize, end: u64) -> Result<String, AllocError> {
     format!(in alloc; "region {number}: it ends at {end}, past 2147483648")
 }
 
 /// Whether a region ends past what there may be.
-fn beyond(alloc: Global, number: usize, region: Region) -> Result<Option<String>, AllocError>
-    ensures { IfOk result (λ reason. option_map (λ it. string_bytes it) reason ≡ beyond number region) }
-{
+fn beyond(alloc: Global, number: usize, region: Region) -> Result<Option<String>, AllocError> {
     let end = end_of(region);
     if end <= REACH {
         return Ok(None);
@@ -148,10 +117,7 @@ fn beyond(alloc: Global, number: usize, region: Region) -> Result<Option<String>
 }
 
 /// The first region that ends past what there may be.
-#[tactic(auto, using(crate::proofs::RegionTurns::reason_turn))]
-fn first_beyond(alloc: Global, regions: &[Region]) -> Result<Option<String>, AllocError>
-    ensures { IfOk result (λ reason. option_map (λ it. string_bytes it) reason ≡ first_of beyond 1 regions.now) }
-{
+fn first_beyond(alloc: Global, regions: &[Region]) -> Result<Option<String>, AllocError> {
     for (i, region) in regions.iter().enumerate() {
         if let Some(reason) = beyond(alloc, i + 1, *region)? {
             return Ok(Some(reason));
@@ -161,38 +127,28 @@ fn first_beyond(alloc: Global, regions: &[Region]) -> Result<Option<String>, All
 }
 
 /// Whether two regions overlap.
-fn overlaps(one: Region, other: Region) -> bool
-    ensures { result ≡ overlaps one other }
-{
+fn overlaps(one: Region, other: Region) -> bool {
     u64::from(one.base) < u64::from(other.base) + u64::from(other.size)
         && u64::from(other.base) < u64::from(one.base) + u64::from(one.size)
 }
 
 /// That two regions overlap.
-fn overlap_text(alloc: Global, one: usize, number: usize) -> Result<String, AllocError>
-    ensures { IfOk result (λ text. string_bytes text ≡ overlap_text one number) }
-{
+fn overlap_text(alloc: Global, one: usize, number: usize) -> Result<String, AllocError> {
     format!(in alloc; "regions {one} and {number} overlap")
 }
 
-/// The number of a region that stands so many places behind the one after that.
-fn number_behind(one: usize, places: usize) -> usize
-    ensures { one + places + 1 < 2 ^ 64 → result ≡ one + 1 + places }
-{
+/// The number of a region that is that many places after the one after that.
+fn number_behind(one: usize, places: usize) -> usize {
     one.saturating_add(places).saturating_add(1)
 }
 
-/// The first of the regions behind one that overlaps it.
-#[tactic(auto, using(crate::proofs::RegionTurns::overlapped_turn))]
+/// The first of the regions after one that overlaps it.
 fn overlapped(
     alloc: Global,
     one: usize,
     region: Region,
     others: &[Region],
-) -> Result<Option<String>, AllocError>
-    ensures { one + length others.now < 2 ^ 64
-        → IfOk result (λ reason. option_map (λ it. string_bytes it) reason ≡ overlapped one region (one + 1) others.now) }
-{
+) -> Result<Option<String>, AllocError> {
     for (k, other) in others.iter().enumerate() {
         if overlaps(region, *other) {
             let text = overlap_text(alloc, one, number_behind(one, k))?;
@@ -203,10 +159,7 @@ fn overlapped(
 }
 
 /// The first two regions that overlap.
-#[tactic(auto, using(crate::proofs::RegionTurns::overlap_turn))]
-fn first_overlap(alloc: Global, regions: &[Region]) -> Result<Option<String>, AllocError>
-    ensures { IfOk result (λ reason. option_map (λ it. string_bytes it) reason ≡ first_overlap 1 regions.now) }
-{
+fn first_overlap(alloc: Global, regions: &[Region]) -> Result<Option<String>, AllocError> {
     for (i, region) in regions.iter().enumerate() {
         if let Some(reason) = overlapped(alloc, i + 1, *region, &regions[i + 1..])? {
             return Ok(Some(reason));
@@ -220,13 +173,8 @@ fn first_overlap(alloc: Global, regions: &[Region]) -> Result<Option<String>, Al
 ///
 /// # Errors
 ///
-/// Where memory is refused.
-///
-/// Source: own choice.
-pub fn regions_reason(alloc: Global, table: &Table) -> Result<String, AllocError>
-    ensures { let tree = table_view table.now in
-        IfOk result (λ reason. string_bytes reason ≡ regions_reason (total_of (version_of tree)) (regions_told tree)) }
-{
+/// If memory is refused.
+pub fn regions_reason(alloc: Global, table: &Table) -> Result<String, AllocError> {
     let regions = regions_of(alloc, table)?;
     if let Some(reason) = first_unfit(alloc, &regions)? {
         return Ok(reason);

@@ -1,40 +1,26 @@
 //! Mistakes of a line that are seen before its words: spaces, tabs, commas and comments.
-ghost use Rattle.std.specs.Prelude.{◌≡◌, ◌==◌, IfOk, is_some, nat_eq, option_map};
-ghost use Rattle.std.specs.List.{ends_with, position_from};
-ghost use Rattle.std.specs.Option.{option_or};
-ghost use Rattle.std.specs.Str.{chars};
-ghost use Rattle.execadvice.specs.Limits.{texts};
-ghost use Rattle.execadvice.specs.Misspaced.{foreign_in, is_comment, is_foreign, is_nothing, misspaced, space_in};
 
 use crate::show::{Advice, Span, field_span};
 use execcheck::fields_of;
 use std::alloc::{AllocError, Global};
 
 /// The place of the first such character of a line.
-fn first_of(line: &str, wanted: char) -> Option<usize>
-    ensures { result ≡ position_from (λ c. c == wanted) 0 (chars line.now) }
-{
+fn first_of(line: &str, wanted: char) -> Option<usize> {
     line.chars().position(|c| c == wanted)
 }
 
 /// Whether a part begins as a comment does.
-fn is_comment(part: &str) -> bool
-    ensures { result ≡ is_comment part.now }
-{
+fn is_comment(part: &str) -> bool {
     part.starts_with("#") || part.starts_with(";") || part.starts_with("//")
 }
 
 /// Whether a part has that text at its end.
-fn has_at_end(part: &str, text: &str) -> bool
-    ensures { result ≡ ends_with nat_eq part.now text.now }
-{
+fn has_at_end(part: &str, text: &str) -> bool {
     part.ends_with(text)
 }
 
 /// What a part is that no line has, if it is one: a comment, or one with a comma or a semicolon at its end.
-fn reason_of(part: &str) -> Option<&'static str>
-    ensures { is_some result ≡ is_foreign part.now }
-{
+fn reason_of(part: &str) -> Option<&'static str> {
     if is_comment(part) {
         Some("a line of code has no comment; a comment of the file stands behind the string")
     } else if has_at_end(part, ",") {
@@ -47,10 +33,7 @@ fn reason_of(part: &str) -> Option<&'static str>
 }
 
 /// The first part that no line has, by its number, and what it is.
-#[tactic(auto, using(crate::proofs::SpacingTurns::foreign_turn))]
-fn first_foreign(parts: &[&str]) -> Option<(usize, &'static str)>
-    ensures { option_map (λ it. it.0) result ≡ position_from is_foreign 0 (texts parts.now) }
-{
+fn first_foreign(parts: &[&str]) -> Option<(usize, &'static str)> {
     for (i, part) in parts.iter().enumerate() {
         if let Some(reason) = reason_of(*part) {
             return Some((i, reason));
@@ -60,17 +43,12 @@ fn first_foreign(parts: &[&str]) -> Option<(usize, &'static str)>
 }
 
 /// Whether a part has nothing in it.
-fn is_nothing(part: &str) -> bool
-    ensures { result ≡ is_nothing part.now }
-{
+fn is_nothing(part: &str) -> bool {
     part.is_empty()
 }
 
 /// The number of the first part with nothing in it.
-#[tactic(auto, using(crate::proofs::SpacingTurns::nothing_turn))]
-fn first_nothing(parts: &[&str]) -> Option<usize>
-    ensures { result ≡ position_from is_nothing 0 (texts parts.now) }
-{
+fn first_nothing(parts: &[&str]) -> Option<usize> {
     for (i, part) in parts.iter().enumerate() {
         if is_nothing(*part) {
             return Some(i);
@@ -79,7 +57,7 @@ fn first_nothing(parts: &[&str]) -> Option<usize>
     None
 }
 
-/// Why no space may stand there.
+/// Why no space may be there.
 fn space_reason(line: &str, start: usize) -> &'static str {
     if line.is_empty() {
         "an empty line says nothing: leave it out"
@@ -93,9 +71,7 @@ fn space_reason(line: &str, start: usize) -> &'static str {
 }
 
 /// What is wrong with the parts of a line: the first that no line has, or else a space that separates nothing.
-fn parts_advice(alloc: Global, line: &str) -> Result<Option<Advice>, AllocError>
-    ensures { IfOk result (λ advice. option_map (λ it. it.span) advice ≡ option_or (foreign_in line.now) (space_in line.now)) }
-{
+fn parts_advice(alloc: Global, line: &str) -> Result<Option<Advice>, AllocError> {
     let parts = fields_of(alloc, line)?;
     if let Some((part, reason)) = first_foreign(&parts) {
         return Ok(Some(Advice::new(alloc, field_span(line, part), reason)?));
@@ -110,17 +86,12 @@ fn parts_advice(alloc: Global, line: &str) -> Result<Option<Advice>, AllocError>
 
 /// What is wrong with a line before its words are looked at, and where: the first tab; or else the first part that begins as a comment
 /// (`#`, `;` or `//`) or has a comma or a semicolon at its end; or else the first space that separates nothing, as one does at the
-/// beginning, at the end, behind another, or where the line is empty. None where there is none of these.
+/// beginning, at the end, after another, or if the line is empty. None if there is none of these.
 ///
 /// # Errors
 ///
-/// Where memory is refused.
-///
-/// Source: own choice.
-#[tactic(auto, unfolding(crate::specs::Misspaced::misspaced))]
-pub fn spacing_advice(alloc: Global, line: &str) -> Result<Option<Advice>, AllocError>
-    ensures { IfOk result (λ advice. option_map (λ it. it.span) advice ≡ misspaced line.now) }
-{
+/// If memory is refused.
+pub fn spacing_advice(alloc: Global, line: &str) -> Result<Option<Advice>, AllocError> {
     match first_of(line, '\t') {
         Some(start) => {
             let reason = "a tab stands here; one space separates the parts of a line";

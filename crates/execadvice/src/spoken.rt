@@ -1,12 +1,9 @@
 //! The lines of a file that have a word.
-ghost use Rattle.std.specs.Prelude.{◌≡◌, ◌++◌, IfOk, OnOk, map};
-ghost use Rattle.toml.specs.View.{items_view, table_view};
-ghost use Rattle.taskscript.specs.Code.{lines_in};
-ghost use Rattle.execadvice.specs.Spoken.{spoken_at, spoken_bodies, spoken_in, spoken_lines, spoken_view};
 
 use crate::said::{Said, said_by};
-use execcheck::{LinePlace, Owner, items_at, line_in, lines_of};
+use execcheck::{LinePlace, Owner};
 use std::alloc::{AllocError, Global};
+use taskscript::{items_at, line_in, lines_of};
 use toml::{Table, Value};
 
 /// A line of a file that has a word.
@@ -17,16 +14,13 @@ pub struct Spoken<'a> {
     pub said: Said<'a>,
 }
 
-/// Adds a line, where it has a word.
-#[tactic(auto, unfolding(crate::specs::Spoken::spoken_at))]
+/// Adds a line, if it has a word.
 fn push_spoken<'a>(
     alloc: Global,
     place: LinePlace,
     line: &'a str,
     all: &mut Vec<Spoken<'a>>,
-) -> Result<(), AllocError>
-    ensures { OnOk result (map spoken_view all.new.items ≡ map spoken_view all.old.items ++ spoken_at place line.now) }
-{
+) -> Result<(), AllocError> {
     if let Some(said) = said_by(alloc, line)? {
         all.push(Spoken { place, line, said })?;
     }
@@ -34,16 +28,13 @@ fn push_spoken<'a>(
 }
 
 /// Adds the lines of one body that have a word.
-#[tactic(auto, using(crate::proofs::SpokenTurns::line_turn))]
 fn add_lines<'a>(
     alloc: Global,
     owner: Owner,
     item: usize,
     lines: &'a [Value],
     all: &mut Vec<Spoken<'a>>,
-) -> Result<(), AllocError>
-    ensures { OnOk result (map spoken_view all.new.items ≡ map spoken_view all.old.items ++ spoken_lines owner item 0 (lines_in (items_view lines.now))) }
-{
+) -> Result<(), AllocError> {
     for (k, value) in lines.iter().enumerate() {
         let place = LinePlace {
             owner,
@@ -56,15 +47,12 @@ fn add_lines<'a>(
 }
 
 /// Adds the lines of the bodies of an array that have a word.
-#[tactic(auto, using(crate::proofs::SpokenTurns::body_turn))]
 fn add_bodies<'a>(
     alloc: Global,
     owner: Owner,
     bodies: &'a [Value],
     all: &mut Vec<Spoken<'a>>,
-) -> Result<(), AllocError>
-    ensures { OnOk result (map spoken_view all.new.items ≡ map spoken_view all.old.items ++ spoken_bodies owner 0 (items_view bodies.now)) }
-{
+) -> Result<(), AllocError> {
     for (item, value) in bodies.iter().enumerate() {
         add_lines(alloc, owner, item, lines_of(value), all)?;
     }
@@ -75,12 +63,8 @@ fn add_bodies<'a>(
 ///
 /// # Errors
 ///
-/// Where memory is refused.
-///
-/// Source: own choice.
-pub fn spoken_in(alloc: Global, table: &Table) -> Result<Vec<Spoken<'_>>, AllocError>
-    ensures { IfOk result (λ all. map spoken_view all.items ≡ spoken_in (table_view table.now)) }
-{
+/// If memory is refused.
+pub fn spoken_in(alloc: Global, table: &Table) -> Result<Vec<Spoken<'_>>, AllocError> {
     let mut all = Vec::new(alloc);
     add_bodies(alloc, Owner::Softint, items_at(table, "softint"), &mut all)?;
     add_bodies(alloc, Owner::Server, items_at(table, "server"), &mut all)?;

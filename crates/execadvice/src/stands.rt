@@ -1,50 +1,19 @@
-//! Lines that may not stand in the body of an interrupt.
-ghost use Rattle.std.specs.Prelude.{◌≡◌, IfOk, map, option_map};
-ghost use Rattle.toml.specs.View.{items_view};
-ghost use Rattle.taskscript.specs.Code.{lines_in};
-ghost use Rattle.taskscript.specs.Interrupting.{is_word_of_interrupt};
-ghost use Rattle.execadvice.specs.Misplaced.{first_private, is_private, misplaced, misplaced_part};
-ghost use Rattle.execadvice.specs.Saying.{values_in};
-ghost use Rattle.execadvice.specs.Told.{first_told, span_of, told};
+//! Lines that may not be in the body of an interrupt.
 
 use crate::labels::Found;
 use crate::said::{Said, label_of, said_by};
 use crate::show::{Advice, field_span};
-use execcheck::{is_variable, line_in};
+use execcheck::is_variable;
 use std::alloc::{AllocError, Global};
-use taskscript::{PlainWord, PortWord, SignalWord, Word};
+use taskscript::{is_word_of_interrupt, line_in};
 use toml::Value;
 
 /// The words that the body of an interrupt may have.
 const WORDS_OF_INTERRUPTS: &str =
     "Set, Add, Sub, And, Or, Print, Signal, Cause, PutMsg, GetMsg and ReplyMsg";
 
-/// Whether the body of an interrupt may have that word.
-fn is_word_of_interrupt(word: Word) -> bool
-    ensures { result ≡ is_word_of_interrupt word }
-{
-    match word {
-        Word::Plain(word) => match word {
-            PlainWord::Jump | PlainWord::JumpZ | PlainWord::JumpNZ => false,
-            _ => true,
-        },
-        Word::Signals(word) => match word {
-            SignalWord::Signal => true,
-            _ => false,
-        },
-        Word::Ports(word) => match word {
-            PortWord::PutMsg | PortWord::GetMsg | PortWord::ReplyMsg => true,
-            _ => false,
-        },
-        Word::Interrupts(_) => true,
-        _ => false,
-    }
-}
-
 /// Whether a part is a variable with no `@` before it.
-fn is_private(field: &str) -> bool
-    ensures { result ≡ is_private field.now }
-{
+fn is_private(field: &str) -> bool {
     match field.as_bytes() {
         [] => false,
         [b'@', ..] => false,
@@ -53,14 +22,10 @@ fn is_private(field: &str) -> bool
 }
 
 /// The first private variable of a line, with the number of its field.
-#[tactic(auto, using(crate::proofs::ToldTurns::private_turn))]
 fn private_variable<'a>(
     alloc: Global,
     said: &Said<'a>,
-) -> Result<Option<(usize, &'a str)>, AllocError>
-    ensures { IfOk result (λ found. option_map (λ v. v.0) found
-        ≡ first_private (values_in said.now.word (option_map (λ it. it.now) said.now.target) (map (λ it. it.now) said.now.arguments.items))) }
-{
+) -> Result<Option<(usize, &'a str)>, AllocError> {
     let values = said.values(alloc)?;
     for (place, field) in &values {
         if is_private(*field) {
@@ -70,11 +35,8 @@ fn private_variable<'a>(
     Ok(None)
 }
 
-/// Why a line with a word may not stand in the body of an interrupt, if it may not.
-fn word_advice(alloc: Global, line: &str, said: &Said<'_>) -> Result<Option<Advice>, AllocError>
-    ensures { IfOk result (λ advice. option_map (λ it. it.span) advice ≡ option_map (span_of line.now)
-        (misplaced_part said.now.word (option_map (λ it. it.now) said.now.target) (map (λ it. it.now) said.now.arguments.items))) }
-{
+/// Why a line with a word may not be in the body of an interrupt, if it may not.
+fn word_advice(alloc: Global, line: &str, said: &Said<'_>) -> Result<Option<Advice>, AllocError> {
     if !is_word_of_interrupt(said.word) {
         let text = said.word.text();
         let allowed = WORDS_OF_INTERRUPTS;
@@ -100,10 +62,8 @@ fn word_advice(alloc: Global, line: &str, said: &Said<'_>) -> Result<Option<Advi
     }
 }
 
-/// Why a line may not stand in the body of an interrupt, if it may not.
-fn interrupt_advice(alloc: Global, line: &str) -> Result<Option<Advice>, AllocError>
-    ensures { IfOk result (λ advice. option_map (λ it. it.span) advice ≡ option_map (span_of line.now) (misplaced line.now)) }
-{
+/// Why a line may not be in the body of an interrupt, if it may not.
+fn interrupt_advice(alloc: Global, line: &str) -> Result<Option<Advice>, AllocError> {
     if label_of(line).is_some() {
         let reason = "the code of an interrupt has no label";
         return Ok(Some(Advice::new(alloc, field_span(line, 0), reason)?));
@@ -114,18 +74,13 @@ fn interrupt_advice(alloc: Global, line: &str) -> Result<Option<Advice>, AllocEr
     }
 }
 
-/// The first line of the body of an interrupt that may not stand there, by its number from 0, with the part for which it may not, and
-/// why: it is a label, its word is none that an interrupt may have, or the part is a private variable. None where all may.
+/// The first line of the body of an interrupt that may not be there, by its number from 0, with the part for which it may not, and
+/// why: it is a label, its word is none that an interrupt may have, or the part is a private variable. None if all may.
 ///
 /// # Errors
 ///
-/// Where memory is refused.
-///
-/// Source: own choice.
-#[tactic(auto, using(crate::proofs::ToldTurns::told_turn))]
-pub fn not_in_interrupt(alloc: Global, lines: &[Value]) -> Result<Option<Found>, AllocError>
-    ensures { IfOk result (λ found. option_map told found ≡ first_told misplaced 0 (lines_in (items_view lines.now))) }
-{
+/// If memory is refused.
+pub fn not_in_interrupt(alloc: Global, lines: &[Value]) -> Result<Option<Found>, AllocError> {
     for (i, item) in lines.iter().enumerate() {
         if let Some(advice) = interrupt_advice(alloc, line_in(item))? {
             return Ok(Some(Found { line: i, advice }));

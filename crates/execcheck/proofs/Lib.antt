@@ -1,3 +1,4 @@
+-- The lemma files of `execcheck`.
 pub mod CommandTurns
 pub mod FaultTurns
 pub mod LineLaws

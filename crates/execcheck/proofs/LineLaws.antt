@@ -1,4 +1,4 @@
--- The faults of the places of a file are its faults; and where that of its first faulty line is BadCommand, it is the first line that says no command.
+-- The faults of the places of a file are its faults; and if that of its first faulty line is BadCommand, it is the first line that says no command.
 use Rattle.std.proofs.Common.{◌≡◌, ℕ, ◌+◌, Bool, true, false, not, List, [], ◌∷◌, ◌++◌, length, map, Option, Some, None, option_map, nat_le, cond, refl, sym, ap, ◌∙◌, append_assoc, subst}
 use Rattle.std.specs.Prelude.{bytes_eq}
 use Rattle.std.specs.List.{flat_map, list_all, list_any}
@@ -95,7 +95,7 @@ abbrev is_bad_command : Option FileFault → Bool
 is_bad_command (Some BadCommand) = true
 is_bad_command _ = false
 
--- what the first of some places is to be, by the first line without a command: that line where it is BadCommand, and else there is no such line before it
+-- what the first of some places is to be, by the first line without a command: that line if it is BadCommand, and else there is no such line before it
 abbrev Fits : Option PlacedFault → Option LinePlace → Type 0
 Fits None line = line ≡ None
 Fits (Some found) line = found.fault ≡ BadCommand → option_map Line line ≡ Some found.place

@@ -1,4 +1,4 @@
--- A line has a mistake just where it says nothing, or names a software interrupt that the file lacks.
+-- A line has a mistake exactly if it says nothing, or names a software interrupt that the file lacks.
 use Rattle.std.proofs.Common.{◌≡◌, ℕ, ◌+◌, Bool, true, false, not, ◌&&◌, cond, List, [], ◌∷◌, Option, Some, None, option_map, refl, sym, ap, ◌∙◌}
 use Rattle.std.specs.Prelude.{is_some}
 use Rattle.std.specs.Option.{option_or}
@@ -46,7 +46,7 @@ arguments_law s at [] (f ∷ fs) = refl
 arguments_law s at (k ∷ ks) [] = refl
 arguments_law s at (k ∷ ks) (f ∷ fs) = arguments_step s at k ks (argument_of k f) (wrong_argument s (at + 1) ks fs) (arguments_of ks fs) (arguments_law s (at + 1) ks fs)
 
--- the command of a word, its target and the arguments, where there are some
+-- the command of a word, its target and the arguments, if there are some
 abbrev command_from : Word → Option NamedVariableData → Option (List NamedArgumentData) → Option NamedCommandData
 command_from w v found = found >>= λ arguments. Some (record { word = w; target = v; arguments = arguments })
 

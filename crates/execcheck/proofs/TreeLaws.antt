@@ -40,7 +40,7 @@ rules_law : (of : TablePlace) (before : List (List ℕ)) (tree : Members) (rs : 
 rules_law of before tree [] = refl
 rules_law of before tree (r ∷ rs) = both (place.Key of r.key) (rule_faults before tree r) (flat_map (rule_faults before tree) rs) (rules_found of before tree rs) (rules_law of before tree rs)
 
--- the faults of some keys, with nothing behind the last one
+-- the faults of some keys, with nothing after the last one
 abbrev joined_from : (Rule → List FileFault) → Rule → List Rule → List FileFault
 joined_from judge r [] = judge r
 joined_from judge r (s ∷ rs) = judge r ++ joined_from judge s rs
@@ -141,7 +141,7 @@ no_more : {X : Type 0} (o : Option X) → option_or o None ≡ o
 no_more None = refl
 no_more (Some x) = refl
 
--- the fault of the regions, where none is faulty by itself, is that of all together
+-- the fault of the regions, if none is faulty by itself, is that of all together
 pub regions_turn : (tree : Members) (o : Option FileFault) → first (array_in Region [] tree) ≡ None → first (regions_faults (total_of (version_of tree)) tree) ≡ o
     → option_map (with_fault (place.Array Region)) o ≡ first (array_in Region [] tree ++ regions_found tree)
 regions_turn tree o none is =

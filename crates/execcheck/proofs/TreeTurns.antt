@@ -34,7 +34,7 @@ pub first_at : (spot : TreePlace) (fs : List FileFault) (rest : List TreeFault) 
 first_at spot [] rest = refl
 first_at spot (f ∷ fs) rest = refl
 
--- the first is that of the first list, where it has one, or else that of the second
+-- the first is that of the first list, if it has one, or else that of the second
 pub first_stays : {F : Type 0} (a b : List F) (o : Option F) → o ≡ first a → is_some o ≡ true → o ≡ first (a ++ b)
 first_stays [] b o h is = let no : false ≡ true = sym (ap is_some h) ∙ is in absurd cc
 first_stays (f ∷ a) b o h is = h

@@ -1,4 +1,4 @@
--- The place of a file at which its fault stands: its first faulty place.
+-- The place of a file at which its fault is: its first faulty place.
 use Rattle.std.specs.Prelude.{Option, Some, None, option_map, Result, Ok, Err}
 use Rattle.toml.specs.Data.{Members}
 use Rattle.taskscript.specs.declared.fault.FileFault.{FileFault}

@@ -13,7 +13,7 @@ says_no_command softints None = true
 says_no_command softints (Some (label_line name)) = false
 says_no_command softints (Some (command_line c)) = not (are_known softints (softints_named_by c))
 
--- the number of the first line of which a test holds, where the next one has the number `at`
+-- the number of the first line of which a test holds, if the next one has the number `at`
 abbrev pub first_line : (Option LineData → Bool) → ℕ → List (List ℕ) → Option ℕ
 first_line test at [] = None
 first_line test at (line ∷ others) = if test (says line) then Some at else first_line test (at + 1) others

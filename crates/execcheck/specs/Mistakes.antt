@@ -15,12 +15,12 @@ use Rattle.execcheck.specs.declared.mistake.Mistake.TheVariants.{NoWord, Unknown
 abbrev pub are_known : List (List ℕ) → List (List ℕ) → Bool
 are_known softints names = list_all (λ name. list_any (bytes_eq name) softints) names
 
--- an argument of a kind: there is one, and where it has to name a software interrupt, it names one of the file
+-- an argument of a kind: there is one, and if it has to name a software interrupt, it names one of the file
 abbrev pub is_right : List (List ℕ) → Kind → Option NamedArgumentData → Bool
 is_right softints kind None = false
 is_right softints kind (Some argument) = are_known softints (softints_among (kind ∷ []) (argument ∷ []))
 
--- the number of the first argument that is not right, where the next one has the number `at`: it is of another kind, or there is none, or it
+-- the number of the first argument that is not right, if the next one has the number `at`: it is of another kind, or there is none, or it
 -- is one too many
 abbrev pub wrong_argument : List (List ℕ) → ℕ → List Kind → List (List ℕ) → Option ℕ
 wrong_argument softints at [] [] = None
@@ -29,7 +29,7 @@ wrong_argument softints at (kind ∷ kinds) [] = Some at
 wrong_argument softints at (kind ∷ kinds) (field ∷ after) =
     if is_right softints kind (argument_of kind field) then wrong_argument softints (at + 1) kinds after else Some at
 
--- a target stands before a word that answers, and is a variable
+-- a target is before a word that answers, and is a variable
 abbrev pub target_mistake : Bool → Option (List ℕ) → Option Mistake
 target_mistake may None = None
 target_mistake false (Some field) = Some NoAnswer

@@ -1,4 +1,4 @@
--- The names that stand before an item.
+-- The names that are before an item.
 use Rattle.std.specs.Prelude.{ℕ, List, ◌++◌}
 use Rattle.toml.specs.View.{items_view}
 use Rattle.taskscript.specs.File.{item_names}

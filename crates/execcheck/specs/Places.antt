@@ -23,7 +23,7 @@ is_interrupt Task = false
 abbrev pub setting : Owner → List (List ℕ) → Setting
 setting owner softints = record { of_interrupt = is_interrupt owner; softints = softints }
 
--- the first line of some bodies that says no command, by their order, where those before them are so many
+-- the first line of some bodies that says no command, by their order, if those before them are that many
 abbrev pub line_in_bodies : Owner → List (List ℕ) → ℕ → Items → Option LinePlace
 line_in_bodies owner softints before no_items = None
 line_in_bodies owner softints before (item body rest) =

@@ -1,4 +1,4 @@
--- The places of the tree of a machine file, each with its faults, in the order in which they are judged. Of what stands in a file without its
+-- The places of the tree of a machine file, each with its faults, in the order in which they are judged. Of what is in a file without its
 -- lines, a text is refused for the fault of the first faulty place.
 use Rattle.std.specs.Prelude.{ℕ, ◌+◌, List, [], ◌∷◌, ◌++◌, map, nat_le, is_none, Option, Some, None, bytes_eq, if◌then◌else◌}
 use Rattle.std.specs.List.{list_any}

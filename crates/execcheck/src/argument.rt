@@ -5,15 +5,12 @@ ghost use Rattle.taskscript.specs.File.{item_names};
 ghost use Rattle.taskscript.specs.Parsing.{argument_of};
 ghost use Rattle.execcheck.specs.Mistakes.{is_right, wrong_argument};
 
-use crate::field::{is_identifier, is_variable, quoted_in};
-use crate::number::number_of;
+use crate::field::{is_variable, quoted_in};
 use crate::tree::has_named;
-use taskscript::Kind;
+use taskscript::{Kind, is_identifier, number_of};
 use toml::Value;
 
 /// Whether a field is an argument of that kind. `softints` are the software interrupts of the file.
-///
-/// Source: own choice.
 pub fn is_right(softints: &[Value], kind: Kind, field: &[u8]) -> bool
     ensures { result ≡ is_right (item_names (items_view softints.now)) kind (argument_of kind field.now) }
 {
@@ -30,8 +27,6 @@ pub fn is_right(softints: &[Value], kind: Kind, field: &[u8]) -> bool
 }
 
 /// The number of the first argument that is not right: it is of another kind, or there is none, or it is one too many.
-///
-/// Source: own choice.
 pub fn wrong_argument(softints: &[Value], kinds: &[Kind], fields: &[&str]) -> Option<usize>
     ensures { result ≡ wrong_argument (item_names (items_view softints.now)) 0 kinds.now (map (λ f. f.now) fields.now) }
 {

@@ -1,4 +1,4 @@
-//! The names that stand before an item.
+//! The names that are before an item.
 ghost use Rattle.std.specs.Prelude.{◌≡◌, bytes_eq};
 ghost use Rattle.std.specs.List.{list_any};
 ghost use Rattle.execcheck.specs.Names.{names_before};
@@ -16,8 +16,6 @@ pub struct Before<'a> {
 
 impl Before<'_> {
     /// Whether one of the items has that name.
-    ///
-    /// Source: own choice.
     pub fn has(self, name: &[u8]) -> bool
         ensures { result ≡ list_any (bytes_eq name.now) (names_before self.entry) }
     {

@@ -1,4 +1,4 @@
-//! The bodies of a file, in their order, and the first of their places at which a fault stands.
+//! The bodies of a file, in their order, and the first of their places at which a fault is.
 ghost use Rattle.std.specs.Prelude.{◌≡◌, IfNone, IfOk};
 ghost use Rattle.toml.specs.View.{table_view, view, items_view};
 ghost use Rattle.taskscript.specs.Code.{lines_in};
@@ -12,21 +12,9 @@ use crate::body::{Body, body_found};
 use crate::place::Owner;
 use crate::placed::PlacedFault;
 use crate::seen::Names;
-use crate::tree::items_at;
 use std::alloc::{AllocError, Global};
+use taskscript::{items_at, lines_of};
 use toml::{Table, Value};
-
-/// The lines of what has a `code`, or none.
-///
-/// Source: own choice.
-pub fn lines_of(owner: &Value) -> &[Value]
-    ensures { lines_in (items_view result.now) ≡ code_lines (view owner.now) }
-{
-    match owner.as_table() {
-        None => &[],
-        Some(table) => items_at(table, "code"),
-    }
-}
 
 // The first faulty place of the bodies of an array. `names` has the names of the shared variables of the bodies before them.
 #[tactic(auto, using(crate::proofs::PlaceTurns::body_turn, crate::proofs::PlaceTurns::shared_turn))]
@@ -62,9 +50,7 @@ fn bodies_found<'a>(
 ///
 /// # Errors
 ///
-/// Where memory is refused.
-///
-/// Source: own choice.
+/// If memory is refused.
 #[tactic(auto, using(crate::proofs::PlaceTurns::file_first))]
 pub fn faulty_line(alloc: Global, table: &Table) -> Result<Option<PlacedFault>, AllocError>
     ensures { IfOk result (λ found. found ≡ first (lines_in_file (table_view table.now))) }

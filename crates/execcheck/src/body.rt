@@ -19,10 +19,8 @@ use crate::placed::PlacedFault;
 use crate::reading::read_line;
 use crate::rules::{Array, Key};
 use crate::seen::{Names, see_variables};
-use crate::tree::line_in;
-use crate::value::LINE_LIMIT;
 use std::alloc::{AllocError, Global};
-use taskscript::FileFault;
+use taskscript::{FileFault, LINE_LIMIT, line_in};
 use toml::Value;
 
 /// A body of a file.
@@ -92,7 +90,7 @@ fn see_lines<'a>(alloc: Global, names: &mut Names<'a>, lines: &'a [Value]) -> Re
     Ok(())
 }
 
-// The label that a line is stands behind those before it.
+// The label of a line comes after those before it.
 fn push_label<'a>(
     alloc: Global,
     labels: &mut Vec<&'a [u8]>,
@@ -202,9 +200,7 @@ fn see_body<'a>(alloc: Global, names: &mut Names<'a>, lines: &'a [Value]) -> Res
 ///
 /// # Errors
 ///
-/// Where memory is refused.
-///
-/// Source: own choice.
+/// If memory is refused.
 #[tactic(auto, using(crate::proofs::PlaceTurns::too_long, crate::proofs::PlaceTurns::body_first, taskscript::proofs::BodyReading::lines_counted))]
 pub fn body_found<'a>(
     alloc: Global,

@@ -10,7 +10,7 @@ ghost use Rattle.execcheck.specs.Seen.{texts};
 use crate::named::{NamedArgument, NamedCommand, NamedVariable};
 use crate::seen::is_among;
 use std::alloc::{AllocError, Global};
-use taskscript::{PlainWord, PortWord, SignalWord, Word};
+use taskscript::{Word, is_word_of_interrupt};
 
 fn push_target<'a>(
     variables: &mut Vec<NamedVariable<'a>>,
@@ -48,9 +48,7 @@ fn push_argument<'a>(
 ///
 /// # Errors
 ///
-/// Where memory is refused.
-///
-/// Source: own choice.
+/// If memory is refused.
 pub fn variables_of<'a>(
     alloc: Global,
     command: &NamedCommand<'a>,
@@ -76,8 +74,6 @@ fn is_at_home(labels: &[&[u8]], argument: NamedArgument<'_>) -> bool
 }
 
 /// Whether each label that these arguments have is one of those.
-///
-/// Source: own choice.
 pub fn has_labels(labels: &[&[u8]], arguments: &[NamedArgument<'_>]) -> bool
     ensures { result ≡ list_all (λ name. list_any (bytes_eq name) (texts labels.now)) (labels_of_arguments (map argument_view arguments.now)) }
 {
@@ -86,30 +82,7 @@ pub fn has_labels(labels: &[&[u8]], arguments: &[NamedArgument<'_>]) -> bool
         .all(|argument| is_at_home(labels, *argument))
 }
 
-fn is_word_of_interrupt(word: Word) -> bool
-    ensures { result ≡ is_word_of_interrupt word }
-{
-    match word {
-        Word::Plain(word) => match word {
-            PlainWord::Jump | PlainWord::JumpZ | PlainWord::JumpNZ => false,
-            _ => true,
-        },
-        Word::Signals(word) => match word {
-            SignalWord::Signal => true,
-            _ => false,
-        },
-        Word::Ports(word) => match word {
-            PortWord::PutMsg | PortWord::GetMsg | PortWord::ReplyMsg => true,
-            _ => false,
-        },
-        Word::Interrupts(_) => true,
-        _ => false,
-    }
-}
-
 /// Whether the body of an interrupt may have a command of that word with these variables: its words are few, and its variables are shared.
-///
-/// Source: own choice.
 pub fn is_of_interrupt(word: Word, variables: &[NamedVariable<'_>]) -> bool
     ensures { result ≡ (is_word_of_interrupt word && list_all (λ v. v.is_shared) (map variable_view variables.now)) }
 {

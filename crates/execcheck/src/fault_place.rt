@@ -13,13 +13,11 @@ use std::alloc::{AllocError, Global};
 use toml::Table;
 
 /// The first faulty place of a file with its fault, in the order in which the file is judged: that of its tree, or else its first faulty line.
-/// A file has none just where it has no fault, and the fault is the file's.
+/// A file has none exactly if it has no fault, and the fault is the file's.
 ///
 /// # Errors
 ///
-/// Where memory is refused.
-///
-/// Source: own choice.
+/// If memory is refused.
 #[tactic(auto, using(crate::proofs::PlaceTurns::places_first))]
 pub fn faulty_place(alloc: Global, table: &Table) -> Result<Option<PlacedFault>, AllocError>
     ensures { IfOk result (λ found. found ≡ first (file_places (table_view table.now))) }
@@ -37,9 +35,7 @@ pub fn faulty_place(alloc: Global, table: &Table) -> Result<Option<PlacedFault>,
 ///
 /// # Errors
 ///
-/// Where memory is refused.
-///
-/// Source: own choice.
+/// If memory is refused.
 pub fn place_of_fault(alloc: Global, table: &Table) -> Result<Option<Place>, AllocError>
     ensures { IfOk result (λ place. place ≡ place_of (table_view table.now)) }
 {

@@ -9,14 +9,12 @@ ghost use Rattle.execcheck.specs.declared.rules.Array.TheVariants as array;
 use crate::item::{array_in, top_found};
 use crate::place::{TreeFault, TreePlace};
 use crate::rules::Array;
-use crate::tree::{items_at, version_at};
+use crate::tree::version_at;
 use std::alloc::{AllocError, Global};
-use taskscript::{FileFault, regions_at, total_of};
+use taskscript::{FileFault, items_at, regions_at, total_of};
 use toml::Table;
 
 /// The bytes that the regions of a file may have together, by its version.
-///
-/// Source: own choice.
 pub fn total_at(table: &Table) -> u32
     ensures { result ≡ total_of (version_of (table_view table.now)) }
 {
@@ -80,9 +78,7 @@ fn owners_found(table: &Table) -> Option<TreeFault>
 ///
 /// # Errors
 ///
-/// Where memory is refused.
-///
-/// Source: own choice.
+/// If memory is refused.
 pub fn tree_fault(alloc: Global, table: &Table) -> Result<Option<TreeFault>, AllocError>
     ensures { IfOk result (λ found. found ≡ first (tree_found (table_view table.now))) }
 {

@@ -12,9 +12,8 @@ ghost use Rattle.execcheck.specs.declared.place.TablePlace.TheVariants as table_
 use crate::before::Before;
 use crate::place::{TablePlace, TreeFault, TreePlace};
 use crate::rules::{Array, Rule, top_rules};
-use crate::tree::member;
 use crate::value::value_fault;
-use taskscript::FileFault;
+use taskscript::{FileFault, member};
 use toml::{Table, Value};
 
 fn rule_fault(before: Before<'_>, table: &Table, rule: Rule) -> Option<FileFault>
@@ -32,7 +31,7 @@ fn rule_fault(before: Before<'_>, table: &Table, rule: Rule) -> Option<FileFault
     }
 }
 
-/// The first key of a table, in the order of the rules, that is absent where it has to be there, or holds another value than is wanted.
+/// The first key of a table, in the order of the rules, that is absent if it has to be there, or holds another value than is wanted.
 #[tactic(auto, using(crate::proofs::TreeTurns::rule_turn))]
 fn rules_found(
     place: TablePlace,
@@ -87,8 +86,6 @@ fn is_listed(place: TablePlace, key: &str) -> bool
 }
 
 /// The first key of a table, in the order of the bytes of their texts, that it may not have.
-///
-/// Source: own choice.
 pub fn unknown_key(place: TablePlace, table: &Table) -> Option<&str>
     ensures { option_map (λ k. k.now) result ≡ unknown_among (keys_at place) (table_view table.now) }
 {
@@ -146,8 +143,6 @@ fn items_found(array: Array, one: &[Value], other: &[Value], items: &[Value]) ->
 }
 
 /// The first faulty place of an array of the file and of its items, which may have none of the names of two other ones.
-///
-/// Source: own choice.
 #[tactic(auto, using(taskscript::proofs::Keys::count_items_view))]
 pub fn array_in(array: Array, one: &[Value], other: &[Value], table: &Table) -> Option<TreeFault>
     ensures { let before = item_names (items_view one.now) ++ item_names (items_view other.now) in
@@ -177,8 +172,6 @@ pub fn array_in(array: Array, one: &[Value], other: &[Value], table: &Table) -> 
 }
 
 /// The first faulty place of the top table, without its arrays.
-///
-/// Source: own choice.
 pub fn top_found(table: &Table) -> Option<TreeFault>
     ensures { result ≡ first (table_found table_place.Top [] (table_view table.now)) }
 {

@@ -12,39 +12,29 @@ ghost use Rattle.execcheck.specs.declared.place.TreeFault.{TreeFault};
 ghost use Rattle.execcheck.specs.declared.placed.PlacedFault.{PlacedFault};
 
 /// The faults of the places of a tree are those of the file, in their order, before those of its lines.
-///
-/// Source: own choice.
 #[tactic(auto, using(crate::proofs::TreeLaws::tree_law))]
 pub fn places_have_the_faults()
     ensures { (tree : Members) → faults_of (tree_found tree) ++ lines_of_all_faults tree ≡ faults tree }
 {}
 
 /// The fault of the first faulty place of a tree is that of the file.
-///
-/// Source: own choice.
 pub fn first_place_has_the_fault()
     ensures { (tree : Members) (found : TreeFault) → first (tree_found tree) ≡ Some found → first (faults tree) ≡ Some found.fault }
 {}
 
 /// The faults of all places of a file are its faults, in their order.
-///
-/// Source: own choice.
 #[tactic(auto, using(crate::proofs::LineLaws::file_law))]
 pub fn all_places_have_the_faults()
     ensures { (tree : Members) → faults_of_places (file_places tree) ≡ faults tree }
 {}
 
 /// The first faulty place of a tree is that of the file.
-///
-/// Source: own choice.
 pub fn first_place_of_the_tree_is_first()
     ensures { (tree : Members) (found : TreeFault) → first (tree_found tree) ≡ Some found
         → first (file_places tree) ≡ Some (placed_of found) }
 {}
 
-/// Where the fault of the first faulty line of a file is BadCommand, it is the first line that says no command.
-///
-/// Source: own choice.
+/// If the fault of the first faulty line of a file is BadCommand, it is the first line that says no command.
 pub fn first_line_without_command_is_first()
     ensures { (tree : Members) (found : PlacedFault) → first (lines_in_file tree) ≡ Some found → found.fault ≡ FileFault.BadCommand
         → option_map place.Line (line_without_command tree) ≡ Some found.place }

@@ -15,7 +15,6 @@ mod line;
 mod line_fault;
 mod mistake;
 mod named;
-mod number;
 mod place;
 mod placed;
 mod reading;
@@ -25,9 +24,9 @@ mod tree;
 mod value;
 
 pub use argument::{is_right, wrong_argument};
-pub use bodies::{faulty_line, lines_of};
+pub use bodies::faulty_line;
 pub use fault_place::{faulty_place, place_of_fault};
-pub use field::{is_identifier, is_name, is_variable, label_in, quoted_in};
+pub use field::{is_variable, label_in, quoted_in};
 pub use file::{total_at, tree_fault};
 pub use item::unknown_key;
 pub use laws::{
@@ -36,9 +35,7 @@ pub use laws::{
 };
 pub use line::{fields_of, says_no_command};
 pub use mistake::{Mistake, mistake_in};
-pub use number::number_of;
 pub use place::{LinePlace, Owner, Place, TablePlace, TreeFault, TreePlace};
 pub use placed::PlacedFault;
 pub use rules::{Array, Key, Rule, Wanted, top_rules};
-pub use tree::{has_named, items_at, line_in, member, name_of, text_at, version_at};
-pub use value::LINE_LIMIT;
+pub use tree::{has_named, name_of, text_at, version_at};

@@ -11,8 +11,6 @@ use std::alloc::{AllocError, Global};
 use toml::Value;
 
 /// The parts of a line between single spaces. Two spaces in a row, or one at an end, make an empty part.
-///
-/// Source: own choice.
 pub fn fields_of(alloc: Global, line: &str) -> Result<Vec<&str>, AllocError>
     ensures { IfOk result (λ v. map (λ f. f.now) v.items ≡ fields line.now) }
 {
@@ -20,8 +18,6 @@ pub fn fields_of(alloc: Global, line: &str) -> Result<Vec<&str>, AllocError>
 }
 
 /// Whether a line says nothing, or names a software interrupt that the file lacks. `softints` are those of the file.
-///
-/// Source: own choice.
 #[tactic(auto, using(crate::proofs::MistakeLaws::mistake_is_found))]
 pub fn says_no_command(alloc: Global, softints: &[Value], line: &str) -> Result<bool, AllocError>
     ensures { IfOk result (λ yes. yes ≡ says_no_command (item_names (items_view softints.now)) (says line.now)) }

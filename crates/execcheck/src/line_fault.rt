@@ -50,7 +50,7 @@ fn label_fault(owner: Owner, before: &[&[u8]], name: &[u8]) -> Option<FileFault>
     }
 }
 
-// Whether a command with these variables may stand in a body.
+// Whether a command with these variables may be in a body.
 fn may_stand(owner: Owner, command: &NamedCommand<'_>, variables: &[NamedVariable<'_>]) -> bool
     requires { map variable_view variables.now ≡ variables_of (command_view command.now) }
     ensures { result ≡ may_stand (setting owner []) (command_view command.now) }
@@ -89,9 +89,7 @@ fn command_fault(
 ///
 /// # Errors
 ///
-/// Where memory is refused.
-///
-/// Source: own choice.
+/// If memory is refused.
 #[tactic(auto, using(crate::proofs::FaultTurns::bad_command, crate::proofs::FaultTurns::good_command))]
 pub fn line_fault(
     alloc: Global,

@@ -17,7 +17,7 @@ pub enum Mistake {
     NoWord,
     /// The word is no word of a body.
     UnknownWord,
-    /// A target stands before a word that does not answer.
+    /// A target is before a word that does not answer.
     NoAnswer,
     /// The target is no variable.
     Target,
@@ -75,8 +75,6 @@ fn is_label(fields: &[&str]) -> bool
 }
 
 /// The mistake in a line of these fields, if there is one. `softints` are the software interrupts of the file.
-///
-/// Source: own choice.
 #[tactic(auto, unfolding(crate::specs::Mistakes::mistake_in))]
 pub fn mistake_in(softints: &[Value], fields: &[&str]) -> Option<Mistake>
     ensures { result ≡ mistake_in (item_names (items_view softints.now)) (map (λ f. f.now) fields.now) }

@@ -11,7 +11,7 @@ pub enum TablePlace {
     Item(Array, usize),
 }
 
-/// A place of the tree of a machine file, where a fault may stand.
+/// A place of the tree of a machine file, where a fault may be.
 #[derive(Clone, Copy, Debug, PartialEq, Eq)]
 pub enum TreePlace {
     /// The first key of a table that is none of its keys.

@@ -6,12 +6,11 @@ ghost use Rattle.taskscript.specs.declared.word.row.Kind.TheVariants as kind;
 ghost use Rattle.taskscript.specs.Parsing.{argument_of, arguments_of, command_of, label_of, named, quoted_in, target_of, variable_of, with_word};
 ghost use Rattle.execcheck.specs.Named.{argument_view, command_view, line_view, variable_view};
 
-use crate::field::{is_identifier, label_in, quoted_in};
+use crate::field::{label_in, quoted_in};
 use crate::line::fields_of;
 use crate::named::{Line, NamedArgument, NamedCommand, NamedVariable};
-use crate::number::number_of;
 use std::alloc::{AllocError, Global};
-use taskscript::{Kind, word_of};
+use taskscript::{Kind, is_identifier, number_of, word_of};
 
 fn named(is_shared: bool, name: &[u8]) -> Option<NamedVariable<'_>>
     ensures { option_map variable_view result ≡ named is_shared name.now }
@@ -24,8 +23,6 @@ fn named(is_shared: bool, name: &[u8]) -> Option<NamedVariable<'_>>
 }
 
 /// The variable that a field is, if it is one: `name`, or `@name` for a shared one.
-///
-/// Source: own choice.
 pub fn variable_of(field: &[u8]) -> Option<NamedVariable<'_>>
     ensures { option_map variable_view result ≡ variable_of field.now }
 {
@@ -163,8 +160,6 @@ fn command_of<'a>(alloc: Global, fields: &[&'a str]) -> Result<Option<NamedComma
 }
 
 /// The name of the label that a line of these fields is, if it is one.
-///
-/// Source: own choice.
 pub fn label_of<'a>(fields: &[&'a str]) -> Option<&'a [u8]>
     ensures { option_map (λ n. n.now) result ≡ label_of (map (λ f. f.now) fields.now) }
 {
@@ -178,9 +173,7 @@ pub fn label_of<'a>(fields: &[&'a str]) -> Option<&'a [u8]>
 ///
 /// # Errors
 ///
-/// Where memory is refused.
-///
-/// Source: own choice.
+/// If memory is refused.
 #[tactic(auto, using(taskscript::proofs::Readings::says_is_read))]
 pub fn read_line(alloc: Global, line: &str) -> Result<Option<Line<'_>>, AllocError>
     ensures { IfOk result (λ said. option_map line_view said ≡ says line.now) }

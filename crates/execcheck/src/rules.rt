@@ -22,8 +22,6 @@ pub enum Key {
 
 impl Key {
     /// The text of the key.
-    ///
-    /// Source: own choice.
     pub fn text(self) -> &'static str
         ensures { result.now ≡ key_text self }
     {
@@ -216,8 +214,6 @@ const TASK: [Rule; 4] = [
 ];
 
 /// The keys of the top table that hold a value, in the order in which they are judged.
-///
-/// Source: own choice.
 pub fn top_rules() -> &'static [Rule]
     ensures { result.now ≡ top_rules }
 {
@@ -235,8 +231,6 @@ impl Array {
     ];
 
     /// Its key.
-    ///
-    /// Source: own choice.
     pub fn key(self) -> &'static str
         ensures { result.now ≡ array_key self }
     {
@@ -250,8 +244,6 @@ impl Array {
     }
 
     /// The greatest number of its items.
-    ///
-    /// Source: own choice.
     pub fn limit(self) -> usize
         ensures { result ≡ limit self }
     {
@@ -263,8 +255,6 @@ impl Array {
     }
 
     /// The keys of its items, in the order in which they are judged.
-    ///
-    /// Source: own choice.
     pub fn rules(self) -> &'static [Rule]
         ensures { result.now ≡ rules self }
     {

@@ -24,8 +24,6 @@ pub struct Names<'a> {
 }
 
 /// Whether a name is one of these.
-///
-/// Source: own choice.
 pub fn is_among(names: &[&[u8]], name: &[u8]) -> bool
     ensures { result ≡ list_any (bytes_eq name.now) (texts names.now) }
 {
@@ -38,7 +36,7 @@ fn position_in(names: &[&[u8]], name: &[u8]) -> Option<usize>
     names.iter().position(|other| name == *other)
 }
 
-// The place of a name in the order of first sight; behind the others, if it was not seen.
+// The place of a name in the order of first sight; after the others, if it was not seen.
 fn number_in(names: &[&[u8]], name: &[u8]) -> usize
     ensures { result ≡ number_in (texts names.now) name.now }
 {
@@ -72,9 +70,7 @@ fn see_variable<'a>(names: &mut Names<'a>, variable: NamedVariable<'a>) -> Resul
 ///
 /// # Errors
 ///
-/// Where memory is refused; some of them may have been seen.
-///
-/// Source: own choice.
+/// If memory is refused; some of them may have been seen.
 #[tactic(auto, using(crate::proofs::SeenTurns::variable_turn))]
 pub fn see_variables<'a>(
     names: &mut Names<'a>,
@@ -100,8 +96,6 @@ fn is_within(names: &Names<'_>, variable: NamedVariable<'_>) -> bool
 }
 
 /// Whether the number of each of these variables is within its limit.
-///
-/// Source: own choice.
 pub fn are_within(names: &Names<'_>, variables: &[NamedVariable<'_>]) -> bool
     ensures { result ≡ list_all (λ v. is_within (variable_in (names_view names.now) v)) (map variable_view variables.now) }
 {

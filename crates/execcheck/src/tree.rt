@@ -7,36 +7,10 @@ ghost use Rattle.taskscript.specs.Code.{line_in};
 ghost use Rattle.taskscript.specs.File.{item_names, name_of, version_of};
 ghost use Rattle.taskscript.specs.Tree.{items_or_none, string_or_nothing};
 
+use taskscript::member;
 use toml::{Table, Value};
 
-/// What the key holds.
-///
-/// Source: own choice.
-pub fn member<'a>(table: &'a Table, key: &str) -> Option<&'a Value>
-    ensures { option_map (λ v. view v.now) result ≡ get_member key.now (table_view table.now) }
-{
-    table.get(key)
-}
-
-/// The items of the array that the key holds, or none.
-///
-/// Source: own choice.
-pub fn items_at<'a>(table: &'a Table, key: &str) -> &'a [Value]
-    ensures { items_view result.now ≡ items_or_none (get_member key.now (table_view table.now)) }
-{
-    let value = match member(table, key) {
-        None => return &[],
-        Some(value) => value,
-    };
-    match value.as_array() {
-        None => &[],
-        Some(items) => items,
-    }
-}
-
-/// The version of the rules that a file's top table tells, or 1.
-///
-/// Source: own choice.
+/// The version of the rules that a file's top table reports, or 1.
 pub fn version_at(table: &Table) -> u64
     ensures { result ≡ version_of (table_view table.now) }
 {
@@ -51,8 +25,6 @@ pub fn version_at(table: &Table) -> u64
 }
 
 /// The text that the key holds, or the empty one.
-///
-/// Source: own choice.
 pub fn text_at<'a>(table: &'a Table, key: &str) -> &'a str
     ensures { result.now ≡ string_or_nothing (get_member key.now (table_view table.now)) }
 {
@@ -67,8 +39,6 @@ pub fn text_at<'a>(table: &'a Table, key: &str) -> &'a str
 }
 
 /// The name of an item, or the empty text.
-///
-/// Source: own choice.
 pub fn name_of(owner: &Value) -> &str
     ensures { result.now ≡ name_of (view owner.now) }
 {
@@ -79,8 +49,6 @@ pub fn name_of(owner: &Value) -> &str
 }
 
 /// Whether one of the items has that name.
-///
-/// Source: own choice.
 pub fn has_named(owners: &[Value], name: &[u8]) -> bool
     ensures { result ≡ list_any (bytes_eq name.now) (item_names (items_view owners.now)) }
 {
@@ -90,16 +58,4 @@ pub fn has_named(owners: &[Value], name: &[u8]) -> bool
         }
     }
     false
-}
-
-/// The text of an item; one that is no string is read as the empty text, which says nothing.
-///
-/// Source: own choice.
-pub fn line_in(item: &Value) -> &str
-    ensures { result.now ≡ line_in (view item.now) }
-{
-    match item.as_str() {
-        None => "",
-        Some(text) => text,
-    }
 }

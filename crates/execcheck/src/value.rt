@@ -7,9 +7,8 @@ ghost use Rattle.execcheck.specs.Names.{names_before};
 ghost use Rattle.execcheck.specs.Rules.{value_faults};
 
 use crate::before::Before;
-use crate::field::is_name;
 use crate::rules::Wanted;
-use taskscript::{FileFault, Source};
+use taskscript::{FileFault, LINE_LIMIT, Source, are_strings, is_name, is_softint_pri};
 use toml::Value;
 
 fn integer_fault(low: i64, high: i64, value: &Value) -> Option<FileFault>
@@ -25,12 +24,6 @@ fn integer_fault(low: i64, high: i64, value: &Value) -> Option<FileFault>
             }
         }
     }
-}
-
-fn is_softint_pri(pri: i64) -> bool
-    ensures { result ≡ is_softint_pri pri }
-{
-    pri == -32 || (pri == -16 || (pri == 0 || (pri == 16 || pri == 32)))
 }
 
 fn softint_pri_fault(value: &Value) -> Option<FileFault>
@@ -86,23 +79,6 @@ fn name_fault(before: Before<'_>, value: &Value) -> Option<FileFault>
     }
 }
 
-/// Whether the items are strings.
-///
-/// Source: own choice.
-pub fn are_strings(items: &[Value]) -> bool
-    ensures { result ≡ are_strings (items_view items.now) }
-{
-    for item in items {
-        if !item.is_str() {
-            return false;
-        }
-    }
-    true
-}
-
-/// The greatest number of lines of a body.
-pub const LINE_LIMIT: usize = 1024;
-
 #[tactic(auto, using(taskscript::proofs::Keys::count_items_view))]
 fn code_fault(value: &Value) -> Option<FileFault>
     ensures { result ≡ first (code_faults (view value.now)) }
@@ -122,8 +98,6 @@ fn code_fault(value: &Value) -> Option<FileFault>
 }
 
 /// The fault of what a key holds, if it is not what is wanted. `before` are the items whose names a name may not be.
-///
-/// Source: own choice.
 pub fn value_fault(wanted: Wanted, before: Before<'_>, value: &Value) -> Option<FileFault>
     ensures { result ≡ first (value_faults wanted (names_before before.entry) (view value.now)) }
 {

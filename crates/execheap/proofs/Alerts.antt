@@ -1,4 +1,4 @@
--- The alerts of the calls on lists and nodes by address, told by number.
+-- The alerts of the calls on lists and nodes by address, reported by number.
 use Rattle.std.proofs.Common.{◌≡◌, ℕ, zero, suc, List, Bool, true, false, map, refl, ap, sym, ◌∙◌}
 use Rattle.std.specs.Prelude.{Option, None, Some, codes, is_some, not, if◌then◌else◌, unwrap_or, IsSome}
 use Rattle.std.specs.Option.{option_map, ForSome}
@@ -32,7 +32,7 @@ link_if linked next = if linked then Some (codes "LINK") else next
 abbrev link_unless : Bool → Option (List ℕ)
 link_unless linked = if not linked then Some (codes "LINK") else None
 
--- the test alone is not refused where the object is there
+-- the test alone is not refused if the object is there
 pub is_there : (there : Bool) → handle_unless there None ≡ None → there ≡ true
 is_there true e = refl
 is_there false e = let bad : true ≡ false = ap is_some e in cc
@@ -75,7 +75,7 @@ module _ (s : Numbered) (list h : ℕ) (found : number_at variant.List list s.ta
       ∙ ap is_some (first-map (address_in (places variant.Node s)) (sequence s.sequences h))
       ∙ is_some_map (address_in (places variant.Node s)) (first (sequence s.sequences h))
 
-  -- a list that is to be freed is refused where it holds a node
+  -- a list that is to be freed is refused if it holds a node
   pub free_list_found : {held : Option ℕ} → first (sequence s.sequences h) ≡ held
       → free_list_alert list (shown_heap s) ≡ link_if (is_some held) None
   unfolding free_list_alert
@@ -102,7 +102,7 @@ node_there s node n found = node_at_shown s node ∙ ap is_some found
 
 module _ {s : Numbered} (sound : IsSound s) (space : IsSpace s) where
   module _ (node n : ℕ) (found : number_at variant.Node node s.table ≡ Some n) {list : Option ℕ} (at : home s.homes n ≡ list) where
-    -- a node is linked where a list has it by number
+    -- a node is linked if a list has it by number
     linked_where : is_linked node (shown_heap s) ≡ is_some list
     linked_where = is_linked_shown sound space n node (number_placed sound.table variant.Node n node found) ∙ ap is_some at
 
@@ -201,7 +201,7 @@ module _ {s : Numbered} (sound : IsSound s) (space : IsSpace s) (list h : ℕ) (
     | Some k ↦ λ found. ap Some (number_same sound.table variant.List k h list (number_placed sound.table variant.List k list found) placed)
   ] refl
 
-  -- a predecessor stands in the list of that address where it stands in the list of its number
+  -- a predecessor is in the list of that address where it is in the list of its number
   pred_in_shown : (p : Option ℕ) → number_at variant.List list s.table ≡ Some h → ForSome p (λ m. IsSome (slot (places variant.Node s) m))
       → is_pred_in (option_map (address_in (places variant.Node s)) p) list (shown_heap s) ≡ is_none_or_in p h s.homes
   pred_in_shown None found live = refl
@@ -211,7 +211,7 @@ module _ {s : Numbered} (sound : IsSound s) (space : IsSpace s) (list h : ℕ) (
       ∙ ap (λ a. stands_in a (map (address_in (places variant.Node s)) (sequence s.sequences h))) (ap (λ o. unwrap_or o 0) lives.1)
       ∙ stands_shown sound space h m lives.0 lives.1
 
-  -- where the list, the node and the predecessor are there, and the node is not linked, the predecessor has to stand in the list
+  -- if the list, the node and the predecessor are there, and the node is not linked, the predecessor has to be in the list
   pub insert_found : (node pred : ℕ) {n : ℕ} (p : Option ℕ) {stands : Bool} → list_alert list (shown_heap s) ≡ None
       → number_at variant.Node node s.table ≡ Some n → pred_alert (predecessor pred) (shown_heap s) ≡ None
       → option_map (address_in (places variant.Node s)) p ≡ predecessor pred
@@ -223,7 +223,7 @@ module _ {s : Numbered} (sound : IsSound s) (space : IsSpace s) (list h : ℕ) (
 
 -- ---- the alert of FindName, and where it looks
 
--- the nodes among which FindName looks where no list begins at its start
+-- the nodes among which FindName looks if no list begins at its start
 abbrev searched_after : ℕ → Heap → List ℕ
 searched_after start heap = part_after start (sequence_with start heap)
 

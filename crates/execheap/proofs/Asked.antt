@@ -1,4 +1,4 @@
--- Libraries that are asked by number give way as those by address do.
+-- Libraries that are asked by number are expunged under low memory as those by address do.
 use Rattle.std.proofs.Common.{◌≡◌, ℕ, List, [], ◌∷◌, Bool, true, false, length, map, refl, ap, sym, ◌∙◌, subst}
 use Rattle.std.specs.Prelude.{Some, None, Option, is_some, ◌&&◌, not, nat_eq, if◌then◌else◌}
 use Rattle.std.specs.Option.{option_map}
@@ -131,7 +131,7 @@ module _ {s : Numbered} (kept : IsKept s) (sound : IsSound s.table) (formed : Is
 
 -- ---- before an object is made
 
--- objects by number once libraries were asked to give way to an object of a kind
+-- objects by number once libraries were expunged under low memory for an object of a kind
 abbrev pub readied : Kind → Numbered → Numbered
 readied kind s = record s { table = ready_for kind s.table }
 
@@ -166,13 +166,13 @@ module _ {s : Numbered} (kept : IsKept s) (sound : IsSound s.table) (formed : Is
           shown = after_shown kept (size_of kind) 1 (lent s.table.libs s.table.memory) now ∙ allowed (Some n) next;
         }
 
-  -- where an object is made, the model has it made
+  -- if an object is made, the model has it made
   pub place_made : (made : Option (ℕ × ℕ)) → made ≡ next_object kind (ready_for kind s.table)
       → address_of made ≡ place_for_object (test_of kind) (size_of kind) (after_asking_for_object (test_of kind) (size_of kind) (shown_memory s))
   place_made made is =
       ap address_of is ∙ sym (place_shown (readied kind s) ready.sound kind ready.stocked) ∙ ap (place_for_object (test_of kind) (size_of kind)) ready.shown
 
-  -- where none is made, libraries may have given way all the same
+  -- if none is made, libraries may have been expunged under low memory all the same
   module _ (t : Tabled) (is : t ≡ with_object kind None (ready_for kind s.table)) where
     pub kept_unmade : IsKept (record s { table = t })
     kept_unmade = subst IsKept (λ i. record s { table = sym is i }) ready.kept

@@ -31,7 +31,7 @@ in_entries s port (e ∷ es) = ap (λ b. Replies port s (tagged e.1.1) || b) (in
 
 -- ---- one that passes a test
 
--- where one passes there is one
+-- if one passes there is one
 one_of : {A : Type 0} (test : A → Bool) (xs : List A) → list_any test xs ≡ true → (P : Type 0) → ((x : A) → test x ≡ true → P) → P
 one_of test [] any P found = let bad : false ≡ true = any in cc
 one_of test (x ∷ xs) any P found = elim (test x) as (λ b. test x ≡ b → b || list_any test xs ≡ true → P) [
@@ -46,7 +46,7 @@ one_slot test (x ∷ xs) any = elim (test x) as (λ b. test x ≡ b → b || lis
   | false ↦ λ here rest. let other = one_slot test xs rest in (suc other.0, other.1)
 ] refl any
 
--- two tests are alike where each passes if the other does
+-- two tests are alike if each passes exactly if the other does
 alike : (a b : Bool) → (a ≡ true → b ≡ true) → (b ≡ true → a ≡ true) → a ≡ b
 alike true b there back = sym (there refl)
 alike false true there back = back refl
@@ -93,7 +93,7 @@ module _ {s : Numbered} (sound : IsSound s) (port : ℕ) where
       ∙ way_told port (slot s.requests.slots r) ∙ way)
       (sound.table.matched.complete variant.Request r a.0 a.1)
 
-  -- a request under way has the port as reply port by address where one has by number
+  -- a request under way has the port as reply port by address if one has by number
   pub awaited_shown : is_awaited_at port (shown_heap s) ≡ list_any (is_under_way_at port) s.requests.slots
   unfolding is_awaited_at shown_heap
   awaited_shown =

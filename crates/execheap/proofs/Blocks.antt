@@ -53,7 +53,7 @@ avail_bare regions blocks reqs =
     if asks 17 reqs then greatest sizes
     else (if asks 19 reqs then total_size (filter (is_suitable reqs) regions) else sum_by (λ n. n) sizes)) (fun_ext (gaps_bare blocks))
 
--- a block fits where it fits among the numbered ones
+-- a block fits if it fits among the numbered ones
 pub fit_shown : (s : Numbered) (size reqs : ℕ) → place_for size reqs (shown_memory s) ≡ fit s.table.memory.regions s.table.memory.blocks size reqs
 fit_shown s size reqs = ap (λ blocks. fit s.table.memory.regions blocks size reqs) (extents_shown s) ∙ fit_bare s.table.memory.regions s.table.memory.blocks size reqs
 

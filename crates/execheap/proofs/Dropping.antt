@@ -36,7 +36,7 @@ use Rattle.execheap.proofs.Tagging.{either_number}
 -- ---- the queues without a task
 
 module _ {m : Semaphores} (held : sems.IsSound m) (t : ℕ) where
-  -- a task stands in the queue where it waits, and in no other
+  -- a task is in the queue if it waits, and in no other
   stands_where : (k : ℕ) → list_any (λ other. other == t) (waiters_of k m) ≡ is_at (waits_at t m) k
   stands_where k = stands_by_times t (waiters_of k m) (is_at (waits_at t m) k) (held.stands k t)
 
@@ -114,7 +114,7 @@ module _ (s : Numbered) (n semaphore : ℕ) (found : number_at variant.Semaphore
       either true = entered_heap s n semaphore found told live t
       either false = queued_heap
 
--- ---- a task that stands in no queue
+-- ---- a task that is in no queue
 
 module _ {s : Numbered} (sound : IsSound s) (held : sems.IsSound s.sems) (t : ℕ) where
   -- a semaphore that lives begins at an address

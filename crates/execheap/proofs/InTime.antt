@@ -1,4 +1,4 @@
--- The requests and their messages go on agreeing where calls leave them alone.
+-- The requests and their messages go on agreeing if calls leave them alone.
 use Rattle.std.proofs.Common.{◌≡◌, ℕ, ◌+◌, ◌<◌, ◌≤◌, ◌^◌, length, ap, sym, ◌∙◌, subst, arith}
 use Rattle.std.specs.Prelude.{Some, nat_lt, Option, is_some, slice_set, IsSome, IsTrue}
 use Rattle.std.proofs.lemmas.List.{length-set}
@@ -15,7 +15,7 @@ use Rattle.execheap.specs.declared.tag.Kind.TheVariants as variant
 use Rattle.execheap.specs.Table.{slots_of}
 use Rattle.execheap.specs.Numbered.{Numbered, IsInTime, is_way_at, message_of_request, places}
 
--- what is held and waits is the same, the message of each request is there, and is in a port only where it was
+-- what is held and waits is the same, the message of each request is there, and is in a port only if it was
 pub record IsAlong (s u : Numbered) : Type 0 where
   pub timing : u.timing ≡ s.timing
   pub holding : u.ports.holding ≡ s.ports.holding
@@ -47,7 +47,7 @@ module _ {s u : Numbered} (t : IsInTime s) (along : IsAlong s u) (about : IsAbou
     live = λ r p there. about.live r p (was r p there) (t.live r p (was r p there));
     at_reply_port = λ r p there. about.port r p (request_at r s.requests).port (was r p there) (t.at_reply_port r p (was r p there))
         ∙ ap Some (sym (along.reply r p (was r p there)));
-    early = subst (λ (m : Held). m.timer.clock < 2 ^ 63) (sym along.timing) t.early;
+    early = subst (λ (m : Held). m.timer.clock + 2 ^ 54 ≤ 2 ^ 64) (sym along.timing) t.early;
     near = subst (λ (m : Held). m.timer.system ≤ m.timer.clock + 2 ^ 53) (sym along.timing) t.near;
   }
 

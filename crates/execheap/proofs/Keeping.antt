@@ -16,7 +16,7 @@ at_known (x ∷ xs) zero d e l = refl
 at_known (x ∷ xs) (suc i) d e l = at_known xs i d e (omega (arith, l))
 
 module _ {t : Tabled} (sound : IsSound t) (kind : Kind) (code : ℕ) (is_code : code ≡ kind_code kind) where
-  -- the pool that stands at the number of its kind
+  -- the pool that is at the number of its kind
   pub pool_is : (d : Pooled ℕ) → slice_index_or t.pools code d ≡ pool_of kind t
   pool_is d =
       ap (λ c. slice_index_or t.pools c d) is_code ∙ at_known t.pools (kind_code kind) d (all_free 0) (omega (arith, kind_few kind, sound.kinds))

@@ -1,4 +1,4 @@
--- What objects hold goes on fitting the table where an object of any kind is made or freed.
+-- What objects hold goes on fitting the table if an object of any kind is made or freed.
 use Rattle.std.proofs.Common.{length, ◌≡◌, ◌≢◌, ℕ, ap, sym, ◌∙◌, subst}
 use Rattle.std.specs.Prelude.{Some, is_some, IsSome}
 use Rattle.execlist.specs.Lists.{home}
@@ -51,7 +51,7 @@ module _ {s : Numbered} (sound : IsSound s.table) (formed : IsWellFormed s.table
           ∙ lives;
     }
 
-    -- where what holds the objects of other kinds gives the same numbers, and that of this kind gives one as the table does
+    -- if what holds the objects of other kinds gives the same numbers, and that of this kind gives one as the table does
     pub kept_made : (u : Numbered) → u.table ≡ made → u.sequences ≡ s.sequences → u.homes ≡ s.homes
         → ((k : Kind) → kind_code k ≢ kind_code kind → own_shape k u ≡ own_shape k s) → Fits (own_shape kind u) (pool_of kind made) → IsApt u.ports u.sems u.tasks → IsAlong s u → IsKept u
     kept_made u is sequences homes same own apt along = record {

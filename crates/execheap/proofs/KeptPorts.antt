@@ -35,7 +35,7 @@ pub not_refused : {A : Type 0} (fault : Option PortFault) (value answer : A) (re
 not_refused None value answer result old new q is ok next = next
 not_refused (Some fault) value answer result old new q is ok next = let bad : false ≡ true = ap is_ok (sym is ∙ ok) in cc
 
--- the same messages live and are held, and those of requests are in ports only where they were
+-- the same messages live and are held, and those of requests are in ports only if they were
 along_shape : {s : Numbered} (q : MessagePorts) → shape q.messages ≡ shape s.ports.messages → q.holding ≡ s.ports.holding
     → ((r p : ℕ) → home q.places (message_of_request r s) ≡ Some p → home s.ports.places (message_of_request r s) ≡ Some p)
     → IsAlong s (record s { ports = q })
@@ -92,7 +92,7 @@ module _ {s : Numbered} (kept : IsKept s) where
   kept_written q m message lives is = subst (λ r. IsKept (record s { ports = r })) (sym is)
       (kept_message_set (with_message m message s.ports) m message lives refl refl refl (λ r p there. there))
 
-  -- a message of the table is another one, and stands in a port
+  -- a message of the table is another one, and is in a port
   pub kept_posted : (q : MessagePorts) (m p : ℕ) (message : Message) → m < s.table.pool → IsTrue (is_message m s.ports) → q.ports ≡ s.ports.ports
       → q.messages ≡ written m message s.ports.messages → q.holding ≡ s.ports.holding → q.places ≡ slice_set s.ports.places m (Some p)
       → IsKept (record s { ports = q })

@@ -1,5 +1,5 @@
--- What calls on requests leave alone: by number, the invariant goes on where one request changes, with its message and its place in the timer.
-use Rattle.std.proofs.Common.{◌≡◌, ◌≢◌, ℕ, ◌<◌, ◌^◌, Bool, true, false, inl, inr, ◌⊎◌, refl, ap, sym, ◌∙◌, subst, arith}
+-- What calls on requests leave alone: by number, the invariant goes on if one request changes, with its message and its place in the timer.
+use Rattle.std.proofs.Common.{◌≡◌, ◌≢◌, ℕ, ◌+◌, ◌<◌, ◌≤◌, ◌^◌, Bool, true, false, inl, inr, ◌⊎◌, refl, ap, sym, ◌∙◌, subst, arith}
 use Rattle.std.specs.Prelude.{ℤ, Some, None, Option, is_some, not, unwrap_or, ◌&&◌, ◌||◌, ◌/◌, ◌%◌, if◌then◌else◌, IfSome, IsSome, IsTrue}
 use Rattle.std.proofs.lemmas.Bool.{cases_eq}
 use Rattle.execlist.specs.Lists.{home}
@@ -68,7 +68,7 @@ written_then a b = record {
 -- ---- the objects
 
 module _ {s : Numbered} (kept : IsKept s) where
-  -- a request is held and waits where it is under way
+  -- a request is held and waits if it is under way
   pub request_live : (r : ℕ) → IsTrue (is_request r s.requests) → IsSome (slot (places variant.Request s) r)
   request_live r lives = shape_lives (pool_of variant.Request s.table) s.requests (kept.in_step variant.Request) r ∙ lives
 
@@ -137,7 +137,7 @@ module _ {s : Numbered} (kept : IsKept s) where
         waits = λ k. waits k (cases_eq k r);
         live = λ k p there. live k p (m.queued (message_of_request k s) p there);
         at_reply_port = λ k p there. at k p (m.queued (message_of_request k s) p there) ∙ ap Some (sym (q.port k));
-        early = subst (λ clock. clock < 2 ^ 63) (sym t.clock) kept.in_time.early;
+        early = subst (λ clock. clock + 2 ^ 54 ≤ 2 ^ 64) (sym t.clock) kept.in_time.early;
         near = t.near kept.in_time.near;
       })
 
@@ -186,13 +186,13 @@ module _ {s : Numbered} (sound : IsSound s) where
   pub message_there : (r m : ℕ) → IsTrue (is_request r s.requests) → m ≡ message_of_request r s → IsTrue (is_message m s.ports)
   message_there r m lives is = ap (λ n. is_message n s.ports) is ∙ kept.in_time.made r (request_small r lives)
 
-  -- it is in no port where the request is under way
+  -- it is in no port if the request is under way
   pub under_way_loose : ports.IsSound s.ports → (r m : ℕ) → IsTrue (is_request r s.requests) → IsTrue (is_under_way (request_at r s.requests))
       → m ≡ message_of_request r s → home s.ports.places m ≡ None
   under_way_loose held r m lives way is =
       ap (home s.ports.places) is ∙ held.apart (message_of_request r s) (kept.in_time.held r ∙ (λ i. lives i && way i))
 
-  -- it may be held where the request rests and its reply is in no port
+  -- it may be held if the request rests and its reply is in no port
   pub request_loose : (r m : ℕ) → IsTrue (is_request r s.requests) → is_under_way (request_at r s.requests) ≡ false
       → home s.ports.places (message_of_request r s) ≡ None → m ≡ message_of_request r s → loose_fault m s.ports ≡ None
   request_loose r m lives rests loose is =
@@ -200,7 +200,7 @@ module _ {s : Numbered} (sound : IsSound s) where
       ∙ (λ i. if not (message_there r (message_of_request r s) lives refl i) then Some Unknown
       else (if is_some (loose i) || (kept.in_time.held r ∙ not_way r s.requests rests) i then Some Link else None))
 
-  -- it may be taken out of its port where it is in one
+  -- it may be taken out of its port if it is in one
   pub request_queued : (r m : ℕ) → IsTrue (is_request r s.requests) → IsSome (home s.ports.places (message_of_request r s)) → m ≡ message_of_request r s
       → queued_fault m s.ports ≡ None
   request_queued r m lives there is =
@@ -223,7 +223,7 @@ module _ {s : Numbered} (sound : IsSound s) where
     abbrev pub At : ℕ → Type 0
     At p = slot (places variant.Port s) p ≡ Some (request_at r s.requests).port
 
-    -- where the reply of a request is put, it may be
+    -- if the reply of a request is put, it may be
     moved_put : (q : TimerRequest) → q.port ≡ (request_at r s.requests).port
         → IsMoved false own At s.ports (put_at (port_number (reply_port q) s.table) own s.ports)
     moved_put q port = by_quick q.quick where

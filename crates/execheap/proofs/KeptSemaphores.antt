@@ -74,7 +74,7 @@ pub kept_unless : (fault : Option SemFault) (m q r : Semaphores) → q ≡ kept_
 kept_unless None m q r is kept = subst (IsAlike m) (sym is) kept
 kept_unless (Some fault) m q r is kept = subst (IsAlike m) (sym is) (kept_same m)
 
--- ---- what an answer tells
+-- ---- what an answer reports
 
 -- a call that was not refused
 pub not_refused : {A : Type 0} (fault : Option SemFault) (value answer : A) (result : Result A SemFault) (old new q : Semaphores)
@@ -84,7 +84,7 @@ not_refused (Some fault) value answer result old new q is ok next = let bad : fa
 
 -- ---- the objects
 
--- all objects are kept where semaphores are alike
+-- all objects are kept if semaphores are alike
 pub kept_sems : {s : Numbered} → IsKept s → (q : Semaphores) → IsAlike s.sems q → IsKept (record s { sems = q })
 kept_sems {s} kept q alike = record {
   live_nodes = kept.live_nodes;

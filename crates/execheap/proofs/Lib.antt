@@ -1,3 +1,4 @@
+-- The lemma files of `execheap`.
 pub mod Alerts
 pub mod Asked
 pub mod Asking
@@ -57,3 +58,4 @@ pub mod Ticked
 pub mod Unused
 pub mod Waits
 pub mod Passed
+pub mod BlockViews

@@ -93,7 +93,7 @@ module _ (s : Numbered) (sound : IsSound s.table) (i : ℕ) where
     unfolding model.is_delayed
     delayed_there = ap (λ o. option_map_or model.delayed_in o false) library_begins
 
-    -- just the block at its base is the library
+    -- exactly the block at its base is the library
     elsewhere : (x : Tagged) (b : ℕ) → b ≢ a → place_of x b s.table ≡ Some b → false ≡ is_the_library i x
     elsewhere tag.Plain b other there = refl
     elsewhere (tag.Object k n) b other there = refl

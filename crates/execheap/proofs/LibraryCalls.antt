@@ -1,4 +1,4 @@
--- The calls on libraries by address, told by number.
+-- The calls on libraries by address, reported by number.
 use Rattle.std.proofs.Common.{◌≡◌, ◌≢◌, ℕ, zero, suc, ◌+◌, ◌-◌, ◌<◌, List, [], ◌∷◌, Bool, true, false, cond, length, map, refl, ap, sym, ◌∙◌, arith}
 use Rattle.std.specs.Prelude.{Some, None, Option, IfSome, is_some, nat_eq, nat_le, bytes_eq, not, ◌&&◌, slice_index_or, if◌then◌else◌, codes}
 use Rattle.std.specs.Option.{option_map, option_and_then, option_map_or}
@@ -153,7 +153,7 @@ module _ {s : Numbered} (kept : IsKept s) (sound : IsSound s.table) (formed : Is
     pub close_found : count_of i s.table.libs ≢ 0 → model.close_alert a (shown_heap s) ≡ None
     close_found some = close_told ∙ ap (λ b. if b then Some (codes "LIB") else None) (nat_eq-other (count_of i s.table.libs) 0 some)
 
--- ---- the alerts where no library is loaded
+-- ---- the alerts if no library is loaded
 
 module _ (s : Numbered) (a : ℕ) (none : library_at a s.table ≡ None) where
   pub library_refused : model.library_alert a (shown_heap s) ≡ Some (codes "HANDLE")

@@ -1,4 +1,4 @@
--- A table stays sound where a library is opened, closed or removed.
+-- A table stays sound if a library is opened, closed or removed.
 use Rattle.std.proofs.Common.{◌≡◌, ◌≢◌, ℕ, ◌<◌, Bool, true, false, cond, length, refl, ap, sym, ◌∙◌, subst, arith}
 use Rattle.std.specs.Prelude.{Some, None, Option, is_some, if◌then◌else◌, IfSome, ◌-◌}
 use Rattle.std.specs.Option.{option_and_then, option_map, option_map_or}

@@ -37,7 +37,7 @@ turned a b = either_number b a (λ c. (a == b) ≡ c)
 
 -- ---- what begins somewhere, among entries
 
--- a tag that passes a test stands among the blocks where what begins at an address has it
+-- a tag that passes a test is among the blocks if what begins at an address has it
 pub any_found : (test : Tagged → Bool) (b t : ℕ) (es : Blocks) → test (tagged t) ≡ true → tag_at b es ≡ Some t
     → list_any (λ (e : ℕ × (ℕ × ℕ)). test (tagged e.1.1)) es ≡ true
 any_found test b t [] holds is = let bad : false ≡ true = ap is_some is in cc
@@ -76,11 +76,11 @@ module _ (s : Numbered) (a : ℕ) where
 module _ {s : Numbered} (sound : IsSound s) (space : IsSpace s) where
   -- ---- nodes by number
 
-  -- a node that stands in a sequence has that list as its home
+  -- a node that is in a sequence has that list as its home
   pub stands_at : (h n : ℕ) → list_any (λ other. other == n) (sequence s.sequences h) ≡ is_at (home s.homes n) h
   stands_at h n = stands_by_times n (sequence s.sequences h) (is_at (home s.homes n) h) (space.stands h n)
 
-  -- a node that stands in a sequence lives
+  -- a node that is in a sequence lives
   pub standing_lives : (h n : ℕ) → list_any (λ other. other == n) (sequence s.sequences h) ≡ true → IsSome (slot (places variant.Node s) n)
   standing_lives h n stands = sound.kept.live_nodes n (at_home (home s.homes n) h (sym (stands_at h n) ∙ stands))
 
@@ -90,14 +90,14 @@ module _ {s : Numbered} (sound : IsSound s) (space : IsSpace s) where
       let other = some_is (slot (places variant.Node s) m) there in
       number_same sound.table variant.Node m n a (other.1 ∙ ap Some (ap (λ o. unwrap_or o 0) (sym other.1) ∙ same ∙ ap (λ o. unwrap_or o 0) here)) here
 
-  -- the members of a sequence are told from a live node by their addresses
+  -- the members of a sequence are distinguished from a live node by their addresses
   pub told_apart : (h n a : ℕ) → slot (places variant.Node s) n ≡ Some a → Alike (address_in (places variant.Node s)) n (sequence s.sequences h)
   told_apart h n a here = alike_apart (address_in (places variant.Node s)) n (sequence s.sequences h)
       (λ m stands same. apart n m a here (standing_lives h m stands) same)
 
   -- ---- nodes by address
 
-  -- an address stands in the nodes of a list where the node's home is that list
+  -- an address is in the nodes of a list if the node's home is that list
   pub stands_shown : (h n a : ℕ) → slot (places variant.Node s) n ≡ Some a
       → stands_in a (map (address_in (places variant.Node s)) (sequence s.sequences h)) ≡ is_at (home s.homes n) h
   stands_shown h n a here =
@@ -117,7 +117,7 @@ module _ {s : Numbered} (sound : IsSound s) (space : IsSpace s) where
       (sym (ap (λ o. is_at o m) there) ∙ sym (stands_shown m n a here) ∙ holds)
   one_list n a h here there _ holds = let bad : false ≡ true = holds in cc
 
-  -- a node that stands nowhere is in no list that is shown
+  -- a node that is nowhere is in no list that is shown
   pub nowhere_shown : (n a : ℕ) → slot (places variant.Node s) n ≡ Some a → home s.homes n ≡ None → sequence_with a (shown_heap s) ≡ []
   unfolding shown_heap
   nowhere_shown n a here none = in_no_list s a (nowhere n a here none) s.table.memory.blocks

@@ -22,7 +22,7 @@ use Rattle.execheap.proofs.Made.{IsNew, new_parts}
 use Rattle.execheap.proofs.Matching.{next_known, next_vacant}
 use Rattle.execheap.proofs.Showing.{freed_shown, made_shown}
 
--- what every list space tells of sequences and homes
+-- what every list space reports of sequences and homes
 abbrev pub Stands : Numbered → Type 0
 Stands s = (h n : ℕ) → times n (sequence s.sequences h) ≡ (if is_at (home s.homes n) h then 1 else 0)
 
@@ -30,7 +30,7 @@ abbrev is_node_kind : Kind → Bool
 is_node_kind variant.Node = true
 is_node_kind _ = false
 
--- a sequence in which no number stands is empty
+-- a sequence without a number is empty
 pub none_there : (xs : List ℕ) → ((m : ℕ) → times m xs ≡ 0) → xs ≡ []
 none_there [] none = refl
 none_there (x ∷ xs) none = let more : suc (times x xs) ≡ 0 = sym (ap (λ b. cond b (suc (times x xs)) (times x xs)) (nat_eq-same x)) ∙ none x in absurd (omega (arith, more))

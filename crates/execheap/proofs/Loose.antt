@@ -38,7 +38,7 @@ module _ {s : Numbered} (kept : IsKept s) (sound : table.IsSound s.table) (m : �
 
   -- ---- what is kept
 
-  -- it stands in a port
+  -- it is in a port
   pub put_kept : (q : MessagePorts) (p : ℕ) (message : Message) → q.ports ≡ s.ports.ports → q.messages ≡ written m message s.ports.messages
       → q.holding ≡ s.ports.holding → q.places ≡ slice_set s.ports.places m (Some p) → IsKept (record s { ports = q })
   put_kept q p message ports set holding placed =

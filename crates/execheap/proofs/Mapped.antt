@@ -1,4 +1,4 @@
--- What the operations on sequences make of numbers, a map makes of what stands for the numbers: each operation commutes with a map.
+-- What the operations on sequences make of numbers, a map makes of what represents the numbers: each operation commutes with a map.
 -- Nodes are numbers inside and addresses outside, and a sequence of numbers is shown as the sequence of their addresses.
 use Rattle.std.proofs.Common.{◌≡◌, ℕ, suc, ◌-◌, ◌==◌, Bool, true, false, cond, not, ◌||◌, List, [], ◌∷◌, ◌++◌, length, take, drop, map, find, refl, sym, ◌∙◌, ap, arith, Option, Some, None, option_map, inl, inr, ◌⊎◌}
 use Rattle.std.specs.Prelude.{ℤ, int_lt, if◌then◌else◌}
@@ -9,7 +9,7 @@ use Rattle.std.proofs.lemmas.List.{drop-map, length-map, map-append, take-map}
 use Rattle.execlist.specs.Order.{chosen, chosen_or, enqueue, first, is_lower, without}
 use Rattle.execlist.specs.Lists.{last, part_after, part_before, put_after, times}
 
--- f tells n from the members of a sequence
+-- f distinguishes n from the members of a sequence
 abbrev pub Alike : (ℕ → ℕ) → ℕ → List ℕ → Type 0
 Alike f n xs = AllByRecursion (λ x. (f x == f n) ≡ (x == n)) xs
 
@@ -99,14 +99,14 @@ all_of_part_after P n (x ∷ xs) holds = by_case (x == n) (all_of_part_after P n
   by_case true rest = holds.1
   by_case false rest = rest
 
--- ---- whether a node stands in a sequence
+-- ---- whether a node is in a sequence
 
 pub stands-map : (f : ℕ → ℕ) (n : ℕ) (xs : List ℕ) → Alike f n xs
     → list_any (λ other. other == f n) (map f xs) ≡ list_any (λ other. other == n) xs
 stands-map f n [] alike = refl
 stands-map f n (x ∷ xs) alike = λ i. alike.0 i || stands-map f n xs alike.1 i
 
--- a node stands once where b is true, and else not at all
+-- a node is once if b is true, and else not at all
 pub stands_by_times : (n : ℕ) (xs : List ℕ) (b : Bool) → times n xs ≡ (if b then 1 else 0) → list_any (λ other. other == n) xs ≡ b
 stands_by_times n [] true t = absurd (omega arith)
 stands_by_times n [] false t = refl
@@ -135,7 +135,7 @@ others_than_absent n (x ∷ xs) t = by_case (x == n) t (others_than_absent n xs)
   by_case true t rest = absurd (omega arith)
   by_case false t rest = (refl, rest t)
 
--- what holds of each node that stands in the sequence
+-- what holds of each node that is in the sequence
 pub members : (P : ℕ → Type 0) (xs : List ℕ) → ((x : ℕ) → list_any (λ other. other == x) xs ≡ true → P x) → AllByRecursion P xs
 members P [] holds = tt
 members P (x ∷ xs) holds = (
@@ -143,7 +143,7 @@ members P (x ∷ xs) holds = (
   members P xs (λ y stands. holds y (or_right (x == y) (list_any (λ other. other == y) xs) stands)),
 )
 
--- f tells n from the members where it gives no member the address of n but n itself
+-- f distinguishes n from the members if it gives no member the address of n but n itself
 pub alike_apart : (f : ℕ → ℕ) (n : ℕ) (xs : List ℕ) → ((x : ℕ) → list_any (λ other. other == x) xs ≡ true → f x ≡ f n → x ≡ n)
     → Alike f n xs
 alike_apart f n xs apart = members (λ x. (f x == f n) ≡ (x == n)) xs (λ x stands. by_case x (apart x stands) (cases_eq x n)) where

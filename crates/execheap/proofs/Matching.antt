@@ -1,4 +1,4 @@
--- Blocks and numbers go on telling each other where an object of any kind is made or freed.
+-- Blocks and numbers go on agreeing if an object of any kind is made or freed.
 use Rattle.std.proofs.Common.{◌≡◌, ◌≢◌, ℕ, ◌+◌, ◌<◌, Bool, true, false, cond, length, slice_set, refl, ap, sym, ◌∙◌, subst, arith}
 use Rattle.std.specs.Prelude.{Some, None, Option, is_some, nat_eq, not, IfSome, IsSome}
 use Rattle.std.specs.Option.{option_map, option_and_then}
@@ -30,11 +30,11 @@ use Rattle.execheap.proofs.Tagging.{cases_kind, kind_few, read_tag, same_other, 
 abbrev pub tag_in : Option (ℕ × ℕ) → Option ℕ
 tag_in found = option_map (λ (block : ℕ × ℕ). block.1) found
 
--- a block counts for a kind where its tag is of that kind
+-- a block counts for a kind if its tag is of that kind
 abbrev pub counts : Kind → ℕ → Bool
 counts kind tag = is_of kind (tagged tag)
 
--- the tag of a block that stays where another is put, or freed
+-- the tag of a block that stays if another is put, or freed
 module _ (a b g : ℕ) (blocks : Blocks) (there : tag_at b blocks ≡ Some g) where
   pub tag_placed : (v : ℕ × ℕ) → block_at a blocks ≡ None → tag_at b (put nat_cmp a v blocks) ≡ Some g
   tag_placed v fresh =

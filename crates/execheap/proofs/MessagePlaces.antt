@@ -1,4 +1,4 @@
--- What may stand in a port: a message, or a request, whose numbers as messages stand behind those of the messages. Each has one address.
+-- What may be in a port: a message, or a request, whose numbers as messages are after those of the messages. Each has one address.
 use Rattle.std.proofs.Common.{◌≡◌, ◌≢◌, ℕ, ◌+◌, ◌-◌, ◌<◌, ◌≤◌, true, false, inl, inr, map, refl, ap, sym, ◌∙◌, arith}
 use Rattle.std.specs.Prelude.{Some, None, Option, List, [], ◌∷◌, is_some, IfSome, IsSome, unwrap_or, ◌++◌, ◌==◌}
 use Rattle.std.specs.List.{list_any}
@@ -27,7 +27,7 @@ use Rattle.execheap.proofs.Mapped.{Alike, alike_apart, stands_by_times}
 use Rattle.execheap.proofs.Matching.{freed_beside, lives_beside, made_beside, number_same, other_object, sound_freed, sound_made}
 use Rattle.execheap.proofs.Tagging.{tag_same}
 
--- the addresses of what may stand in a port
+-- the addresses of what may be in a port
 abbrev pub queue_places : Tabled → List (Option ℕ)
 queue_places t = slots_of variant.Message t ++ slots_of variant.Request t
 
@@ -71,7 +71,7 @@ module _ {t : Tabled} (sound : IsSound t) where
           (some_same (sym (sound.matched.complete variant.Message k a message) ∙ sound.matched.complete variant.Request r a request))
           (λ code number. absurd (omega (arith, code)))
 
--- what has an address keeps it where its message or its request does
+-- what has an address keeps it if its message or its request does
 pub place_kept : {t u : Tabled} → IsSound t → IsSound u → u.pool ≡ t.pool → (m : ℕ)
     → (m < t.pool → slot (slots_of variant.Message u) m ≡ slot (slots_of variant.Message t) m)
     → (t.pool ≤ m → slot (slots_of variant.Request u) (m - t.pool) ≡ slot (slots_of variant.Request t) (m - t.pool))
@@ -81,7 +81,7 @@ place_kept {t} {u} sound after pool m messages requests = by_number m t.pool
     (λ from. place_from after m (omega (arith, pool)) ∙ ap (λ n. slot (slots_of variant.Request u) (m - n)) pool ∙ requests from
     ∙ sym (place_from sound m from))
 
--- ---- what stands in a port
+-- ---- what is in a port
 
 home_is : (o : Option ℕ) (p : ℕ) → is_at o p ≡ true → o ≡ Some p
 home_is None p at = let bad : false ≡ true = at in cc
@@ -91,7 +91,7 @@ first_stands : (xs : List ℕ) (m : ℕ) → first xs ≡ Some m → list_any (�
 first_stands [] m is = let bad : false ≡ true = ap is_some is in cc
 first_stands (x ∷ xs) m is = or_left (x == m) (list_any (λ other. other == m) xs) (eq-eqb x m (some_same is))
 
--- a number stands in a port
+-- a number is in a port
 abbrev pub Standing : ℕ → ℕ → Numbered → Type 0
 Standing p m s = list_any (λ other. other == m) (messages_of p s.ports) ≡ true
 
@@ -113,7 +113,7 @@ module _ {s : Numbered} (sound : numbered.IsSound s) (held : ports.IsSound s.por
   pub standing_placed : (p m : ℕ) → Standing p m s → (a : ℕ) × (slot (message_places s) m ≡ Some a)
   standing_placed p m stands = some_is (slot (message_places s) m) (home_placed p m (standing_home p m stands))
 
-  -- what stands first in a port has an address
+  -- what is first in a port has an address
   pub first_placed : (p m : ℕ) → first (messages_of p s.ports) ≡ Some m → IsSome (slot (message_places s) m)
   first_placed p m is = home_placed p m (standing_home p m (first_stands (messages_of p s.ports) m is))
 
@@ -121,7 +121,7 @@ module _ {s : Numbered} (sound : numbered.IsSound s) (held : ports.IsSound s.por
   first_lives p None is = tt
   first_lives p (Some m) is = first_placed p m (sym is)
 
-  -- an address is that of no other that stands in a port
+  -- an address is that of no other that is in a port
   apart : (p n m a : ℕ) → slot (message_places s) n ≡ Some a → Standing p m s
       → address_in (message_places s) m ≡ address_in (message_places s) n → m ≡ n
   apart p n m a here stands same =
@@ -129,12 +129,12 @@ module _ {s : Numbered} (sound : numbered.IsSound s) (held : ports.IsSound s.por
       place_same sound.table m n a
       (other.1 ∙ ap Some (ap (λ o. unwrap_or o 0) (sym other.1) ∙ same ∙ ap (λ o. unwrap_or o 0) here)) here
 
-  -- what stands in a port is told from what lives by addresses
+  -- what is in a port is distinguished from what lives by addresses
   pub messages_apart : (p m a : ℕ) → slot (message_places s) m ≡ Some a → Alike (address_in (message_places s)) m (messages_of p s.ports)
   messages_apart p m a here = alike_apart (address_in (message_places s)) m (messages_of p s.ports)
       (λ n stands same. apart p m n a here stands same)
 
-  -- ---- what stands in a port keeps its address where an object of any kind is made or freed
+  -- ---- what is in a port keeps its address if an object of any kind is made or freed
 
   module _ (formed : IsWellFormed s.table.memory.regions s.table.memory.blocks) (kind : Kind) (number a : ℕ) where
     pub standing_made : IsStocked (pool_of kind s.table) → next_number (pool_of kind s.table) ≡ Some number
@@ -153,7 +153,7 @@ module _ {s : Numbered} (sound : numbered.IsSound s) (held : ports.IsSound s.por
         stays k n b lives = made_beside sound.table formed kind number a stocked next fits k n
             (lives_beside sound.table formed kind number a stocked next fits k n b lives)
 
-    -- where what is freed stands in no port
+    -- if what is freed is in no port
     pub standing_freed : slot (slots_of kind s.table) number ≡ Some a
         → ((p m : ℕ) → Standing p m s → slot (message_places s) m ≢ Some a) → (p : ℕ)
         → map (address_in (queue_places (without_object kind number a s.table))) (messages_of p s.ports)
@@ -171,7 +171,7 @@ module _ {s : Numbered} (sound : numbered.IsSound s) (held : ports.IsSound s.por
         stays k n b other lives = freed_beside sound.table formed kind number a live k n
             (other_object sound.table formed kind number a live k n b other lives)
 
-  -- what has no place stands in no port
+  -- what has no place is in no port
   pub loose_apart : (n a : ℕ) → slot (message_places s) n ≡ Some a → home s.ports.places n ≡ None → (p m : ℕ) → Standing p m s
       → slot (message_places s) m ≢ Some a
   loose_apart n a here loose p m stands there =

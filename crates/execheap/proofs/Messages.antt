@@ -87,7 +87,7 @@ module _ {s : Numbered} (kept : IsKept s) (sound : IsSound s.table) (formed : Is
         apart_from : (k : Kind) → kind_code k ≢ kind_code variant.Message → slots_of k t ≡ places k s
         apart_from k ne = ap (slots_of k) is ∙ slots_made sound formed kept variant.Message n a stocked parts.number parts.address k ne
 
-        -- what stands in a port keeps its address
+        -- what is in a port keeps its address
         messages_beside : (p : ℕ) → map (address_in (queue_places t)) (messages_of p s.ports) ≡ map (address_in (message_places s)) (messages_of p s.ports)
         messages_beside p =
             ap (λ u. map (address_in (queue_places u)) (messages_of p s.ports)) is

@@ -1,4 +1,4 @@
--- Libraries are opened by number as they are by address, once others were asked to give way.
+-- Libraries are opened by number as they are by address, once others were expunged under low memory.
 use Rattle.std.proofs.Common.{◌≡◌, ℕ, List, refl, ap, sym, ◌∙◌}
 use Rattle.std.specs.Prelude.{Some, None, Option, is_some, if◌then◌else◌}
 use Rattle.std.specs.Option.{option_map}

@@ -54,7 +54,7 @@ module _ (s : Numbered) (q : Semaphores) where
     unfolding model.with_semaphore
     with_semaphore_shown told = object_replaced s beside address (Semaphore sem queue) variant.Semaphore n sem_set told refl
 
--- ---- the changes, where a number begins at an address
+-- ---- the changes, if a number begins at an address
 
 module _ (s : Numbered) (n semaphore : ℕ) (found : number_at variant.Semaphore semaphore s.table ≡ Some n) (told : Tells s semaphore variant.Semaphore n) where
   sem_is : model.sem_of semaphore (shown_heap s) ≡ sem_at n s.sems

@@ -16,7 +16,7 @@ use Rattle.execheap.proofs.Counting.{all_freed, all_placed, passing_freed, passi
 use Rattle.execheap.proofs.Entries.{all_then, some_same}
 use Rattle.execheap.proofs.Matching.{counts, number_small, tag_in, tag_left, tag_placed}
 
--- the same objects with other blocks, where libraries that lie at an address still do
+-- the same objects with other blocks, if libraries that lie at an address still do
 pub place_same : (t u : Tabled) → u.pools ≡ t.pools → (x : Tagged) (a : ℕ) → ((i : ℕ) → base_at i t.libs ≡ Some a → base_at i u.libs ≡ Some a)
     → place_of x a t ≡ Some a → place_of x a u ≡ Some a
 place_same t u pools Plain a libraries there = there

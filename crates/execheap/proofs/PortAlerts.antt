@@ -1,4 +1,4 @@
--- The alerts of the calls on ports and messages by address, told by number.
+-- The alerts of the calls on ports and messages by address, reported by number.
 use Rattle.std.proofs.Common.{◌≡◌, ℕ, zero, suc, List, Bool, true, false, refl, ap, sym, ◌∙◌, arith}
 use Rattle.std.specs.Prelude.{Option, None, Some, codes, is_some, nat_eq, if◌then◌else◌, ◌||◌}
 use Rattle.memlist.proofs.Answered.{nat_eq-other}
@@ -100,7 +100,7 @@ or_false true = refl
 or_false false = refl
 
 module _ {s : Numbered} (sound : IsSound s) (held : ports.IsSound s.ports) (m message : ℕ) (here : slot (places variant.Message s) m ≡ Some message) where
-  -- a message that is none of a request is linked where a port has it
+  -- a message that is none of a request is linked if a port has it
   pub message_linked : is_linked m s.ports ≡ is_queued m s.ports
   message_linked =
       ap (λ b. is_queued m s.ports || b) (sound.kept.in_time.none_held m (message_small sound.kept sound.table m (ap is_some here))) ∙ or_false (is_queued m s.ports)

@@ -34,7 +34,7 @@ use Rattle.execheap.proofs.Semaphores.{is_none}
 use Rattle.execheap.proofs.Showing.{freed_shown, made_shown}
 use Rattle.execheap.proofs.Stepping.{shape_given, shape_length, shape_lives, shape_next, shape_released}
 
--- the public ports show the same where they keep their addresses
+-- the public ports show the same if they keep their addresses
 public_beside : (s u : Numbered) → u.ports.keys ≡ s.ports.keys → u.ports.public ≡ s.ports.public
     → ((q : ℕ) → list_any (λ other. other == q) s.ports.public ≡ true → slot (places variant.Port u) q ≡ slot (places variant.Port s) q)
     → map (shown_public u) u.ports.public ≡ map (shown_public s) s.ports.public

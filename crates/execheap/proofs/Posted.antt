@@ -43,7 +43,7 @@ module _ (s : Numbered) (q : MessagePorts) where
   abbrev beside : Numbered
   beside = record s { ports = q }
 
-  -- the same objects where the ports, their messages and what these hold are the same
+  -- the same objects if the ports, their messages and what these hold are the same
   module _ (ports : q.ports ≡ s.ports.ports) (queues : q.queues ≡ s.ports.queues) (messages : q.messages ≡ s.ports.messages) where
     object_same : (k : Kind) (m : ℕ) → object_of k m beside ≡ object_of k m s
     object_same variant.Port m =
@@ -124,12 +124,12 @@ same_at f p k = either_number k p (λ b. f k ≡ (if b then f p else f k)) (λ s
 pub item_known : {A : Type 0} (slots : List (Option A)) (n : ℕ) → IsTrue (is_some (slot slots n)) → n < length slots
 item_known slots n live = let item = some_is (slot slots n) live in slot_known slots n item.0 item.1
 
--- where none is first there is none
+-- if none is first there is none
 pub none_left : (xs : List ℕ) → first xs ≡ None → xs ≡ drop 1 xs
 none_left [] none = refl
 none_left (x ∷ xs) none = let bad : true ≡ false = ap is_some none in cc
 
--- ---- the changes, where a number begins at an address
+-- ---- the changes, if a number begins at an address
 
 module _ (s : Numbered) (p port : ℕ) (found : number_at variant.Port port s.table ≡ Some p) (told : Tells s port variant.Port p) (live : IsTrue (ports.is_port p s.ports)) where
   pub action_heap : (act : PortAction) → shown_heap (on_ports (with_port p (record (port_at p s.ports) { action = act })) s) ≡ model.with_action act port (shown_heap s)

@@ -29,7 +29,7 @@ use Rattle.execheap.proofs.Shown.{messages_shown}
 
 -- ---- sequences
 
--- those that pass a test of what stands for them
+-- those that pass a test of what represents them
 pub filter-map : {A B : Type 0} (f : A → B) (other : B → Bool) (wanted : A → Bool) (xs : List A) → AllByRecursion (λ x. other (f x) ≡ wanted x) xs
     → filter other (map f xs) ≡ map f (filter wanted xs)
 filter-map f other wanted [] same = refl
@@ -69,7 +69,7 @@ value_unless fits next = if not fits then Some (codes "VALUE") else next
 module _ {s : Numbered} (sound : IsSound s) (held : ports.IsSound s.ports) where
   -- ---- which ports are public
 
-  -- a port stands among the public ones where it is public
+  -- a port is among the public ones if it is public
   pub stands_public : (p : ℕ) → list_any (λ other. other == p) s.ports.public ≡ ports.is_public p s.ports
   stands_public p = stands_by_times p s.ports.public (ports.is_public p s.ports) (held.stands_public p)
 
@@ -95,7 +95,7 @@ module _ {s : Numbered} (sound : IsSound s) (held : ports.IsSound s.ports) where
     ports_apart : Alike (address_in (places variant.Port s)) p s.ports.public
     ports_apart = alike_apart (address_in (places variant.Port s)) p s.ports.public (λ q stands same. apart q (public_lives q stands) same)
 
-    -- a public port is told by its address
+    -- a public port is reported by its address
     told_public : AllByRecursion (λ q. ((shown_public s q).port == port) ≡ (q == p)) s.ports.public
     told_public = subst_address (sym address_is) ports_apart
       where
@@ -184,7 +184,7 @@ module _ {s : Numbered} (sound : IsSound s) (held : ports.IsSound s.ports) where
           ap (λ b. handle_unless b (if is_public port (shown_memory s) then None else Some (codes "LINK"))) begins
           ∙ ap (λ b. if b then None else Some (codes "LINK")) (is_public_shown ∙ is)
 
--- ---- the alerts where no port begins at the address
+-- ---- the alerts if no port begins at the address
 
 module _ (port : ℕ) (memory : Memory) {why : List ℕ} (refused : port_alert port memory.heap ≡ Some why) where
   pub delete_refused : delete_alert port memory ≡ Some why

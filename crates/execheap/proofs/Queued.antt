@@ -24,7 +24,7 @@ use Rattle.execheap.proofs.Tagging.{read_tag}
 
 -- ---- the port that has an address, among entries
 
--- an address stands among the messages of an object
+-- an address is among the messages of an object
 abbrev Has : ℕ → Numbered → Tagged → Bool
 Has a s x = list_any (λ other. other == a) (messages_in (shown_tagged s x))
 
@@ -46,7 +46,7 @@ module _ {s : Numbered} (sound : IsSound s) (held : ports.IsSound s.ports) where
   port_placed p live = some_is (slot (places variant.Port s) p) (shape_lives (pool_of variant.Port s.table) s.ports.ports (sound.kept.in_step variant.Port) p ∙ live)
 
   module _ (m a : ℕ) (here : slot (message_places s) m ≡ Some a) where
-    -- an address stands in the messages of a port where its number has that port
+    -- an address is in the messages of a port if its number has that port
     has_shown : (p : ℕ) → list_any (λ other. other == a) (map (address_in (message_places s)) (messages_of p s.ports)) ≡ is_at (home s.ports.places m) p
     has_shown p =
         ap (λ x. list_any (λ other. other == x) (map (address_in (message_places s)) (messages_of p s.ports))) (sym (ap (λ o. unwrap_or o 0) here))
@@ -70,7 +70,7 @@ module _ {s : Numbered} (sound : IsSound s) (held : ports.IsSound s.ports) where
     unfolding shown_heap is_queued
     queued_nowhere none = in_entries s a s.table.memory.blocks ∙ in_none (Has a s) (has_nowhere none) s.table.memory.blocks
 
-    -- it is queued by address where it is by number
+    -- it is queued by address if it is by number
     pub is_queued_shown : is_queued a (shown_heap s) ≡ ports.is_queued m s.ports
     is_queued_shown = elim (home s.ports.places m) as (λ o. home s.ports.places m ≡ o → is_queued a (shown_heap s) ≡ is_some o) [
       | None ↦ λ none. queued_nowhere none

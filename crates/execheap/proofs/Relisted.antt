@@ -20,12 +20,12 @@ use Rattle.execheap.specs.Numbered.{Numbered, address_in, object_of, places, sho
 use Rattle.execheap.proofs.Entries.{all_then, map_same}
 use Rattle.execheap.proofs.Tagging.{either_number, is_object}
 
--- just the block at an address is the object of a kind and a number
+-- exactly the block at an address is the object of a kind and a number
 abbrev pub Tells : Numbered → ℕ → Kind → ℕ → Type 0
 Tells s address kind number =
     AllByRecursion (λ (entry : ℕ × (ℕ × ℕ)). nat_eq entry.0 address ≡ is_object kind number (tagged entry.1.1)) s.table.memory.blocks
 
--- what a tag says is another where it passes a test, and all else is the same
+-- what a tag says is another if it passes a test, and all else is the same
 module _ (old new : Numbered) (address : ℕ) (object : Object) (test : Tagged → Bool)
     (shows : (x : Tagged) → shown_tagged new x ≡ (if test x then object else shown_tagged old x)) where
   replaced_entry : (entry : ℕ × (ℕ × ℕ)) → nat_eq entry.0 address ≡ test (tagged entry.1.1)
@@ -77,7 +77,7 @@ either_object : (b : Bool) (f : List ℕ → List ℕ) (nodes rest : List ℕ) �
 either_object true f nodes rest = refl
 either_object false f nodes rest = refl
 
--- the objects where the nodes of list h are set
+-- the objects if the nodes of list h are set
 module _ (s : Numbered) (homes : List (Option ℕ)) (h list : ℕ) (nodes : List ℕ) (known : h < length s.sequences) where
   abbrev relinked : Numbered
   relinked = record s { sequences = slice_set s.sequences h nodes; homes = homes }

@@ -1,4 +1,4 @@
--- The alerts of the calls on requests by address, told by number.
+-- The alerts of the calls on requests by address, reported by number.
 use Rattle.std.proofs.Common.{◌≡◌, ℕ, List, Bool, true, false, refl, ap, sym, ◌∙◌}
 use Rattle.std.specs.Prelude.{Option, None, Some, codes, is_some, not, ◌&&◌, if◌then◌else◌}
 use Rattle.execlist.specs.Pool.{slot}
@@ -159,7 +159,7 @@ delete_found request heap rests is =
 
 -- ---- its reply
 
--- the reply of a request is in a port by address where it is by number
+-- the reply of a request is in a port by address if it is by number
 pub reply_shown : {s : Numbered} → IsSound s → ports.IsSound s.ports → (r request : ℕ) → slot (places variant.Request s) r ≡ Some request
     → is_queued request (shown_heap s) ≡ ports.is_queued (message_of_request r s) s.ports
 reply_shown {s} sound held r request here = is_queued_shown sound held (message_of_request r s) request (request_standing s sound.table r ∙ here)

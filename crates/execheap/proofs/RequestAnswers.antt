@@ -61,7 +61,7 @@ requests_out UnderWay r s = refl
 requests_out Quick r s = refl
 requests_out Replied r s = refl
 
--- a port shows the same where the ports are the same
+-- a port shows the same if the ports are the same
 port_beside : (s u : Numbered) → u.table ≡ s.table → u.ports.ports ≡ s.ports.ports → (a : ℕ) → port_of a (shown_heap u) ≡ port_of a (shown_heap s)
 unfolding port_of
 port_beside s u table same a =

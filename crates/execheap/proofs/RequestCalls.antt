@@ -1,4 +1,4 @@
--- What a call on a request by number makes of the objects, as it is told step by step.
+-- What a call on a request by number makes of the objects, as it is reported step by step.
 use Rattle.std.proofs.Common.{◌≡◌, ℕ, zero, suc, List, [], ◌∷◌, Bool, true, false, cond, slice_set, w8, to_z, of_z, refl, ap, sym, ◌∙◌}
 use Rattle.std.specs.Prelude.{ℤ, pos, negsuc, if◌then◌else◌, Some, None, Option, Ok, Err, Result, filter, is_ok, is_some, option_map, ◌&&◌, ◌||◌, ◌==◌, IsTrue}
 use Rattle.std.specs.List.{list_any}
@@ -21,7 +21,7 @@ use Rattle.execheap.proofs.Entries.{some_same}
 use Rattle.execheap.proofs.KeptRequests.{begun_here, begun_port, kept_done}
 use Rattle.execheap.proofs.Waits.{IsTimed}
 
--- ---- what an answer tells
+-- ---- what an answer reports
 
 -- a call that was not refused
 pub not_refused : {A : Type 0} (fault : Option ReqFault) (value answer : A) (result : Result A ReqFault) (old new q : Pooled TimerRequest)
@@ -95,7 +95,7 @@ module _ {s : Numbered} (sound : IsSound s) (r : ℕ) (lives : IsTrue (is_reques
       ∙ begun_here sound r lives (begun quick system (request_at r s.requests)) (begun_port quick system (request_at r s.requests))
       ∙ ap (λ n. begun quick n (request_at r s.requests)) told
 
-  -- the port where its reply is put
+  -- the port if its reply is put
   answers : port_number (reply_port (request_at r start)) s.table ≡ answering (begun_as quick r s) s
   answers = ap (λ q. port_number (reply_port q) s.table) holds_now
 
@@ -137,7 +137,7 @@ module _ {s : Numbered} (sound : IsSound s) (r : ℕ) (lives : IsTrue (is_reques
 
 -- ---- those whose time has come
 
--- what is chosen stands there
+-- what is chosen is there
 chosen_stands : (key : Waiting → ℤ) (xs : List Waiting) (w : Waiting) → chosen key xs ≡ Some w
     → list_any (λ (v : Waiting). v.request == w.request) xs ≡ true
 chosen_stands key [] w is = let bad : false ≡ true = ap is_some is in cc
@@ -157,7 +157,7 @@ chosen_stands key (x ∷ xs) w is = by_rest (chosen key xs) is (chosen_stands ke
   by_rest None is rest = itself is
   by_rest (Some y) is rest = by_key (is_lower key x y) y is rest
 
--- and so does what is left of those that stand
+-- and so does what is left of those that are
 filter_stands : (passes : Waiting → Bool) (r : ℕ) (xs : List Waiting) → list_any (λ (w : Waiting). w.request == r) (filter passes xs) ≡ true
     → list_any (λ (w : Waiting). w.request == r) xs ≡ true
 filter_stands passes r [] is = is

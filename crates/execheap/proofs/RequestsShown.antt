@@ -266,7 +266,7 @@ module _ {s : Numbered} (sound : IsSound s) (r request : ℕ) (here : slot (plac
   waiting_placed : (k : ℕ) → is_waiting k s.timing.timer ≡ true → (a : ℕ) × (slot (places variant.Request s) k ≡ Some a)
   waiting_placed k stands = some_is (slot (places variant.Request s) k) (request_live sound.kept k (waiting_under_way sound.kept k stands).0)
 
-  -- a request is told from those that wait by its address as by its number
+  -- a request is distinguished from those that wait by its address as by its number
   told_waiting : AllByRecursion (λ (w : Waiting). not ((shown_waiting s w).request == request) ≡ not (w.request == r)) s.timing.timer.waiting
   told_waiting = waiting_members (λ (w : Waiting). not ((shown_waiting s w).request == request) ≡ not (w.request == r)) s.timing.timer.waiting
       (λ w stands. ap not (by_case w.request (cases_eq w.request r) (waiting_placed w.request stands)))

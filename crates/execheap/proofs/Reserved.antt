@@ -1,4 +1,4 @@
--- The messages of the requests, which are made first: they have the numbers behind those of the other messages.
+-- The messages of the requests, which are made first: they have the numbers after those of the other messages.
 use Rattle.std.proofs.Common.{◌≡◌, ℕ, zero, suc, ◌+◌, ◌-◌, ◌<◌, ◌≤◌, List, [], ◌∷◌, ◌++◌, true, false, length, replicate, slice_set, refl, ap, ◌∙◌, subst, arith}
 use Rattle.std.specs.Prelude.{Some, None, Option, is_some, is_ok, take, IsTrue}
 use Rattle.std.specs.List.{range_with_len}

@@ -1,4 +1,4 @@
--- The alerts and the answers of the calls on semaphores by address, told by number.
+-- The alerts and the answers of the calls on semaphores by address, reported by number.
 use Rattle.std.proofs.Common.{◌≡◌, ℕ, List, Bool, true, false, refl, ap, sym, ◌∙◌}
 use Rattle.std.specs.Prelude.{Option, None, Some, IfOk, OnOk, codes, is_some, if◌then◌else◌}
 use Rattle.execlist.specs.Order.{first}

@@ -77,7 +77,7 @@ object_at_shown s a = ap (option_map (λ (block : Block). block.object)) (block_
     both None = refl
     both (Some block) = refl
 
--- an object of a kind begins at an address where a number of that kind does
+-- an object of a kind begins at an address if a number of that kind does
 pub kind_shown : (s : Numbered) (kind : Kind) (a : ℕ) → is_kind (test_of kind) (object_at a (shown_heap s)) ≡ is_some (number_at kind a s.table)
 kind_shown s kind a = ap (is_kind (test_of kind)) (object_at_shown s a) ∙ by_block (block_at a s.table.memory.blocks) where
   by_tag : (x : Tagged) → is_of kind x ≡ is_some (number_in kind x)
@@ -90,7 +90,7 @@ kind_shown s kind a = ap (is_kind (test_of kind)) (object_at_shown s a) ∙ by_b
   by_block None = refl
   by_block (Some block) = test_shown s kind (tagged block.1) ∙ by_tag (tagged block.1)
 
--- the object of a number is what begins where that number does
+-- the object of a number is what begins if that number does
 pub object_numbered : (s : Numbered) (kind : Kind) (a number : ℕ) → number_at kind a s.table ≡ Some number
     → object_at a (shown_heap s) ≡ Some (object_of kind number s)
 object_numbered s kind a number is = object_at_shown s a ∙ by_block (block_at a s.table.memory.blocks) is where
@@ -139,7 +139,7 @@ live_shown s kind = count_map (shown_entry s) (λ (entry : ℕ × Block). test_o
 abbrev pub address_of : Option (ℕ × ℕ) → Option ℕ
 address_of made = option_map (λ (m : ℕ × ℕ). m.1) made
 
--- the model allows one more object of a kind where a number of that kind is left
+-- the model allows one more object of a kind if a number of that kind is left
 pub allowed_shown : (s : Numbered) → IsSound s.table → (kind : Kind) → IsStocked (pool_of kind s.table)
     → is_allowed (test_of kind) (shown_memory s) ≡ is_some (next_number (pool_of kind s.table))
 allowed_shown s sound kind stocked = by_next (next_number (pool_of kind s.table)) refl where
@@ -160,7 +160,7 @@ allowed_shown s sound kind stocked = by_next (next_number (pool_of kind s.table)
     taken_below (slots_of kind s.table) n (vacant n next) (known n next),
   ))
 
--- a new object goes where the model has it
+-- a new object goes if the model has it
 pub place_shown : (s : Numbered) → IsSound s.table → (kind : Kind) → IsStocked (pool_of kind s.table)
     → place_for_object (test_of kind) (size_of kind) (shown_memory s) ≡ address_of (next_object kind s.table)
 unfolding place_for_object
@@ -176,7 +176,7 @@ place_shown s sound kind stocked =
     by_next None = refl
     by_next (Some n) = fit_shown s (size_of kind) 1 ∙ at (fit s.table.memory.regions s.table.memory.blocks (size_of kind) 1) n
 
--- ---- an object of any kind made or freed, where the others keep what they hold
+-- ---- an object of any kind made or freed, if the others keep what they hold
 
 module _ {s u : Numbered} (sound : IsSound s.table) (kind : Kind) (number a : ℕ) where
   pub made_shown : (object : Object) → u.table ≡ with_object kind (Some (number, a)) s.table → u.tasks ≡ s.tasks

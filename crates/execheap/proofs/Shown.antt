@@ -81,7 +81,7 @@ module _ (s : Numbered) (a : ℕ) where
     unfolding waiters_of
     waiters_shown is = ap waiters_of_object (object_numbered s variant.Semaphore a n is)
 
--- ---- just one block is an object
+-- ---- exactly one block is an object
 
 module _ {t : Tabled} (sound : IsSound t) (formed : IsWellFormed t.memory.regions t.memory.blocks) (kind : Kind) (number a : ℕ)
     (live : slot (slots_of kind t) number ≡ Some a) where

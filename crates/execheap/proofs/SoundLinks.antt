@@ -1,4 +1,4 @@
--- Objects stay sound where nodes are linked and unlinked: no block and no number changes, and a linked node and its list still live.
+-- Objects stay sound if nodes are linked and unlinked: no block and no number changes, and a linked node and its list still live.
 use Rattle.std.proofs.Common.{◌≡◌, ℕ, zero, suc, ◌<◌, List, [], ◌∷◌, true, false, length, slice_set, refl, ap, sym, ◌∙◌, subst, arith}
 use Rattle.std.specs.Prelude.{Some, None, Option, is_some, IsSome, MatchOption}
 use Rattle.std.proofs.lemmas.List.{get_or-set_same, get_or-set_other, length-set}
@@ -33,7 +33,7 @@ home_either P homes n o set here there m = either_number m n (λ b. P m (home (s
     (λ same. subst (λ k. P k (home (slice_set homes n o) k)) (sym same) (subst (P n) (sym set) here))
     (λ other. subst (P m) (sym (get_or-set_other homes n m o None other)) (there m))
 
--- a node has a home only where both live
+-- a node has a home only if both live
 abbrev IsHomed : Numbered → ℕ → Option ℕ → Type 0
 IsHomed s n o = (h : ℕ) → o ≡ Some h → IsSome (slot (places variant.Node s) n) × IsSome (slot (places variant.List s) h)
 

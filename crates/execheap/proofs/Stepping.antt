@@ -1,4 +1,4 @@
--- Pools in step stay in step where both give, release or write.
+-- Pools in step stay in step if both give, release or write.
 use Rattle.std.proofs.Common.{◌≡◌, true, ℕ, zero, suc, List, [], ◌∷◌, false, length, map, replicate, slice_set, refl, ap, sym, ◌∙◌}
 use Rattle.std.specs.Prelude.{Some, None, Option, is_some, slice_index_or, take, ◌-◌, ◌++◌}
 use Rattle.std.proofs.lemmas.List.{length-map}

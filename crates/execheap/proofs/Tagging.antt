@@ -13,7 +13,7 @@ use Rattle.execheap.specs.Tags.{is_same, kind_code, kinds, libraries, object_or_
 
 -- ---- kinds
 
--- each kind stands at its number
+-- each kind is at its number
 pub kind_named : (kind : Kind) → slice_get kinds (kind_code kind) ≡ Some kind
 kind_named List = refl
 kind_named Node = refl

@@ -30,7 +30,7 @@ module _ (s : Numbered) (t : Held) where
       ap (λ (f : ℕ × (ℕ × ℕ) → ℕ × Block). map f s.table.memory.blocks)
       (fun_ext (λ (entry : ℕ × (ℕ × ℕ)). ap (λ o. (entry.0, record { size = entry.1.0; object = o })) (shown_same (tagged entry.1.1))))
 
--- a change of the times is shown where it leaves those that wait alone
+-- a change of the times is shown if it leaves those that wait alone
 pub times_shown : (f : Timer → Timer) (s : Numbered) → shown_timer (on_timing f s) ≡ f (shown_timer s)
     → shown_memory (on_timing f s) ≡ on_timer f (shown_memory s)
 times_shown f s timer = λ i. record {

@@ -1,4 +1,4 @@
--- What is held, and what waits, is the same but for one: where it comes, and where it goes.
+-- What is held, and what waits, is the same but for one: from where it comes, and where it goes.
 use Rattle.std.proofs.Common.{◌≡◌, ◌≢◌, ℕ, suc, ◌+◌, ◌<◌, ◌≤◌, ◌^◌, List, [], ◌∷◌, ◌++◌, Bool, true, false, cond, not, inl, inr, ◌⊎◌, length, refl, ap, sym, ◌∙◌, subst, arith}
 use Rattle.std.specs.Prelude.{Some, None, Option, nat_lt, ◌==◌, ◌||◌, IsTrue, filter, slice_set}
 use Rattle.std.specs.List.{AllByRecursion, list_any}
@@ -18,7 +18,7 @@ use Rattle.msgport.proofs.Linking.{left_home}
 use Rattle.execheap.proofs.Entries.{some_same}
 use Rattle.execheap.proofs.Stepping.{shape_written}
 
--- ---- how often a number stands
+-- ---- how often a number is
 
 times_front : (n m : ℕ) (xs : List ℕ) → m ≢ n → times m (n ∷ xs) ≡ times m xs
 times_front n m xs other = ap (λ b. cond b (suc (times m xs)) (times m xs)) (ne_eqb n m (λ e. other (sym e)))
@@ -59,7 +59,7 @@ times_without_other n m (x ∷ xs) other = by_case (cases_eq x n) (times_without
 
 -- ---- what is held, and in a port
 
--- message m is held now or not, and all others as they were; what is in a port was there, but m is where it may be
+-- message m is held now or not, and all others as they were; what is in a port was there, but m is if it may be
 pub record IsMoved (way : Bool) (m : ℕ) (At : ℕ → Type 0) (old new : MessagePorts) : Type 0 where
   pub messages : shape new.messages ≡ shape old.messages
   pub ports : new.ports ≡ old.ports
@@ -89,7 +89,7 @@ module _ (m : ℕ) (At : ℕ → Type 0) (s : MessagePorts) where
     queued = λ n p there. inl there;
   }
 
-  -- where it is put
+  -- if it is put
   pub moved_posted : (kind p : ℕ) → IsTrue (is_message m s) → At p → IsMoved false m At s (posted kind p m (let_go m s))
   moved_posted kind p lives may = record {
     messages = shape_written s.messages m (record (ports.message_at m s) { kind = kind }) lives;
@@ -105,7 +105,7 @@ module _ (m : ℕ) (At : ℕ → Type 0) (s : MessagePorts) where
         let is : p ≡ q = some_same (sym (slot_same s.places m (Some p) known) ∙ ap (home (slice_set s.places m (Some p))) (sym same) ∙ there) in
         inr (same, subst At is may)
 
-  -- where it is taken out of its port
+  -- if it is taken out of its port
   pub moved_out : {way : Bool} → is_held m s ≡ way → IsMoved way m At s (taken_out m s)
   moved_out {way} is = by_home (home s.places m) where
     by_home : (o : Option ℕ) → IsMoved way m At s (left_port m o s)
@@ -157,7 +157,7 @@ waiting_members P (x ∷ xs) holds = (
   waiting_members P xs (λ w stands. holds w (or_right (x.request == w.request) (list_any (λ (v : Waiting). v.request == w.request) xs) stands)),
 )
 
--- Request r waits now or not, and all others as they did; the clock stands, and system time stays near it.
+-- Request r waits now or not, and all others as they did; the clock is, and system time stays near it.
 pub record IsTimed (way : Bool) (r : ℕ) (old new : Held) : Type 0 where
   pub room : new.room ≡ old.room
   pub here : is_waiting r new.timer ≡ way
@@ -189,6 +189,6 @@ module _ (r : ℕ) (m : Held) where
     near = λ near. near;
   }
 
-  -- where system time is set
+  -- if system time is set
   pub timed_set : {way : Bool} (time : ℕ) → is_waiting r m.timer ≡ way → time < 2 ^ 53 → IsTimed way r m (on_timer (system_set time) m)
   timed_set time is small = record { room = refl; here = is; rest = λ k other. refl; clock = refl; near = λ near. omega arith }

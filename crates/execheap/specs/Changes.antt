@@ -11,13 +11,13 @@ use Rattle.sigsem.specs.Semaphores.{Semaphores, no_sems}
 use Rattle.execheap.specs.Table as table
 use Rattle.execheap.specs.Numbered.{Numbered}
 
--- so many messages are made, one for each request
+-- that many messages are made, one for each request
 abbrev pub reserved : ℕ → MessagePorts → MessagePorts
 reserved zero ports = ports
 reserved (suc n) ports = message_made 0 0 (reserved n ports)
 
--- no block, no object of a pool of so many of each kind, so many tasks that may wait at semaphores, none of these libraries loaded, and a
--- clock at 0 with ticks of so many microseconds
+-- no block, no object of a pool of that many of each kind, that many tasks that may wait at semaphores, none of these libraries loaded, and a
+-- clock at 0 with ticks of that many microseconds
 abbrev pub unused : List Region → (pool tasks : ℕ) → List Description → Bool → ℕ → Numbered
 unused regions pool tasks known asks tick_micros = record {
   table = table.unused regions pool known asks;
@@ -47,7 +47,7 @@ on_ports f s = record s { ports = f s.ports }
 
 -- ---- nodes linked and unlinked
 
--- node n stands in list h, which has these nodes
+-- node n is in list h, which has these nodes
 abbrev pub linked : ℕ → ℕ → List ℕ → Numbered → Numbered
 linked h n nodes s = record s { sequences = slice_set s.sequences h nodes; homes = slice_set s.homes n (Some h) }
 
@@ -63,7 +63,7 @@ queued h n s = linked h n (enqueue (pri_of s.keys) (sequence s.sequences h) n) s
 abbrev pub put : ℕ → ℕ → Option ℕ → Numbered → Numbered
 put h n pred s = linked h n (put_after pred n (sequence s.sequences h)) s
 
--- a node or none stands in no list, and list h has these nodes
+-- a node or none is in no list, and list h has these nodes
 abbrev pub unlinked : ℕ → Option ℕ → List ℕ → Numbered → Numbered
 unlinked h None nodes s = record s { sequences = slice_set s.sequences h nodes }
 unlinked h (Some n) nodes s = record s { sequences = slice_set s.sequences h nodes; homes = slice_set s.homes n None }

@@ -5,3 +5,4 @@ pub mod Changes
 pub mod Refusals
 pub mod Listing
 pub mod Requesting
+pub mod BlockViews

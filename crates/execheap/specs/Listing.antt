@@ -16,7 +16,7 @@ use Rattle.iorequest.specs.declared.request.ReqState.{ReqState}
 use Rattle.iorequest.specs.declared.request.ReqState.TheVariants.{Idle, UnderWay, Quick, Replied}
 use Rattle.execmodel.specs.Ports.{content_of, port_of, posted, priority_of_public, typed, under}
 
--- a port stands among the public ones before the first of lower priority
+-- a port is among the public ones before the first of lower priority
 unfoldable pub listed : ℕ → List ℕ → ℤ → Memory → Memory
 listed port name pri memory = record memory { public = enqueue priority_of_public memory.public (under port name pri) }
 
@@ -55,7 +55,7 @@ taken_by_state Replied request heap = reply_taken request heap
 unfoldable pub taken_if_replied : ℕ → Heap → Heap
 taken_if_replied request heap = taken_by_state (request_of request heap).state request heap
 
--- what a task gets that looks for a request: the number of the signal to wait for, where it is under way, and else its error
+-- what a task gets that looks for a request: the number of the signal to wait for, if it is under way, and else its error
 unfoldable pub awaited_for : ℕ → Heap → Awaited
 awaited_for request heap =
     if is_under_way (request_of request heap) then awaited.UnderWay (port_of (request_of request heap).port heap).bit
@@ -78,7 +78,7 @@ aborted request memory = if is_under_way (request_of request memory.heap) then e
 unfoldable pub aborting : ℕ → Heap → Option Action
 aborting request heap = if is_under_way (request_of request heap) then Some (acting_finished request heap) else None
 
--- the number of a signal, where one is answered
+-- the number of a signal, if one is answered
 abbrev pub IsSignal : Awaited → Type 0
 IsSignal (awaited.Done error) = Unit {0}
 IsSignal (awaited.UnderWay bit) = bit < 32

@@ -1,4 +1,4 @@
--- Objects by number, and the memory that they stand for: the objects by address.
+-- Objects by number, and the memory that they are for: the objects by address.
 use Rattle.std.specs.Prelude.{◌≡◌, ℕ, ◌+◌, ◌^◌, ◌<◌, ◌≤◌, ◌&&◌, ◌++◌, false, take, if◌then◌else◌, Bool, IsSome, IsTrue, is_some, List, length, map, Option, None, Some, unwrap_or}
 use Rattle.execlist.specs.Lists.{Key, sequence, home, is_at, times, key_at}
 use Rattle.execlist.specs.Pool.{Pooled, slot}
@@ -49,7 +49,7 @@ places kind s = slots_of kind s.table
 abbrev pub address_in : List (Option ℕ) → ℕ → ℕ
 address_in all n = unwrap_or (slot all n) 0
 
--- The addresses of the messages by the numbers of the ports. Each request is a message too, from the beginning on: their numbers stand behind
+-- The addresses of the messages by the numbers of the ports. Each request is a message too, from the beginning on: their numbers are after
 -- those of the messages.
 abbrev pub message_places : Numbered → List (Option ℕ)
 message_places s = places variant.Message s ++ places variant.Request s
@@ -105,7 +105,7 @@ shown_waiting s w = record w { request = address_in (places variant.Request s) w
 abbrev pub shown_timer : Numbered → Timer
 shown_timer s = record s.timing.timer { waiting = map (shown_waiting s) s.timing.timer.waiting }
 
--- the memory that objects by number stand for, its public ports in the order in which they are kept
+-- the memory that objects by number represent, its public ports in the order in which they are kept
 abbrev pub shown_memory : Numbered → Memory
 shown_memory s = record {
   regions = s.table.memory.regions;
@@ -144,7 +144,7 @@ abbrev pub Fits : Option Shape → Pooled ℕ → Type 0
 Fits None pool = Unit {0}
 Fits (Some own) pool = own ≡ shape pool
 
--- each port has a signal of its task's own, and there is room for so many tasks to wait at semaphores
+-- each port has a signal of its task's own, and there is room for that many tasks to wait at semaphores
 pub record IsApt (ports : MessagePorts) (sems : Semaphores) (tasks : ℕ) : Type 0 where
   pub own_signals : (p : ℕ) → IsTrue (is_port p ports) → 16 ≤ (port_at p ports).bit
   pub each_task : length sems.places ≡ tasks
@@ -162,7 +162,7 @@ pub record IsInTime (s : Numbered) : Type 0 where
   pub live : (r p : ℕ) → home s.ports.places (message_of_request r s) ≡ Some p → IsSome (slot (places variant.Request s) r)
   pub at_reply_port : (r p : ℕ) → home s.ports.places (message_of_request r s) ≡ Some p
       → slot (places variant.Port s) p ≡ Some (request_at r s.requests).port
-  pub early : s.timing.timer.clock < 2 ^ 63
+  pub early : s.timing.timer.clock + 2 ^ 54 ≤ 2 ^ 64
   pub near : s.timing.timer.system ≤ s.timing.timer.clock + 2 ^ 53
 
 -- A linked node and its list are objects that live, and what holds the objects of a kind gives the numbers that the table gives.
@@ -175,17 +175,17 @@ pub record IsKept (s : Numbered) : Type 0 where
   pub apt : IsApt s.ports s.sems s.tasks
   pub in_time : IsInTime s
 
--- that, and that a number stands for one object and an object for one block
+-- that, and that a number represents one object and an object for one block
 pub record IsSound (s : Numbered) : Type 0 where
   pub table : table.IsSound s.table
   pub kept : IsKept s
 
--- what every list space tells of sequences, homes and keys
+-- what every list space reports of sequences, homes and keys
 pub record IsSpace (s : Numbered) : Type 0 where
   pub stands : (h n : ℕ) → times n (sequence s.sequences h) ≡ (if is_at (home s.homes n) h then 1 else 0)
   pub keyed : length s.keys ≡ length s.homes
 
--- what always holds of objects by number, with what each of their parts tells of itself
+-- what always holds of objects by number, with what each of their parts reports of itself
 pub record IsKnown (s : Numbered) : Type 0 where
   pub sound : IsSound s
   pub space : IsSpace s

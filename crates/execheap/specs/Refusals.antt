@@ -13,17 +13,17 @@ code_of Sem = codes "SEM"
 code_of Lib = codes "LIB"
 code_of Io = codes "IO"
 
--- the alert of an answer: none where the call was not refused
+-- the alert of an answer: none if the call was not refused
 abbrev pub alert_of : {T : Type 0} → Result T Refusal → Option (List ℕ)
 alert_of (Ok answer) = None
 alert_of (Err why) = Some (code_of why)
 
--- a node, if there is one, stands in list h
+-- a node, if there is one, is in list h
 abbrev pub is_none_or_in : Option ℕ → ℕ → List (Option ℕ) → Bool
 is_none_or_in None h homes = true
 is_none_or_in (Some pred) h homes = is_at (home homes pred) h
 
--- the answer of a call on a semaphore, where any fault is told as one refusal
+-- the answer of a call on a semaphore, if any fault is reported as one refusal
 abbrev pub told : {A : Type 0} → Result A SemFault → Result A Refusal
 told (Ok answer) = Ok answer
 told (Err fault) = Err Sem

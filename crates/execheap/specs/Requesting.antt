@@ -35,17 +35,17 @@ abbrev pub port_number : Option ℕ → Tabled → Option ℕ
 port_number None table = None
 port_number (Some address) table = number_at variant.Port address table
 
--- message m is held no more, and stands last in a port, if there is one
+-- message m is held no more, and is last in a port, if there is one
 abbrev pub put_at : Option ℕ → ℕ → MessagePorts → MessagePorts
 put_at None m ports = let_go m ports
 put_at (Some p) m ports = posted nt_replymsg p m (let_go m ports)
 
--- what is to be done where a reply arrives at a port, if there is one
+-- what is to be done if a reply arrives at a port, if there is one
 abbrev pub acting_at : Option ℕ → MessagePorts → Action
 acting_at None ports = action.Nothing
 acting_at (Some p) ports = acting (port_at p ports)
 
--- the port where the reply of a request is put that finishes
+-- the port if the reply of a request is put that finishes
 abbrev pub answering : Request → Numbered → Option ℕ
 answering q s = port_number (reply_port q) s.table
 
@@ -74,7 +74,7 @@ begun_until due quick r s = record s {
   timing = on_timer (begins_to_wait r due) s.timing;
 }
 
--- request r is begun: it is under way, or it is done at once, where system time may become another
+-- request r is begun: it is under way, or it is done at once, if system time may become another
 abbrev pub begun_so : Begun → Bool → ℕ → Numbered → Numbered
 begun_so (Queue due) quick r s = begun_until (AtClock due) quick r s
 begun_so (Until time) quick r s = begun_until (AtSystem time) quick r s

@@ -17,7 +17,7 @@ use Rattle.execheap.specs.declared.tag.Tagged.{Tagged}
 use Rattle.execheap.specs.declared.tag.Tagged.TheVariants.{Plain, Object, Library}
 use Rattle.execheap.specs.Tags.{is_of, is_plain, kind_code, kinds, library_in, number_in, size_of, tag_of, tagged}
 
--- the blocks with their tags, and by kind the addresses of its objects by number, of each kind so many may live; and the libraries, which
+-- the blocks with their tags, and by kind the addresses of its objects by number, of each kind that many may live; and the libraries, which
 -- are loaded into blocks
 pub record Tabled : Type 0 where
   pub memory : memlist.Memory
@@ -40,6 +40,10 @@ number_at kind address t = option_and_then (λ (block : ℕ × ℕ). number_in k
 abbrev pub library_at : ℕ → Tabled → Option ℕ
 library_at address t = option_and_then (λ (block : ℕ × ℕ). library_in (tagged block.1)) (block_at address t.memory.blocks)
 
+-- the size of the block that begins at an address, and what begins there
+abbrev pub begins_at : ℕ → Tabled → Option (ℕ × Tagged)
+begins_at address t = option_map (λ (block : ℕ × ℕ). (block.0, tagged block.1)) (block_at address t.memory.blocks)
+
 -- ---- made and freed
 
 -- a pool for each kind, by its code, of which none is given
@@ -47,7 +51,7 @@ abbrev pub free_pools : ℕ → List (Pooled ℕ)
 free_pools pool =
     all_free pool ∷ all_free pool ∷ all_free pool ∷ all_free pool ∷ all_free pool ∷ all_free pool ∷ []
 
--- nothing is allocated, of each kind so many objects may live, and none of these libraries is loaded, which are asked to give way or not
+-- nothing is allocated, of each kind that many objects may live, and none of these libraries is loaded, which are expunged under low memory or not
 abbrev pub unused : List Region → ℕ → List Description → Bool → Tabled
 unused regions pool known asks = record {
   memory = untouched regions;
@@ -60,11 +64,11 @@ unused regions pool known asks = record {
 abbrev pub with_lent : Lent → Tabled → Tabled
 with_lent l t = record t { memory = l.memory; libs = l.libraries }
 
--- libraries were asked to give way to a block of so many bytes
+-- libraries were expunged under low memory to a block of that many bytes
 abbrev pub after_asking : (size reqs : ℕ) → Tabled → Tabled
 after_asking size reqs t = with_lent (library.after_asking size reqs (lent t.libs t.memory)) t
 
--- the same before an object of a kind is made: nothing is asked where the pool has no number left
+-- the same before an object of a kind is made: nothing is asked if the pool has no number left
 abbrev pub ready_for_number : Kind → Option ℕ → Tabled → Tabled
 ready_for_number kind None t = t
 ready_for_number kind (Some number) t = after_asking (size_of kind) 1 t
@@ -99,7 +103,7 @@ without_object kind number address t = record t {
 
 -- ---- libraries
 
--- other libraries were asked to give way to the one that is opened, where it is to be loaded
+-- other libraries were expunged under low memory to the one that is opened, if it is to be loaded
 abbrev pub ready_to_open : Option ℕ → Tabled → Tabled
 ready_to_open found t = with_lent (library.ready_to_open found (lent t.libs t.memory)) t
 
@@ -124,7 +128,7 @@ place_of Plain address t = Some address
 place_of (Object kind number) address t = slot (slots_of kind t) number
 place_of (Library i) address t = base_at i t.libs
 
--- the tag of a block is 0 where it is plain, and else names the object of that address
+-- the tag of a block is 0 if it is plain, and else names the object of that address
 abbrev pub IsTagged : Tabled → ℕ × (ℕ × ℕ) → Type 0
 IsTagged t entry =
     (place_of (tagged entry.1.1) entry.0 t ≡ Some entry.0) × (is_plain (tagged entry.1.1) ≡ nat_eq entry.1.1 0)
@@ -133,7 +137,7 @@ IsTagged t entry =
 abbrev pub counted : Kind → Blocks → ℕ
 counted kind blocks = length (filter (λ (entry : ℕ × (ℕ × ℕ)). is_of kind (tagged entry.1.1)) blocks)
 
--- Blocks and numbers tell each other: a tag names the object or the library of its block's address, an object that has an address begins at
+-- Blocks and numbers say each other: a tag names the object or the library of its block's address, an object that has an address begins at
 -- a block with its tag, a loaded library does, and of each kind as many blocks are tagged as numbers are given.
 pub record IsMatched (t : Tabled) : Type 0 where
   pub tagged : AllByRecursion (IsTagged t) t.memory.blocks

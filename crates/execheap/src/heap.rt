@@ -1,5 +1,5 @@
 //! The memory of a machine and the objects that live in it, by address. Its value is the memory of the abstract machine,
-//! with the public ports in the order in which they are kept. Here is what every kind needs and plain blocks; the calls on objects stand
+//! with the public ports in the order in which they are kept. Here is what every kind needs and plain blocks; the calls on objects are
 //! in `objects`, in the file of their kind.
 ghost use Rattle.std.specs.Prelude.{◌≡◌, ◌≤◌, [], true, false, length, map, IfOk};
 ghost use Rattle.execlib.specs.Libraries.{description_of};
@@ -36,13 +36,11 @@ impl<S: ListSpace> Model for Heap<S> {
 }
 
 impl<S: ListSpace> Heap<S> {
-    /// The memory of these regions with nothing allocated, and these libraries, at most 32, none of them loaded, which are asked to give way
-    /// where memory is lacking if `asks` says so. Of each kind as many objects may live as `pool` says, there are so many tasks, at most
-    /// 4,096, numbered from 0, for each of which there is room to wait for a semaphore, and clock and system time stand at 0 and gain
+    /// The memory of these regions with nothing allocated, and these libraries, at most 32, none of them loaded, which are expunged under low memory
+    /// if memory is refused if `asks` says so. Of each kind as many objects may live as `pool` says, there are that many tasks, at most
+    /// 4,096, numbered from 0, for each of which there is room to wait for a semaphore, and clock and system time are at 0 and gain
     /// `tick_micros` microseconds at each tick. An error means that memory of the host is lacking, or that `check_regions` refuses
     /// the regions, which no machine file's are.
-    ///
-    /// Source: own choice.
     pub fn new(
         alloc: Global,
         regions: &[Region],
@@ -64,8 +62,8 @@ impl<S: ListSpace> Heap<S> {
     // ---- memory
 
     /// Allocates a plain block of a size in bytes, which is rounded up to a multiple of 8, and answers its address: the front of the
-    /// lowest gap of the suitable region of greatest priority. Where no gap is large enough and libraries are asked, they give way one after
-    /// another until one is. None where nothing fits then or the size is 0 (autodoc exec.library/AllocMem).
+    /// lowest gap of the suitable region of greatest priority. If no gap is large enough and libraries are asked, they are expunged under low memory one after
+    /// another until one is. None if nothing fits then or the size is 0 (autodoc exec.library/AllocMem).
     pub fn alloc_mem(&mut self, size: u32, reqs: u32) -> Option<u32>
         ensures address { result ≡ place_for size reqs (after_asking size reqs self.old) }
         ensures next { self.new ≡ placed size Plain result (after_asking size reqs self.old) }

@@ -1,4 +1,4 @@
-//! Objects by number, and the blocks in which they live. What a call by address means stands in the file of its kind, below this one.
+//! Objects by number, and the blocks in which they live. What a call by address means is in the file of its kind, below this one.
 ghost use Rattle.std.specs.Prelude.{◌≡◌, ◌≤◌, not, ◌&&◌, true, false, Some, length, map, IfOk, IfSome, IsSome, IsTrue};
 ghost use Rattle.execlib.specs.Libraries.{description_of};
 ghost use Rattle.memlist.specs.Fit.{asks, avail};
@@ -15,6 +15,7 @@ ghost use Rattle.execheap.specs.Changes.{unused};
 mod libraries;
 mod lists;
 mod ports;
+mod readers;
 mod requests;
 mod room;
 mod semaphores;
@@ -31,9 +32,9 @@ use std::alloc::{AllocError, Global};
 use std::marker::Model;
 use timerdev::timer::Timer;
 
-/// The blocks of a memory, and the objects that live in them by number. The table tells where each object is; the list space, the ports,
+/// The blocks of a memory, and the objects that live in them by number. The table says where each object is; the list space, the ports,
 /// the semaphores and the requests keep what they hold, and give the numbers that the table gives; the timer knows which requests wait.
-/// Each request is a message of the ports too, from the beginning on: their numbers stand behind those of the messages.
+/// Each request is a message of the ports too, from the beginning on: their numbers are after those of the messages.
 #[derive(Drop)]
 pub struct Objects<S: ListSpace> {
     table: Table<S>,
@@ -77,11 +78,9 @@ impl<S: ListSpace> Model for Objects<S> {
 }
 
 impl<S: ListSpace> Objects<S> {
-    /// Memory of these regions in which nothing is allocated, room for so many objects of each kind and for so many tasks to wait at
-    /// semaphores, these libraries, none of them loaded, which are asked to give way or not, and a clock at 0 that gains so many microseconds
+    /// Memory of these regions in which nothing is allocated, room for that many objects of each kind and for that many tasks to wait at
+    /// semaphores, these libraries, none of them loaded, which are expunged under low memory or not, and a clock at 0 that gains that many microseconds
     /// at each tick.
-    ///
-    /// Source: own choice.
     pub fn new(
         alloc: Global,
         regions: &[Region],
@@ -113,8 +112,6 @@ impl<S: ListSpace> Objects<S> {
     }
 
     /// What always holds of the objects. It costs nothing.
-    ///
-    /// Source: own choice.
     pub fn facts(&self)
         ensures { IsKnown self.now }
     {
@@ -127,9 +124,9 @@ impl<S: ListSpace> Objects<S> {
 
     // ---- plain blocks
 
-    /// A plain block of so many bytes, if one fits once libraries were asked to give way: its address.
+    /// A plain block of that many bytes, if one fits once libraries were expunged under low memory: its address.
     ///
-    /// Source: autodoc exec.library/AllocMem; when libraries are asked: own choice.
+    /// Source: autodoc exec.library/AllocMem; when libraries are asked: project rule.
     pub fn allocate(&mut self, size: u32, reqs: u32) -> Option<u32>
         ensures address { result ≡ place_for size reqs (after_asking size reqs (shown_memory self.old)) }
         ensures next { shown_memory self.new ≡ placed size Plain result (after_asking size reqs (shown_memory self.old)) }
@@ -139,7 +136,7 @@ impl<S: ListSpace> Objects<S> {
 
     /// Frees the plain block that begins at an address, if the size names it.
     ///
-    /// Source: autodoc exec.library/FreeMem; the refusal is own choice.
+    /// Source: autodoc exec.library/FreeMem; the refusal is a project rule.
     pub fn free(&mut self, address: u32, size: u32) -> bool
         ensures answer { result ≡ can_free address size self.old.table.memory.blocks }
         ensures freed { result ≡ true → self.new ≡ record self.old { table = record self.old.table { memory = without_block address self.old.table.memory } } }
@@ -162,8 +159,6 @@ impl<S: ListSpace> Objects<S> {
 
     /// The number of the object of a kind that begins at an address, if one does. A call on objects begins here, and learns here what
     /// always holds of them.
-    ///
-    /// Source: own choice.
     pub fn number_at(&self, kind: Kind, address: u32) -> Option<usize>
         ensures value { result ≡ number_at kind address self.now.table }
         ensures live { IfSome result (λ n. slot (places kind self.now) n ≡ Some address) }
@@ -174,8 +169,6 @@ impl<S: ListSpace> Objects<S> {
     }
 
     /// The address of a live object of a kind.
-    ///
-    /// Source: own choice.
     pub fn address_of(&self, kind: Kind, number: usize) -> u32
         requires { IsSome (slot (places kind self.now) number) }
         ensures { slot (places kind self.now) number ≡ Some result }

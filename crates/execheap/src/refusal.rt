@@ -11,7 +11,7 @@ pub enum Refusal {
     /// No live object of the kind begins at an address.
     #[error("no object of the kind begins there")]
     Handle,
-    /// A node, a message, a port or the reply of a request is linked where it must not be, or the other way; or a list that is to be freed
+    /// A node, a message, a port or the reply of a request is linked if it must not be, or the other way; or a list that is to be freed
     /// holds nodes.
     #[error("linked where it must not be, or the other way")]
     Link,
@@ -25,15 +25,13 @@ pub enum Refusal {
     /// A library that is to be closed is not open.
     #[error("a library that is not open")]
     Lib,
-    /// A request is under way where it must not be, or not begun or not open where it must be.
+    /// A request is under way if it must not be, or not begun or not open if it must be.
     #[error("a request under way, not begun or not open")]
     Io,
 }
 
 impl Refusal {
-    /// The code of the alert, as it stands in the trace.
-    ///
-    /// Source: own choice.
+    /// The code of the alert, as it is in the trace.
     pub fn code(self) -> &'static str
         ensures { result.now ≡ code_of self }
     {

@@ -1,14 +1,14 @@
 //! Which blocks are objects of which kind, and where each object is; and the libraries, which are loaded into blocks. Here is nothing of
 //! what objects hold.
-ghost use Rattle.std.specs.Prelude.{◌≡◌, ◌≤◌, not, ◌&&◌, true, false, length, map, IfOk, IfSome, IsSome, IsTrue, None, Some};
+ghost use Rattle.std.specs.Prelude.{◌≡◌, ◌≤◌, not, ◌&&◌, true, false, length, map, slice_get, IfOk, IfSome, IsSome, IsTrue, None, Some};
 ghost use Rattle.memlist.specs.Fit.{asks, avail, fit};
 ghost use Rattle.memlist.specs.Memory.{IsWellFormed, allocated, can_free, untouched, without_block};
 ghost use Rattle.execlist.specs.Pool.{IsStocked, all_free, slot};
-ghost use Rattle.execlib.specs.Libraries.{close_fault, count_of, description_of, is_loaded, library_to_open, no_library_loaded, opened_base};
-ghost use Rattle.execheap.specs.Table.{IsSound, after_asking, base_at, free_pools, library_at, library_closed, library_opened, library_removed, next_object, number_at, pool_of, ready_for, ready_to_open, slots_of, unused, with_object, without_object};
+ghost use Rattle.execlib.specs.Libraries.{close_fault, count_of, description_of, is_loaded, loaded_at, library_to_open, no_library_loaded, opened_base};
+ghost use Rattle.execheap.specs.Table.{IsSound, after_asking, base_at, begins_at, free_pools, library_at, library_closed, library_opened, library_removed, next_object, number_at, pool_of, ready_for, ready_to_open, slots_of, unused, with_object, without_object};
 
-use crate::tag::{Kind, library_in, number_in, read, tag_of};
-use execlib::library::LibInit;
+use crate::tag::{Kind, Tagged, library_in, number_in, read, tag_of};
+use execlib::library::{LibInit, Loaded};
 use execlib::libs::{LibId, Libs};
 use execlist::pool::Pool;
 use execlist::space::ListSpace;
@@ -36,10 +36,8 @@ impl<S: ListSpace> Model for Table<S> {
 }
 
 impl<S: ListSpace> Table<S> {
-    /// Memory of these regions in which nothing is allocated, room for so many objects of each kind, and these libraries, none of them loaded,
-    /// which are asked to give way or not.
-    ///
-    /// Source: own choice.
+    /// Memory of these regions in which nothing is allocated, room for that many objects of each kind, and these libraries, none of them loaded,
+    /// which are expunged under low memory or not.
     pub fn new(
         alloc: Global,
         regions: &[Region],
@@ -63,8 +61,6 @@ impl<S: ListSpace> Table<S> {
     }
 
     /// What always holds of the table. It costs nothing.
-    ///
-    /// Source: own choice.
     pub fn facts(&self)
         ensures sound { IsSound self.now }
         ensures memory { IsWellFormed self.now.memory.regions self.now.memory.blocks }
@@ -74,9 +70,9 @@ impl<S: ListSpace> Table<S> {
 
     // ---- plain blocks
 
-    /// A plain block of so many bytes, if one fits once libraries were asked to give way.
+    /// A plain block of that many bytes, if one fits once libraries were expunged under low memory.
     ///
-    /// Source: autodoc exec.library/AllocMem; when libraries are asked: own choice.
+    /// Source: autodoc exec.library/AllocMem; when libraries are asked: project rule.
     pub fn allocate(&mut self, size: u32, reqs: u32) -> Option<u32>
         ensures answer { let ready = after_asking size reqs self.old in result ≡ fit ready.memory.regions ready.memory.blocks size reqs }
         ensures next { let ready = after_asking size reqs self.old in self.new ≡ record ready { memory = allocated size 0 result ready.memory } }
@@ -89,7 +85,7 @@ impl<S: ListSpace> Table<S> {
 
     /// Frees the plain block that begins at an address, if the size names it.
     ///
-    /// Source: autodoc exec.library/FreeMem; the refusal is own choice.
+    /// Source: autodoc exec.library/FreeMem; the refusal is a project rule.
     pub fn free_plain(&mut self, address: u32, size: u32) -> bool
         ensures answer { result ≡ can_free address size self.old.memory.blocks }
         ensures freed { result ≡ true → self.new ≡ record self.old { memory = without_block address self.old.memory } }
@@ -110,8 +106,6 @@ impl<S: ListSpace> Table<S> {
     }
 
     /// How many objects of each kind may live.
-    ///
-    /// Source: own choice.
     pub fn pool(&self) -> usize
         ensures { result ≡ self.now.pool }
     {
@@ -121,8 +115,6 @@ impl<S: ListSpace> Table<S> {
     // ---- objects
 
     /// The number of the object of a kind that begins at an address, if one does.
-    ///
-    /// Source: own choice.
     pub fn number_at(&self, kind: Kind, address: u32) -> Option<usize>
         ensures value { result ≡ number_at kind address self.now }
         ensures live { IfSome result (λ n. slot (slots_of kind self.now) n ≡ Some address) }
@@ -133,19 +125,27 @@ impl<S: ListSpace> Table<S> {
         }
     }
 
-    /// The address of the object of a kind and a number, if it lives.
+    /// The size of the block that begins at an address, and what begins there.
     ///
-    /// Source: own choice.
+    /// Source: project rule.
+    pub fn begins_at(&self, address: u32) -> Option<(u32, Tagged)>
+        ensures { result ≡ begins_at address self.now }
+    {
+        match self.memory.block_at(address) {
+            Some((size, tag)) => Some((size, read(tag))),
+            None => None,
+        }
+    }
+
+    /// The address of the object of a kind and a number, if it lives.
     pub fn address_of(&self, kind: Kind, number: usize) -> Option<u32>
         ensures { result ≡ slot (slots_of kind self.now) number }
     {
         self.pools[kind.code()].get(number)
     }
 
-    /// A new object of a kind, if the pool has one left and its block fits once libraries were asked to give way: its number and its
-    /// address. Nothing is asked where the pool has none left.
-    ///
-    /// Source: own choice.
+    /// A new object of a kind, if the pool has one left and its block fits once libraries were expunged under low memory: its number and its
+    /// address. Nothing is asked if the pool has none left.
     pub fn make(&mut self, kind: Kind) -> Option<(usize, u32)>
         ensures answer { result ≡ next_object kind (ready_for kind self.old) }
         ensures next { self.new ≡ with_object kind result (ready_for kind self.old) }
@@ -166,8 +166,6 @@ impl<S: ListSpace> Table<S> {
     }
 
     /// Frees the object of a kind and a number.
-    ///
-    /// Source: own choice.
     pub fn free(&mut self, kind: Kind, number: usize, address: u32)
         requires { slot (slots_of kind self.old) number ≡ Some address }
         ensures next { self.new ≡ without_object kind number address self.old }
@@ -182,8 +180,6 @@ impl<S: ListSpace> Table<S> {
     // ---- libraries
 
     /// The number of the loaded library that begins at an address, if one does.
-    ///
-    /// Source: own choice.
     pub fn library_at(&self, address: u32) -> Option<LibId>
         ensures value { result ≡ library_at address self.now }
         ensures live { IfSome result (λ i. base_at i self.now.libs ≡ Some address) }
@@ -192,6 +188,24 @@ impl<S: ListSpace> Table<S> {
             Some((_, tag)) => library_in(read(tag)),
             None => None,
         }
+    }
+
+    /// What is kept of a library, if it is loaded.
+    ///
+    /// Source: RKM Libraries, Exec Libraries: `lib_OpenCnt`, `lib_Flags`.
+    pub fn loaded_at(&self, i: LibId) -> Option<Loaded>
+        ensures { result ≡ loaded_at i self.now.libs }
+    {
+        self.libs.loaded_at(i)
+    }
+
+    /// A region, by its place in the machine's file; none past the last.
+    ///
+    /// Source: RKM Libraries, Exec Memory Allocation: MemHeader.
+    pub fn region(&self, k: usize) -> Option<Region>
+        ensures { result ≡ slice_get self.now.memory.regions k }
+    {
+        self.memory.region(k)
     }
 
     /// How often a loaded library is open.
@@ -204,8 +218,8 @@ impl<S: ListSpace> Table<S> {
         self.libs.count(i)
     }
 
-    /// Opens the library of a name that has at least a version, loading it first where it is absent, and answers its base; none where there
-    /// is none such, or it can be opened no more, or its block fits nowhere once others were asked to give way.
+    /// Opens the library of a name that has at least a version, loading it first if it is absent, and answers its base; none if there
+    /// is none such, or it can be opened no more, or its block fits nowhere once others were expunged under low memory.
     ///
     /// Source: autodoc exec.library/OpenLibrary.
     pub fn open_library(&mut self, name: &str, version: u32) -> Option<u32>
@@ -246,7 +260,7 @@ impl<S: ListSpace> Table<S> {
     }
 }
 
-/// The memory of these regions, which `check_regions` accepts, so that want of memory is all that can stand in the way of it.
+/// The memory of these regions, which `check_regions` accepts, so that out of memory is all that can be in the way of it.
 fn memory_of(alloc: Global, regions: &[Region]) -> Result<MemList, AllocError>
     ensures { IfOk result (λ memory. memory ≡ untouched regions.now) }
 {
@@ -267,7 +281,7 @@ fn pools_of(alloc: Global, pool: usize) -> Result<[Pool<u32>; 6], AllocError>
     Ok([list, node, port, message, semaphore, request])
 }
 
-/// Two pools with room for so many items each.
+/// Two pools with room for that many items each.
 fn two_pools(alloc: Global, pool: usize) -> Result<(Pool<u32>, Pool<u32>), AllocError>
     requires { pool ≤ 1024 }
     ensures { IfOk result (λ pools. pools ≡ (all_free pool, all_free pool)) }

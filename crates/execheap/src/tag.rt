@@ -1,4 +1,4 @@
-//! The kinds of objects that live at addresses, and the tag that stands beside a block: what begins there.
+//! The kinds of objects that live at addresses, and the tag that is beside a block: what begins there.
 ghost use Rattle.std.specs.Prelude.{◌≡◌, ◌<◌, slice_get};
 ghost use Rattle.execheap.specs.Tags.{kind_code, kinds, library_in, number_in, size_of, tag_of, tagged};
 
@@ -20,9 +20,7 @@ pub enum Kind {
 }
 
 impl Kind {
-    /// The number of the kind, by which its pool stands in the table.
-    ///
-    /// Source: own choice.
+    /// The number of the kind, by which its pool is in the table.
     pub fn code(self) -> usize
         ensures { result ≡ kind_code self }
     {
@@ -37,8 +35,6 @@ impl Kind {
     }
 
     /// The kind of a number, if there is one.
-    ///
-    /// Source: own choice.
     pub fn of_code(code: u32) -> Option<Kind>
         ensures { result ≡ slice_get kinds code }
     {
@@ -54,7 +50,7 @@ impl Kind {
     }
 
     /// The bytes of an object of the kind, by the include files exec/lists.h, exec/nodes.h, exec/ports.h, exec/semaphores.h and
-    /// devices/timer.h; a message has its word too (own choice).
+    /// devices/timer.h; a message has its word too (project rule).
     pub fn size(self) -> u32
         ensures { result ≡ size_of self }
     {
@@ -84,8 +80,6 @@ pub enum Tagged {
 }
 
 /// What a tag says.
-///
-/// Source: own choice.
 pub fn read(tag: u32) -> Tagged
     ensures { result ≡ tagged tag }
 {
@@ -103,8 +97,6 @@ pub fn read(tag: u32) -> Tagged
 }
 
 /// The tag of the object of a kind and a number.
-///
-/// Source: own choice.
 pub fn tag_of(kind: Kind, number: usize) -> u32
     requires { number < 1024 }
     ensures { result ≡ tag_of kind number }
@@ -113,8 +105,6 @@ pub fn tag_of(kind: Kind, number: usize) -> u32
 }
 
 /// The number of the object, if it is one of that kind.
-///
-/// Source: own choice.
 pub fn number_in(kind: Kind, tagged: Tagged) -> Option<usize>
     ensures { result ≡ number_in kind tagged }
 {
@@ -125,8 +115,6 @@ pub fn number_in(kind: Kind, tagged: Tagged) -> Option<usize>
 }
 
 /// The number of the library, if it is one.
-///
-/// Source: own choice.
 pub fn library_in(tagged: Tagged) -> Option<usize>
     ensures { result ≡ library_in tagged }
 {

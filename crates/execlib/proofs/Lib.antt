@@ -1,2 +1,3 @@
+-- The lemma files of `execlib`.
 pub mod Asking
 pub mod Names

@@ -1,4 +1,4 @@
--- A name is found among the nodes of all libraries just where the first library of that name stands; and how these nodes are made.
+-- A name is found among the nodes of all libraries exactly if the first library of that name is; and how these nodes are made.
 use Rattle.std.proofs.Common.{◌≡◌, ℕ, zero, suc, ◌+◌, ◌<◌, ◌≤◌, Bool, cond, List, [], ◌∷◌, ◌++◌, length, map, replicate, slice_index_or, slice_set, take, refl, sym, ap, ◌∙◌, arith, Option, Some, None}
 use Rattle.std.specs.Prelude.{bytes_eq, find}
 use Rattle.std.specs.List.{position_from, range_with_len}
@@ -8,7 +8,7 @@ use Rattle.execlib.specs.Libraries.{Description, no_library, key_of, numbers}
 
 -- ---- finding
 
--- what passes first among the numbers from a on, where a number passes just as the library that many places on
+-- what passes first among the numbers from a on, if a number passes exactly as the library that many places on
 found_from : (p : ℕ → Bool) (test : Description → Bool) (libraries : List Description) (a : ℕ)
     → ((k : ℕ) → k < length libraries → p (a + k) ≡ test (slice_index_or libraries k no_library))
     → find p (range_with_len a (length libraries)) ≡ position_from test a libraries
@@ -43,13 +43,13 @@ one_more n =
     let place : 0 + n ≡ n = omega arith in
     ap (range_with_len 0) more ∙ one_more_from 0 n ∙ ap (λ k. range_with_len 0 n ++ k ∷ []) place
 
--- a node of no list stands in none
+-- a node of no list is in none
 pub stands_nowhere : (n t : ℕ) → home (replicate n None) t ≡ None
 stands_nowhere zero t = refl
 stands_nowhere (suc n) zero = refl
 stands_nowhere (suc n) (suc t) = stands_nowhere n t
 
--- the nodes behind the one that is linked stand where they stood
+-- the nodes after the one that is linked are where they were
 pub still_nowhere : (homes : List (Option ℕ)) (i : ℕ) → ((t : ℕ) → i ≤ t → home homes t ≡ None)
     → (t : ℕ) → i + 1 ≤ t → home (slice_set homes i (Some 0)) t ≡ None
 still_nowhere homes i before t later = get_or-set_other homes i t (Some 0) None (omega (arith, later)) ∙ before t (omega (arith, later))

@@ -23,7 +23,7 @@ pub record Libraries : Type 0 where
   pub known : List Description
   -- where each is loaded, how often it is open and whether it is to be expunged; none for one that is absent
   pub loaded : List (Option Loaded)
-  -- whether they are asked to give way where a block fits nowhere
+  -- whether they are expunged under low memory if a block fits nowhere
   pub asks : Bool
 
 -- libraries, and the memory that is lent to them: their blocks lie there
@@ -71,11 +71,11 @@ is_delayed i m = option_map_or (λ (l : Loaded). l.delayed_expunge) (loaded_at i
 abbrev pub number_of : List ℕ → Libraries → Option ℕ
 number_of name m = position_from (λ (library : Description). bytes_eq library.name name) 0 m.known
 
--- the tag of the block of library i (own choice)
+-- the tag of the block of library i (project rule)
 abbrev pub library_tag : ℕ → ℕ
 library_tag i = 0x80000000 + i
 
--- MEMF_PUBLIC: libraries lie in memory of that attribute (own choice)
+-- MEMF_PUBLIC: libraries lie in memory of that attribute (project rule)
 abbrev pub public_memory : ℕ
 public_memory = 1
 
@@ -101,7 +101,7 @@ memory_without i m memory = without_block (base_of i m) memory
 
 -- ---- closing
 
--- a library is to be open to be closed (own choice)
+-- a library is to be open to be closed (project rule)
 abbrev pub close_fault : ℕ → Libraries → Option LibFault
 close_fault i m = if nat_eq (count_of i m) 0 then Some NotOpen else None
 
@@ -138,17 +138,17 @@ memory_after_removal i m memory = if leaves_by_removal i m then memory_without i
 
 -- ---- asking
 
--- a block of so many bytes fits
+-- a block of that many bytes fits
 abbrev pub fits : (size reqs : ℕ) → Memory → Bool
 fits size reqs memory = is_some (fit memory.regions memory.blocks size reqs)
 
--- library i, if it is loaded, gives way as if it were removed: it is expunged where it is not open, and else is to be expunged when it is
+-- library i, if it is loaded, is expunged under low memory as if it were removed: it is expunged if it is not open, and else is to be expunged when it is
 -- closed for the last time
 abbrev pub gives_way : ℕ → Lent → Lent
 gives_way i l =
     if is_loaded i l.libraries then record { libraries = removed i l.libraries; memory = memory_after_removal i l.libraries l.memory } else l
 
--- library i is asked to give way, unless a block of so many bytes fits already
+-- library i is expunged under low memory, unless a block of that many bytes fits already
 abbrev pub asked_one : (size reqs i : ℕ) → Lent → Lent
 asked_one size reqs i l = if fits size reqs l.memory then l else gives_way i l
 
@@ -157,15 +157,15 @@ abbrev pub asked_each : (size reqs : ℕ) → List ℕ → Lent → Lent
 asked_each size reqs [] l = l
 asked_each size reqs (i ∷ others) l = asked_each size reqs others (asked_one size reqs i l)
 
--- Before a block of so many bytes is taken, where it fits nowhere, all libraries are asked in the order of the file. A block of no bytes
--- is never taken, and nothing is asked for it (own choice).
+-- Before a block of that many bytes is taken, if it fits nowhere, all libraries are asked in the order of the file. A block of no bytes
+-- is never taken, and nothing is asked for it (project rule).
 unfoldable pub after_asking : (size reqs : ℕ) → Lent → Lent
 after_asking size reqs l =
     if l.libraries.asks && not (nat_eq size 0) then asked_each size reqs (numbers (length l.libraries.known)) l else l
 
 -- ---- opening
 
--- a library may be open so many times (own choice: lib_OpenCnt is a word of 16 bits)
+-- a library may be open that many times (project rule: lib_OpenCnt is a word of 16 bits)
 abbrev pub most_openings : ℕ
 most_openings = 65535
 
@@ -173,6 +173,7 @@ most_openings = 65535
 abbrev pub can_open : (version i : ℕ) → Libraries → Bool
 can_open version i m = nat_le version (library_at i m).version && not (nat_eq (count_of i m) most_openings)
 
+-- a number, if it passes a test
 abbrev pub only_if : (ℕ → Bool) → ℕ → Option ℕ
 only_if test i = if test i then Some i else None
 
@@ -180,7 +181,7 @@ only_if test i = if test i then Some i else None
 abbrev pub library_to_open : List ℕ → ℕ → Libraries → Option ℕ
 library_to_open name version m = option_and_then (only_if (λ i. can_open version i m)) (number_of name m)
 
--- where a library lies, or where it is going to be loaded, if a gap is large enough
+-- where a library lies, or if it is going to be loaded, if a gap is large enough
 abbrev pub base_or_fit : Option Loaded → ℕ → Memory → Option ℕ
 base_or_fit None size memory = fit memory.regions memory.blocks size public_memory
 base_or_fit (Some l) size memory = Some l.base
@@ -188,7 +189,7 @@ base_or_fit (Some l) size memory = Some l.base
 abbrev pub base_for : ℕ → Libraries → Memory → Option ℕ
 base_for i m memory = base_or_fit (loaded_at i m) (library_at i m).size memory
 
--- libraries and memory before library i is opened: where it is to be loaded, libraries are asked to give way to it
+-- libraries and memory before library i is opened: if it is to be loaded, libraries are expunged under low memory for it
 abbrev pub ready_to_load : ℕ → Lent → Lent
 ready_to_load i l = if is_loaded i l.libraries then l else after_asking (library_at i l.libraries).size public_memory l
 
@@ -225,7 +226,7 @@ memory_for (Some i) base m memory = loads i base m memory
 abbrev pub description_of : LibInit → Description
 description_of library = record { name = library.name.bytes; version = library.version; size = library.size }
 
--- all libraries, none of which is loaded, and whether they are asked to give way
+-- all libraries, none of which is loaded, and whether they are expunged under low memory
 abbrev pub no_library_loaded : List Description → Bool → Libraries
 no_library_loaded known asks = record { known = known; loaded = replicate (length known) None; asks = asks }
 
@@ -241,7 +242,7 @@ pub record LieIn (m : Libraries) (memory : Memory) : Type 0 where
 abbrev pub key_of : Description → Key
 key_of library = record { pri = pos 0; name = Some library.name }
 
--- the nodes of all libraries stand in one header, in the order of the libraries and with their names
+-- the nodes of all libraries are in one header, in the order of the libraries and with their names
 pub record IsKept (sequences : List (List ℕ)) (keys : List Key) (m : Libraries) : Type 0 where
   pub listed : sequences ≡ numbers (length m.known) ∷ []
   pub named : keys ≡ map key_of m.known

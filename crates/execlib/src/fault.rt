@@ -13,7 +13,7 @@ pub enum LibFault {
 }
 
 impl LibFault {
-    /// The number of the fault, 1 (own choice).
+    /// The number of the fault, 1 (project rule).
     pub fn number(self) -> u8
         ensures { result ≡ fault_number self }
     {

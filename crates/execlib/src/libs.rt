@@ -50,11 +50,9 @@ impl<S: ListSpace> Model for Libs<S> {
 
 impl<S: ListSpace> Libs<S> {
     /// Libraries of these names, versions and sizes, at most 32, numbered in the order given. None is loaded. With `asks` the loaded ones
-    /// are asked to give way where a block fits nowhere (`alloc_mem`, and `open` where it loads one).
+    /// are expunged under low memory if a block fits nowhere (`alloc_mem`, and `open` if it loads one).
     ///
-    /// An error means that memory is lacking.
-    ///
-    /// Source: own choice.
+    /// An error means that memory is refused.
     pub fn new(alloc: Global, libraries: &[LibInit], asks: bool) -> Result<Self, AllocError>
         requires { length libraries.now ≤ 32 }
         ensures { IfOk result (λ q. q ≡ no_library_loaded (map description_of libraries.now) asks) }
@@ -74,12 +72,12 @@ impl<S: ListSpace> Libs<S> {
 
     /// Takes a block of a size in bytes with those requirements and that tag, as `MemList::alloc_mem` does, and answers its address.
     ///
-    /// Where the libraries are asked, the size is not 0 and no gap is large enough, the loaded ones are asked to give way in the order of
+    /// If the libraries are asked, the size is not 0 and no gap is large enough, the loaded ones are expunged under low memory in the order of
     /// their numbers: one that is not open is expunged, an open one is to be expunged when it is closed for the last time (LIBF_DELEXP).
-    /// After each of them the gaps are looked at again, and the first that is large enough ends the asking. None is answered where none
+    /// After each of them the gaps are looked at again, and the first that is large enough ends the asking. None is answered if none
     /// is large enough then; what was expunged or marked stays so. The loaded libraries have to lie in the memory.
     ///
-    /// Autodocs exec.library/AllocMem, exec.library/RemLibrary; the order of asking: own choice.
+    /// Autodocs exec.library/AllocMem, exec.library/RemLibrary; the order of asking: project rule.
     pub fn alloc_mem(&mut self, size: u32, reqs: u32, tag: u32, memory: &mut MemList) -> Option<u32>
         requires blocks { LieIn self.old memory.old }
         ensures answer { result ≡ fit memory.old.regions (after_asking size reqs (lent self.old memory.old)).memory.blocks size reqs }
@@ -93,12 +91,12 @@ impl<S: ListSpace> Libs<S> {
     // ---- opening and closing
 
     /// Opens the library of a name whose version is at least the one asked for. One that is not loaded is loaded first: it takes a block
-    /// of its size, with MEMF_PUBLIC, whose tag is $80000000 and its number, and other libraries give way to it as in `alloc_mem`. It is
+    /// of its size, with MEMF_PUBLIC, whose tag is $80000000 and its number, and other libraries are expunged under low memory for it as in `alloc_mem`. It is
     /// open once more, and is not to be expunged any more.
     ///
-    /// Answers its base, the address of its block. None is answered, and nothing changes but what gave way, where there is no library of the
-    /// name, its version is lower, it is open 65,535 times, or it is to be loaded and no gap of memory is large enough (the count: own
-    /// choice). The loaded libraries have to lie in the memory. Autodoc exec.library/OpenLibrary.
+    /// Answers its base, the address of its block. None is answered, and nothing changes but what were expunged under low memory, if there is no library of the
+    /// name, its version is lower, it is open 65,535 times, or it is to be loaded and no gap of memory is large enough (the count: project
+    /// rule). The loaded libraries have to lie in the memory. Autodoc exec.library/OpenLibrary.
     #[tactic(auto, unfolding(crate::specs::Libraries::ready_to_open))]
     pub fn open(&mut self, name: &str, version: u32, memory: &mut MemList) -> Option<u32>
         requires blocks { LieIn self.old memory.old }
@@ -112,10 +110,10 @@ impl<S: ListSpace> Libs<S> {
         Some(base)
     }
 
-    /// Closes a loaded library once. Where it is to be expunged and is now open no more, it is: its block is freed, and it is not loaded
+    /// Closes a loaded library once. If it is to be expunged and is now open no more, it is: its block is freed, and it is not loaded
     /// any more. One that is not to be expunged stays loaded.
     ///
-    /// It is NotOpen where the library is open no more (own choice). The block of the library has to be in the memory.
+    /// It is NotOpen if the library is open no more (project rule). The block of the library has to be in the memory.
     /// Autodoc exec.library/CloseLibrary.
     pub fn close(&mut self, i: LibId, memory: &mut MemList) -> Result<(), LibFault>
         requires loaded { IsTrue (is_loaded i self.old) }
@@ -143,7 +141,7 @@ impl<S: ListSpace> Libs<S> {
         Ok(())
     }
 
-    /// Removes a loaded library: where it is not open it is expunged, and else it is to be expunged when it is closed for the last time
+    /// Removes a loaded library: if it is not open it is expunged, and else it is to be expunged when it is closed for the last time
     /// (LIBF_DELEXP). The block of the library has to be in the memory. Autodoc exec.library/RemLibrary.
     pub fn remove(&mut self, i: LibId, memory: &mut MemList)
         requires loaded { IsTrue (is_loaded i self.old) }
@@ -184,21 +182,22 @@ impl<S: ListSpace> Libs<S> {
         self.loaded_library(i).base
     }
 
-    /// Answers whether there is a library of that number and it is loaded: whether the calls that ask for one may be made. Own choice.
+    /// Answers whether there is a library of that number and it is loaded: whether the calls that ask for one may be made. Project rule.
     pub fn is_loaded(&self, i: LibId) -> bool
         ensures { result ≡ is_loaded i self.now }
     {
         self.loaded_at(i).is_some()
     }
 
-    // ---- parts
-
-    // What is kept of a library, if it is loaded.
-    fn loaded_at(&self, i: LibId) -> Option<Loaded>
+    /// Answers if a library is loaded, how often it is open, and whether it is to be expunged when it is closed for the last time; none
+    /// if it is not loaded. RKM Libraries, Exec Libraries: `lib_OpenCnt`, `lib_Flags`.
+    pub fn loaded_at(&self, i: LibId) -> Option<Loaded>
         ensures { result ≡ loaded_at i self.now }
     {
         self.loaded.get(i).copied().unwrap_or(None)
     }
+
+    // ---- parts
 
     // What is kept of a loaded library.
     fn loaded_library(&self, i: LibId) -> Loaded
@@ -268,7 +267,7 @@ impl<S: ListSpace> Libs<S> {
 
     // ---- single changes
 
-    // Where a library is; one that is not loaded takes its block, and others give way to it.
+    // Where a library is; one that is not loaded takes its block, and others are expunged under low memory for it.
     fn base_for(&mut self, i: LibId, memory: &mut MemList) -> Option<u32>
         requires known { i < length self.old.known }
         requires blocks { LieIn self.old memory.old }
@@ -286,7 +285,7 @@ impl<S: ListSpace> Libs<S> {
         }
     }
 
-    // Where the libraries are asked and a block of so many bytes fits nowhere, they give way one after another until it does.
+    // If the libraries are asked and a block of that many bytes fits nowhere, they are expunged under low memory one after another until it does.
     #[tactic(auto, unfolding(crate::specs::Libraries::after_asking))]
     fn ask(&mut self, size: u32, reqs: u32, memory: &mut MemList)
         requires blocks { LieIn self.old memory.old }
@@ -298,7 +297,7 @@ impl<S: ListSpace> Libs<S> {
         }
     }
 
-    // The libraries give way one after another as long as a block of so many bytes fits nowhere.
+    // The libraries are expunged under low memory one after another as long as a block of that many bytes fits nowhere.
     fn ask_each(&mut self, size: u32, reqs: u32, memory: &mut MemList)
         requires blocks { LieIn self.old memory.old }
         ensures libraries { self.new ≡ (asked_each size reqs (numbers (length self.old.known)) (lent self.old memory.old)).libraries }
@@ -312,7 +311,7 @@ impl<S: ListSpace> Libs<S> {
         }
     }
 
-    // A library that is loaded gives way as if it were removed.
+    // A library that is loaded is expunged under low memory as if it were removed.
     fn give_way(&mut self, i: LibId, memory: &mut MemList)
         requires blocks { LieIn self.old memory.old }
         ensures libraries { self.new ≡ (gives_way i (lent self.old memory.old)).libraries }
@@ -342,7 +341,7 @@ impl<S: ListSpace> Libs<S> {
         );
     }
 
-    // What is kept of a library becomes another; nothing changes where there is no library of that number.
+    // What is kept of a library becomes another; nothing changes if there is no library of that number.
     fn set_loaded(&mut self, i: LibId, loaded: Loaded)
         ensures { self.new ≡ with_loaded i (Some loaded) self.old }
     {

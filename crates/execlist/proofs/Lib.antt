@@ -1,11 +1,13 @@
+-- The lemma files of `execlist`.
 pub mod OrderLaws
+pub mod Places
 pub mod Pools
 pub mod PlainLemmas
-mod Walks
+pub mod Walks
 mod Computed
 pub mod Values
-pub mod Pairs
-pub mod Runs
+pub mod Cells
+pub mod Rows
 pub mod Rooms
 pub mod Steps
 pub mod Memory

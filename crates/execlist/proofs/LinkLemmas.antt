@@ -141,7 +141,7 @@ module _ (n k : ℕ) (ls : List Link) (L : IsLinked n k ls (lists_of ls n k)) wh
   seq-apart : (h : ℕ) → h < k → Apart (sequence seqs h)
   seq-apart h lt = apart-left (sequence seqs h) (tail_cell n h ∷ []) (L.chains h lt).apart.1
 
-  -- a node stands once in the sequence of its header
+  -- a node is once in the sequence of its header
   pub stands-linked : (h x : ℕ) → times x (sequence seqs h) ≡ cond (is_at (home homes x) h) 1 0
   stands-linked h x = by_header (cases_lt h k) (cases_lt x n) where
     inside : h < k → x < n → times x (sequence seqs h) ≡ cond (is_at (home homes x) h) 1 0

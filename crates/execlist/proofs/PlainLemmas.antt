@@ -54,7 +54,7 @@ is_some_home : (o : Option ℕ) → 0 < cond (is_some o) 1 0 → (h : ℕ) × (o
 is_some_home None l = absurd (omega arith)
 is_some_home (Some h) l = (h, refl)
 
--- How often a node stands.
+-- How often a node is.
 
 pub times-append : (n : ℕ) (xs ys : List ℕ) → times n (xs ++ ys) ≡ times n xs + times n ys
 times-append n [] ys = omega arith
@@ -378,7 +378,7 @@ module _ (headers : ℕ) (all : List ℕ) (homes : List (Option ℕ)) (i h n : �
   before_held = ap (part_before n) (sequence_is headers all homes h (s.homed n h own))
       ∙ (split_held homes all i h n within there own (there_once headers all homes n h s own)).0
 
--- A node stands once in the sequence of its header.
+-- A node is once in the sequence of its header.
 pub stands_once : (headers : ℕ) (all : List ℕ) (homes : List (Option ℕ)) → IsSpace headers all homes → (h n : ℕ) → times n (sequence (sequences_of headers all homes) h) ≡ cond (is_at (home homes n) h) 1 0
 stands_once headers all homes s h n = by_case (cases_lt h headers) where
   inside : (o : Option ℕ) → home homes n ≡ o → times n (nodes_of homes h all) ≡ cond (is_at o h) 1 0

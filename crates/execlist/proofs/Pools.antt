@@ -26,7 +26,7 @@ slot_same xs n o l = get_or-set_same xs n o None l
 pub slot_other : {A : Type 0} (xs : List (Option A)) (n m : ℕ) (o : Option A) → m ≢ n → slot (slice_set xs n o) m ≡ slot xs m
 slot_other xs n m o ne = get_or-set_other xs n m o None ne
 
--- so many free numbers
+-- that many free numbers
 abbrev vacant_all : (A : Type 0) → ℕ → List (Option A)
 vacant_all A count = replicate count None
 
@@ -59,7 +59,7 @@ taken_at_most [] = omega arith
 taken_at_most (None ∷ xs) = omega (arith, taken_at_most xs)
 taken_at_most (Some a ∷ xs) = omega (arith, taken_at_most xs)
 
--- where a number is free, not all hold an item
+-- if a number is free, not all hold an item
 pub taken_below : {A : Type 0} (xs : List (Option A)) (n : ℕ) → slot xs n ≡ None → n < length xs → taken xs < length xs
 taken_below [] n e l = absurd (omega arith)
 taken_below (None ∷ xs) n e l = omega (arith, taken_at_most xs)
@@ -82,7 +82,7 @@ taken_written (Some c ∷ xs) zero a b e = refl
 taken_written (None ∷ xs) (suc n) a b e = taken_written xs n a b e
 taken_written (Some c ∷ xs) (suc n) a b e = ap suc (taken_written xs n a b e)
 
--- How often a number stands.
+-- How often a number is.
 
 times-append : (n : ℕ) (xs ys : List ℕ) → times n (xs ++ ys) ≡ times n xs + times n ys
 times-append n [] ys = omega arith
@@ -127,7 +127,7 @@ free_known xs n l = elim (cases_lt n (length xs)) [
 
 -- What a pool keeps.
 
--- each number of a range stands once in it, and no other
+-- each number of a range is once in it, and no other
 range_below : (n from count : ℕ) → n < from → times n (range_with_len from count) ≡ 0
 range_below n from zero l = refl
 range_below n from (suc count) l = cond-false _ _ _ (ne_eqb from n (λ e. omega (arith, l, e))) ∙ range_below n (from + 1) count (omega arith)
@@ -216,7 +216,7 @@ module _ {A : Type 0} (xs : List (Option A)) (free : List ℕ) (capacity n : ℕ
 
 -- The number that is given next.
 
--- where the next number is given to an item, it holds that item
+-- if the next number is given to an item, it holds that item
 pub given_slots : {A : Type 0} (a : A) (n : ℕ) (p : Pooled A) → next_number p ≡ Some n → (pool.given a p).slots ≡ slice_set p.slots n (Some a)
 given_slots a n p next = ap (λ o. (pool.given_at o a p).slots) next
 

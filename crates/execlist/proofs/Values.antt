@@ -1,4 +1,4 @@
--- The machine values of a block and a deed. Assumes `Logic`.
+-- The machine values of a block. Assumes `Logic`.
 use Rattle.std.proofs.Common.{◌≡◌, ℕ, List, [], ◌∷◌, ◌++◌, refl, ◌∙◌}
 use seplogic.Ra.Ura.{Ura}
 use mir.Val.{Val, vstruct, vcons, vnil, of_list}
@@ -32,15 +32,3 @@ base_told p0 vs s = s.1.0 ∙ (λ i. vstruct (of_list (s.1.1.0 i ++ [])) ∷ [])
 
 pub base_made : {M : Type 1} {𝓤 : Ura M} (𝓛 : Logic 𝓤) (p0 : Ptr) → ent 𝓤 (emp 𝓤) (sem 𝓛 (base_own p0 (base_val p0 ∷ [])))
 base_made 𝓛 p0 = makes_shadow 𝓛 (base_own p0 (base_val p0 ∷ [])) (λ _. (tt, (tt, tt))) ((ptr_val p0 ∷ [], tt), (refl, (refl, tt)))
-
-abbrev pub mark_val : Val
-mark_val = vstruct (vcons (vstruct vnil) vnil)
-
-abbrev pub mark_own : List Val → Fml
-mark_own = (plainly (plainly [] ∷ [])).own_val (tt, tt)
-
-pub mark_told : (vs : List Val) → shadow (mark_own vs) → (vs ≡ mark_val ∷ []) × Unit {0}
-mark_told vs s = (s.1.0 ∙ (λ i. vstruct (of_list (s.1.1.0.1.0 i ++ [])) ∷ []), tt)
-
-pub mark_made : {M : Type 1} {𝓤 : Ura M} (𝓛 : Logic 𝓤) → ent 𝓤 (emp 𝓤) (sem 𝓛 (mark_own (mark_val ∷ [])))
-mark_made 𝓛 = makes_shadow 𝓛 (mark_own (mark_val ∷ [])) (λ _. (tt, ((λ _. (tt, tt)), tt))) ((vstruct vnil ∷ [], tt), (refl, ((tt, (refl, tt)), tt)))

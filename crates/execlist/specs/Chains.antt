@@ -54,7 +54,7 @@ pub record IsChain (ls : List Link) (n : ℕ) (h : ℕ) (p : List ℕ) : Type 0 
   pub at_home : AtHome ls (suc h) (head_cell n h ∷ p ++ tail_cell n h ∷ [])
   pub below : Below n p
 
--- the lists of k headers over n nodes are seqs, and a node that has a header stands in that header's list
+-- the lists of k headers over n nodes are seqs, and a node that has a header is in that header's list
 pub record IsLinked (n : ℕ) (k : ℕ) (ls : List Link) (seqs : List (List ℕ)) : Type 0 where
   pub cells : length ls ≡ n + k * 2
   pub lists : length seqs ≡ k
@@ -86,7 +86,7 @@ empty_links n zero = free_links n
 empty_links n (suc h) =
     (empty_links n h ++ link (tail_cell n h) (head_cell n h) (suc h) ∷ []) ++ link (tail_cell n h) (head_cell n h) (suc h) ∷ []
 
--- the header that a cell's number tells, or none
+-- the header that a cell's number reports, or none
 abbrev pub header_of : ℕ → Option ℕ
 header_of zero = None
 header_of (suc h) = Some h

@@ -3,19 +3,20 @@
 use Rattle.std.specs.Prelude.{ℕ, ℤ, pos, List, [], ◌∷◌, ◌++◌, Option, slice_index_or}
 use Rattle.execlist.specs.Order.{enqueue, first, chosen}
 
--- where an arriving item is put among the items of a queue, and which of them is the next, by the priorities of all items
+-- if an arriving item is put among the items of a queue, and which of them is the next, by the priorities of all items
 pub record Discipline : Type 0 where
   pub arrival : (ℕ → ℤ) → List ℕ → ℕ → List ℕ
   pub choice : (ℕ → ℤ) → List ℕ → Option ℕ
 
--- an arriving item stands behind those of its priority, and the first item is the next
+-- an arriving item is after those of its priority, and the first item is the next
 abbrev pub by_priority : Discipline
 by_priority = record { arrival = enqueue; choice = λ key. first }
 
--- an arriving item stands last, and the earliest among those of greatest priority is the next: such a queue is never sorted
+-- an arriving item is last, and the earliest among those of greatest priority is the next: such a queue is never sorted (RKM Libraries,
+-- Exec Tasks: scheduling)
 abbrev pub by_arrival : Discipline
 by_arrival = record { arrival = λ key xs x. xs ++ x ∷ []; choice = chosen }
 
--- the priority of item n, where those of all items are a list
+-- the priority of item n, if those of all items are a list
 abbrev pub pri_at : List ℤ → ℕ → ℤ
 pri_at pris n = slice_index_or pris n (pos 0)

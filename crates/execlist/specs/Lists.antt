@@ -32,12 +32,12 @@ pri_of keys n = (slice_index_or keys n blank).pri
 abbrev pub name_of : List Key → ℕ → Option (List ℕ)
 name_of keys n = (slice_index_or keys n blank).name
 
--- what stands before node n
+-- what is before node n
 abbrev pub part_before : ℕ → List ℕ → List ℕ
 part_before n [] = []
 part_before n (x ∷ xs) = if x == n then [] else x ∷ part_before n xs
 
--- what stands after node n
+-- what is after node n
 abbrev pub part_after : ℕ → List ℕ → List ℕ
 part_after n [] = []
 part_after n (x ∷ xs) = if x == n then xs else part_after n xs
@@ -48,7 +48,7 @@ last [] = None
 last (x ∷ []) = Some x
 last (x ∷ y ∷ xs) = last (y ∷ xs)
 
--- node n put after node p, or first where p is none
+-- node n put after node p, or first if p is none
 abbrev pub put_after : Option ℕ → ℕ → List ℕ → List ℕ
 put_after None n xs = n ∷ xs
 put_after (Some p) n xs = part_before p xs ++ p ∷ n ∷ part_after p xs
@@ -77,7 +77,7 @@ abbrev pub is_at : Option ℕ → ℕ → Bool
 is_at None h = false
 is_at (Some k) h = k == h
 
--- how often node n stands in a sequence
+-- how often node n is in a sequence
 abbrev pub times : ℕ → List ℕ → ℕ
 times n [] = 0
 times n (x ∷ xs) = if x == n then suc (times n xs) else times n xs

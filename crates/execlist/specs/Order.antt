@@ -6,7 +6,7 @@ use Rattle.std.specs.Prelude.{◌≡◌, ◌≢◌, ℕ, ℤ, ◌≤ℤ◌, ◌<
 abbrev pub is_lower : {A : Type 0} → (A → ℤ) → A → A → Bool
 is_lower key y x = int_lt (key y) (key x)
 
--- x put before the first item of lower key, or last where there is none (autodoc exec.library/Enqueue)
+-- x put before the first item of lower key, or last if there is none (autodoc exec.library/Enqueue)
 abbrev pub enqueue : {A : Type 0} → (A → ℤ) → List A → A → List A
 enqueue key [] x = x ∷ []
 enqueue key (y ∷ ys) x = if is_lower key y x then x ∷ y ∷ ys else y ∷ enqueue key ys x
@@ -34,7 +34,7 @@ abbrev pub chosen : {A : Type 0} → (A → ℤ) → List A → Option A
 chosen key [] = None
 chosen key (x ∷ xs) = chosen_or key x (chosen key xs)
 
--- x stands at a place of the list; no item has a greater key, and those before that place have lower ones
+-- x is at a place of the list; no item has a greater key, and those before that place have lower ones
 pub record IsEarliestGreatest {A : Type 0} (key : A → ℤ) (xs : List A) (x : A) : Type 0 where
   pub place : ℕ
   pub within : place < length xs

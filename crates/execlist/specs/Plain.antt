@@ -1,4 +1,4 @@
--- How a list space in vectors stands for its sequences: all linked nodes in one list, and the header of each node.
+-- How a list space in vectors represents its sequences: all linked nodes in one list, and the header of each node.
 use Rattle.std.specs.Prelude.{◌≡◌, ℕ, suc, ◌<◌, List, [], ◌∷◌, length, Option, Some, None, is_some, if◌then◌else◌, filter, map}
 use Rattle.std.specs.List.{range_with_len}
 use Rattle.execlist.specs.Lists.{home, is_at, times}

@@ -1,4 +1,4 @@
--- How a pool stands for its items: for each number the item that it holds, none where the number is free.
+-- How a pool represents its items: for each number the item that it holds, none if the number is free.
 use Rattle.std.specs.Prelude.{◌≡◌, ℕ, suc, ◌+◌, ◌-◌, ◌<◌, ◌≤◌, nat_lt, IfSome, Bool, ◌&&◌, not, is_some, if◌then◌else◌, List, [], ◌∷◌, ◌++◌, length, replicate, slice_set, take, Option, Some, None, slice_index_or}
 use Rattle.std.specs.List.{range_with_len}
 use Rattle.execlist.specs.Lists.{last, times}
@@ -8,7 +8,7 @@ pub record Pooled (A : Type 0) : Type 0 where
   pub slots : List (Option A)
   pub free : List ℕ
 
--- the item of number n, none where the number is free or there is no such number
+-- the item of number n, none if the number is free or there is no such number
 abbrev pub slot : {A : Type 0} → List (Option A) → ℕ → Option A
 slot slots n = slice_index_or slots n None
 
@@ -28,7 +28,7 @@ pub record IsPool {A : Type 0} (slots : List (Option A)) (free : List ℕ) (capa
   pub stands : (n : ℕ) → times n free ≡ (if is_free slots n then 1 else 0)
   pub room : length slots ≤ capacity
 
--- so many numbers, all of them free
+-- that many numbers, all of them free
 abbrev pub all_free : {A : Type 0} → ℕ → Pooled A
 all_free count = record { slots = replicate count None; free = range_with_len 0 count }
 
@@ -36,7 +36,7 @@ all_free count = record { slots = replicate count None; free = range_with_len 0 
 abbrev pub next_number : {A : Type 0} → Pooled A → Option ℕ
 next_number pool = last pool.free
 
--- the number that is next is there, and holds no item; where none is next, each number holds one
+-- the number that is next is there, and holds no item; if none is next, each number holds one
 pub record IsStocked {A : Type 0} (pool : Pooled A) : Type 0 where
   pub full : next_number pool ≡ None → taken pool.slots ≡ length pool.slots
   pub free : IfSome (next_number pool) (λ n. slot pool.slots n ≡ None)

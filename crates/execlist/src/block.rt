@@ -1,23 +1,38 @@
 //! One raw block of cells, linked by pointers: the only part of the crate that touches a pointer. Its
 //! clauses speak of the cells by their numbers, from 0. No pointer is made from a number or becomes one.
 ghost use Rattle.std.specs.Prelude.{◌≡◌, ℕ, ◌*◌, ◌^◌, ◌<◌, ◌≤◌, List, [], ◌∷◌, ◌++◌, ◌+◌, length, IfSome};
-ghost use denote.RawPtr.{Ptr};
 ghost use Rattle.execlist.specs.Links.{Link, link_at, link, linked, unlinked};
-ghost use Rattle.execlist.specs.Ownership.{block_own, block_lent, block_type};
+ghost use Rattle.execlist.specs.Ownership.{block_own, block_lent};
+ghost use Rattle.std.specs.Mem.Slots.{slots_ptr, slots_len, lease_ptr, lease_len, lease_heap};
 
-use std::alloc::Allocator;
-use std::marker::{Model, PhantomData};
+use core::slots::{self, Lease, Slots};
+use std::alloc::Global;
+use std::marker::Model;
+use std::ptr::null_mut;
 
 /// A cell of 24 bytes: the pointers to the next cell and to the one before, its own number, and its header.
 /// A cell that is in no list may point anywhere in the block.
 ///
 /// RKM Libraries, Exec Lists and Queues: `ln_Succ` and `ln_Pred` of a node, `lh_Head` and `lh_TailPred` of a header.
+#[derive(Clone, Copy)]
 pub struct Cell {
     next: *mut Cell,
     prev: *mut Cell,
     number: u32,
     /// 0 for none, and one more than the header's number else.
     home: u32,
+}
+
+impl Cell {
+    /// A cell that points nowhere.
+    fn unlinked() -> Cell {
+        Cell {
+            next: null_mut(),
+            prev: null_mut(),
+            number: 0,
+            home: 0,
+        }
+    }
 }
 
 /// A block with room for `capacity` cells, of which the first `length links` are there.
@@ -34,54 +49,50 @@ impl Model for Block {
     ghost also_shares = { λ s _ κ. block_lent s.base s.capacity s.links κ };
 }
 
-/// The right to give the block back to `alloc`. It takes no space.
-pub struct Deed<A: Allocator> {
-    marker: PhantomData<A>,
-    ghost alloc: { A },
-    ghost base: { Ptr },
-    ghost capacity: { ℕ },
-}
+impl Block {
+    /// The block in a row of places: its memory, of which no cell is there yet.
+    fn of(places: Slots<Cell>) -> Block
+        requires { slots_len places < 2 ^ 32 }
+        ensures { (result.base ≡ slots_ptr places) × (result.capacity ≡ slots_len places) × (result.links ≡ []) }
+    {
+        let parts = unsafe { places.into_raw_parts() };
+        Block { base: parts.0 }
+    }
 
-impl<A: Allocator> Model for Deed<A> {
-    ghost also_owns = { λ d. A.dealloc_token d.alloc (block_type d.capacity) d.base };
-}
-
-/// Takes a block with room for `capacity` cells, none of which is there yet, and the deed to give it back,
-/// or answers none where memory is lacking.
-///
-/// Source: own choice.
-pub fn reserve<A: Allocator>(alloc: &A, capacity: usize) -> Option<(Block, Deed<A>)>
-    requires { capacity < 2 ^ 32 }
-    ensures { IfSome result (λ r. (r.0.capacity ≡ capacity) × (r.0.links ≡ []) × (r.1.alloc ≡ alloc.now)
-        × (r.1.base ≡ r.0.base) × (r.1.capacity ≡ capacity)) }
-{
-    match alloc.allocate(capacity * 24, 8) {
-        Ok(ptr) => {
-            let base = ptr as *mut Cell;
-            let marker = PhantomData;
-            Some((Block { base }, Deed { marker }))
-        }
-        Err(_) => None,
+    /// The row of places again, whatever lies in them.
+    fn into_places(self, capacity: usize) -> Slots<Cell>
+        requires { capacity ≡ self.capacity }
+        ensures { (slots_ptr result ≡ self.base) × (slots_len result ≡ capacity) }
+    {
+        let Block { base } = self;
+        unsafe { Slots::from_raw_parts(base, capacity) }
     }
 }
 
+/// Takes a block with room for `capacity` cells, none of which is there yet, and the lease on its memory, or answers none
+/// if no memory is left. Neither can be dropped: only `free` takes them.
+pub fn reserve(alloc: &Global, capacity: usize) -> Option<(Block, Lease<Cell, Global>)>
+    requires { capacity < 2 ^ 32 }
+    ensures { IfSome result (λ r. (r.0.capacity ≡ capacity) × (r.0.links ≡ []) × (lease_heap r.1 ≡ alloc.now)
+        × (lease_ptr r.1 ≡ r.0.base) × (lease_len r.1 ≡ capacity)) }
+{
+    // The kit makes a lease for as many places as a slice has: these cells say how many, and go again.
+    let like = Vec::from_elem(*alloc, Cell::unlinked(), capacity).ok()?;
+    let (places, lease) = unsafe { slots::reserve(alloc, like.as_slice()) }.ok()?;
+    Some((Block::of(places), lease))
+}
+
 impl Block {
-    /// Gives the block back to the allocator that it was taken from. Both the block and its deed are used up.
-    ///
-    /// Source: own choice.
-    pub fn free<A: Allocator>(self, deed: Deed<A>, alloc: &A, capacity: usize)
-        requires { (deed.alloc ≡ alloc.now) × (deed.base ≡ self.base) × (deed.capacity ≡ self.capacity)
+    /// Gives the block's memory back to the allocator that it was taken from. Both the block and its lease are used up.
+    pub fn free(self, lease: Lease<Cell, Global>, alloc: &Global, capacity: usize)
+        requires { (lease_heap lease ≡ alloc.now) × (lease_ptr lease ≡ self.base) × (lease_len lease ≡ self.capacity)
             × (capacity ≡ self.capacity) }
     {
-        let Block { base } = self;
-        let Deed { marker: _ } = deed;
-        unsafe { alloc.deallocate(base as *mut u8, capacity * 24, 8) }
+        slots::release(alloc, self.into_places(capacity), lease);
     }
 
     /// Writes the next cell, of number `cell`, with the cells `next` and `prev` on its sides. `home` is 0 for
     /// none, and one more than the header's number else; `number` is `cell` in the cell's own width.
-    ///
-    /// Source: own choice.
     pub fn push(&mut self, cell: usize, number: u32, next: usize, prev: usize, home: u32)
         requires { (cell ≡ length self.old.links) × (number ≡ length self.old.links)
             × (cell < self.old.capacity) × (next < self.old.capacity) × (prev < self.old.capacity) }
@@ -99,8 +110,6 @@ impl Block {
     }
 
     /// Answers 0 for a cell that has no header, and one more than the header's number else.
-    ///
-    /// Source: own choice.
     pub fn home_id(&self, i: usize) -> u32
         requires { i < length self.now.links }
         ensures { result ≡ (link_at self.now.links i).home }

@@ -5,7 +5,7 @@ ghost use Rattle.execlist.specs.Digest.{digest_of, digest_or};
 
 use crate::key::Name;
 
-/// Makes a number of a name. Equal names have equal numbers; others seldom do. Own choice.
+/// Makes a number of a name. Equal names have equal numbers; others seldom do. Project rule.
 pub fn digest(name: &str) -> u64
     ensures { result ≡ digest_of name.now }
 {
@@ -16,7 +16,7 @@ pub fn digest(name: &str) -> u64
     all
 }
 
-/// The priority (-128 to 127) and the name of a node, behind the digest of the name.
+/// The priority (-128 to 127) and the name of a node, after the digest of the name.
 #[derive(Clone, Copy)]
 pub struct DigestKey {
     digest: u64,
@@ -29,8 +29,6 @@ impl DigestKey {
     ghost use Rattle.execlist.specs.DigestKeys.{digest_key_of};
 
     /// Makes the key of this priority, and of this name or none.
-    ///
-    /// Source: own choice.
     pub fn new(pri: i8, name: Option<Name>) -> DigestKey
         ensures { digest_key_of result ≡ record { pri = pri; name = option_map (λ t. t.bytes) name } }
     {
@@ -63,9 +61,9 @@ impl DigestKey {
         }
     }
 
-    /// The same, where the digest of `name` is known.
+    /// The same, if the digest of `name` is known.
     ///
-    /// Source: autodoc exec.library/FindName; the digest is own choice.
+    /// Source: autodoc exec.library/FindName; the digest is a project rule.
     #[inline]
     pub fn is_told(&self, digest: u64, name: &str) -> bool
         requires { digest ≡ digest_of name.now }

@@ -1,6 +1,7 @@
-//! Laws of the definitions of `specs/Order.antt`. Each function does nothing: its contract is the law,
+//! Laws of the definitions of `specs/Order.antt` and `specs/Places.antt`. Each function does nothing: its contract is the law,
 //! and a caller who calls it may use the law from there on. No law speaks of a list space.
 ghost use Rattle.execlist.specs.Order.{OrderTakesArrival, OrderLeavesOut, FirstOfOrderIsChosen, ChosenIsEarliestGreatest, OrderReadsMembersKeys, FoundInOrderIsChosen, OrderRekeyed};
+ghost use Rattle.execlist.specs.Places.{WalksMeetSequences};
 
 /// An arrival is one more `enqueue`: the order of some items and one more is that one put into their order.
 ///
@@ -49,4 +50,11 @@ pub fn found_in_order_is_chosen<T>()
 /// Source: autodoc exec.library/Enqueue.
 pub fn order_rekeyed()
     ensures { OrderRekeyed }
+{}
+
+/// From the head of a header the places that follow are its nodes in their order and then its tail, if they end; and the same back.
+///
+/// RKM Libraries, Exec Lists and Queues: `ln_Succ`, `ln_Pred`.
+pub fn walks_meet_sequences()
+    ensures { WalksMeetSequences }
 {}

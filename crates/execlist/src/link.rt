@@ -2,13 +2,15 @@
 //! a cell. All of it is safe code over the block of cells. No call but a search walks along a list.
 ghost use Rattle.std.specs.Prelude.{find, IfSome, ◌≡◌, ℕ, ◌<◌, ◌≤◌, ◌+◌, ◌*◌, List, Option, Some, None, length, vec_len, if◌then◌else◌};
 ghost use Rattle.execlist.specs.Lists.{sequence, home, is_at, key_at, times, ahead};
+ghost use Rattle.std.specs.Mem.Slots.{lease_ptr, lease_len, lease_heap};
 ghost use Rattle.execlist.specs.Chains.{IsLinked, IsLinked-prop, lists_of, homes_of, node_at, cell_before};
 
-use crate::block::{Block, Deed, reserve};
+use crate::block::{Block, Cell, reserve};
 use crate::digest::DigestKey;
 use crate::key::Name;
 use crate::search::{LowerThan, Named, Sought};
 use crate::space::{HeaderId, ListSpace, NodeId};
+use core::slots::Lease;
 use std::alloc::{AllocError, Global};
 
 /// A place in a list: the head of a header, before its first node; a node; or the tail, after its last node.
@@ -22,19 +24,19 @@ pub enum Place {
 
 /// A list space in one block of cells, with the nodes' keys beside it. Of `nodes` nodes and `headers` headers,
 /// node `n` is cell `n`, and header `h` has the cells `nodes + 2 h` (head) and `nodes + 2 h + 1` (tail).
-/// The block is given back where the space is dropped.
+/// The block is given back if the space is dropped.
 pub struct LinkSpace {
     block: Block,
-    deed: Deed<Global>,
+    lease: Lease<Cell, Global>,
     alloc: Global,
     headers: usize,
     nodes: usize,
     keys: Vec<DigestKey>,
     ghost keyed: { vec_len keys ≡ length (homes_of block.links nodes) },
     ghost few: { nodes + headers * 2 ≤ 12288 },
-    ghost deed_alloc: { deed.alloc ≡ alloc },
-    ghost deed_base: { deed.base ≡ block.base },
-    ghost deed_cap: { deed.capacity ≡ block.capacity },
+    ghost lease_alloc: { lease_heap lease ≡ alloc },
+    ghost lease_base: { lease_ptr lease ≡ block.base },
+    ghost lease_cap: { lease_len lease ≡ block.capacity },
     ghost whole: { block.capacity ≡ nodes + headers * 2 },
     ghost linked: { IsLinked nodes headers block.links (lists_of block.links nodes headers) } by { IsLinked-prop nodes headers block.links (lists_of block.links nodes headers) },
     ghost stands: { (h n : ℕ) → times n (sequence (lists_of block.links nodes headers) h)
@@ -45,13 +47,13 @@ impl Drop for LinkSpace {
     fn drop(self) {
         let LinkSpace {
             block,
-            deed,
+            lease,
             alloc,
             headers,
             nodes,
             keys: _,
         } = self;
-        block.free(deed, &alloc, nodes + headers * 2);
+        block.free(lease, &alloc, nodes + headers * 2);
     }
 }
 
@@ -116,7 +118,7 @@ impl LinkSpace {
         }
     }
 
-    /// The node that the cell is, or none where it is a header's.
+    /// The node that the cell is, or none if it is a header's.
     fn node_at(&self, cell: u32) -> Option<NodeId>
         ensures { result ≡ node_at self.now.nodes cell }
     {
@@ -140,7 +142,7 @@ impl ListSpace for LinkSpace {
         let keys = Vec::from_elem(alloc, DigestKey::new(0, None), nodes)?;
         match reserve(&alloc, nodes + headers * 2) {
             None => Err(AllocError),
-            Some((mut block, deed)) => {
+            Some((mut block, lease)) => {
                 for i in 0..nodes {
                     block.push(i, i as u32, i, i, 0);
                 }
@@ -151,7 +153,7 @@ impl ListSpace for LinkSpace {
                 }
                 Ok(LinkSpace {
                     block,
-                    deed,
+                    lease,
                     alloc,
                     headers,
                     nodes,
@@ -238,7 +240,7 @@ impl LinkSpace {
     ghost use Rattle.execlist.specs.Places.{IsPlace, node_or, next_place, prev_place};
 
     /// Answers the place after one: from the head of a header its nodes in their order, then its tail.
-    /// Answers none after a tail and after a node that stands in no list. Takes no memory.
+    /// Answers none after a tail and after a node that is in no list. Takes no memory.
     /// RKM Libraries, Exec Lists and Queues: `ln_Succ`.
     pub fn next_cell(&self, c: Place) -> Option<Place>
         requires { IsPlace (⟦<LinkSpace as ListSpace>⟧.sequences self.now)
@@ -257,7 +259,7 @@ impl LinkSpace {
     }
 
     /// Answers the place before one: from the tail of a header its nodes from the last on, then its head.
-    /// Answers none before a head and before a node that stands in no list. Takes no memory.
+    /// Answers none before a head and before a node that is in no list. Takes no memory.
     /// RKM Libraries, Exec Lists and Queues: `ln_Pred`.
     pub fn prev_cell(&self, c: Place) -> Option<Place>
         requires { IsPlace (⟦<LinkSpace as ListSpace>⟧.sequences self.now)

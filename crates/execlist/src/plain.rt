@@ -1,4 +1,4 @@
-//! A list space in vectors: one list of all linked nodes, in which the nodes of a header stand in their
+//! A list space in vectors: one list of all linked nodes, in which the nodes of a header are in their
 //! order, and for each node its header and its key. A call reads that list once or twice from end to end.
 ghost use Rattle.std.specs.Prelude.{◌≡◌, ℕ, ◌<◌, ◌≤◌, ◌+◌, List, [], ◌∷◌, ◌++◌, Option, Some, None, true, false, length, insert, remove, slice_set, slice_index, slice_index_or, drop, take, find, map, option_map, All, IfOk, IfSome, IsSome, vec_len, if◌then◌else◌};
 ghost use Rattle.execlist.specs.Order.{first, is_lower, enqueue};
@@ -34,7 +34,7 @@ fn is_at(home: Option<HeaderId>, h: HeaderId) -> bool
     }
 }
 
-/// The place of a node that stands in the list.
+/// The place of a node that is in the list.
 fn place_of(all: &[NodeId], n: NodeId) -> usize
     requires { times n all.now ≡ 1 }
     ensures within { result < length all.now }

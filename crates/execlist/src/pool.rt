@@ -1,7 +1,7 @@
-//! A pool: so many numbers, each of which holds one item or is free. A list space has its headers and nodes by number, and gives out
+//! A pool: that many numbers, each of which holds one item or is free. A list space has its headers and nodes by number, and gives out
 //! none of them: a pool does.
 //!
-//! The numbers are an own choice: Exec knows its objects by address alone. The free ones stand in a stack with room
+//! The numbers are an project rule: Exec knows its objects by address alone. The free ones are in a stack with room
 //! for all, so that each call but `new` takes constant time and no memory.
 ghost use Rattle.std.specs.Prelude.{◌≡◌, ◌<◌, length, Some, None, IfOk, IfSome, IsSome};
 ghost use Rattle.execlist.specs.Pool.{IsStocked, all_free, given, next_number, released, slot, written};
@@ -9,7 +9,7 @@ ghost use Rattle.execlist.specs.Pool.{IsStocked, all_free, given, next_number, r
 use std::alloc::{AllocError, Global};
 use std::marker::Model;
 
-/// A pool: for each number its item, none where the number is free.
+/// A pool: for each number its item, none if the number is free.
 #[derive(Drop)]
 pub struct Pool<T: Copy> {
     slots: Vec<Option<T>>,
@@ -28,9 +28,7 @@ impl<T: Copy> Model for Pool<T> {
 }
 
 impl<T: Copy> Pool<T> {
-    /// A pool of so many numbers, all of them free. An error means that memory is lacking.
-    ///
-    /// Source: own choice.
+    /// A pool of that many numbers, all of them free. An error means that memory is refused.
     pub fn new(alloc: Global, count: usize) -> Result<Self, AllocError>
         ensures { IfOk result (λ pool. pool ≡ all_free count) }
     {
@@ -39,9 +37,7 @@ impl<T: Copy> Pool<T> {
         Ok(Pool { slots, free })
     }
 
-    /// The number that is given next, none where every number holds an item.
-    ///
-    /// Source: own choice.
+    /// The number that is given next, none if every number holds an item.
     pub fn next(&self) -> Option<usize>
         ensures value { result ≡ next_number self.now }
         ensures free { IfSome result (λ n. slot self.now.slots n ≡ None) }
@@ -51,8 +47,6 @@ impl<T: Copy> Pool<T> {
     }
 
     /// Puts an item at the next number, which there is.
-    ///
-    /// Source: own choice.
     pub fn give(&mut self, item: T)
         requires { IsSome (next_number self.old) }
         ensures { self.new ≡ given item self.old }
@@ -62,8 +56,6 @@ impl<T: Copy> Pool<T> {
     }
 
     /// Makes a number that holds an item free again.
-    ///
-    /// Source: own choice.
     pub fn release(&mut self, n: usize)
         requires { IsSome (slot self.old.slots n) }
         ensures { self.new ≡ released n self.old }
@@ -72,9 +64,7 @@ impl<T: Copy> Pool<T> {
         self.free.push(n).unwrap();
     }
 
-    /// The item of a number, none where the number is free or there is no such number.
-    ///
-    /// Source: own choice.
+    /// The item of a number, none if the number is free or there is no such number.
     pub fn get(&self, n: usize) -> Option<T>
         ensures { result ≡ slot self.now.slots n }
     {
@@ -85,8 +75,6 @@ impl<T: Copy> Pool<T> {
     }
 
     /// Puts another item in place of that of a number.
-    ///
-    /// Source: own choice.
     pub fn set(&mut self, n: usize, other: T)
         requires { IsSome (slot self.old.slots n) }
         ensures { self.new ≡ written n other self.old }
@@ -95,8 +83,6 @@ impl<T: Copy> Pool<T> {
     }
 
     /// Does nothing: its clause is what always holds of the number that is next.
-    ///
-    /// Source: own choice.
     pub fn facts(&self)
         ensures { IsStocked self.now }
     {

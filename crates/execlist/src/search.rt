@@ -42,8 +42,6 @@ pub struct Named<'a> {
 
 impl<'a> Named<'a> {
     /// Makes what asks for the name.
-    ///
-    /// Source: own choice.
     pub fn new(name: &'a str) -> Named<'a>
         ensures { result.name.now ≡ name.now }
     {

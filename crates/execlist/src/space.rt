@@ -1,5 +1,5 @@
 //! The interface of a list space: headers, each of which holds a sequence of nodes, and nodes, each of
-//! which has a priority and a name or none. A node stands in at most one sequence, and there once.
+//! which has a priority and a name or none. A node is in at most one sequence, and there once.
 ghost use Rattle.std.specs.Prelude.{◌≡◌, ℕ, ◌<◌, ◌≤◌, List, [], ◌∷◌, ◌++◌, Option, Some, None, length, replicate, slice_set, drop, take, find, option_map, IfOk, IfSome, IsSome, MatchOption, if◌then◌else◌, ◌-◌};
 ghost use Rattle.std.specs.Option.{ForSome};
 ghost use Rattle.execlist.specs.Order.{enqueue, first, without};
@@ -29,8 +29,8 @@ pub trait ListSpace: Drop {
     /// The key of each node, by its number.
     ghost keys: { Self → List Key };
 
-    /// Makes `headers` empty headers, and `nodes` nodes that stand in none, of priority 0 and with no
-    /// name. At most 4,096 of each. An error means that memory is lacking. Autodoc amiga.lib/NewList.
+    /// Makes `headers` empty headers, and `nodes` nodes that are in none, of priority 0 and with no
+    /// name. At most 4,096 of each. An error means that memory is refused. Autodoc amiga.lib/NewList.
     fn new(alloc: Global, headers: usize, nodes: usize) -> Result<Self, AllocError>
         requires few_headers { headers ≤ 4096 }
         requires few_nodes { nodes ≤ 4096 }
@@ -38,27 +38,27 @@ pub trait ListSpace: Drop {
         ensures unlinked { IfOk result (λ s. homes s ≡ replicate nodes None) }
         ensures blank { IfOk result (λ s. keys s ≡ replicate nodes blank) };
 
-    /// Answers the header whose sequence has the node, or none. Own choice: Exec cannot tell.
+    /// Answers the header whose sequence has the node, or none. Project rule: Exec cannot say.
     fn home(&self, n: NodeId) -> Option<HeaderId>
         requires { n < length (homes self.now) }
         ensures value { result ≡ home (homes self.now) n }
         ensures known { IfSome result (λ h. h < length (sequences self.now)) };
 
-    /// Answers the first node of the header, or none where it is empty, and takes nothing out.
+    /// Answers the first node of the header, or none if it is empty, and takes nothing out.
     /// RKM Libraries, Exec Lists and Queues: scanning a list.
     fn first(&self, h: HeaderId) -> Option<NodeId>
         requires { h < length (sequences self.now) }
         ensures value { result ≡ first (sequence (sequences self.now) h) }
         ensures home { IfSome result (λ n. home (homes self.now) n ≡ Some h) };
 
-    /// Answers the last node of the header, or none where it is empty, and takes nothing out.
+    /// Answers the last node of the header, or none if it is empty, and takes nothing out.
     /// RKM Libraries, Exec Lists and Queues: scanning a list.
     fn last(&self, h: HeaderId) -> Option<NodeId>
         requires { h < length (sequences self.now) }
         ensures value { result ≡ last (sequence (sequences self.now) h) }
         ensures home { IfSome result (λ n. home (homes self.now) n ≡ Some h) };
 
-    /// Answers the node after `n` in its sequence, or none where `n` is the last. `n` is linked.
+    /// Answers the node after `n` in its sequence, or none if `n` is the last. `n` is linked.
     /// RKM Libraries, Exec Lists and Queues: `ln_Succ`.
     fn succ(&self, n: NodeId) -> Option<NodeId>
         requires { IsSome (home (homes self.now) n) }
@@ -66,7 +66,7 @@ pub trait ListSpace: Drop {
             ≡ first (part_after n (sequence (sequences self.now) h))) }
         ensures home { IfSome result (λ m. home (homes self.now) m ≡ home (homes self.now) n) };
 
-    /// Answers the node before `n` in its sequence, or none where `n` is the first. `n` is linked.
+    /// Answers the node before `n` in its sequence, or none if `n` is the first. `n` is linked.
     /// RKM Libraries, Exec Lists and Queues: `ln_Pred`.
     fn pred(&self, n: NodeId) -> Option<NodeId>
         requires { IsSome (home (homes self.now) n) }
@@ -101,7 +101,7 @@ pub trait ListSpace: Drop {
         requires { n < length (homes self.now) }
         ensures { result ≡ pri_of (keys self.now) n };
 
-    /// Answers whether the node has a name and it is `name`, byte for byte. Own choice: Exec has no
+    /// Answers whether the node has a name and it is `name`, byte for byte. Project rule: Exec has no
     /// such call.
     fn has_name(&self, n: NodeId, name: &str) -> bool
         requires { n < length (homes self.now) }
@@ -144,7 +144,7 @@ pub trait ListSpace: Drop {
         self.insert(h, n, last);
     }
 
-    /// Puts the unlinked node `n` before the first node of lower priority, or last where there is none.
+    /// Puts the unlinked node `n` before the first node of lower priority, or last if there is none.
     /// The sequence may be unsorted. Autodoc exec.library/Enqueue.
     fn enqueue(&mut self, h: HeaderId, n: NodeId)
         requires header { h < length (sequences self.old) }
@@ -168,7 +168,7 @@ pub trait ListSpace: Drop {
         self.insert(h, n, after);
     }
 
-    /// Takes out the first node and answers it, or answers none where the header is empty.
+    /// Takes out the first node and answers it, or answers none if the header is empty.
     /// Autodoc exec.library/RemHead.
     fn rem_head(&mut self, h: HeaderId) -> Option<NodeId>
         requires { h < length (sequences self.old) }
@@ -185,7 +185,7 @@ pub trait ListSpace: Drop {
         Some(n)
     }
 
-    /// Takes out the last node and answers it, or answers none where the header is empty.
+    /// Takes out the last node and answers it, or answers none if the header is empty.
     /// Autodoc exec.library/RemTail.
     fn rem_tail(&mut self, h: HeaderId) -> Option<NodeId>
         requires { h < length (sequences self.old) }
@@ -225,7 +225,7 @@ pub trait ListSpace: Drop {
         None
     }
 
-    /// A node stands once in the sequence of its header, and in no other.
+    /// A node is once in the sequence of its header, and in no other.
     ghost stands: { (s : Self) (h n : ℕ) → times n (sequence (sequences s) h)
         ≡ (if is_at (home (homes s) n) h then 1 else 0) };
 

@@ -22,7 +22,7 @@ use Rattle.execmodel.specs.Queues.{Turn, Came, Served}
 use Rattle.execmodel.specs.Marks.{turn_at}
 use Rattle.execmodel.proofs.Queues.{IsAway, Turns, Follows}
 
--- ---- how often a task stands in a sequence
+-- ---- how often a task is in a sequence
 
 once_more : (b : Bool) (n : ℕ) → (if b then suc n else n) ≡ n + once_if b
 once_more true n = omega arith
@@ -32,7 +32,7 @@ cons_times : (b : Bool) (m n k : ℕ) → m ≡ n + k → (if b then suc m else 
 cons_times true m n k e = omega (arith, e)
 cons_times false m n k e = e
 
--- one who stands last
+-- one who is last
 pub times_last : (t k : ℕ) (q : List ℕ) → times t (q ++ k ∷ []) ≡ times t q + once_if (nat_eq k t)
 times_last t k [] = once_more (nat_eq k t) 0
 times_last t k (x ∷ q) = cons_times (nat_eq x t) (times t (q ++ k ∷ [])) (times t q) (once_if (nat_eq k t)) (times_last t k q)
@@ -41,7 +41,7 @@ times_cond : (t x : ℕ) (b : Bool) (q : List ℕ) → times t (cond b (x ∷ q)
 times_cond t x true q = refl
 times_cond t x false q = refl
 
--- who leaves stands there no more
+-- who leaves is there no more
 pub times_gone : (t : ℕ) (q : List ℕ) → times t (without t q) ≡ 0
 times_gone t [] = refl
 times_gone t (x ∷ q) =
@@ -52,7 +52,7 @@ times_gone t (x ∷ q) =
     (λ apart. ap (λ b. if not b then times t (x ∷ without t q) else times t (without t q)) (nat_eq-other x t (λ e. apart (sym e)))
     ∙ ap (λ b. if b then suc (times t (without t q)) else times t (without t q)) (nat_eq-other x t (λ e. apart (sym e))) ∙ times_gone t q)
 
--- and the others stand there as before
+-- and the others are there as before
 pub times_others : (t k : ℕ) (q : List ℕ) → t ≢ k → times t (without k q) ≡ times t q
 times_others t k [] apart = refl
 times_others t k (x ∷ q) apart =
@@ -64,7 +64,7 @@ times_others t k (x ∷ q) apart =
     (λ other. ap (λ b. if not b then times t (x ∷ without k q) else times t (without k q)) (nat_eq-other x k other)
     ∙ ap (λ n. if nat_eq x t then suc n else n) (times_others t k q apart))
 
--- one who stands nowhere in a sequence is away from it
+-- one who is nowhere in a sequence is away from it
 pub never_away : (t : ℕ) (q : List ℕ) → times t q ≡ 0 → IsAway t q
 never_away t [] e = tt
 never_away t (x ∷ q) e =
@@ -84,7 +84,7 @@ set_here states k x h = get_or-set_same states k x Absent h
 pub set_there : (states : List TaskState) (k j : ℕ) (x : TaskState) → j ≢ k → state_at (slice_set states k x) j ≡ state_at states j
 set_there states k j x apart = get_or-set_other states k j x Absent apart
 
--- what is neither absent nor of no number is one of so many
+-- what is neither absent nor of no number is one of that many
 pub in_range : (states : List TaskState) (k : ℕ) → is_absent (state_at states k) ≡ false → k < length states
 in_range [] k e = true_is_not_false e
 in_range (x ∷ states) zero e = omega arith
@@ -113,7 +113,7 @@ stands_same : (test : Bool) (t : ℕ) (q p : ℕ → List ℕ) → ((a : ℕ) �
 stands_same true t q p e stands = (stands.0, λ other. e other ∙ stands.1 other)
 stands_same false t q p e stands = λ other. e other ∙ stands other
 
--- a task that stands where it stood agrees still
+-- a task that is where it was agrees still
 pub untouched : (t : ℕ) (s r : Schedule) (q p : ℕ → List ℕ) → status_of r t ≡ status_of s t → is_at r.running t ≡ is_at s.running t
     → times t r.queue.ready ≡ times t s.queue.ready → ((a : ℕ) → times t (p a) ≡ times t (q a)) → Agrees t s q → Agrees t r p
 untouched t s r q p status running ready queues old = record {
@@ -131,7 +131,7 @@ stands t s q x status running ready queues = record {
   waits = subst (λ y. StandsInOne (is_at_semaphore y) t q) (sym status) queues;
 }
 
--- ---- what a known state tells
+-- ---- what a known state reports
 
 ready_is : (x : TaskState) → is_ready x ≡ true → x ≡ Ready
 ready_is Absent e = true_is_not_false (sym e)
@@ -209,7 +209,7 @@ no_more : (t k : ℕ) (q : List ℕ) → t ≢ k → times t (q ++ k ∷ []) ≡
 no_more t k q apart =
     let last = times_last t k q ∙ ap (λ b. times t q + once_if b) (nat_eq-other k t (λ e. apart (sym e))) in omega (arith, last)
 
--- a task that neither runs nor is ready, and stands in no queue any more
+-- a task that neither runs nor is ready, and is in no queue any more
 pub arrives_agrees : (k : ℕ) (s : Schedule) (q p : ℕ → List ℕ) (x : TaskState) → status_of s k ≡ x → k < length s.queue.states
     → is_running x ≡ false → is_ready x ≡ false → StandsInOne false k p → ((j a : ℕ) → j ≢ k → times j (p a) ≡ times j (q a))
     → AllAgree s q → AllAgree (arrives by_arrival k s) p
@@ -235,7 +235,7 @@ rearrives_agrees k s q e old t =
     (λ apart. untouched t s (arrives by_arrival k (departs k s)) q q (set_there s.queue.states k t Ready apart) refl
     (no_more t k (without k s.queue.ready) apart ∙ times_others t k s.queue.ready apart) (λ a. refl) (old t))
 
--- a task that was not added yet stands nowhere
+-- a task that was not added yet is nowhere
 pub absent_agrees : (t : ℕ) (s : Schedule) (q : ℕ → List ℕ) → status_of s t ≡ Absent → s.running ≡ None → s.queue.ready ≡ [] → ((a : ℕ) → times t (q a) ≡ 0)
     → Agrees t s q
 absent_agrees t s q status none unready nowhere = stands t s q Absent status (ap (λ o. is_at o t) none) (ap (λ l. times t l) unready) nowhere
@@ -285,7 +285,7 @@ stands_there : (b : Bool) (n : ℕ) → n ≡ once_if b → 0 < n → b ≡ true
 stands_there true n e h = refl
 stands_there false n e h = absurd (omega (arith, e, h))
 
--- who is chosen stands there
+-- who is chosen is there
 pub first_stands : (t x : ℕ) (q : List ℕ) → x ≡ t → 0 < times t (x ∷ q)
 first_stands t x q same = subst (λ b. 0 < (if b then suc (times t q) else times t q)) (sym (ap (λ k. nat_eq k t) same ∙ nat_eq-same t)) (omega arith)
 
@@ -437,12 +437,12 @@ asks_agrees semaphore t s q p runs follows old =
     (λ j a apart. cases_eq a semaphore (λ same. ap (λ l. times j l) (here a same) ∙ no_more j t (q a) apart)
     (λ other. ap (λ l. times j l) (there a other))) old
 
--- one who stands in a queue waits for a semaphore, that one
+-- one who is in a queue waits for a semaphore, that one
 pub waits_there : (b : Bool) (t : ℕ) (q : ℕ → List ℕ) (a : ℕ) → StandsInOne b t q → 0 < times t (q a) → b ≡ true
 waits_there true t q a one h = refl
 waits_there false t q a one h = let none = one a in absurd (omega (arith, none, h))
 
--- and stands in no other
+-- and is in no other
 pub only_there : (b : Bool) (t : ℕ) (q : ℕ → List ℕ) (a : ℕ) → StandsInOne b t q → 0 < times t (q a) → (c : ℕ) → c ≢ a → times t (q c) ≡ 0
 only_there true t q a one h c apart =
     cases_eq a one.0

@@ -20,6 +20,6 @@ pub nothing_left : (bits mask : ℕ) → bit_and (without bits mask) mask ≡ 0
 nothing_left bits mask =
     and_assoc mask bits (bit_not w32 mask) ∙ ap (λ n. bit_and bits n) (not_and mask) ∙ and_zero_r bits
 
--- what has a signal has it also where others join
+-- what has a signal has it also if others join
 pub signal_joined : (bits more n : ℕ) → has_signal bits n ≡ true → has_signal (bit_or bits more) n ≡ true
 signal_joined bits more n e = has_signal-or bits more n ∙ ap (λ b. b || has_signal more n) e

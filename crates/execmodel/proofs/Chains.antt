@@ -81,7 +81,7 @@ module _ (key : ℕ → ℤ) where
   length-fold [] ys = omega arith
   length-fold (x ∷ xs) ys = let more = length-fold xs (enqueue key ys x) in let one = length-enqueue x ys in omega (arith, more, one)
 
-  -- the chosen one, and then so many others
+  -- the chosen one, and then that many others
   abbrev with_choice : ℕ → List ℕ → Option ℕ → List ℕ
   with_choice n xs choice = elim choice as (λ (x : Option ℕ). List ℕ) [ None ↦ [] | Some k ↦ k ∷ by_choice n key (without k xs) ]
 

@@ -38,7 +38,7 @@ use Rattle.execmodel.proofs.Commands.{body_alters}
 use Rattle.execmodel.proofs.Asking.{finishing}
 use Rattle.execmodel.proofs.TidyLaw.{quietly, switches_quiet}
 
--- ---- but for ticks the clock stands
+-- ---- but for ticks the clock is
 
 -- the clock, and what it gains at a tick, are the same
 abbrev Stands : Relation
@@ -87,9 +87,9 @@ stands = record {
   ending = λ t s runs. (refl, refl);
 }
 
--- ---- so many ticks
+-- ---- that many ticks
 
--- The clock has gained so many ticks, unless an alert has stopped the machine; and it has not gained more. A machine that still goes on went on
+-- The clock has gained that many ticks, unless an alert has stopped the machine; and it has not gained more. A machine that still goes on went on
 -- before.
 record Gains (n : ℕ) (s r : State) : Type 0 where
   micros : r.memory.timer.tick_micros ≡ s.memory.timer.tick_micros

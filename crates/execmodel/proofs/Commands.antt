@@ -58,7 +58,7 @@ pub record IsAlike (s r : Schedule) : Type 0 where
 pub same : (s : Schedule) → IsAlike s s
 same s = record { states = refl; ready = refl; running = refl; received = λ k. refl }
 
--- what a call may make of the schedule, where it leaves no mark at a semaphore: nothing, or a task gets signals
+-- what a call may make of the schedule, if it leaves no mark at a semaphore: nothing, or a task gets signals
 pub data Reaches (marks : List Mark) (s r : Schedule) : Type 0 where
   rests : IsCalm marks → IsAlike s r → Reaches marks s r
   posts : (k mask : ℕ) → IsCalm marks → r ≡ signalled by_arrival k mask s → Reaches marks s r
@@ -97,7 +97,7 @@ pub passed_other : {A : Type 0} (test : Bool) (code : A) (rest : Option A) → (
 passed_other true code rest e = none_some e
 passed_other false code rest e = (refl, e)
 
--- what a port or a message is, where no alert comes
+-- what a port or a message is, if no alert comes
 pub is_port_there : (port : ℕ) (heap : Heap) → port_alert port heap ≡ None → is_port_at port heap ≡ true
 unfolding port_alert
 is_port_there port heap none = (passed_first (is_port_at port heap) _ _ none).0
@@ -156,7 +156,7 @@ shared_count (Some (Shared k)) value scripts = refl
 pub rested : (s : State) → Alters s [] s
 rested s = record { regions = refl; settings = refl; timer = refl; blocks = remains; programs = refl; tasks = rests (λ p. refl) (same s.schedule) }
 
--- the call of a caller ends after its effect; where it leaves a mark, that comes first
+-- the call of a caller ends after its effect; if it leaves a mark, that comes first
 done_alters : (c : Caller) (call : Call) (s r : State) → Alters s [] r → IsAltered s (done_by c call r)
 unfolding done
 done_alters (ByTask t) call s r a =

@@ -98,15 +98,15 @@ library_none (MsgPort port messages) is = true_is_not_false (sym is)
 library_none (Message content) is = refl
 library_none (Semaphore sem waiters) is = refl
 
-new_none : (object : Object) → IsNew object → messages_in object ≡ []
-new_none Plain is = refl
-new_none (ListHead nodes) is = refl
-new_none (Node key) is = refl
-new_none (MsgPort port messages) is = is
-new_none (Message content) is = refl
-new_none (Semaphore sem waiters) is = refl
-new_none (Library number count delayed) is = refl
-new_none (Request content) is = refl
+new_none : (heap : Heap) (object : Object) → IsNew heap object → messages_in object ≡ []
+new_none heap Plain is = refl
+new_none heap (ListHead nodes) is = refl
+new_none heap (Node key) is = refl
+new_none heap (MsgPort port messages) is = is
+new_none heap (Message content) is = refl
+new_none heap (Semaphore sem waiters) is = refl
+new_none heap (Library number count delayed) is = refl
+new_none heap (Request content) is = refl
 
 pub first_none : (messages : List ℕ) → first messages ≡ None → messages ≡ []
 first_none [] e = refl
@@ -125,7 +125,7 @@ gone_none (Some (Request content)) may = refl
 
 -- ---- what begins at an address becomes another
 
--- at an address where something without messages begins, that becomes something without messages
+-- at an address if something without messages begins, that becomes something without messages
 still_none : (address : ℕ) (object : Object) (kind : Object → Bool) (p : ℕ) (heap : Heap) → messages_in object ≡ []
     → ((other : Object) → kind other ≡ true → messages_in other ≡ []) → is_kind kind (object_at address heap) ≡ true
     → messages_of p (map (replaced address object) heap) ≡ messages_of p heap
@@ -202,7 +202,7 @@ port_and_message (Some (Semaphore sem waiters)) is also = true_is_not_false (sym
 port_and_message (Some (Library number count delayed)) is also = true_is_not_false (sym is)
 port_and_message (Some (Request content)) is also = true_is_not_false (sym is)
 
--- a port stays one where a message gets another content
+-- a port stays one if a message gets another content
 pub port_stays : (port message : ℕ) (content : Content) (heap : Heap) → is_port_at port heap ≡ true → is_message_at message heap ≡ true
     → is_port_at port (filled message content heap) ≡ true
 unfolding is_port_at is_message_at
@@ -223,7 +223,7 @@ semaphore_still : (semaphore : ℕ) (sem : Sem) (waiters : List ℕ) (p : ℕ) (
 unfolding with_semaphore is_semaphore_at
 semaphore_still semaphore sem waiters p heap is = still_none semaphore (Semaphore sem waiters) is_semaphore p heap refl semaphore_none is
 
--- a message that is queued nowhere stands in no port
+-- a message that is queued nowhere is in no port
 away_from : (message : ℕ) (messages : List ℕ) → list_any (λ other. other == message) messages ≡ false → IsAway message messages
 away_from message [] e = tt
 away_from message (other ∷ rest) e =
@@ -253,7 +253,7 @@ first_is message (m ∷ messages) e = ap (λ k. k ∷ messages) (some_same e)
 
 -- ---- each thing that a call makes of the blocks
 
--- one turn, where it is at this address
+-- one turn, if it is at this address
 pub turned : (p address : ℕ) (turn : Turn) (old new : List ℕ) → (p ≡ address → Turns turn old new) → (p ≢ address → new ≡ old)
     → Follows old (turn_at p address turn ++ []) new
 turned p address turn old new here there =
@@ -308,7 +308,7 @@ takes_still regions old new nothing formed p = refl
 takes_still regions old new (places size reqs address object is fits) formed p =
     unfold messages_of in cases_eq p address
     (λ same. ap (λ found. messages_of_object found) (ap (λ a. object_at a new) same ∙ object_placed_here address (round size) object old)
-    ∙ new_none object is
+    ∙ new_none old object is
     ∙ sym (ap (λ found. messages_of_object found) (ap (λ a. object_at a old) same ∙ placed_fresh regions size reqs address old formed fits)))
     (λ apart. ap (λ found. messages_of_object found) (object_placed_there p address _ old apart))
 takes_still regions old new (recounts base count delayed is more rest) formed p =

@@ -147,7 +147,7 @@ unfolding with_port
 taken_formed regions port request heap formed =
     same_extents regions heap (without_reply port request heap) (extents_replaced port _ heap) formed
 
--- ---- an object is placed where none begins
+-- ---- an object is placed if none begins
 
 extent_found : (test : Bool) (block : Block) (old : Option Block) (new : Option (ℕ × ℕ))
     → new ≡ option_map (λ (b : Block). (b.size, 0)) old

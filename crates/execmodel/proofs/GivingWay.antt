@@ -1,4 +1,4 @@
--- Asking libraries to give way changes the blocks alone.
+-- Asking libraries to be expunged under low memory changes the blocks alone.
 use Rattle.std.proofs.Common.{◌≡◌, ℕ, Bool, true, false, List, [], ◌∷◌, Option, None, Some, refl, ◌∙◌}
 use Rattle.std.specs.Prelude.{not, ◌&&◌, if◌then◌else◌, nat_eq, is_some, length}
 use Rattle.std.specs.List.{range_with_len}

@@ -1,4 +1,4 @@
--- Libraries give way as far as a block needs it, and only those that are not open go.
+-- Libraries are expunged under low memory as far as a block needs it, and only those that are not open go.
 use Rattle.std.proofs.Common.{inl, inr, ◌≡◌, ◌≢◌, ℕ, zero, suc, ◌+◌, ◌<◌, ◌≤◌, Bool, true, false, List, [], ◌∷◌, Option, None, Some, refl, sym, ap, ◌∙◌, subst, arith}
 use Rattle.std.specs.Prelude.{not, ◌&&◌, if◌then◌else◌, nat_eq, is_some, length}
 use Rattle.std.specs.List.{range_with_len}
@@ -21,7 +21,7 @@ use Rattle.execmodel.proofs.TidyLaw.{tidy_in_every_state}
 
 -- ---- as far as needed
 
--- nothing is asked of the libraries that are left, where the block has a place
+-- nothing is asked of the libraries that are left, if the block has a place
 fits_stays : (size reqs : ℕ) (numbers : List ℕ) (memory : Memory) → is_some (place_for size reqs memory) ≡ true
     → asked_each size reqs numbers memory ≡ memory
 fits_stays size reqs [] memory fits = refl

@@ -1,4 +1,4 @@
--- A call by its word alone: what follows the word where it set system time is left out.
+-- A call by its word alone: what follows the word if it set system time is left out.
 use Rattle.std.specs.Prelude.{ℕ}
 use Rattle.taskscript.specs.declared.word.Word.{Word}
 use Rattle.taskscript.specs.declared.word.Word.TheVariants as group

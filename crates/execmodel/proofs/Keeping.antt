@@ -62,7 +62,7 @@ pub either : {A : Type 0} (part : State → A) (a : A) (test : Bool) (o p : Outc
 either part a true o p first second = first
 either part a false o p first second = second
 
--- A call that may be refused keeps a part that stays where the machine stops, and that the call keeps where it is not refused.
+-- A call that may be refused keeps a part that stays if the machine stops, and that the call keeps if it is not refused.
 pub unless_keeps : {A : Type 0} (part : State → A) (alert : Option (List ℕ)) (t : ℕ) (call : Call) (effect : State → Outcome) (s : State)
     → part (record s { stopped = true }) ≡ part s → part (effect s).state ≡ part s
     → part (unless alert t call effect s).state ≡ part s
@@ -380,7 +380,7 @@ added_keeps : (t : ℕ) (s : Schedule) → without_priorities (without_states (a
 unfolding added arrives
 added_keeps t s = either_schedule (λ r. without_priorities (without_states r)) _ (is_absent (status_of s t)) _ _ refl refl
 
--- a mark is all that a task leaves behind which waits for a semaphore
+-- a mark is all that a task leaves after which waits for a semaphore
 left_keeps : (semaphore : Option ℕ) (t : ℕ) (o : Outcome) (s : State) → beside_tasks o.state ≡ beside_tasks s
     → beside_tasks (leaving_queue semaphore t o).state ≡ beside_tasks s
 left_keeps None t o s keeps = keeps

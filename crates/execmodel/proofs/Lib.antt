@@ -1,8 +1,10 @@
+-- The lemma files of `execmodel`.
 pub mod Agreement
 pub mod Asking
 pub mod Bits
 pub mod BodyActions
 pub mod Chains
+pub mod Choices
 pub mod ClockLaw
 pub mod Commands
 pub mod Keeping
@@ -16,6 +18,7 @@ pub mod Itself
 pub mod Libraries
 pub mod Loaded
 pub mod OnLiterals
+pub mod OneBase
 pub mod OneOwner
 pub mod Owners
 pub mod OwnersLaw

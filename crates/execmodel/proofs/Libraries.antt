@@ -79,7 +79,7 @@ not_gone (Some (Semaphore sem waiters)) may is = true_is_not_false (sym is)
 not_gone (Some (Library number count delayed)) may is = may
 not_gone (Some (Request content)) may is = true_is_not_false (sym is)
 
--- ---- the block at an address where nothing changes
+-- ---- the block at an address if nothing changes
 
 unchanged : (object : Object) (found : Option Block)
     → option_map (λ (block : Block). if false then record block { object = object } else block) found ≡ found
@@ -96,11 +96,11 @@ pub block_rid_there : (a address : ℕ) (heap : Heap) → a ≢ address → bloc
 block_rid_there a address heap apart =
     found_rid a address heap ∙ ap (λ test. cond (not test) (block_at a heap) None) (nat_eq-other a address apart)
 
-block_placed_there : (a address : ℕ) (block : Block) (heap : Heap) → a ≢ address → block_at a (put_entry nat_cmp address block heap) ≡ block_at a heap
+pub block_placed_there : (a address : ℕ) (block : Block) (heap : Heap) → a ≢ address → block_at a (put_entry nat_cmp address block heap) ≡ block_at a heap
 block_placed_there a address block heap apart =
     find-put nat_cmp nat_cmp_total a address block heap ∙ ap (λ test. cond test (Some block) (block_at a heap)) (key_other a address apart)
 
--- a library stays where other objects change alone
+-- a library stays if other objects change alone
 same_found : (f : Object → Object) → ((object : Object) → is_library object ≡ true → f object ≡ object) → (found : Option Block)
     → is_kind is_library (option_map (λ (block : Block). block.object) found) ≡ true
     → option_map (λ (block : Block). record block { object = f block.object }) found ≡ found
@@ -148,7 +148,7 @@ still base old new is e = record {
   block = ap (λ found. option_map (λ (b : Block). b.size) found) e;
 }
 
--- it stays further where its block stays
+-- it stays further if its block stays
 further : (base : ℕ) (old mid new : Heap) → StaysLoaded base old mid → (is_library_at base mid ≡ true → block_at base new ≡ block_at base mid)
     → StaysLoaded base old new
 further base old mid new one keeps =

@@ -272,7 +272,7 @@ starts_say s has =
     let begun = on_schedule (all_added s.scripts n) s in
     settle_says begun (all_stays s begun (named_alike (all_added s.scripts n) s (all_added_names s.scripts n s.schedule)) refl has)
 
--- what holds of all elements, and of what stands for none, holds at each place
+-- what holds of all elements, and of what represents none, holds at each place
 at_each : {X : Type 0} (P : X → Type 0) (d : X) (xs : List X) → All P xs → P d → (k : ℕ) → P (slice_index_or xs k d)
 at_each P d [] all none k = none
 at_each P d (x ∷ xs) all none zero = All-head P x xs all

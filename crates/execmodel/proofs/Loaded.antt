@@ -35,7 +35,7 @@ none_from a x (entry ∷ rest) less all =
     ap (λ test. cond test (Some entry.1) (block_at a rest)) (key_other a entry.0 (λ same. omega (arith, same, all.0, less)))
     ∙ none_from a x rest less all.1
 
--- a library that begins at an address behind the first block
+-- a library that begins at an address after the first block
 behind : (base : ℕ) (entry : ℕ × Block) (rest : Heap) → block_at entry.0 rest ≡ None → is_kind is_library (object_at base rest) ≡ true
     → is_kind is_library (object_at base (entry ∷ rest)) ≡ true
 behind base entry rest none is =
@@ -61,7 +61,7 @@ found_loaded i base (entry ∷ rest) rising e =
     (none_from entry.0 _ rest (omega arith) rising.0)
     (λ there. found_loaded i base rest rising.1 there)
 
--- where the blocks are in order, a library begins at the base that its number has
+-- if the blocks are in order, a library begins at the base that its number has
 pub base_is_loaded : (regions : List Region) (i base : ℕ) (heap : Heap) → IsWellFormed regions (extents heap) → base_of i heap ≡ Some base
     → is_library_at base heap ≡ true
 base_is_loaded regions i base heap formed e = found_loaded i base heap (rising_sorted (extents heap) formed.in_order) e

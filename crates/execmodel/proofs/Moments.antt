@@ -1,4 +1,4 @@
--- Every moment of a run is the end of a run: of the events before it, and of its own cut short.
+-- Every due time of a run is the end of a run: of the events before it, and of its own cut short.
 use Rattle.std.proofs.Common.{◌≡◌, ℕ, zero, suc, ◌+◌, List, [], ◌∷◌, ◌++◌, refl, sym, ap, ◌∙◌, append-nil, append_assoc, arith}
 use Rattle.taskscript.specs.declared.event.Event.{Event}
 use Rattle.taskscript.specs.declared.event.Event.TheVariants.{Run, Tick}

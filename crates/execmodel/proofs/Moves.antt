@@ -93,7 +93,7 @@ pub record IsLastClosing (call : Call) (base : ℕ) (heap : Heap) : Type 0 where
   pub once : count_of base heap ≡ 1
   pub delayed : is_delayed base heap ≡ true
 
--- a library is expunged where it is not open, or closed for the last time
+-- a library is expunged if it is not open, or closed for the last time
 abbrev pub MayExpunge : Call → ℕ → Heap → Type 0
 MayExpunge call base heap = (count_of base heap ≡ 0) ⊎ IsLastClosing call base heap
 
@@ -204,7 +204,7 @@ pub taking_makes : (t : ℕ) (call : Call) (s : State) (o : Outcome) → IsTakin
 taking_makes t call s o taking =
     (taking.regions, subst (λ ms. Moves s.memory.regions t call s.memory.heap ms o.state.memory.heap) (sym taking.silent) (takes taking.blocks))
 
-allocates_taking : (t : ℕ) (call : Call) (s : State) (size reqs : ℕ) (object : Object) (place : Option ℕ) → IsNew object
+allocates_taking : (t : ℕ) (call : Call) (s : State) (size reqs : ℕ) (object : Object) (place : Option ℕ) → IsNew s.memory.heap object
     → ((address : ℕ) → place ≡ Some address → fit s.memory.regions (extents s.memory.heap) size reqs ≡ Some address)
     → IsTaking s (allocates t call size object place s)
 unfolding answered
@@ -212,23 +212,23 @@ allocates_taking t call s size reqs object None new fits = record { regions = re
 allocates_taking t call s size reqs object (Some address) new fits =
     record { regions = refl; silent = refl; blocks = places size reqs address object new (fits address refl) }
 
--- a place for an object is one where it fits
+-- a place for an object is one if it fits
 fits_there : (test : Bool) (place : Option ℕ) (address : ℕ) → (if test then place else None) ≡ Some address → place ≡ Some address
 fits_there true place address e = e
 fits_there false place address e = none_some (sym e)
 
-object_taking : (t : ℕ) (call : Call) (s : State) (kind : Object → Bool) (size : ℕ) (object : Object) → IsNew object
+object_taking : (t : ℕ) (call : Call) (s : State) (kind : Object → Bool) (size : ℕ) (object : Object) → IsNew s.memory.heap object
     → IsTaking s (makes_object t call kind size object s)
 unfolding place_for_object
 object_taking t call s kind size object new =
     allocates_taking t call s size 1 object (if is_allowed kind s.memory then place_for size 1 s.memory else None) new
     (fits_there (is_allowed kind s.memory) (place_for size 1 s.memory))
 
-pub object_makes : (t : ℕ) (call : Call) (s : State) (kind : Object → Bool) (size : ℕ) (object : Object) → IsNew object
+pub object_makes : (t : ℕ) (call : Call) (s : State) (kind : Object → Bool) (size : ℕ) (object : Object) → ((heap : Heap) → IsNew heap object)
     → Makes t call s (makes_object t call kind size object (on_memory (after_asking_for_object kind size) s))
 object_makes t call s kind size object new =
     let asked = on_memory (after_asking_for_object kind size) s in
-    taking_makes t call s _ (after_asking_for_object_taking kind size s _ (object_taking t call asked kind size object new))
+    taking_makes t call s _ (after_asking_for_object_taking kind size s _ (object_taking t call asked kind size object (new asked.memory.heap)))
 
 -- ---- plain words, signals, nesting
 
@@ -328,7 +328,7 @@ node_goes (Some (Request content)) is = true_is_not_false (sym is)
 
 pub lists_make : (word : ListWord) (t : ℕ) (call : Call) (s : State) → Makes t call s (does_lists word t call s)
 unfolding does_new_list does_free_list does_new_node does_free_node does_add_head does_add_tail does_enqueue does_insert does_remove does_rem_head does_rem_tail does_first does_last does_succ does_pred does_find_name done answered is_list_at is_node_at free_list_alert free_node_alert link_alert insert_alert list_alert added_head added_tail enqueued inserted removed_head removed_tail
-lists_make lists.NewList t call s = object_makes t call s is_list list_size (ListHead []) refl
+lists_make lists.NewList t call s = object_makes t call s is_list list_size (ListHead []) (λ heap. refl)
 lists_make lists.FreeList t call s =
     unless_makes t call s (free_list_alert (argument 0 call) s.memory.heap) _
     (λ none. (
@@ -340,7 +340,7 @@ lists_make lists.FreeList t call s =
     ))
 lists_make lists.NewNode t call s =
     unless_makes t call s (new_node_alert (cast_signed w32 (argument 0 call))) _
-    (λ none. object_makes t call s is_node node_size (Node (record { pri = cast_signed w32 (argument 0 call); name = name_argument 1 call })) tt)
+    (λ none. object_makes t call s is_node node_size (Node (record { pri = cast_signed w32 (argument 0 call); name = name_argument 1 call })) (λ heap. tt))
 lists_make lists.FreeNode t call s =
     unless_makes t call s (free_node_alert (argument 0 call) s.memory.heap) _
     (λ none. (
@@ -501,7 +501,7 @@ ports_make ports.PortIgnore t call s =
     (λ none. (refl, sets _ (argument 0 call) (is_port_there (argument 0 call) s.memory.heap none)))
 ports_make ports.NewMsg t call s =
     unless_makes t call s (reply_port_alert (argument 0 call) s.memory.heap) _
-    (λ none. object_makes t call s is_message message_size _ tt)
+    (λ none. object_makes t call s is_message message_size _ (λ heap. tt))
 ports_make ports.FreeMsg t call s =
     unless_makes t call s (loose_alert (argument 0 call) s.memory.heap) _
     (λ none. (
@@ -594,7 +594,7 @@ releasing false semaphore t call s release is e = (refl, releases semaphore is e
 
 pub semaphores_make : (word : SemaphoreWord) (t : ℕ) (call : Call) (s : State) → call.word ≡ group.Semaphores word → Makes t call s (does_semaphores word t call s)
 unfolding does_new_sem does_free_sem does_obtain_semaphore does_attempt_semaphore does_release_semaphore obtained attempted released heir done
-semaphores_make semaphores.NewSem t call s word = object_makes t call s is_semaphore semaphore_size (Semaphore free_sem []) (refl, refl)
+semaphores_make semaphores.NewSem t call s word = object_makes t call s is_semaphore semaphore_size (Semaphore free_sem []) (λ heap. (refl, refl))
 semaphores_make semaphores.FreeSem t call s word =
     unless_makes t call s (free_sem_alert (argument 0 call) s.memory.heap) _
     (λ none. (
@@ -636,14 +636,14 @@ entered_or_loaded_taking (Some base) i value t call s e = record {
   silent = refl;
   blocks = recounts base _ false (λ formed. base_is_loaded s.memory.regions i base s.memory.heap formed e) (omega arith) nothing;
 }
-entered_or_loaded_taking None i value t call s e =
+entered_or_loaded_taking None i value t call s absent =
     loads (place_for (library_at i s.memory).size 1 s.memory) refl
   where
     loads : (place : Option ℕ) → place_for (library_at i s.memory).size 1 s.memory ≡ place
         → IsTaking s (answered t call value (on_memory (placed (library_at i s.memory).size (Library i 1 false) place) s))
     loads None e = record { regions = refl; silent = refl; blocks = nothing }
     loads (Some address) e =
-        record { regions = refl; silent = refl; blocks = places (library_at i s.memory).size 1 address (Library i 1 false) tt e }
+        record { regions = refl; silent = refl; blocks = places (library_at i s.memory).size 1 address (Library i 1 false) absent e }
 
 opened_taking : (found : Option ℕ) (value t : ℕ) (call : Call) (s : State)
     → IsTaking s (answered t call value (on_memory (library_opened found) s))

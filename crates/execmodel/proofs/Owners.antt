@@ -75,15 +75,15 @@ task_left_idle t (Semaphore sem waiters) idle = λ e. ap (λ q. without t q) (id
 task_left_idle t (Library number count delayed) idle = idle
 task_left_idle t (Request content) idle = idle
 
-new_idle : (object : Object) → IsNew object → Idle (Some object)
-new_idle Plain is = λ e. refl
-new_idle (ListHead nodes) is = λ e. refl
-new_idle (Node key) is = λ e. refl
-new_idle (MsgPort port messages) is = λ e. refl
-new_idle (Message content) is = λ e. refl
-new_idle (Semaphore sem waiters) is = λ e. is.1
-new_idle (Library number count delayed) is = λ e. refl
-new_idle (Request content) is = λ e. refl
+new_idle : (heap : Heap) (object : Object) → IsNew heap object → Idle (Some object)
+new_idle heap Plain is = λ e. refl
+new_idle heap (ListHead nodes) is = λ e. refl
+new_idle heap (Node key) is = λ e. refl
+new_idle heap (MsgPort port messages) is = λ e. refl
+new_idle heap (Message content) is = λ e. refl
+new_idle heap (Semaphore sem waiters) is = λ e. is.1
+new_idle heap (Library number count delayed) is = λ e. refl
+new_idle heap (Request content) is = λ e. refl
 
 -- a semaphore that a task does not get at once has an owner
 closed_owned : (t : ℕ) (sem : Sem) → is_open t sem ≡ false → sem.owner ≡ None → ⊥
@@ -117,7 +117,7 @@ takes_idle : (regions : List Region) (old new : Heap) → Takes regions old new 
 takes_idle regions old new nothing idle = idle
 takes_idle regions old new (places size reqs address object is fits) idle = λ a.
     cases_eq a address
-    (λ same. subst (λ found. Idle found) (sym (ap (λ k. object_at k new) same ∙ object_placed_here address (round size) object old)) (new_idle object is))
+    (λ same. subst (λ found. Idle found) (sym (ap (λ k. object_at k new) same ∙ object_placed_here address (round size) object old)) (new_idle old object is))
     (λ apart. subst (λ found. Idle found) (sym (object_placed_there a address _ old apart)) (idle a))
 takes_idle regions old new (recounts base count delayed is more rest) idle =
     takes_idle regions (with_library base count delayed old) new rest (counted_idle base count delayed old idle)
@@ -220,15 +220,15 @@ gone_free (Some (Semaphore sem waiters)) may = free_owner sem may
 gone_free (Some (Library number count delayed)) may = absurd may
 gone_free (Some (Request content)) may = refl
 
-new_free : (object : Object) → IsNew object → (sem_in object).owner ≡ None
-new_free Plain is = refl
-new_free (ListHead nodes) is = refl
-new_free (Node key) is = refl
-new_free (MsgPort port messages) is = refl
-new_free (Message content) is = refl
-new_free (Semaphore sem waiters) is = ap (λ (s : Sem). s.owner) is.0
-new_free (Library number count delayed) is = refl
-new_free (Request content) is = refl
+new_free : (heap : Heap) (object : Object) → IsNew heap object → (sem_in object).owner ≡ None
+new_free heap Plain is = refl
+new_free heap (ListHead nodes) is = refl
+new_free heap (Node key) is = refl
+new_free heap (MsgPort port messages) is = refl
+new_free heap (Message content) is = refl
+new_free heap (Semaphore sem waiters) is = ap (λ (s : Sem). s.owner) is.0
+new_free heap (Library number count delayed) is = refl
+new_free heap (Request content) is = refl
 
 elsewhere : (a address : ℕ) (object : Object) (heap : Heap) → a ≢ address
     → object_at a (map (replaced address object) heap) ≡ object_at a heap
@@ -236,7 +236,7 @@ elsewhere a address object heap apart =
     object_replaced address object a heap
     ∙ ap (λ test. if test then instead object (object_at a heap) else object_at a heap) (nat_eq-other a address apart)
 
--- where another object begins at one address, the owner stays at any other
+-- if another object begins at one address, the owner stays at any other
 by_address : (t : ℕ) (call : Call) (a address : ℕ) (object : Object) (heap : Heap) → (a ≡ address → Owns t call a heap (map (replaced address object) heap))
     → Owns t call a heap (map (replaced address object) heap)
 by_address t call a address object heap here =
@@ -339,7 +339,7 @@ takes_own regions old new nothing formed a = refl
 takes_own regions old new (places size reqs address object is fits) formed a =
     cases_eq a address
     (λ same. ap (λ found. owner_in found) (ap (λ k. object_at k new) same ∙ object_placed_here address (round size) object old)
-    ∙ new_free object is
+    ∙ new_free old object is
     ∙ sym (ap (λ found. owner_in found) (ap (λ k. object_at k old) same ∙ placed_fresh regions size reqs address old formed fits)))
     (λ apart. ap (λ found. owner_in found) (object_placed_there a address _ old apart))
 takes_own regions old new (recounts base count delayed is more rest) formed a =

@@ -1,4 +1,4 @@
--- Tasks get a semaphore in the order in which they asked, from states where each task waits at one place at most and the running one at
+-- Tasks get a semaphore in the order in which they asked, from states if each task waits at one place at most and the running one at
 -- none.
 use Rattle.std.proofs.Common.{◌≡◌, ◌≢◌, ℕ, Bool, true, false, List, [], ◌∷◌, ◌++◌, Option, None, Some, refl, sym, ap, ◌∙◌, subst}
 use Rattle.std.specs.Prelude.{not, cond, if◌then◌else◌, nat_eq, map, drop}
@@ -90,15 +90,15 @@ library_none (MsgPort port messages) is = refl
 library_none (Message content) is = refl
 library_none (Semaphore sem waiters) is = true_is_not_false (sym is)
 
-new_none : (object : Object) → IsNew object → waiters_in object ≡ []
-new_none Plain is = refl
-new_none (ListHead nodes) is = refl
-new_none (Node key) is = refl
-new_none (MsgPort port messages) is = refl
-new_none (Message content) is = refl
-new_none (Semaphore sem waiters) is = is.1
-new_none (Library number count delayed) is = refl
-new_none (Request content) is = refl
+new_none : (heap : Heap) (object : Object) → IsNew heap object → waiters_in object ≡ []
+new_none heap Plain is = refl
+new_none heap (ListHead nodes) is = refl
+new_none heap (Node key) is = refl
+new_none heap (MsgPort port messages) is = refl
+new_none heap (Message content) is = refl
+new_none heap (Semaphore sem waiters) is = is.1
+new_none heap (Library number count delayed) is = refl
+new_none heap (Request content) is = refl
 
 gone_none : (found : Option Object) → MayGo found → Idle found → waiters_of_object found ≡ []
 gone_none None may idle = refl
@@ -113,7 +113,7 @@ gone_none (Some (Request content)) may idle = refl
 
 -- ---- what begins at an address becomes another
 
--- at an address where something without messages begins, that becomes something without messages
+-- at an address if something without messages begins, that becomes something without messages
 still_none : (address : ℕ) (object : Object) (kind : Object → Bool) (p : ℕ) (heap : Heap) → waiters_in object ≡ []
     → ((other : Object) → kind other ≡ true → waiters_in other ≡ []) → is_kind kind (object_at address heap) ≡ true
     → waiters_of p (map (replaced address object) heap) ≡ waiters_of p heap
@@ -206,7 +206,7 @@ content_still message content p heap is = still_none message (Message content) i
 abbrev pub IsNowhere : ℕ → Heap → Type 0
 IsNowhere t heap = (p : ℕ) → IsAway t (waiters_of p heap)
 
--- a task waits at no other address than the one that is found, and nowhere where none is found
+-- a task waits at no other address than the one that is found, and nowhere if none is found
 abbrev pub WaitsAtOne : ℕ → Heap → Option ℕ → Type 0
 WaitsAtOne t heap None = IsNowhere t heap
 WaitsAtOne t heap (Some semaphore) = (p : ℕ) → p ≢ semaphore → IsAway t (waiters_of p heap)
@@ -249,7 +249,7 @@ takes_still regions old new nothing formed p = refl
 takes_still regions old new (places size reqs address object is fits) formed p =
     unfold waiters_of in cases_eq p address
     (λ same. ap (λ found. waiters_of_object found) (ap (λ a. object_at a new) same ∙ object_placed_here address (round size) object old)
-    ∙ new_none object is
+    ∙ new_none old object is
     ∙ sym (ap (λ found. waiters_of_object found) (ap (λ a. object_at a old) same ∙ placed_fresh regions size reqs address old formed fits)))
     (λ apart. ap (λ found. waiters_of_object found) (object_placed_there p address _ old apart))
 takes_still regions old new (recounts base count delayed is more rest) formed p =

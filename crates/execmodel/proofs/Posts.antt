@@ -60,13 +60,13 @@ is_mail AMessage = true
 is_mail (ARequest content) = true
 is_mail _ = false
 
--- it may stand in the port of an address: a message in any, a request that is not under way in its reply port
+-- it may be in the port of an address: a message in any, a request that is not under way in its reply port
 abbrev pub may_stand : ℕ → Post → Bool
 may_stand port AMessage = true
 may_stand port (ARequest content) = not (is_under_way content) && nat_eq port content.port
 may_stand port _ = false
 
--- The requests are in order: what stands in a port may stand there; the reply port of a request that is under way lives; and just those that are
+-- The requests are in order: what is in a port may be there; the reply port of a request that is under way lives; and exactly those that are
 -- under way wait for the timer, each once.
 pub record AreInOrder (post : ℕ → Post) (waiting : List Queued) : Type 0 where
   pub stands : (who port : ℕ) → may_stand port (post who) ≡ false → IsAway who (messages_at (post port))
@@ -190,7 +190,7 @@ and_false true c e = e
 and_false false c e = refl
 
 module _ (old new : ℕ → Post) (waiting : List Queued) (order : AreInOrder old waiting) where
-  -- where requests ask the same, and ports are the same, and nothing stands in a port that did not, but what may
+  -- if requests ask the same, and ports are the same, and nothing is in a port that did not, but what may
   alike : ((who port : ℕ) → may_stand port (new who) ≡ may_stand port (old who)) → ((request : ℕ) → asked_at (new request) ≡ asked_at (old request))
       → ((port : ℕ) → is_a_port (new port) ≡ is_a_port (old port))
       → ((who port : ℕ) → may_stand port (old who) ≡ false → IsAway who (messages_at (old port)) → IsAway who (messages_at (new port)))

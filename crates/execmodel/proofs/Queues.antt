@@ -6,12 +6,12 @@ use Rattle.std.proofs.lemmas.List.Elements.{filter-append}
 use Rattle.execlist.specs.Order.{without}
 use Rattle.execmodel.specs.Queues.{Turn, Came, Served, Left, is_to_leave, staying, comers, IsInOrder}
 
--- one does not stand in a queue
+-- one is not in a queue
 abbrev pub IsAway : ℕ → List ℕ → Type 0
 IsAway who [] = Unit {0}
 IsAway who (other ∷ rest) = (who ≢ other) × IsAway who rest
 
--- nobody stands in a queue twice
+-- nobody is in a queue twice
 abbrev pub IsOnce : List ℕ → Type 0
 IsOnce [] = Unit {0}
 IsOnce (who ∷ rest) = IsAway who rest × IsOnce rest
@@ -32,7 +32,7 @@ pub follows_more : (old : List ℕ) (some : List Turn) (mid : List ℕ) (more : 
 follows_more old [] mid more new f g = subst (λ q. Follows q more new) f g
 follows_more old (turn ∷ some) mid more new f g = (f.0, f.1, follows_more f.0 some mid more new f.2 g)
 
--- ---- nobody stands twice
+-- ---- nobody is twice
 
 pub away_more : (who other : ℕ) (q : List ℕ) → IsAway who q → who ≢ other → IsAway who (q ++ other ∷ [])
 away_more who other [] away apart = (apart, tt)

@@ -92,7 +92,7 @@ served_silent asks s =
 
 -- ---- some servings
 
--- so many servings at most
+-- that many servings at most
 pub record Serving (n : ℕ) (s : State) (o : Outcome) : Type 0 where
   pub stands : standing o.state.schedule ≡ standing s.schedule
   pub counts : count_by is_serving o.lines ≤ n
@@ -133,7 +133,7 @@ all_served (suc n) s = one_more_served n (next_source s) s (all_served n)
 
 -- ---- the latches
 
--- the latches after so many servings
+-- the latches after that many servings
 abbrev cleared_by : (Latches → Latches) → Option Source → Latches → Latches
 cleared_by others None latches = latches
 cleared_by others (Some asks) latches = others (with_latch asks false latches)
@@ -208,7 +208,7 @@ blocked_by true s is going asks latched =
     ∙ none_latched asks)
 blocked_by false s is going asks latched = same_allowance (servings 3 s).state.schedule s.schedule (all_served 3 s).stands ∙ is
 
--- a source asks to be served after a settle only where interrupts are not allowed
+-- a source asks to be served after a settle only if interrupts are not allowed
 pub interrupts_blocked : (s : State) → (interrupts s).state.stopped ≡ false
     → (asks : Source) → is_latched asks (interrupts s).state.pending.latches ≡ true → allows_interrupts (interrupts s).state.schedule ≡ false
 interrupts_blocked s = blocked_by (allows_interrupts s.schedule) s refl

@@ -1,4 +1,4 @@
--- After an action the machine is settled: the highest ready task runs, and a request is left only where interrupts are not allowed.
+-- After an action the machine is settled: the highest ready task runs, and a request is left only if interrupts are not allowed.
 use Rattle.std.proofs.Common.{◌≡◌, ℕ, zero, suc, ℤ, Bool, true, false, List, [], ◌∷◌, Option, None, Some, MatchOption, All, int_eq, refl, sym, ap, ◌∙◌, subst, arith}
 use Rattle.std.specs.Prelude.{if◌then◌else◌, ◌&&◌, ◌||◌, ◌≤ℤ◌, int_lt, int_le, length}
 use Rattle.std.proofs.lemmas.Option.{none-some}
@@ -81,7 +81,7 @@ no_choice running None s h e = refl
 no_choice None (Some t) s h e = absurd (no_switch_to t s e)
 no_choice (Some r) (Some t) s h e = absurd (tested (is_switching_allowed (Some r) s && takes_over t r s) r t s h e)
 
--- the first fact of the law of priority: after each settle, where no task runs none is ready; of every state, whatever it is
+-- the first fact of the law of priority: after each settle, if no task runs none is ready; of every state, whatever it is
 pub none_ready_where_none_runs : (s : State) → (switches s).state.schedule.running ≡ None → (switches s).state.schedule.queue.ready ≡ []
 unfolding switches rescheduled switch_of
 none_ready_where_none_runs s e =
@@ -127,7 +127,7 @@ no_second : (b c : Bool) → (b && c) ≡ false → b ≡ true → c ≡ false
 no_second true c e h = e
 no_second false c e h = true_is_not_false (sym h)
 
--- what a switch leaves: where switching is allowed, no ready task is above the running one
+-- what a switch leaves: if switching is allowed, no ready task is above the running one
 abbrev IsHigh : Schedule → Type 0
 IsHigh s = (r : ℕ) → s.running ≡ Some r → is_switching_allowed (Some r) s ≡ true → NoneAbove (pri_at s.queue.pris) (priority_of s r) s.queue.ready
 
@@ -203,7 +203,7 @@ high_for (Some r) None s is choice =
     (All-nil (λ j. pri_at s.queue.pris j ≤ℤ priority_of s k)))
 high_for (Some r) (Some t) s is choice = tested_high (is_switching_allowed (Some r) s && takes_over t r s) r t s is choice refl
 
--- ---- a request is left only where interrupts are not allowed
+-- ---- a request is left only if interrupts are not allowed
 
 no_interrupt_no_switch : (nesting : Nesting) → may_interrupt nesting ≡ false → may_switch nesting ≡ false
 no_interrupt_no_switch nesting e = no_and (int_eq nesting.forbids not_nested) (int_eq nesting.disables not_nested) e

@@ -121,7 +121,7 @@ own_more t s r q one two = record {
   others = λ k apart. two.others k apart ∙ one.others k apart;
 }
 
--- where signal n of a task is not allocated any more, what it has received stays
+-- if signal n of a task is not allocated any more, what it has received stays
 same_received : (t k n : ℕ) (s : Schedule)
     → (signals_of (with_signals t (after_free n (signals_of s t)) s) k).received ≡ (signals_of s k).received
 same_received t k n s = received_at s.signals t k (after_free n (signals_of s t)) refl
@@ -249,7 +249,7 @@ reprioritized_shifts t call value k pri false s e = (
   stays (λ p. refl) (record { states = refl; ready = refl; running = refl; received = λ j. refl }),
 )
 
--- a task of that number is one of so many
+-- a task of that number is one of that many
 number_in_range : (number count : ℕ) → (nat_lt 0 number && nat_le number count) ≡ true → number - 1 < count
 number_in_range number count e = grind (arith, nat_tests)
 
@@ -458,7 +458,7 @@ libraries_shift libraries.LibOpenCnt t call s =
 
 -- ---- requests
 
--- a call after which a port acts where a reply arrived, if there is one
+-- a call after which a port acts if a reply arrived, if there is one
 acted_count : (act : Action) (s : State) → length (performed act s).scripts.programs ≡ length s.scripts.programs
 acted_count act s = ap (λ (scripts : Scripts). length scripts.programs) (performed_scripts act s)
 

@@ -1,4 +1,4 @@
--- A call has the arguments of its word, and they are short, where its command has them, of which at most one is a name.
+-- A call has the arguments of its word, and they are short, if its command has them, of which at most one is a name.
 use Rattle.std.proofs.Common.{◌≡◌, ℕ, ◌+◌, ◌*◌, ◌≤◌, lit≤, true, List, [], ◌∷◌, length, map, refl, sym, subst, length-append, arith}
 use Rattle.std.specs.Prelude.{if◌then◌else◌, count_by, nat_le}
 use Rattle.std.specs.List.{flat_map}

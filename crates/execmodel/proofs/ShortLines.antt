@@ -1,4 +1,4 @@
--- How many bytes a line has at most, where names and words have at most 31, and the arguments of a call take at most 64.
+-- How many bytes a line has at most, if names and words have at most 31, and the arguments of a call take at most 64.
 use Rattle.std.proofs.Common.{ℕ, ◌+◌, ◌≤◌, lit≤, List, ◌++◌, length, length-append, arith}
 use Rattle.std.specs.Prelude.{codes}
 use Rattle.std.specs.List.{flat_map}
@@ -15,7 +15,7 @@ IsShortText text = length text ≤ 31
 abbrev pub AreShort : List Argument → Type 0
 AreShort arguments = length (flat_map argument_text arguments) ≤ 64
 
--- a text of so many bytes at most
+-- a text of that many bytes at most
 record HasAtMost (text : List ℕ) (n : ℕ) : Type 0 where
   pub bytes : length text ≤ n
 

@@ -60,7 +60,7 @@ unfolding events
 events_stopped [] s h = refl
 events_stopped (e ∷ rest) s h = both_quiet (event e) (events rest) s (event_stopped e s h) (events_stopped rest s h)
 
--- where the first of two actions stops the machine, the second one does nothing
+-- if the first of two actions stops the machine, the second one does nothing
 ends_there : (test : Bool) (a p : Outcome) → test ≡ true → after (λ s. if test then quiet s else p) a ≡ a
 ends_there true a p e = λ i. record { state = a.state; lines = append-nil a.lines i; marks = append-nil a.marks i }
 ends_there false a p e = let bad : true ≡ false = sym e in cc

@@ -33,7 +33,7 @@ HoldsOf R next = (s : State) → R s (next s).marks (next s).state
 
 -- What holds of each thing that is done beside a task's commands: one command of the body of a software interrupt or a server; other
 -- interrupts are pending; a request that waits finishes; system time was set, and is not looked at again; the quantum loses one serving; and a
--- switch. It holds where nothing is done, and of one thing after another.
+-- switch. It holds if nothing is done, and of one thing after another.
 pub record HoldsOfInterrupts (R : Relation) : Type 0 where
   pub nothing : (s : State) → R s [] s
   pub joined : (s : State) (some : List Mark) (r : State) (more : List Mark) (q : State) → R s some r → R r more q → R s (some ++ more) q
@@ -131,7 +131,7 @@ module _ (R : Relation) (each : HoldsOfInterrupts R) where
   of_each next stands (suc n) s =
       of_found (finishes_each next n) (of_each next stands n) (next s.memory.timer) s (λ request e. stands request s.memory.timer e)
 
-  -- where system time was set, and where it was not
+  -- if system time was set, and if it was not
   pub of_set : HoldsOf R finishes_set
   unfolding finishes_set
   of_set s = by_test s.memory.timer.is_set
@@ -198,7 +198,7 @@ module _ (R : Relation) (each : HoldsOfEach R) where
   nothing : HoldsOf R quiet
   nothing s = each.interrupting.nothing s
 
-  -- a call: its word, and what follows that where it set system time
+  -- a call: its word, and what follows that if it set system time
   of_call : (t : ℕ) (call : Call) (s : State) → s.schedule.running ≡ Some t → next_call t s.scripts ≡ Some call
       → R s (does t call s).marks (does t call s).state
   unfolding does andthen

@@ -128,7 +128,7 @@ elected (Some r) (Some k) s t is choice e =
     (taken_over (priority_of s r) (priority_of s k) (is_quantum_over s) (second_true (is_switching_allowed (Some r) s) (takes_over k r s) is_to.0))
     ∙ ap (λ j. Some j) is_to.1
 
--- a task that runs leaves for an equal one only where its quantum has ended
+-- a task that runs leaves for an equal one only if its quantum has ended
 equal_over : (p : ℤ) (over : Bool) → (int_lt p p || (int_le p p && over)) ≡ true → over ≡ true
 equal_over p true e = refl
 equal_over p false e = grind (arith, ints)

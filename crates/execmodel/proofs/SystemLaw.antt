@@ -1,4 +1,4 @@
--- System time goes with the clock, but where a request sets it.
+-- System time goes with the clock, but if a request sets it.
 use Rattle.std.proofs.Common.{◌⊎◌, inl, inr, ◌≡◌, ℕ, ◌+◌, Bool, true, false, List, [], Option, None, Some, refl, sym, ap, ◌∙◌, subst, arith}
 use Rattle.std.specs.Prelude.{ℤ, pos, negsuc, ◌-ℤ◌, if◌then◌else◌, nat_eq}
 use Rattle.std.proofs.lemmas.Int.{ints}
@@ -41,7 +41,7 @@ use Rattle.execmodel.proofs.Asking.{finishing, state_of}
 use Rattle.execmodel.proofs.ClockLaw.{word_stands}
 use Rattle.execmodel.proofs.TidyLaw.{quietly, switches_quiet}
 
--- ---- but for ticks, and requests that set it, system time stands
+-- ---- but for ticks, and requests that set it, system time is
 
 -- system time, as a part of a state
 abbrev system_of : State → ℕ
@@ -293,7 +293,7 @@ stepped : (s : State) → Goes s (step s).state
 unfolding step acts andthen
 stepped s = goes_on s (acts s).state (settle (acts s).state).state (acted s.stopped s) (of_settle Stands stands (acts s).state)
 
--- where both are the same, so is what one is ahead of the other
+-- if both are the same, so is what one is ahead of the other
 same_offset : (s r : State) → r.memory.timer.clock ≡ s.memory.timer.clock → system_of r ≡ system_of s
     → offset r.memory.timer ≡ offset s.memory.timer
 same_offset s r clock system = ap (λ k. pos (system_of r) -ℤ pos k) clock ∙ ap (λ k. pos k -ℤ pos s.memory.timer.clock) system

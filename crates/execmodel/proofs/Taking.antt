@@ -1,4 +1,4 @@
--- What a call that takes memory makes of the blocks: libraries give way, one after another, and then an object is placed, or an opening of a
+-- What a call that takes memory makes of the blocks: libraries are expunged under low memory, one after another, and then an object is placed, or an opening of a
 -- library is counted, or nothing.
 use Rattle.std.proofs.Common.{◌≡◌, ℕ, ◌≤◌, Bool, true, false, List, [], ◌∷◌, Option, None, Some, refl, sym, ap, ◌∙◌, subst, arith}
 use Rattle.std.specs.Prelude.{not, ◌&&◌, if◌then◌else◌, nat_eq, is_some, length}
@@ -24,22 +24,23 @@ use Rattle.execmodel.proofs.Heaps.{rid, true_is_not_false}
 use Rattle.execmodel.proofs.Loaded.{base_is_loaded}
 use Rattle.execmodel.proofs.GivingWay.{asking_keeps, asking_for_object_keeps}
 
--- a new object: an empty list or port, a semaphore that no task owns and none waits for, a request that is not under way, or what has no queue
-abbrev pub IsNew : Object → Type 0
-IsNew Plain = Unit {0}
-IsNew (ListHead nodes) = nodes ≡ []
-IsNew (Node key) = Unit {0}
-IsNew (MsgPort port messages) = messages ≡ []
-IsNew (Message content) = Unit {0}
-IsNew (Semaphore sem waiters) = (sem ≡ free_sem) × (waiters ≡ [])
-IsNew (Library number count delayed) = Unit {0}
-IsNew (Request content) = is_under_way content ≡ false
+-- a new object: an empty list or port, a semaphore that no task owns and none waits for, a library that was at no base, a request that is not
+-- under way, or what has no queue
+abbrev pub IsNew : Heap → Object → Type 0
+IsNew heap Plain = Unit {0}
+IsNew heap (ListHead nodes) = nodes ≡ []
+IsNew heap (Node key) = Unit {0}
+IsNew heap (MsgPort port messages) = messages ≡ []
+IsNew heap (Message content) = Unit {0}
+IsNew heap (Semaphore sem waiters) = (sem ≡ free_sem) × (waiters ≡ [])
+IsNew heap (Library number count delayed) = base_of number heap ≡ None
+IsNew heap (Request content) = is_under_way content ≡ false
 
--- Taking memory ends where nothing changes or an object is placed; before that a library is marked or open once more, or one that is not open
--- is freed. A library begins at its base where the blocks are well formed.
+-- Taking memory ends if nothing changes or an object is placed; before that a library is marked or open once more, or one that is not open
+-- is freed. A library begins at its base if the blocks are well formed.
 pub data Takes (regions : List Region) : Heap → Heap → Type 0 where
   nothing : {heap : Heap} → Takes regions heap heap
-  places : {heap : Heap} (size reqs address : ℕ) (object : Object) → IsNew object → fit regions (extents heap) size reqs ≡ Some address
+  places : {heap : Heap} (size reqs address : ℕ) (object : Object) → IsNew heap object → fit regions (extents heap) size reqs ≡ Some address
       → Takes regions heap (put_entry nat_cmp address (record { size = round size; object = object }) heap)
   recounts : {old new : Heap} (base count : ℕ) (delayed : Bool) → (IsWellFormed regions (extents old) → is_library_at base old ≡ true)
       → count_of base old ≤ count → Takes regions (with_library base count delayed old) new → Takes regions old new
@@ -52,13 +53,13 @@ pub record IsTaking (s : State) (o : Outcome) : Type 0 where
   pub silent : o.marks ≡ []
   pub blocks : Takes s.memory.regions s.memory.heap o.state.memory.heap
 
--- ---- libraries give way
+-- ---- libraries are expunged under low memory
 
 pub number_is : (n k : ℕ) → nat_eq n k ≡ true → n ≡ k
 number_is n k e = cases_eq n k (λ same. same) (λ apart. true_is_not_false (sym e ∙ nat_eq-other n k apart))
 
 -- Something holds of blocks before libraries are asked, if it does after: it holds before a library is marked that is open, and before one is
--- freed that is not, where it holds then.
+-- freed that is not, if it holds then.
 pub record HoldsBefore (regions : List Region) (Holds : Heap → Type 0) : Type 0 where
   pub marking : (base : ℕ) (heap : Heap) → (IsWellFormed regions (extents heap) → is_library_at base heap ≡ true)
       → Holds (with_library base (count_of base heap) true heap) → Holds heap

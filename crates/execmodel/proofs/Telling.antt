@@ -103,7 +103,7 @@ shared_programs None value scripts = refl
 shared_programs (Some (Private k)) value scripts = refl
 shared_programs (Some (Shared k)) value scripts = refl
 
--- ---- what a call tells
+-- ---- what a call reports
 
 -- the name under which a caller's lines are printed
 abbrev pub speaker : Caller → State → List ℕ
@@ -115,7 +115,7 @@ pub data IsOwn (name : List ℕ) (call : Call) : TraceLine → Type 0 where
   own : (outcome : trace.Outcome) → IsOwn name call (trace.Call name (word_text call.word) call.arguments outcome)
   refusing : (code : List ℕ) → IsShortText code → IsOwn name call (Alert code name (word_text call.word))
 
--- Nothing else is printed; and where the call has its arguments the programs stay brief.
+-- Nothing else is printed; and if the call has its arguments the programs stay brief.
 pub record Tells (c : Caller) (call : Call) (s : State) (o : Outcome) : Type 0 where
   pub lines : All (IsOwn (speaker c o.state) call) o.lines
   pub programs : HasArguments call → AreBriefPrograms s.scripts.programs → AreBriefPrograms o.state.scripts.programs

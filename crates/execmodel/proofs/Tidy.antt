@@ -55,13 +55,13 @@ library_other (Some _) is = true_is_not_false (sym is)
 
 -- ---- what is new, and what goes
 
-new_messages : (object : Object) → IsNew object → messages_at (post_in object) ≡ []
-new_messages (MsgPort port messages) is = is
-new_messages _ is = refl
+new_messages : (heap : Heap) (object : Object) → IsNew heap object → messages_at (post_in object) ≡ []
+new_messages heap (MsgPort port messages) is = is
+new_messages heap _ is = refl
 
-new_rests : (object : Object) → IsNew object → is_under_way (asked_at (post_in object)) ≡ false
-new_rests (Request content) is = is
-new_rests _ is = refl
+new_rests : (heap : Heap) (object : Object) → IsNew heap object → is_under_way (asked_at (post_in object)) ≡ false
+new_rests heap (Request content) is = is
+new_rests heap _ is = refl
 
 gone_messages : (found : Option Object) → MayGo found → messages_at (post_of_object found) ≡ []
 gone_messages None may = refl
@@ -109,7 +109,7 @@ module _ (waiting : List Queued) where
       unchanged (post_at old) (post_at (map (replaced message content) old)) waiting order
       (same_there is_message message content old (unfold is_message_at in is) (message_there message old is ∙ sym same))
 
-  -- a port gets other messages: fewer, or one more that may stand there
+  -- a port gets other messages: fewer, or one more that may be there
   requeued : (port : ℕ) (heap new : Heap) (messages : List ℕ) → is_port_at port heap ≡ true → post_at new port ≡ APort messages
       → ((a : ℕ) → a ≢ port → post_at new a ≡ post_at heap a)
       → ((who : ℕ) → may_stand port (post_at heap who) ≡ false → IsAway who (messages_of port heap) → IsAway who messages)
@@ -159,13 +159,13 @@ module _ (waiting : List Queued) where
       → AreInOrder (post_at (map (λ (entry : ℕ × Block). (entry.0, record entry.1 { object = f entry.1.object })) old)) waiting
   remade_order f same old order = unchanged (post_at old) _ waiting order (post_remade f same old)
 
-  -- where nothing begins for those who post, no request under way has its reply port
+  -- if nothing begins for those who post, no request under way has its reply port
   other_needless : (old : Heap) (address : ℕ) → post_at old address ≡ Other → AreInOrder (post_at old) waiting
       → (request : ℕ) → is_under_way (asked_at (post_at old request)) ≡ true → (asked_at (post_at old request)).port ≢ address
   other_needless old address is order request under same =
       true_is_not_false (sym (order.lives request under) ∙ ap (λ k. is_a_port (post_at old k)) same ∙ ap is_a_port is)
 
-  -- what is freed stands in no port, and is the reply port of no request under way
+  -- what is freed is in no port, and is the reply port of no request under way
   nowhere : (address : ℕ) (old : Heap) → IsUnneeded address old → AreInOrder (post_at old) waiting → (a : ℕ) → IsAway address (messages_at (post_at old a))
   nowhere address old unneeded order a = tested (is_mail (post_at old address)) refl
     where
@@ -206,7 +206,7 @@ module _ (waiting : List Queued) where
       replaced_in_order (post_at old) (post_at new) waiting order address (post_in object)
       (ap post_of_object (object_placed_here address (round size) object old))
       (λ a apart. ap post_of_object (object_placed_there a address _ old apart))
-      (ap messages_at fresh) (ap (λ x. is_under_way (asked_at x)) fresh) (new_messages object is) (new_rests object is)
+      (ap messages_at fresh) (ap (λ x. is_under_way (asked_at x)) fresh) (new_messages old object is) (new_rests old object is)
       (λ a. order.stands address a (ap (may_stand a) fresh)) (other_needless old address fresh order)
   takes_order regions old new (recounts base count delayed is more rest) formed order =
       takes_order regions (with_library base count delayed old) new rest (counted_formed regions base count delayed old formed)

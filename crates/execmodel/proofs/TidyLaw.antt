@@ -34,7 +34,7 @@ pub switches_quiet : (s : State) → ((switches s).marks ≡ []) × ((switches s
 unfolding switches
 switches_quiet s = announced_quiet (switch_of by_arrival s.schedule) (on_schedule (rescheduled by_arrival) s)
 
--- a relation that holds where nothing happens holds of a switch
+-- a relation that holds if nothing happens holds of a switch
 pub quietly : (R : Relation) (s : State) (o : Outcome) (r : State) → (o.marks ≡ []) × (o.state ≡ r) → R s [] r → R s o.marks o.state
 quietly R s o r e holds = subst (λ q. R s o.marks q) (sym e.1) (subst (λ ms. R s ms r) (sym e.0) holds)
 
@@ -71,7 +71,7 @@ finished_formed s marks r finished formed =
 
 -- ---- requests
 
--- the requests are in order where the same ones wait
+-- the requests are in order if the same ones wait
 abbrev InOrder : Heap → List Queued → Type 0
 InOrder heap waiting = AreInOrder (post_at heap) waiting
 
@@ -130,7 +130,7 @@ tidies = record {
   ending = λ t s runs. rescheduled_tidy s _ refl;
 }
 
--- the blocks of a machine before its start, where no request waits
+-- the blocks of a machine before its start, if no request waits
 pub booted_formed : (machine : MachineData) → IsMachine machine → FormedState (booted machine)
 unfolding booted
 booted_formed machine is = untouched_well_formed (total_of machine.version) machine.regions is.regions

@@ -1,4 +1,4 @@
--- In version 1 of the rules no library is asked to give way, and each word that takes memory takes it as it is.
+-- In version 1 of the rules no library is expunged under low memory, and each word that takes memory takes it as it is.
 use Rattle.std.proofs.Common.{◌≡◌, ℕ, zero, suc, Bool, true, false, List, [], ◌∷◌, ◌++◌, Option, None, Some, refl, sym, ap, ◌∙◌}
 use Rattle.std.specs.Prelude.{negsuc, not, ◌&&◌, if◌then◌else◌, nat_eq, is_some, unwrap_or, length}
 use Rattle.std.specs.List.{range_with_len}
@@ -52,7 +52,7 @@ use Rattle.execmodel.proofs.TidyLaw.{quietly, switches_quiet}
 
 -- ---- nothing is asked
 
--- where libraries are not asked, or where a test fails, the memory is as it was
+-- if libraries are not asked, or if a test fails, the memory is as it was
 unasked_if : (asks other : Bool) (m memory : Memory) → asks ≡ false → (if asks && other then m else memory) ≡ memory
 unasked_if false other m memory e = refl
 unasked_if true other m memory e = true_is_not_false e
@@ -83,7 +83,7 @@ unfolding ready_to_open
 not_asked_to_open None memory e = refl
 not_asked_to_open (Some i) memory e = not_asked_to_load (base_of i memory.heap) i memory e
 
--- where a block has a place, no library is asked
+-- if a block has a place, no library is asked
 one_fits : (test : Bool) (m memory : Memory) → test ≡ true → (if test then memory else m) ≡ memory
 one_fits true m memory e = refl
 one_fits false m memory e = true_is_not_false (sym e)
@@ -212,7 +212,7 @@ unfolding run andthen
 libraries_are_asked_in_version_two machine list is =
     ap asked (of_events Version versions (λ s. refl) list (starts (booted machine)).state) ∙ started_asks machine
 
--- one action after another, where both do the same
+-- one action after another, if both do the same
 both_same : (f g next more : State → Outcome) (s : State) → f s ≡ g s → next (f s).state ≡ more (f s).state → andthen f next s ≡ andthen g more s
 unfolding andthen
 both_same f g next more s first second =

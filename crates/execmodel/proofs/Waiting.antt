@@ -1,4 +1,4 @@
--- Where tasks wait for semaphores: the one address that is found for a task is the only one where it waits.
+-- If tasks wait for semaphores: the one address that is found for a task is the only one if it waits.
 use Rattle.std.proofs.Common.{◌≡◌, ◌≢◌, ℕ, suc, ◌+◌, ◌<◌, ◌≤◌, Bool, true, false, List, [], ◌∷◌, Option, None, Some, refl, sym, ap, ◌∙◌, subst, arith}
 use Rattle.std.specs.Prelude.{cond, if◌then◌else◌, nat_eq, find, ◌==◌, ◌||◌}
 use Rattle.std.specs.List.{list_any}
@@ -23,7 +23,7 @@ use Rattle.execmodel.proofs.Fifo.{both_false}
 use Rattle.execmodel.proofs.Agreement.{never_away, first_stands, later_stands, only_there, waits_at, running_state}
 use Rattle.execmodel.proofs.Passing.{IsNowhere, WaitsAtOne}
 
--- one who is found in a queue stands there, and one who is not does not
+-- one who is found in a queue is there, and one who is not does not
 waiter_stands : (t : ℕ) (q : List ℕ) → list_any (λ other. other == t) q ≡ true → 0 < times t q
 waiter_stands t [] e = true_is_not_false (sym e)
 waiter_stands t (x ∷ q) e =
@@ -43,7 +43,7 @@ no_waiter t (x ∷ q) e =
 abbrev waiters_in_block : Option Block → List ℕ
 waiters_in_block found = waiters_of_object (option_map (λ (block : Block). block.object) found)
 
--- the entry at an address of its own, and the entries behind it
+-- the entry at an address of its own, and the entries after it
 at_entry : (entry : ℕ × Block) (rest : Heap) → waiters_of entry.0 (entry ∷ rest) ≡ waiters_in entry.1.object
 unfolding waiters_of
 at_entry entry rest = ap (λ b. waiters_in_block (cond b (Some entry.1) (block_at entry.0 rest))) (key_same entry.0)
@@ -52,7 +52,7 @@ behind_entry : (a : ℕ) (entry : ℕ × Block) (rest : Heap) → a ≢ entry.0 
 unfolding waiters_of
 behind_entry a entry rest apart = ap (λ b. waiters_in_block (cond b (Some entry.1) (block_at a rest))) (key_other a entry.0 apart)
 
--- where no entry has the task, it waits nowhere
+-- if no entry has the task, it waits nowhere
 none_cond : (t a : ℕ) (b : Bool) (entry : ℕ × Block) (found : Option Block) → times t (waiters_in entry.1.object) ≡ 0
     → times t (waiters_in_block found) ≡ 0 → times t (waiters_in_block (cond b (Some entry.1) found)) ≡ 0
 none_cond t a true entry found one rest = one
@@ -76,7 +76,7 @@ none_found t (entry ∷ rest) e a =
 some_entry : {x y : ℕ × Block} → Some x ≡ Some y → x ≡ y
 some_entry {x} {y} e = cc
 
--- where one has it, the task waits at its address
+-- if one has it, the task waits at its address
 found_here : (t : ℕ) (x entry : ℕ × Block) (rest : Heap) (low : ℕ) → low ≤ x.0 → has_waiter t x ≡ true → x ≡ entry
     → (0 < times t (waiters_of entry.0 (x ∷ rest))) × (low ≤ entry.0)
 found_here t x entry rest low from is same =

@@ -80,7 +80,7 @@ created_works : (t : ℕ) (call : Call) (port : ℕ) (s : State)
     → Works t call s (makes_object t call is_request request_size (Request (idle_request port)) (on_memory (after_asking_for_object is_request request_size) s))
 created_works t call port s =
     let asked = after_asking_for_object is_request request_size s.memory in
-    by_moves (object_makes t call s is_request request_size (Request (idle_request port)) refl)
+    by_moves (object_makes t call s is_request request_size (Request (idle_request port)) (λ heap. refl))
     (unfold answered in (placed_waiting request_size (Request (idle_request port)) (place_for_object is_request request_size asked) asked
     ∙ ap (λ (memory : Memory). memory.timer.waiting) (asking_for_object_keeps is_request request_size s.memory)))
 
@@ -131,7 +131,7 @@ resting_rewritten request content s there port was rests tidy = record {
 
 -- ---- a request begins
 
--- it is there, not under way, stands in no port, and its reply port lives
+-- it is there, not under way, is in no port, and its reply port lives
 record MayBegin (request : ℕ) (heap : Heap) : Type 0 where
   there : is_request_at request heap ≡ true
   rests : is_under_way (request_of request heap) ≡ false
@@ -201,7 +201,7 @@ done_tested true waits queued other new apart rests e = apart refl
 done_tested false true queued other new apart rests e = true_is_not_false (sym e ∙ rests)
 done_tested false false queued other new apart rests e = refl
 
--- it is done at once just where it does not wait
+-- it is done at once exactly if it does not wait
 done_now : (now system : ℕ) (q : TimerRequest) → is_done (outcome now system q) ≡ true → is_to_wait system q ≡ false
 done_now now system q e =
     done_tested (sets_time q) (is_to_wait system q) _ _ _ (not_both q.command _) (queued_rests (is_until q) _ _) e
@@ -359,7 +359,7 @@ aborts_works true t call request s e =
     (acted_asks act (reply_marks port request) s (ended (negsuc 1) request s.memory) (ended_asks (negsuc 1) request s (λ tidy. e)))
 aborts_works false t call request s e = by_moves (refl, stays) refl
 
--- ---- a reply that is queued stands in the reply port
+-- ---- a reply that is queued is in the reply port
 
 -- the messages of the port at the address of the first entry, and of any other
 messages_in_block : Option Block → List ℕ

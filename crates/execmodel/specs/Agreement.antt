@@ -1,4 +1,4 @@
--- What a task's state tells of where it stands: which task runs, which are ready, and who waits for a semaphore.
+-- What a task's state reports of where it is: which task runs, which are ready, and who waits for a semaphore.
 use Rattle.std.specs.Prelude.{◌≡◌, ℕ, Bool, true, false, if◌then◌else◌, nat_eq, List}
 use Rattle.execlist.specs.Lists.{is_at, times}
 use Rattle.taskq.specs.Tasks.{is_ready}
@@ -7,11 +7,11 @@ use Rattle.scheduler.specs.Sound.{is_running}
 use Rattle.execmodel.specs.Blocks.{Heap}
 use Rattle.execmodel.specs.Semaphores.{waiters_of}
 
--- once where the test says so, and else not at all
+-- once if the test says so, and else not at all
 abbrev pub once_if : Bool → ℕ
 once_if test = if test then 1 else 0
 
--- A task that waits for a semaphore stands once in the queue of one, and in that of no other; any other task stands in none.
+-- A task that waits for a semaphore is once in the queue of one, and in that of no other; any other task is in none.
 abbrev pub StandsInOne : Bool → ℕ → (ℕ → List ℕ) → Type 0
 StandsInOne true t waiters = (semaphore : ℕ) × ((other : ℕ) → times t (waiters other) ≡ once_if (nat_eq other semaphore))
 StandsInOne false t waiters = (other : ℕ) → times t (waiters other) ≡ 0
@@ -20,8 +20,8 @@ StandsInOne false t waiters = (other : ℕ) → times t (waiters other) ≡ 0
 abbrev pub WaitsForNone : ℕ → Heap → Type 0
 WaitsForNone t heap = StandsInOne false t (λ semaphore. waiters_of semaphore heap)
 
--- The state of a task agrees with where it stands: just the running task has the state Running; just a ready one stands among the ready
--- tasks, and once; and just one that waits for a semaphore stands in the queue of one. The queues are given by the addresses of their
+-- The state of a task agrees with where it is: exactly the running task has the state Running; just a ready one is among the ready
+-- tasks, and once; and exactly one that waits for a semaphore is in the queue of one. The queues are given by the addresses of their
 -- semaphores.
 pub record Agrees (t : ℕ) (s : Schedule) (waiters : ℕ → List ℕ) : Type 0 where
   pub runs : is_at s.running t ≡ is_running (status_of s t)

@@ -33,7 +33,8 @@ pub data Object : Type 0 where
   -- Introduction to Amiga System Devices)
   Request : (content : TimerRequest) → Object
 
--- a block of memory, and what begins there
+-- a block of memory, and what begins there (RKM Libraries, Exec Lists and Queues; RKM Libraries, Exec Messages and Ports; RKM Libraries,
+-- Exec Semaphores; RKM Libraries, Exec Libraries)
 pub record Block : Type 0 where
   pub size : ℕ
   pub object : Object
@@ -42,14 +43,15 @@ pub record Block : Type 0 where
 abbrev pub Heap : Type 0
 Heap = List (ℕ × Block)
 
--- a public port: its address, and its priority and its name
+-- a public port: its address, and its priority and its name (RKM Libraries, Exec Messages and Ports)
 pub record PublicPort : Type 0 where
   pub port : ℕ
   pub key : Key
 
--- the regions of memory and the libraries, both in the order of the file, whether libraries are asked to give way where memory is lacking,
+-- the regions of memory and the libraries, both in the order of the file, whether libraries are expunged under low memory if memory is refused,
 -- how many objects of each kind may live, how many tasks there are, each of which may wait for a semaphore, the blocks that are allocated,
--- the public ports in order of arrival, and the timer
+-- the public ports in order of arrival, and the timer (RKM Libraries, Exec Memory Allocation; RKM Libraries, Exec Messages and Ports; RKM
+-- Devices, Timer Device)
 pub record Memory : Type 0 where
   pub regions : List Region
   pub libraries : List LibraryData

@@ -21,6 +21,7 @@ use Rattle.execmodel.specs.Causing.{does_cause_by}
 
 -- ---- the words of a body; no body of a file has another one
 
+-- a plain word in a body; Jump, JumpZ and JumpNZ, which no body may have, do nothing
 abbrev pub does_plain_by : PlainWord → Caller → Call → State → Outcome
 does_plain_by plain.Set c call s = does_set_by c call s
 does_plain_by plain.Add c call s = does_add_by c call s
@@ -30,19 +31,23 @@ does_plain_by plain.Or c call s = does_or_by c call s
 does_plain_by plain.Print c call s = done_by c call s
 does_plain_by _ c call s = quiet s
 
+-- a word on signals in a body, which is Signal alone
 abbrev pub does_signals_by : SignalWord → Caller → Call → State → Outcome
 does_signals_by signals.Signal c call s = does_signal_by c call s
 does_signals_by _ c call s = quiet s
 
+-- a word on ports in a body: PutMsg, GetMsg and ReplyMsg
 abbrev pub does_ports_by : PortWord → Caller → Call → State → Outcome
 does_ports_by ports.PutMsg c call s = does_put_msg_by c call s
 does_ports_by ports.GetMsg c call s = does_get_msg_by c call s
 does_ports_by ports.ReplyMsg c call s = does_reply_msg_by c call s
 does_ports_by _ c call s = quiet s
 
+-- the word on interrupts in a body, Cause
 abbrev pub does_interrupts_by : InterruptWord → Caller → Call → State → Outcome
 does_interrupts_by interrupts.Cause c call s = does_cause_by c call s
 
+-- a call of a body, by the group of its word; a word that no body may have does nothing
 abbrev pub does_word_by : Word → Caller → Call → State → Outcome
 does_word_by (Plain word) c call s = does_plain_by word c call s
 does_word_by (Signals word) c call s = does_signals_by word c call s

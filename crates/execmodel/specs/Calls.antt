@@ -1,5 +1,5 @@
 -- Calls: the values of their arguments, and how they end. A call that waits is kept with its values, so that a variable that
--- changes meanwhile is not read again; all other calls leave nothing behind.
+-- changes meanwhile is not read again; all other calls leave nothing after.
 use Rattle.std.specs.Prelude.{ℕ, ◌+◌, true, List, Option, None, Some, map, slice_get, slice_index_or, slice_set}
 use Rattle.exectrace.specs.Trace.{Argument, Value, Quoted, Done, Answers, Waits, Alert}
 use Rattle.exectrace.specs.Trace as trace
@@ -33,7 +33,7 @@ evaluated t scripts (variable v) = Value (content t scripts v)
 evaluated t scripts (quoted name) = Quoted name
 evaluated t scripts (place k) = Value k
 
--- the call that a command is for task t, where the next command stands at that place
+-- the call that a command is for task t, if the next command is at that place
 unfoldable pub call_of : ℕ → ℕ → CommandData → Scripts → Call
 call_of t next command scripts = record {
   word = command.word;
@@ -53,25 +53,27 @@ abbrev pub call_after : ℕ → Option Call → Scripts → Option Call
 call_after t (Some kept) scripts = Some kept
 call_after t None scripts = call_at t (slice_get (program_of scripts t).code (program_of scripts t).place) scripts
 
--- The call that task t tries next: the one that it waits in, or else that of its next command; none where its commands are used up.
+-- The call that task t tries next: the one that it waits in, or else that of its next command; none if its commands are used up.
 unfoldable pub next_call : ℕ → Scripts → Option Call
 next_call t scripts = call_after t (program_of scripts t).kept scripts
 
+-- the number that an argument is, or 0 for a name and for none
 abbrev pub number_in : Option Argument → ℕ
 number_in None = 0
 number_in (Some (Value n)) = n
 number_in (Some (Quoted name)) = 0
 
--- the number that stands at an argument, counted from 0
+-- the number that is at an argument, counted from 0
 abbrev pub argument : ℕ → Call → ℕ
 argument k call = number_in (slice_get call.arguments k)
 
+-- the name that an argument is, if it is one
 abbrev pub name_in : Option Argument → Option (List ℕ)
 name_in None = None
 name_in (Some (Value n)) = None
 name_in (Some (Quoted name)) = Some name
 
--- the name that stands at an argument, counted from 0, if one does
+-- the name that is at an argument, counted from 0, if one does
 abbrev pub name_argument : ℕ → Call → Option (List ℕ)
 name_argument k call = name_in (slice_get call.arguments k)
 
@@ -106,7 +108,7 @@ waiting t call s = says (line_of t call Waits s) (on_scripts (keeps t call) s)
 unfoldable pub silent : ℕ → Call → ℕ → State → Outcome
 silent t call value s = quiet (on_scripts (λ scripts. goes_on t call.next (stored t call.target value scripts)) s)
 
--- The call is refused: it changes nothing, and the machine stops for good (own choice).
+-- The call is refused: it changes nothing, and the machine stops for good (project rule).
 unfoldable pub alerted : List ℕ → ℕ → Call → State → Outcome
 alerted code t call s = says (Alert code (name_of s.schedule t) (word_text call.word)) (record s { stopped = true })
 
@@ -123,19 +125,23 @@ stored_shared None value scripts = scripts
 stored_shared (Some (Private k)) value scripts = scripts
 stored_shared (Some (Shared k)) value scripts = record scripts { shared = slice_set scripts.shared k value }
 
+-- a call that answers nothing ends, for either caller: a body prints its own name
 abbrev pub done_by : Caller → Call → State → Outcome
 done_by (ByTask t) call s = done t call s
 done_by (ByBody name) call s = says (trace.Call name (word_text call.word) call.arguments Done) s
 
+-- a call that answers ends, for either caller: a body stores the answer in a shared variable
 abbrev pub answered_by : Caller → Call → ℕ → State → Outcome
 answered_by (ByTask t) call value s = answered t call value s
 answered_by (ByBody name) call value s =
     says (trace.Call name (word_text call.word) call.arguments (Answers value)) (on_scripts (stored_shared call.target value) s)
 
+-- a call that answers and prints no line ends, for either caller
 abbrev pub silent_by : Caller → Call → ℕ → State → Outcome
 silent_by (ByTask t) call value s = silent t call value s
 silent_by (ByBody name) call value s = quiet (on_scripts (stored_shared call.target value) s)
 
+-- a call is refused by an alert, for either caller: the machine stops
 abbrev pub alerted_by : List ℕ → Caller → Call → State → Outcome
 alerted_by code (ByTask t) call s = alerted code t call s
 alerted_by code (ByBody name) call s = says (Alert code name (word_text call.word)) (record s { stopped = true })
@@ -165,5 +171,6 @@ abbrev pub unless_by : Option (List ℕ) → Caller → Call → (State → Outc
 unless_by None c call effect s = effect s
 unless_by (Some code) c call effect s = alerted_by code c call s
 
+-- a call of a task that may be refused: by its alert, or else it has its effect
 abbrev pub unless : Option (List ℕ) → ℕ → Call → (State → Outcome) → State → Outcome
 unless alert t call effect s = unless_by alert (ByTask t) call effect s

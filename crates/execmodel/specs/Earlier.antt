@@ -1,4 +1,4 @@
--- The machine as it was in version 1 of the rules: no library gives way, and each word that takes memory takes it as it is.
+-- The machine as it was in version 1 of the rules: no library is expunged under low memory, and each word that takes memory takes it as it is.
 use Rattle.std.specs.Prelude.{ℕ, zero, suc, negsuc, if◌then◌else◌, nat_eq, unwrap_or, List, [], ◌∷◌, Option, None, Some}
 use Rattle.std.specs.Int.{cast_signed, w32}
 use Rattle.signals.specs.Signals.{grant}

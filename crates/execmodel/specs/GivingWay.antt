@@ -1,5 +1,5 @@
--- Libraries give way where memory is lacking (autodoc exec.library/AllocMem: libraries that are not open are expunged; the order of asking:
--- own choice). In version 1 of the rules they do not.
+-- Libraries are expunged under low memory if memory is refused (autodoc exec.library/AllocMem: libraries that are not open are expunged; the order of asking:
+-- project rule). In version 1 of the rules they do not.
 use Rattle.std.specs.Prelude.{ℕ, Bool, not, ◌&&◌, if◌then◌else◌, nat_eq, is_some, length, List, [], ◌∷◌, Option, None, Some}
 use Rattle.std.specs.List.{range_with_len}
 use Rattle.execmodel.specs.Blocks.{Object, Memory}
@@ -8,17 +8,17 @@ use Rattle.execmodel.specs.Objects.{is_allowed}
 use Rattle.execlib.specs.Libraries.{public_memory}
 use Rattle.execmodel.specs.Loaded.{base_of, removed}
 
--- a library, if it is loaded, gives way as if it were removed: it is freed where it is not open, and else is to be expunged when it is
+-- a library, if it is loaded, is expunged under low memory as if it were removed: it is freed if it is not open, and else is to be expunged when it is
 -- closed for the last time
 abbrev pub gives_way_at : Option ℕ → Memory → Memory
 gives_way_at None memory = memory
 gives_way_at (Some base) memory = removed base memory
 
--- library i gives way
+-- library i is expunged under low memory (autodocs AllocMem, RemLibrary)
 unfoldable pub gives_way : ℕ → Memory → Memory
 gives_way i memory = gives_way_at (base_of i memory.heap) memory
 
--- library i is asked to give way, unless a block of so many bytes has a place already
+-- library i is expunged under low memory, unless a block of that many bytes has a place already
 abbrev pub asked_one : (size reqs i : ℕ) → Memory → Memory
 asked_one size reqs i memory = if is_some (place_for size reqs memory) then memory else gives_way i memory
 
@@ -27,13 +27,13 @@ abbrev pub asked_each : (size reqs : ℕ) → List ℕ → Memory → Memory
 asked_each size reqs [] memory = memory
 asked_each size reqs (i ∷ others) memory = asked_each size reqs others (asked_one size reqs i memory)
 
--- Before a block of so many bytes is taken, where it has no place, all libraries are asked in the order of the file. A block of no bytes is
--- never taken, and nothing is asked for it (own choice).
+-- Before a block of that many bytes is taken, if it has no place, all libraries are asked in the order of the file. A block of no bytes is
+-- never taken, and nothing is asked for it (project rule). (autodoc AllocMem)
 unfoldable pub after_asking : (size reqs : ℕ) → Memory → Memory
 after_asking size reqs memory =
     if memory.asks && not (nat_eq size 0) then asked_each size reqs (range_with_len 0 (length memory.libraries)) memory else memory
 
--- The same before an object of a kind is made, which takes so many bytes: nothing is asked where the pool does not allow one more (own
--- choice).
+-- The same before an object of a kind is made, which takes that many bytes: nothing is asked if the pool does not allow one more (project
+-- rule).
 unfoldable pub after_asking_for_object : (Object → Bool) → ℕ → Memory → Memory
 after_asking_for_object kind size memory = if is_allowed kind memory then after_asking size public_memory memory else memory

@@ -1,4 +1,4 @@
--- How interrupts run (RKM Libraries, Exec Interrupts): software interrupts one a step, the servers of a source where it is served.
+-- How interrupts run (RKM Libraries, Exec Interrupts): software interrupts one a step, the servers of a source if it is served.
 use Rattle.std.specs.Prelude.{ℕ, ℤ, zero, suc, pos, false, if◌then◌else◌, List, [], ◌∷◌, Option, None, Some, length, map, filter, slice_index_or}
 use Rattle.std.specs.List.{range_with_len}
 use Rattle.exectrace.specs.Trace.{Serve, Server, Softint}
@@ -18,13 +18,16 @@ use Rattle.execmodel.specs.Requests.{finishes_all_due}
 
 -- ---- software interrupts
 
+-- the software interrupt that is read at a number that the file does not have
 abbrev pub no_softint : SoftintData
 no_softint = record { name = []; pri = pos 0; code = [] }
 
+-- a software interrupt of the file by its number from 0
 abbrev pub softint_at : ℕ → Bodies → SoftintData
 softint_at i bodies = slice_index_or bodies.softints i no_softint
 
--- software interrupt i runs: it is not caused any more, so that its body may cause it again, and then its whole body runs
+-- software interrupt i runs: it is not caused any more, so that its body may cause it again, and then its whole body runs (RKM Libraries,
+-- Exec Interrupts: software interrupts)
 unfoldable pub runs_softint : ℕ → State → Outcome
 runs_softint i s =
     let softint = softint_at i s.bodies in
@@ -32,12 +35,15 @@ runs_softint i s =
 
 -- ---- servers
 
+-- the server that is read at a number that the file does not have
 abbrev pub no_server : ServerData
 no_server = record { name = []; source = named.Ports; pri = pos 0; claim = false; code = [] }
 
+-- a server of the file by its number from 0
 abbrev pub server_at : ℕ → Bodies → ServerData
 server_at k bodies = slice_index_or bodies.servers k no_server
 
+-- the priority of a server of the file by its number from 0
 abbrev pub server_pri : List ServerData → ℕ → ℤ
 server_pri servers k = pri_at (map (λ (s : ServerData). s.pri) servers) k
 
@@ -46,7 +52,7 @@ abbrev pub servers_of : Source → List ServerData → List ℕ
 servers_of asks servers =
     filter (λ k. is_source (source_named (slice_index_or servers k no_server).source) asks) (range_with_len 0 (length servers))
 
--- the items as they are chosen one after another, each from those that are left: so many of them
+-- the items as they are chosen one after another, each from those that are left: that many of them
 unfoldable pub by_choice : ℕ → (ℕ → ℤ) → List ℕ → List ℕ
 by_choice zero key left = []
 by_choice (suc n) key left =
@@ -56,7 +62,7 @@ by_choice (suc n) key left =
 unfoldable pub chain_of : Source → List ServerData → List ℕ
 chain_of asks servers = by_choice (length servers) (server_pri servers) (servers_of asks servers)
 
--- server k runs its whole body
+-- server k runs its whole body (RKM Libraries, Exec Interrupts: server chains)
 unfoldable pub runs_server : ℕ → State → Outcome
 runs_server k s =
     let server = server_at k s.bodies in
@@ -76,26 +82,27 @@ text_of_source source.Ports = source_text named.Ports
 text_of_source source.Vertb = source_text named.Vertb
 text_of_source source.Exter = source_text named.Exter
 
--- for VERTB the quantum of the running task loses one serving (own choice)
+-- for VERTB the quantum of the running task loses one serving (project rule)
 abbrev pub serving_counted : Source → Schedule → Schedule
 serving_counted source.Ports schedule = schedule
 serving_counted source.Vertb schedule = ticked schedule
 serving_counted source.Exter schedule = schedule
 
--- for VERTB all requests finish that are due (own choice)
+-- for VERTB all requests finish that are due (project rule)
 abbrev pub finishes_for : Source → State → Outcome
 finishes_for source.Ports s = quiet s
 finishes_for source.Vertb s = finishes_all_due s
 finishes_for source.Exter s = quiet s
 
 -- A source is served: its latch is cleared and the serving counted, its line is said, and then the requests finish that are due, and its
--- servers run.
+-- servers run. (RKM Libraries, Exec Interrupts)
 unfoldable pub serves : Source → State → Outcome
 serves asks s =
     andthen (says (Serve (text_of_source asks))) (andthen (finishes_for asks) (runs_chain (chain_of asks s.bodies.servers)))
     (on_schedule (serving_counted asks) (on_pending (with_latch_of asks false) s))
 
--- so many servings: while interrupts are allowed and a source asks for it, the one of highest level is served
+-- that many servings: while interrupts are allowed and a source asks for it, the one of highest level is served (RKM Libraries, Exec
+-- Interrupts)
 unfoldable pub servings : ℕ → State → Outcome
 servings zero s = quiet s
 servings (suc n) s =

@@ -174,7 +174,7 @@ InterruptWordsChangeWhatIsCaused =
 abbrev pub LibraryWordsChangeTheMemory : Type 0
 LibraryWordsChangeTheMemory = (word : LibraryWord) (t : ℕ) (call : Call) → Keeps beside_memory (does_libraries word t call)
 
--- what follows the word itself, where it set system time, is of it
+-- what follows the word itself, if it set system time, is of it
 abbrev pub RequestWordsChangeRequestsPortsSignalsAndStates : Type 0
 RequestWordsChangeRequestsPortsSignalsAndStates =
     (word : RequestWord) (t : ℕ) (call : Call) → Keeps beside_requests (andthen (does_requests word t call) finishes_set)

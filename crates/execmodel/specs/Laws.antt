@@ -13,6 +13,7 @@ use Rattle.taskq.specs.declared.TaskState.TheVariants.{Waiting}
 use Rattle.taskq.specs.declared.Why.TheVariants.{Signals}
 use Rattle.scheduler.specs.Schedule.{Schedule, name_of, priority_of, status_of, signals_of, is_switching_allowed}
 use Rattle.softint.specs.declared.source.Source.{Source}
+use Rattle.softint.specs.declared.source.Source.TheVariants.{Vertb}
 use Rattle.softint.specs.Sources.{is_latched}
 use Rattle.taskscript.specs.File.{MachineData}
 use Rattle.taskscript.specs.Machines.{IsMachine}
@@ -23,7 +24,7 @@ use Rattle.taskscript.specs.declared.word.task_signals.SignalWord.TheVariants as
 use Rattle.taskscript.specs.declared.word.ports.PortWord.TheVariants as ports
 use Rattle.taskscript.specs.declared.word.requests.RequestWord.TheVariants as requests
 use Rattle.taskscript.specs.declared.word.semaphores.SemaphoreWord.TheVariants.{ReleaseSemaphore}
-use Rattle.execmodel.specs.State.{Call, Scripts, Object, Plain, Block, Heap, Memory, Waiting as Queued, Mark, State, Outcome}
+use Rattle.execmodel.specs.State.{Call, Scripts, Object, Plain, Block, Heap, Memory, Waiting as Queued, Mark, State, Outcome, on_schedule, on_memory, on_pending, on_timer, booted}
 use Rattle.execmodel.specs.Calls.{argument, alerted, next_call, call_in_body}
 use Rattle.std.specs.Option.{option_map}
 use Rattle.taskscript.specs.declared.word.libraries.LibraryWord.TheVariants.{CloseLibrary}
@@ -37,11 +38,11 @@ use Rattle.execmodel.specs.Objects.{object_at}
 use Rattle.execmodel.specs.Ports.{is_port_at, messages_of, does_create_msg_port, does_new_msg}
 use Rattle.execmodel.specs.Requests.{request_of, does_create_io_request}
 use Rattle.iorequest.specs.Request.{is_under_way, sets_time, time_of}
-use Rattle.timerdev.specs.Timing.{offset}
+use Rattle.timerdev.specs.Timing.{offset, ticked}
 use Rattle.execmodel.specs.Semaphores.{sem_of, waiters_of, does_new_sem}
-use Rattle.execmodel.specs.Pending.{allows_interrupts, next_softint}
+use Rattle.execmodel.specs.Pending.{allows_interrupts, next_softint, with_latch_of}
 use Rattle.execmodel.specs.Interrupts.{interrupts, runs_softint, softint_at, server_at}
-use Rattle.execmodel.specs.Step.{does, ends, step, tick, request, settle, switches, events, run}
+use Rattle.execmodel.specs.Step.{does, ends, acts, step, tick, request, settle, switches, all_added, starts, events, run}
 use Rattle.execmodel.specs.Agreement.{Agrees, once_if}
 use Rattle.execlist.specs.Lists.{times}
 use Rattle.taskscript.specs.Events.{ticks as event_ticks}
@@ -61,7 +62,7 @@ OverEveryStretch Relates =
 
 -- Messages leave a port in the order in which they came: over every stretch of a run, the messages that the port had at first and those
 -- that were put there, less each that was then taken out, are those that GetMsg answered, in order, followed by those that the port has
--- at last. An address where no port lives has no messages: so the life of a port is a stretch that begins with none.
+-- at last. An address if no port lives has no messages: so the life of a port is a stretch that begins with none.
 -- The reply of a request is a message too: it is put when the request finishes, and is taken out by WaitIO or DoIO.
 abbrev pub FirstInFirstOut : Type 0
 FirstInFirstOut =
@@ -80,7 +81,7 @@ abbrev pub EachByteHasOneOwner : Type 0
 EachByteHasOneOwner =
     (machine : MachineData) (list : List Event) → IsMachine machine → HasOneOwner machine.regions (run machine list).state
 
--- An object begins at a block of its own: at one address at most one block begins, and FreeMem refuses it where it holds an object.
+-- An object begins at a block of its own: at one address at most one block begins, and FreeMem refuses it if it holds an object.
 abbrev pub FreeMemRefusesObjects : Type 0
 FreeMemRefusesObjects =
     (t : ℕ) (call : Call) (s : State) (object : Object) → object_at (argument 0 call) s.memory.heap ≡ Some object → object ≢ Plain
@@ -88,7 +89,7 @@ FreeMemRefusesObjects =
 
 -- ---- actions
 
--- what an event is so many of
+-- what an event is that many of
 pub data Action : Type 0 where
   OneStep : Action
   OneTick : Action
@@ -113,7 +114,7 @@ pub record IsToCall (t : ℕ) (call : Call) (s : State) : Type 0 where
 
 -- ---- arguments
 
--- where a word asks for a value or a label a value stands, and where it asks for a name a name
+-- if a word asks for a value or a label a value is, and if it asks for a name a name
 abbrev pub FitsKind : Kind → Argument → Type 0
 FitsKind kind.Value (Value n) = Unit {0}
 FitsKind kind.Label (Value n) = Unit {0}
@@ -160,7 +161,7 @@ pub record IsLastRelease (semaphore : ℕ) (s : State) : Type 0 where
   pub owned : (sem_of semaphore s.memory.heap).owner ≡ Some t
   pub once : (sem_of semaphore s.memory.heap).count ≡ 1
 
--- The owner of a semaphore changes only from none, or at the release that brings its count to zero. (An address where no semaphore lives
+-- The owner of a semaphore changes only from none, or at the release that brings its count to zero. (An address if no semaphore lives
 -- has no owner.)
 abbrev pub OwnersChangeAtTheLastRelease : Type 0
 OwnersChangeAtTheLastRelease =
@@ -181,16 +182,16 @@ SemaphoresPassInOrder =
     (semaphore : ℕ) → OverEveryStretch (λ old marks new.
     IsInOrder (waiters_of semaphore old.memory.heap) (turns_at_semaphore semaphore marks) (waiters_of semaphore new.memory.heap))
 
--- What a task's state tells agrees with where it stands: just the running task has the state Running, just the ready ones stand among the
--- ready, each once, and just those that wait for a semaphore stand in its queue, each in one and once.
+-- What a task's state reports agrees with where it is: exactly the running task has the state Running, exactly the ready ones are among the
+-- ready, each once, and exactly those that wait for a semaphore are in its queue, each in one and once.
 abbrev pub QueuesAgreeWithTheSchedule : Type 0
 QueuesAgreeWithTheSchedule =
     (t : ℕ) → InEveryState (λ s. Agrees t s.schedule (λ semaphore. waiters_of semaphore s.memory.heap))
 
 -- ---- priority
 
--- Where no task runs none is ready; where switching is allowed no ready task has a higher priority than the running one; and a request is
--- left only where interrupts are not allowed.
+-- If no task runs none is ready; if switching is allowed no ready task has a higher priority than the running one; and a request is
+-- left only if interrupts are not allowed.
 pub record IsSettled (s : State) : Type 0 where
   pub none_left : s.schedule.running ≡ None → s.schedule.queue.ready ≡ []
   pub none_higher : (r : ℕ) → s.schedule.running ≡ Some r → is_switching_allowed (Some r) s.schedule ≡ true
@@ -201,12 +202,12 @@ pub record IsSettled (s : State) : Type 0 where
 abbrev pub EachStateIsSettled : Type 0
 EachStateIsSettled = InEveryState (λ s. s.stopped ≡ false → IsSettled s)
 
--- the ready tasks in order of arrival, where the running one arrives anew
+-- the ready tasks in order of arrival, if the running one arrives anew
 abbrev pub candidates : Schedule → List ℕ
 candidates s = s.queue.ready ++ (elim s.running as (λ x. List ℕ) [ None ↦ [] | Some r ↦ r ∷ [] ])
 
 -- A switch to a task is to the earliest among those of greatest priority, of the ready tasks and the one that ran until then, which comes
--- last; and a task that runs leaves for one of its own priority only where its quantum has ended.
+-- last; and a task that runs leaves for one of its own priority only if its quantum has ended.
 abbrev pub SwitchesGoToTheChosen : Type 0
 SwitchesGoToTheChosen =
     (s : State) (name : List ℕ) → (switches s).lines ≡ Switch name ∷ []
@@ -226,6 +227,29 @@ pub record OnlySwitchesSaySo : Type 0 where
   pub of_ends : (t : ℕ) (s : State) → says_switch (ends t s).lines ≡ false
   pub of_softints : (i : ℕ) (s : State) → says_switch (runs_softint i s).lines ≡ false
   pub of_interrupts : (s : State) → says_switch (interrupts s).lines ≡ false
+
+-- The states that a run of a machine comes to between its actions.
+pub data ComesTo (machine : MachineData) : State → Type 0 where
+  begins : ComesTo machine (starts (booted machine)).state
+  goes_on : (action : Action) (s : State) → ComesTo machine s → ComesTo machine (outcome_of action s).state
+
+-- the state in which an action ends but for its switch
+abbrev pub before_switch : Action → State → State
+before_switch OneStep s = (interrupts (acts s).state).state
+before_switch OneTick s = (interrupts (on_pending (with_latch_of Vertb true) (on_memory (on_timer ticked) s))).state
+before_switch (OneRequest asks) s = (interrupts (on_pending (with_latch_of asks true) s)).state
+
+-- a run switches to a task of that name: at its start, or by an action in a state that it comes to
+pub data SwitchesTo (machine : MachineData) (name : List ℕ) : Type 0 where
+  at_start : (switches (interrupts (on_schedule (all_added (booted machine).scripts (length (booted machine).scripts.programs)) (booted machine))).state).lines
+      ≡ Switch name ∷ [] → SwitchesTo machine name
+  by_action : (action : Action) (s : State) → ComesTo machine s → (switches (before_switch action s)).lines ≡ Switch name ∷ [] → SwitchesTo machine name
+
+-- Each line of a switch to a task in the text of a run is that of such a switch, which goes to the chosen task of its state.
+abbrev pub EachSwitchLineIsAChoice : Type 0
+EachSwitchLineIsAChoice =
+    (machine : MachineData) (list : List Event)
+    → All (λ (line : TraceLine). (name : List ℕ) → line ≡ Switch name → SwitchesTo machine name) (run machine list).lines
 
 -- ---- signals
 
@@ -295,9 +319,15 @@ OpenLibrariesStay =
     is_library_at base s.memory.heap ≡ true → 1 ≤ count_of base s.memory.heap
     → StaysLoaded base s.memory.heap o.state.memory.heap ⊎ ((action ≡ OneStep) × IsLastClose base s))
 
+-- In every state a loaded library is at one base only.
+abbrev pub LibrariesHaveOneBase : Type 0
+LibrariesHaveOneBase =
+    (a b : ℕ) → InEveryState (λ s.
+    is_library_at a s.memory.heap ≡ true → is_library_at b s.memory.heap ≡ true → number_of a s.memory.heap ≡ number_of b s.memory.heap → a ≡ b)
+
 -- ---- versions of the rules
 
--- In every state libraries are asked to give way just in version 2 of the rules.
+-- In every state libraries are expunged under low memory just in version 2 of the rules.
 abbrev pub LibrariesAreAskedInVersionTwo : Type 0
 LibrariesAreAskedInVersionTwo =
     (machine : MachineData) (list : List Event) → IsMachine machine → (run machine list).state.memory.asks ≡ nat_eq machine.version 2
@@ -313,7 +343,7 @@ pub record TakesMemoryAsItIs (t : ℕ) (call : Call) (s : State) : Type 0 where
   pub create_io_request : does_create_io_request t call s ≡ earlier_create_io_request t call s
   pub open_library : does_open_library t call s ≡ earlier_open_library t call s
 
--- Where libraries are not asked, each word that takes memory takes it as it is.
+-- If libraries are not asked, each word that takes memory takes it as it is.
 abbrev pub UnaskedWordsTakeMemoryAsItIs : Type 0
 UnaskedWordsTakeMemoryAsItIs = (t : ℕ) (call : Call) (s : State) → s.memory.asks ≡ false → TakesMemoryAsItIs t call s
 
@@ -322,7 +352,7 @@ abbrev pub VersionOneIsTheMachineAsItWas : Type 0
 VersionOneIsTheMachineAsItWas =
     (machine : MachineData) (list : List Event) → IsMachine machine → machine.version ≡ 1 → run machine list ≡ earlier_run machine list
 
--- In any version, asking libraries to give way changes the blocks alone; and nothing, where the block has a place already.
+-- In any version, asking libraries to be expunged under low memory changes the blocks alone; and nothing, if the block has a place already.
 pub record AskingChangesTheBlocks : Type 0 where
   pub for_a_block : (size reqs : ℕ) (memory : Memory) → without_blocks (after_asking size reqs memory) ≡ without_blocks memory
   pub for_an_object : (kind : Object → Bool) (size : ℕ) (memory : Memory)
@@ -330,15 +360,15 @@ pub record AskingChangesTheBlocks : Type 0 where
   pub for_a_library : (found : Option ℕ) (memory : Memory) → without_blocks (ready_to_open found memory) ≡ without_blocks memory
   pub where_it_fits : (size reqs : ℕ) (memory : Memory) → is_some (place_for size reqs memory) ≡ true → after_asking size reqs memory ≡ memory
 
--- ---- libraries give way
+-- ---- libraries are expunged under low memory
 
--- the first so many libraries of the file gave way, one after another
+-- the first that many libraries of the file were expunged under low memory, one after another
 abbrev pub first_gave_way : ℕ → Memory → Memory
 first_gave_way zero memory = memory
 first_gave_way (suc k) memory = gives_way k (first_gave_way k memory)
 
--- A block of so many bytes was asked for: the first so many libraries of the file gave way, no fewer were enough for the block, and after that
--- it has a place, or all of them gave way.
+-- A block of that many bytes was asked for: the first that many libraries of the file were expunged under low memory, no fewer were enough for the block, and after that
+-- it has a place, or all of them were expunged under low memory.
 pub record AsksAsFarAsNeeded (size reqs : ℕ) (memory asked : Memory) : Type 0 where
   pub count : ℕ
   pub first : asked ≡ first_gave_way count memory
@@ -346,12 +376,12 @@ pub record AsksAsFarAsNeeded (size reqs : ℕ) (memory asked : Memory) : Type 0 
   pub enough : (is_some (place_for size reqs asked) ≡ true) ⊎ (count ≡ length memory.libraries)
   pub within : count ≤ length memory.libraries
 
--- Libraries give way as far as a block needs it, and no further.
+-- Libraries are expunged under low memory as far as a block needs it, and no further.
 abbrev pub LibrariesGiveWayAsFarAsNeeded : Type 0
 LibrariesGiveWayAsFarAsNeeded =
     (size reqs : ℕ) (memory : Memory) → memory.asks ≡ true → size ≢ 0 → AsksAsFarAsNeeded size reqs memory (after_asking size reqs memory)
 
--- What is no library stays as it is, and nothing begins where nothing began; a library that is open stays loaded, and as often open.
+-- What is no library stays as it is, and nothing begins if nothing began; a library that is open stays loaded, and as often open.
 pub record OnlyClosedLibrariesGo (old new : Heap) : Type 0 where
   pub others : (a : ℕ) → is_library_at a old ≡ false → block_at a new ≡ block_at a old
   pub loaded : (base : ℕ) → is_library_at base old ≡ true → 1 ≤ count_of base old → StaysLoaded base old new
@@ -364,7 +394,7 @@ OnlyClosedLibrariesGiveWay =
 
 -- ---- requests and the clock
 
--- how often a request stands among those that wait
+-- how often a request is among those that wait
 abbrev pub times_waiting : ℕ → List Queued → ℕ
 times_waiting request waiting = times request (map (λ (w : Queued). w.request) waiting)
 
@@ -399,7 +429,7 @@ pub record IsSetting (s : State) (system : ℕ) : Type 0 where
   pub sets : sets_time (request_of (argument 0 call) s.memory.heap) ≡ true
   pub becomes : system ≡ time_of (request_of (argument 0 call) s.memory.heap)
 
--- What system time is ahead of the clock, or behind it, stays, unless the running task in this step begins a request that sets system time:
+-- What system time is ahead of the clock, or after it, stays, unless the running task in this step begins a request that sets system time:
 -- then system time is the time of that request.
 abbrev pub SystemTimeGoesWithTheClock : Type 0
 SystemTimeGoesWithTheClock =

@@ -1,5 +1,5 @@
 -- Libraries (RKM Libraries, Exec Libraries). A library is absent, or it is loaded and begins at an address, its base. A base that no loaded
--- library has is the alert HANDLE; a library that is closed more often than opened is the alert LIB (own choice).
+-- library has is the alert HANDLE; a library that is closed more often than opened is the alert LIB (project rule).
 use Rattle.std.specs.Prelude.{ℕ, ◌+◌, ◌-◌, Bool, false, not, ◌&&◌, if◌then◌else◌, nat_eq, nat_le, bytes_eq, unwrap_or, slice_index_or, codes, List, [], Option, None, Some}
 use Rattle.std.specs.List.{position_from}
 use Rattle.std.specs.Option.{option_and_then, option_map_or}
@@ -21,6 +21,7 @@ library_alert base heap = if not (is_library_at base heap) then Some (codes "HAN
 
 -- ---- opening
 
+-- the library that is read at a number that the file does not have
 abbrev pub no_library : LibraryData
 no_library = record { name = []; version = 0; size = 0 }
 
@@ -28,11 +29,11 @@ no_library = record { name = []; version = 0; size = 0 }
 abbrev pub library_at : ℕ → Memory → LibraryData
 library_at i memory = slice_index_or memory.libraries i no_library
 
--- the number of the library of a name, if the file has one
+-- the number of the library of a name, if the file has one (autodoc OpenLibrary)
 abbrev pub library_named : List ℕ → Memory → Option ℕ
 library_named name memory = position_from (λ (library : LibraryData). bytes_eq library.name name) 0 memory.libraries
 
--- how often library i is open: not at all where it is absent
+-- how often library i is open: not at all if it is absent (autodoc OpenLibrary)
 abbrev pub openings : ℕ → Memory → ℕ
 openings i memory = option_map_or (λ base. count_of base memory.heap) (base_of i memory.heap) 0
 
@@ -40,11 +41,11 @@ openings i memory = option_map_or (λ base. count_of base memory.heap) (base_of 
 abbrev pub can_open : ℕ → Memory → ℕ → Bool
 can_open version memory i = nat_le version (library_at i memory).version && not (nat_eq (openings i memory) most_openings)
 
--- the library that is opened under a name, where there is one and it can be
+-- the library that is opened under a name, if there is one and it can be
 abbrev pub library_to_open : List ℕ → ℕ → Memory → Option ℕ
 library_to_open name version memory = option_and_then (only_if (can_open version memory)) (library_named name memory)
 
--- the memory before library i is opened: where it is to be loaded, other libraries are asked to give way to it
+-- the memory before library i is opened: if it is to be loaded, other libraries are expunged under low memory for it
 abbrev pub ready_to_load : Option ℕ → ℕ → Memory → Memory
 ready_to_load (Some base) i memory = memory
 ready_to_load None i memory = after_asking (library_at i memory).size public_memory memory
@@ -59,11 +60,12 @@ abbrev pub base_or_place : Option ℕ → ℕ → Memory → Option ℕ
 base_or_place (Some base) i memory = Some base
 base_or_place None i memory = place_for (library_at i memory).size public_memory memory
 
+-- the base at which an opening finds its library or loads it, if there is one to open and a place for it
 abbrev pub base_opened : Option ℕ → Memory → Option ℕ
 base_opened None memory = None
 base_opened (Some i) memory = base_or_place (base_of i memory.heap) i memory
 
--- the base that an opening gives, or none
+-- the base that an opening gives, or none (autodoc OpenLibrary)
 unfoldable pub opening : List ℕ → ℕ → Memory → Option ℕ
 opening name version memory =
     let found = library_to_open name version memory in
@@ -75,18 +77,21 @@ entered_or_loaded (Some base) i memory = on_heap (λ heap. with_library base (co
 entered_or_loaded None i memory =
     placed (library_at i memory).size (Library i 1 false) (place_for (library_at i memory).size public_memory memory) memory
 
+-- the memory after the library that was found, if any, is open once more
 abbrev pub library_opened : Option ℕ → Memory → Memory
 library_opened None memory = memory
 library_opened (Some i) memory = entered_or_loaded (base_of i memory.heap) i memory
 
+-- the memory after an opening: libraries were asked to be expunged if the library is to be loaded, and it is open once more; nothing else
+-- changes if there is none to open or no place for it (autodoc OpenLibrary)
 unfoldable pub opened : List ℕ → ℕ → Memory → Memory
 opened name version memory =
     let found = library_to_open name version memory in
     library_opened found (ready_to_open found memory)
 
--- OpenLibrary name version: answers the base of the library of that name, which is loaded first where it is absent, and is open once more;
--- 0 where there is none of the name, its version is lower, it is open 65,535 times, or there is no place for it
--- (autodoc exec.library/OpenLibrary; the count, and that a library takes memory with MEMF_PUBLIC: own choice)
+-- OpenLibrary name version: answers the base of the library of that name, which is loaded first if it is absent, and is open once more;
+-- 0 if there is none of the name, its version is lower, it is open 65,535 times, or there is no place for it
+-- (autodoc exec.library/OpenLibrary; the count, and that a library takes memory with MEMF_PUBLIC: project rule)
 unfoldable pub does_open_library : ℕ → Call → State → Outcome
 does_open_library t call s =
     let name = unwrap_or (name_argument 0 call) [] in
@@ -101,27 +106,27 @@ close_alert base heap =
     if not (is_library_at base heap) then Some (codes "HANDLE")
     else (if nat_eq (count_of base heap) 0 then Some (codes "LIB") else None)
 
--- a library is open once less; one that is to be expunged, and is open no more, is freed
+-- a library is open once less; one that is to be expunged, and is open no more, is freed (autodoc CloseLibrary)
 unfoldable pub closed : ℕ → Memory → Memory
 closed base memory =
     if nat_eq (count_of base memory.heap) 1 && is_delayed base memory.heap then freed base memory
     else on_heap (with_library base (count_of base memory.heap - 1) (is_delayed base memory.heap)) memory
 
--- CloseLibrary base: the library is open once less; 0 does nothing (autodoc exec.library/CloseLibrary; the alerts: own choice)
+-- CloseLibrary base: the library is open once less; 0 does nothing (autodoc exec.library/CloseLibrary; the alerts: project rule)
 unfoldable pub does_close_library : ℕ → Call → State → Outcome
 does_close_library t call s =
     let base = argument 0 call in
     if nat_eq base 0 then done t call s
     else unless (close_alert base s.memory.heap) t call (λ s. done t call (on_memory (closed base) s)) s
 
--- RemLibrary base: the library is expunged, now or when it is closed for the last time (autodoc exec.library/RemLibrary; the alert: own
--- choice)
+-- RemLibrary base: the library is expunged, now or when it is closed for the last time (autodoc exec.library/RemLibrary; the alert: project
+-- rule)
 unfoldable pub does_rem_library : ℕ → Call → State → Outcome
 does_rem_library t call s =
     let base = argument 0 call in
     unless (library_alert base s.memory.heap) t call (λ s. done t call (on_memory (removed base) s)) s
 
--- LibOpenCnt base: answers how often the library is open (RKM Libraries, Exec Libraries: lib_OpenCnt; that there is a call for it: own choice)
+-- LibOpenCnt base: answers how often the library is open (RKM Libraries, Exec Libraries: lib_OpenCnt; that there is a call for it: project rule)
 unfoldable pub does_lib_open_cnt : ℕ → Call → State → Outcome
 does_lib_open_cnt t call s =
     let base = argument 0 call in
@@ -129,6 +134,7 @@ does_lib_open_cnt t call s =
 
 -- ---- the words of this group
 
+-- a word on libraries of a task
 abbrev pub does_libraries : LibraryWord → ℕ → Call → State → Outcome
 does_libraries word.OpenLibrary t call s = does_open_library t call s
 does_libraries word.CloseLibrary t call s = does_close_library t call s

@@ -1,6 +1,6 @@
--- Lists of nodes (RKM Libraries, Exec Lists and Queues). A list is the sequence of its nodes, by their addresses; no node stands in two
--- lists, nor twice in one. An address where no object of the kind begins is the alert HANDLE; a node that is linked where it must not
--- be, or the other way, is the alert LINK (own choice).
+-- Lists of nodes (RKM Libraries, Exec Lists and Queues). A list is the sequence of its nodes, by their addresses; no node is in two
+-- lists, nor twice in one. An address if no object of the kind begins is the alert HANDLE; a node that is linked if it must not
+-- be, or the other way, is the alert LINK (project rule).
 use Rattle.std.specs.Prelude.{ℕ, zero, suc, ℤ, Bool, true, false, not, ◌-◌, ◌==◌, if◌then◌else◌, nat_eq, is_some, length, map, take, drop, find, unwrap_or, codes, List, [], ◌∷◌, ◌++◌, Option, None, Some}
 use Rattle.std.specs.List.{list_any}
 use Rattle.std.specs.Int.{cast_signed, w32}
@@ -17,18 +17,21 @@ use Rattle.execmodel.specs.Tasks.{is_priority}
 
 -- ---- lists and nodes in memory
 
+-- the object is the header of a list
 abbrev pub is_list : Object → Bool
 is_list (ListHead nodes) = true
 is_list _ = false
 
+-- the object is a node
 abbrev pub is_node : Object → Bool
 is_node (Node key) = true
 is_node _ = false
 
--- a list, or a node, begins at an address
+-- a list begins at an address
 unfoldable pub is_list_at : ℕ → Heap → Bool
 is_list_at address heap = is_kind is_list (object_at address heap)
 
+-- a node begins at an address
 unfoldable pub is_node_at : ℕ → Heap → Bool
 is_node_at address heap = is_kind is_node (object_at address heap)
 
@@ -37,6 +40,7 @@ abbrev pub nodes_in : Object → List ℕ
 nodes_in (ListHead nodes) = nodes
 nodes_in _ = []
 
+-- the nodes of what begins at an address, none if it is no list
 abbrev pub nodes_of_object : Option Object → List ℕ
 nodes_of_object None = []
 nodes_of_object (Some object) = nodes_in object
@@ -45,10 +49,12 @@ nodes_of_object (Some object) = nodes_in object
 unfoldable pub nodes_of : ℕ → Heap → List ℕ
 nodes_of list heap = nodes_of_object (object_at list heap)
 
+-- the priority and the name of a node, those of a blank one for another object
 abbrev pub key_in : Object → Key
 key_in (Node key) = key
 key_in _ = blank
 
+-- the priority and the name of what begins at an address
 abbrev pub key_of_object : Option Object → Key
 key_of_object None = blank
 key_of_object (Some object) = key_in object
@@ -57,17 +63,17 @@ key_of_object (Some object) = key_in object
 unfoldable pub key_of : ℕ → Heap → Key
 key_of node heap = key_of_object (object_at node heap)
 
--- a node stands in a sequence
+-- a node is in a sequence
 abbrev pub stands_in : ℕ → List ℕ → Bool
 stands_in node nodes = list_any (λ other. other == node) nodes
 
--- the sequence that has a node, or the empty one where none has it
+-- the sequence that has a node, or the empty one if none has it
 unfoldable pub sequence_with : ℕ → Heap → List ℕ
 sequence_with node [] = []
 sequence_with node (entry ∷ rest) =
     if stands_in node (nodes_in entry.1.object) then nodes_in entry.1.object else sequence_with node rest
 
--- a node is linked where a list has it
+-- a node is linked if a list has it
 abbrev pub is_linked : ℕ → Heap → Bool
 is_linked node heap = stands_in node (sequence_with node heap)
 
@@ -75,6 +81,7 @@ is_linked node heap = stands_in node (sequence_with node heap)
 abbrev pub relisted : ℕ → List ℕ → ℕ × Block → ℕ × Block
 relisted list nodes entry = (entry.0, if nat_eq entry.0 list then record entry.1 { object = ListHead nodes } else entry.1)
 
+-- a list has these nodes, and nothing else changes
 unfoldable pub with_nodes : ℕ → List ℕ → Heap → Heap
 with_nodes list nodes heap = map (relisted list nodes) heap
 
@@ -83,23 +90,25 @@ abbrev pub left_by : ℕ → Object → Object
 left_by node (ListHead nodes) = ListHead (without node nodes)
 left_by node object = object
 
+-- a node is in no list any more; the lists keep their other nodes in their order
 unfoldable pub unlinked : ℕ → Heap → Heap
 unlinked node heap = map (λ (entry : ℕ × Block). (entry.0, record entry.1 { object = left_by node entry.1.object })) heap
 
--- an address, or 0 where there is none
+-- an address, or 0 if there is none
 abbrev pub or_none : Option ℕ → ℕ
 or_none place = unwrap_or place 0
 
 -- ---- making and freeing
 
--- a List takes 14 bytes and a Node 14, by the include file exec/nodes.h and exec/lists.h
+-- the bytes of a list, Exec's List (include file exec/lists.h)
 abbrev pub list_size : ℕ
 list_size = 14
 
+-- the bytes of a node, Exec's Node (include file exec/nodes.h)
 abbrev pub node_size : ℕ
 node_size = 14
 
--- NewList: answers the address of a new empty list, or 0 (autodoc amiga.lib/NewList; that it takes the memory: own choice)
+-- NewList: answers the address of a new empty list, or 0 (autodoc amiga.lib/NewList; that it takes the memory: project rule)
 unfoldable pub does_new_list : ℕ → Call → State → Outcome
 does_new_list t call s = makes_object t call is_list list_size (ListHead []) (on_memory (after_asking_for_object is_list list_size) s)
 
@@ -109,7 +118,7 @@ free_list_alert list heap =
     if not (is_list_at list heap) then Some (codes "HANDLE")
     else (if is_some (first (nodes_of list heap)) then Some (codes "LINK") else None)
 
--- FreeList list: an empty list is freed (own choice)
+-- FreeList list: an empty list is freed (project rule)
 unfoldable pub does_free_list : ℕ → Call → State → Outcome
 does_free_list t call s =
     let list = argument 0 call in
@@ -119,7 +128,7 @@ does_free_list t call s =
 abbrev pub new_node_alert : ℤ → Option (List ℕ)
 new_node_alert pri = if not (is_priority pri) then Some (codes "VALUE") else None
 
--- NewNode pri name: answers the address of a new node that is not linked, or 0; the priority is read as a signed word (own choice)
+-- NewNode pri name: answers the address of a new node that is not linked, or 0; the priority is read as a signed word (project rule)
 unfoldable pub does_new_node : ℕ → Call → State → Outcome
 does_new_node t call s =
     let pri = cast_signed w32 (argument 0 call) in
@@ -133,7 +142,7 @@ free_node_alert node heap =
     if not (is_node_at node heap) then Some (codes "HANDLE")
     else (if is_linked node heap then Some (codes "LINK") else None)
 
--- FreeNode node: a node that is not linked is freed (own choice)
+-- FreeNode node: a node that is not linked is freed (project rule)
 unfoldable pub does_free_node : ℕ → Call → State → Outcome
 does_free_node t call s =
     let node = argument 0 call in
@@ -170,7 +179,7 @@ does_add_tail t call s =
     let node = argument 1 call in
     unless (link_alert list node s.memory.heap) t call (λ s. done t call (on_memory (on_heap (added_tail list node)) s)) s
 
--- the node is put before the first node of lower priority, or last where there is none
+-- the node is put before the first node of lower priority, or last if there is none
 unfoldable pub enqueued : ℕ → ℕ → Heap → Heap
 enqueued list node heap = with_nodes list (enqueue (λ other. (key_of other heap).pri) (nodes_of list heap) node) heap
 
@@ -195,12 +204,12 @@ is_pred_at (Some pred) heap = is_node_at pred heap
 abbrev pub pred_alert : Option ℕ → Heap → Option (List ℕ)
 pred_alert pred heap = if not (is_pred_at pred heap) then Some (codes "HANDLE") else None
 
--- a predecessor, if there is one, stands in the list
+-- a predecessor, if there is one, is in the list
 abbrev pub is_pred_in : Option ℕ → ℕ → Heap → Bool
 is_pred_in None list heap = true
 is_pred_in (Some pred) list heap = stands_in pred (nodes_of list heap)
 
--- the alert of Insert: the node must not be linked, and the predecessor has to stand in the list
+-- the alert of Insert: the node must not be linked, and the predecessor has to be in the list
 unfoldable pub insert_alert : ℕ → ℕ → ℕ → Heap → Option (List ℕ)
 insert_alert list node pred heap =
     if not (is_list_at list heap) then Some (codes "HANDLE")
@@ -239,17 +248,19 @@ does_remove t call s =
 unfoldable pub list_alert : ℕ → Heap → Option (List ℕ)
 list_alert list heap = if not (is_list_at list heap) then Some (codes "HANDLE") else None
 
--- the first, or the last, node of a list, or 0
+-- the first node of a list, or 0 if it is empty
 unfoldable pub first_of : ℕ → Heap → ℕ
 first_of list heap = or_none (first (nodes_of list heap))
 
+-- the last node of a list, or 0 if it is empty
 unfoldable pub last_of : ℕ → Heap → ℕ
 last_of list heap = or_none (last (nodes_of list heap))
 
--- the first, or the last, node leaves a list
+-- a list without its first node
 unfoldable pub removed_head : ℕ → Heap → Heap
 removed_head list heap = with_nodes list (drop 1 (nodes_of list heap)) heap
 
+-- a list without its last node
 unfoldable pub removed_tail : ℕ → Heap → Heap
 removed_tail list heap = with_nodes list (take (length (nodes_of list heap) - 1) (nodes_of list heap)) heap
 
@@ -281,10 +292,11 @@ does_last t call s =
     let list = argument 0 call in
     unless (list_alert list s.memory.heap) t call (λ s. answered t call (last_of list s.memory.heap) s) s
 
--- the node after, or before, a linked one, or 0 at the end of its list
+-- the node after a node in the list that has it, or 0 if it is the last
 unfoldable pub succ_of : ℕ → Heap → ℕ
 succ_of node heap = or_none (first (part_after node (sequence_with node heap)))
 
+-- the node before a node in the list that has it, or 0 if it is the first
 unfoldable pub pred_of : ℕ → Heap → ℕ
 pred_of node heap = or_none (last (part_before node (sequence_with node heap)))
 
@@ -326,6 +338,7 @@ does_find_name t call s =
 
 -- ---- the words of this group
 
+-- a word on lists of a task
 abbrev pub does_lists : ListWord → ℕ → Call → State → Outcome
 does_lists word.NewList t call s = does_new_list t call s
 does_lists word.FreeList t call s = does_free_list t call s

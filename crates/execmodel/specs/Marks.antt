@@ -1,14 +1,14 @@
--- What the marks of a run tell of one port, and of one semaphore.
+-- What the marks of a run say of one port, and of one semaphore.
 use Rattle.std.specs.Prelude.{ℕ, if◌then◌else◌, nat_eq, List, [], ◌∷◌}
 use Rattle.std.specs.List.{flat_map}
 use Rattle.execmodel.specs.State.{Mark, put, got, out, asked, passed, left}
 use Rattle.execmodel.specs.Queues.{Turn, Came, Served, Left}
 
--- a turn, where it is at that address
+-- a turn, if it is at that address
 abbrev pub turn_at : ℕ → ℕ → Turn → List Turn
 turn_at address other turn = if nat_eq address other then turn ∷ [] else []
 
--- at a port a message comes by a put, is served by GetMsg, and leaves where WaitIO or DoIO takes it out
+-- at a port a message comes by a put, is served by GetMsg, and leaves if WaitIO or DoIO takes it out
 abbrev pub port_turn : ℕ → Mark → List Turn
 port_turn address (put port message) = turn_at address port (Came message)
 port_turn address (got port message) = turn_at address port (Served message)
@@ -17,7 +17,7 @@ port_turn address (asked semaphore task) = []
 port_turn address (passed semaphore task) = []
 port_turn address (left semaphore task) = []
 
--- at a semaphore a task comes where it has to wait, is served where a release makes it the owner, and leaves where it is removed
+-- at a semaphore a task comes if it has to wait, is served if a release makes it the owner, and leaves if it is removed
 abbrev pub semaphore_turn : ℕ → Mark → List Turn
 semaphore_turn address (put port message) = []
 semaphore_turn address (got port message) = []

@@ -24,11 +24,11 @@ alloc_bits = 0x10007
 abbrev pub allocates : ℕ → Call → ℕ → Object → Option ℕ → State → Outcome
 allocates t call size object place s = answered t call (unwrap_or place 0) (on_memory (placed size object place) s)
 
--- a call takes a plain block of a size where it fits, once libraries were asked to give way
+-- a call takes a plain block of a size if it fits, once libraries were expunged under low memory
 abbrev pub takes_block : ℕ → Call → (size reqs : ℕ) → State → Outcome
 takes_block t call size reqs s = allocates t call size Plain (place_for size reqs s.memory) s
 
--- a call makes an object of a kind, which takes so many bytes, where the pool allows one more and it fits
+-- a call makes an object of a kind, which takes that many bytes, if the pool allows one more and it fits
 abbrev pub makes_object : ℕ → Call → (Object → Bool) → ℕ → Object → State → Outcome
 makes_object t call kind size object s = allocates t call size object (place_for_object kind size s.memory) s
 
@@ -36,9 +36,9 @@ makes_object t call kind size object s = allocates t call size object (place_for
 abbrev pub alloc_alert : ℕ → Option (List ℕ)
 alloc_alert reqs = if not (has_only alloc_bits reqs) then Some (codes "VALUE") else None
 
--- AllocMem size reqs: answers the address of a plain block, or 0 where none fits or the size is 0; the front of the lowest gap of the
--- suitable region of greatest priority is taken, once libraries were asked to give way where no gap is large enough
--- (autodoc exec.library/AllocMem; size 0, the order of asking, and the alert: own choice)
+-- AllocMem size reqs: answers the address of a plain block, or 0 if none fits or the size is 0; the front of the lowest gap of the
+-- suitable region of greatest priority is taken, once libraries were expunged under low memory if no gap is large enough
+-- (autodoc exec.library/AllocMem; size 0, the order of asking, and the alert: project rule)
 unfoldable pub does_alloc_mem : ℕ → Call → State → Outcome
 does_alloc_mem t call s =
     let size = argument 0 call in
@@ -47,6 +47,7 @@ does_alloc_mem t call s =
 
 -- ---- FreeMem
 
+-- the object is a plain block, as AllocMem gives it
 abbrev pub is_plain : Object → Bool
 is_plain Plain = true
 is_plain _ = false
@@ -61,7 +62,7 @@ abbrev pub free_alert : ℕ → ℕ → Heap → Option (List ℕ)
 free_alert address size heap = if not (is_named size (block_at address heap)) then Some (codes "MEM") else None
 
 -- FreeMem addr size: a plain block that begins at the address, and is of that size rounded up, is freed (autodoc exec.library/FreeMem;
--- the alert: own choice)
+-- the alert: project rule)
 unfoldable pub does_free_mem : ℕ → Call → State → Outcome
 does_free_mem t call s =
     let address = argument 0 call in
@@ -83,7 +84,7 @@ abbrev pub avail_alert : ℕ → Option (List ℕ)
 avail_alert reqs = if not (can_be_asked reqs) then Some (codes "VALUE") else None
 
 -- AvailMem reqs: answers the bytes that are free in the suitable regions, or with MEMF_LARGEST their greatest gap, or with MEMF_TOTAL
--- their installed size (autodoc exec.library/AvailMem; the alert: own choice)
+-- their installed size (autodoc exec.library/AvailMem; the alert: project rule)
 unfoldable pub does_avail_mem : ℕ → Call → State → Outcome
 does_avail_mem t call s =
     let reqs = argument 0 call in
@@ -91,6 +92,7 @@ does_avail_mem t call s =
 
 -- ---- the words of this group
 
+-- a word on memory of a task
 abbrev pub does_memory : MemoryWord → ℕ → Call → State → Outcome
 does_memory word.AllocMem t call s = does_alloc_mem t call s
 does_memory word.FreeMem t call s = does_free_mem t call s

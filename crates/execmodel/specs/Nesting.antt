@@ -1,5 +1,5 @@
 -- Forbid and Disable (RKM Libraries, Exec Tasks: forbidding task switching). Each task has two counts of its own, which hold again
--- when it runs again. A count out of its range is the alert NEST (own choice).
+-- when it runs again. A count out of its range is the alert NEST (project rule).
 use Rattle.std.specs.Prelude.{ℕ, Bool, not, if◌then◌else◌, codes, List, Option, None, Some}
 use Rattle.std.specs.Option.{is_some}
 use Rattle.forbid.specs.Nesting.{Nesting, after_forbid, after_permit, after_disable, after_enable}
@@ -39,6 +39,7 @@ does_enable t call s = gives_nesting t call (after_enable (nesting_of s.schedule
 
 -- ---- the words of this group
 
+-- a word on nesting of a task
 abbrev pub does_nesting : NestingWord → ℕ → Call → State → Outcome
 does_nesting word.Forbid t call s = does_forbid t call s
 does_nesting word.Permit t call s = does_permit t call s

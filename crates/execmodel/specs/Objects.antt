@@ -1,4 +1,4 @@
--- Objects: what begins at an address, and where a new object goes. An object takes a block of its own, with MEMF_PUBLIC (own choice).
+-- Objects: what begins at an address, and where a new object goes. An object takes a block of its own, with MEMF_PUBLIC (project rule).
 use Rattle.std.specs.Prelude.{ℕ, Bool, false, if◌then◌else◌, nat_eq, nat_lt, filter, length, Option, None, Some}
 use Rattle.std.specs.Option.{option_map}
 use Rattle.execlib.specs.Libraries.{public_memory}
@@ -22,11 +22,11 @@ replaced address object entry = (entry.0, if nat_eq entry.0 address then record 
 abbrev pub live : (Object → Bool) → Heap → ℕ
 live kind heap = length (filter (λ (entry : ℕ × Block). kind entry.1.object) heap)
 
--- the pool allows one more object of a kind (own choice)
+-- the pool allows one more object of a kind (project rule)
 abbrev pub is_allowed : (Object → Bool) → Memory → Bool
 is_allowed kind memory = nat_lt (live kind memory.heap) memory.pool
 
--- The address where a new object of a kind goes, which takes so many bytes; there is none where as many live as the pool allows, nor
--- where no gap is large enough (own choice).
+-- The address if a new object of a kind goes, which takes that many bytes; there is none if as many live as the pool allows, nor
+-- if no gap is large enough (project rule).
 unfoldable pub place_for_object : (Object → Bool) → ℕ → Memory → Option ℕ
 place_for_object kind size memory = if is_allowed kind memory then place_for size public_memory memory else None

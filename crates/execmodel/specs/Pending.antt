@@ -1,4 +1,4 @@
--- Pending interrupts (RKM Libraries, Exec Interrupts). In the abstract machine the software interrupts that are caused stand in order of
+-- Pending interrupts (RKM Libraries, Exec Interrupts). In the abstract machine the software interrupts that are caused are in order of
 -- arrival, which is never sorted: the one that runs next is the earliest among those of greatest priority. What arrives and which is next are
 -- said of either discipline. A source asks to be served by a latch: further requests before the serving are the same one.
 use Rattle.std.specs.Prelude.{ℕ, ℤ, Bool, not, ◌&&◌, ◌==◌, if◌then◌else◌, nat_lt, bytes_eq, length, map, List, Option, None}
@@ -14,7 +14,7 @@ use Rattle.taskscript.specs.File.{SoftintData}
 use Rattle.scheduler.specs.Schedule.{Schedule, is_interrupting_allowed}
 use Rattle.execmodel.specs.State.{Pending, State, on_pending}
 
--- interrupts are allowed: no task runs, or the running one has not disabled them
+-- interrupts are allowed: no task runs, or the running one has not disabled them (autodoc Disable)
 abbrev pub allows_interrupts : Schedule → Bool
 allows_interrupts schedule = is_interrupting_allowed schedule.running schedule
 
@@ -24,14 +24,15 @@ allows_interrupts schedule = is_interrupting_allowed schedule.running schedule
 abbrev pub softint_pri : List SoftintData → ℕ → ℤ
 softint_pri softints i = pri_at (map (λ (s : SoftintData). s.pri) softints) i
 
--- the number of the software interrupt of a name; where no one has it, the number of all of them, which is that of none
+-- the number of the software interrupt of a name; if no one has it, the number of all of them, which is that of none
 abbrev pub softint_named : List ℕ → List SoftintData → ℕ
 softint_named name softints = position_or_len (bytes_eq name) (map (λ (s : SoftintData). s.name) softints)
 
+-- a software interrupt is caused and has not run since
 abbrev pub is_caused : ℕ → Pending → Bool
 is_caused i pending = list_any (λ other. other == i) pending.caused
 
--- software interrupt i, of these, stands among those that are caused, as one that arrives
+-- software interrupt i, of these, is among those that are caused, as one that arrives
 abbrev pub arrived : Discipline → ℕ → List SoftintData → Pending → Pending
 arrived d i softints pending = record pending { caused = d.arrival (softint_pri softints) pending.caused i }
 
@@ -44,20 +45,22 @@ with_caused d i softints pending =
 unfoldable pub causes : ℕ → State → State
 causes i s = on_pending (with_caused by_arrival i s.bodies.softints) s
 
--- software interrupt i is not caused any more
+-- software interrupt i is not caused any more (RKM Libraries, Exec Interrupts: software interrupts)
 abbrev pub caused_no_more : ℕ → Pending → Pending
 caused_no_more i pending = record pending { caused = without i pending.caused }
 
--- the software interrupt, of these, that runs next, where interrupts are allowed and one is caused
+-- the software interrupt, of these, that runs next, if interrupts are allowed and one is caused
 abbrev pub softint_next : Discipline → List SoftintData → Schedule → Pending → Option ℕ
 softint_next d softints schedule pending = if allows_interrupts schedule then d.choice (softint_pri softints) pending.caused else None
 
+-- the software interrupt that runs next, if interrupts are allowed and one is caused: the earliest to have been caused among those of
+-- greatest priority (RKM Libraries, Exec Interrupts: software interrupts)
 unfoldable pub next_softint : State → Option ℕ
 next_softint s = softint_next by_arrival s.bodies.softints s.schedule s.pending
 
 -- ---- sources
 
--- the source of a name of the texts
+-- the source of a name of the texts (RKM Libraries, Exec Interrupts)
 abbrev pub source_named : Named → Source
 source_named named.Ports = source.Ports
 source_named named.Vertb = source.Vertb
@@ -67,6 +70,6 @@ source_named named.Exter = source.Exter
 abbrev pub with_latch_of : Source → Bool → Pending → Pending
 with_latch_of asks set pending = record pending { latches = with_latch asks set pending.latches }
 
--- the source that is served next: the latched one of highest level, where interrupts are allowed
+-- the source that is served next: the latched one of highest level, if interrupts are allowed (RKM Libraries, Exec Interrupts)
 unfoldable pub next_source : State → Option Source
 next_source s = if allows_interrupts s.schedule then highest s.pending.latches else None

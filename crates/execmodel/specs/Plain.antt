@@ -1,4 +1,4 @@
--- Plain words: they set variables, calculate, jump and print, and ask nothing of Exec (own choice).
+-- Plain words: they set variables, calculate, jump and print, and ask nothing of Exec (project rule).
 use Rattle.std.specs.Prelude.{ℕ, ◌+◌, ◌-◌, ◌%◌, ◌^◌, if◌then◌else◌, nat_eq, bit_and, bit_or}
 use Rattle.taskscript.specs.declared.word.plain.PlainWord.{PlainWord}
 use Rattle.taskscript.specs.declared.word.plain.PlainWord.TheVariants as word
@@ -9,6 +9,7 @@ use Rattle.execmodel.specs.Calls.{Caller, ByTask, argument, done, silent_by, goe
 abbrev pub does_set_by : Caller → Call → State → Outcome
 does_set_by c call s = silent_by c call (argument 0 call) s
 
+-- Set of a task
 unfoldable pub does_set : ℕ → Call → State → Outcome
 does_set t call s = does_set_by (ByTask t) call s
 
@@ -22,6 +23,7 @@ does_print t call s = done t call s
 abbrev pub does_add_by : Caller → Call → State → Outcome
 does_add_by c call s = silent_by c call ((argument 0 call + argument 1 call) % 2 ^ 32) s
 
+-- Add of a task
 unfoldable pub does_add : ℕ → Call → State → Outcome
 does_add t call s = does_add_by (ByTask t) call s
 
@@ -29,6 +31,7 @@ does_add t call s = does_add_by (ByTask t) call s
 abbrev pub does_sub_by : Caller → Call → State → Outcome
 does_sub_by c call s = silent_by c call ((argument 0 call + (2 ^ 32 - argument 1 call)) % 2 ^ 32) s
 
+-- Sub of a task
 unfoldable pub does_sub : ℕ → Call → State → Outcome
 does_sub t call s = does_sub_by (ByTask t) call s
 
@@ -36,6 +39,7 @@ does_sub t call s = does_sub_by (ByTask t) call s
 abbrev pub does_and_by : Caller → Call → State → Outcome
 does_and_by c call s = silent_by c call (bit_and (argument 0 call) (argument 1 call)) s
 
+-- And of a task
 unfoldable pub does_and : ℕ → Call → State → Outcome
 does_and t call s = does_and_by (ByTask t) call s
 
@@ -43,10 +47,11 @@ does_and t call s = does_and_by (ByTask t) call s
 abbrev pub does_or_by : Caller → Call → State → Outcome
 does_or_by c call s = silent_by c call (bit_or (argument 0 call) (argument 1 call)) s
 
+-- Or of a task
 unfoldable pub does_or : ℕ → Call → State → Outcome
 does_or t call s = does_or_by (ByTask t) call s
 
--- ---- jumps: a label stands for the place of the command after it
+-- ---- jumps: a label represents the place of the command after it
 
 -- task t goes on at that place
 unfoldable pub jumps : ℕ → ℕ → State → Outcome
@@ -66,6 +71,7 @@ does_jump_not_zero t call s = jumps t (if nat_eq (argument 0 call) 0 then call.n
 
 -- ---- the words of this group
 
+-- a plain word of a task
 abbrev pub does_plain : PlainWord → ℕ → Call → State → Outcome
 does_plain word.Set t call s = does_set t call s
 does_plain word.Add t call s = does_add t call s

@@ -1,7 +1,7 @@
 -- Message ports and messages (RKM Libraries, Exec Messages and Ports). A port has a sequence of messages in order of arrival; a message
--- stands in one port at most, once. The public ports are a sequence in order of arrival; the one of a name is the earliest among those of
--- greatest priority that have it. An address where no object of the kind begins is the alert HANDLE; a message or a port that is linked
--- where it must not be, or the other way, is the alert LINK; a port in use, or not the caller's to wait at, is the alert PORT (own choice).
+-- is in one port at most, once. The public ports are a sequence in order of arrival; the one of a name is the earliest among those of
+-- greatest priority that have it. An address if no object of the kind begins is the alert HANDLE; a message or a port that is linked
+-- if it must not be, or the other way, is the alert LINK; a port in use, or not the caller's to wait at, is the alert PORT (project rule).
 use Rattle.std.specs.Prelude.{ℕ, ℤ, negsuc, ◌^◌, Bool, true, false, not, ◌&&◌, ◌==◌, if◌then◌else◌, nat_eq, is_some, map, filter, drop, unwrap_or, codes, List, [], ◌∷◌, ◌++◌, Option, None, Some}
 use Rattle.std.specs.List.{list_any}
 use Rattle.std.specs.Int.{cast_signed, w32}
@@ -31,37 +31,44 @@ use Rattle.execmodel.specs.Tasks.{is_priority}
 
 -- ---- ports and messages in memory
 
+-- the object is a message port
 abbrev pub is_port : Object → Bool
 is_port (MsgPort port messages) = true
 is_port _ = false
 
+-- the object is a message
 abbrev pub is_message : Object → Bool
 is_message (Message content) = true
 is_message _ = false
 
--- a port, or a message, begins at an address
+-- a port begins at an address
 unfoldable pub is_port_at : ℕ → Heap → Bool
 is_port_at address heap = is_kind is_port (object_at address heap)
 
+-- a message begins at an address
 unfoldable pub is_message_at : ℕ → Heap → Bool
 is_message_at address heap = is_kind is_message (object_at address heap)
 
+-- the task, the signal and the action of a port, those of a new one for another object
 abbrev pub port_in : Object → Port
 port_in (MsgPort port messages) = port
 port_in _ = new_port 0 0
 
+-- the task, the signal and the action of what begins at an address
 abbrev pub port_of_object : Option Object → Port
 port_of_object None = new_port 0 0
 port_of_object (Some object) = port_in object
 
--- the task, the signal and the action of the port that begins at an address
+-- the task, the signal and the action of the port that begins at an address (RKM Libraries, Exec Messages and Ports)
 unfoldable pub port_of : ℕ → Heap → Port
 port_of port heap = port_of_object (object_at port heap)
 
+-- the messages of a port, none for another object
 abbrev pub messages_in : Object → List ℕ
 messages_in (MsgPort port messages) = messages
 messages_in _ = []
 
+-- the messages of what begins at an address
 abbrev pub messages_of_object : Option Object → List ℕ
 messages_of_object None = []
 messages_of_object (Some object) = messages_in object
@@ -70,10 +77,12 @@ messages_of_object (Some object) = messages_in object
 unfoldable pub messages_of : ℕ → Heap → List ℕ
 messages_of port heap = messages_of_object (object_at port heap)
 
+-- the type, the word and the reply port of a message, those of a new one for another object
 abbrev pub content_in : Object → Content
 content_in (Message content) = content
 content_in _ = new_message 0 0
 
+-- the type, the word and the reply port of what begins at an address
 abbrev pub content_of_object : Option Object → Content
 content_of_object None = new_message 0 0
 content_of_object (Some object) = content_in object
@@ -82,10 +91,11 @@ content_of_object (Some object) = content_in object
 unfoldable pub content_of : ℕ → Heap → Content
 content_of message heap = content_of_object (object_at message heap)
 
--- a message is queued where a port has it
+-- a message is queued if a port has it
 abbrev pub has_message : ℕ → ℕ × Block → Bool
 has_message message entry = list_any (λ other. other == message) (messages_in entry.1.object)
 
+-- some port has the message or the request
 unfoldable pub is_queued : ℕ → Heap → Bool
 is_queued message heap = list_any (has_message message) heap
 
@@ -98,16 +108,17 @@ unfoldable pub with_content : ℕ → Content → Heap → Heap
 with_content address content heap =
     if is_message_at address heap then map (replaced address (Message content)) heap else heap
 
--- the alert of a call on a port, or on a message
+-- the alert of a call on a port: HANDLE if no port begins at the address
 unfoldable pub port_alert : ℕ → Heap → Option (List ℕ)
 port_alert port heap = if not (is_port_at port heap) then Some (codes "HANDLE") else None
 
+-- the alert of a call on a message: HANDLE if no message begins at the address
 unfoldable pub message_alert : ℕ → Heap → Option (List ℕ)
 message_alert message heap = if not (is_message_at message heap) then Some (codes "HANDLE") else None
 
 -- ---- public ports
 
--- a port is public
+-- a port is public (autodoc AddPort)
 abbrev pub is_public : ℕ → Memory → Bool
 is_public port memory = list_any (λ (public : PublicPort). public.port == port) memory.public
 
@@ -123,7 +134,7 @@ is_called name public = name_is public.key.name name
 abbrev pub under : ℕ → List ℕ → ℤ → PublicPort
 under port name pri = record { port = port; key = record { pri = pri; name = Some name } }
 
--- a port arrives among the public ones
+-- a port arrives among the public ones (autodocs AddPort and RemPort)
 unfoldable pub made_public : ℕ → List ℕ → ℤ → Memory → Memory
 made_public port name pri memory = record memory { public = memory.public ++ under port name pri ∷ [] }
 
@@ -136,20 +147,21 @@ abbrev pub port_or_none : Option PublicPort → ℕ
 port_or_none None = 0
 port_or_none (Some public) = public.port
 
--- the public port of a name that is the earliest among those of greatest priority, or 0
+-- the public port of a name that is the earliest among those of greatest priority, or 0 (autodoc FindPort)
 unfoldable pub found_port : List ℕ → Memory → ℕ
 found_port name memory = port_or_none (chosen priority_of_public (filter (is_called name) memory.public))
 
 -- ---- making and freeing ports
 
--- a MsgPort takes 34 bytes and a Message 20, by the include file exec/ports.h; a message here has a word of 4 bytes beside (own choice)
+-- the bytes of a port: Exec's MsgPort (include file exec/ports.h)
 abbrev pub port_size : ℕ
 port_size = 34
 
+-- the bytes of a message: Exec's Message, and 4 for the word (include file exec/ports.h)
 abbrev pub message_size : ℕ
 message_size = 24
 
--- the caller gets a port at an address, and the signal of that number; where either is lacking nothing changes
+-- the caller gets a port at an address, and the signal of that number; if either is lacking nothing changes
 abbrev pub port_created : ℕ → Call → Option ℕ → Option ℕ → State → Outcome
 port_created t call None place s = answered t call 0 s
 port_created t call (Some bit) None s = answered t call 0 s
@@ -157,7 +169,7 @@ port_created t call (Some bit) (Some address) s =
     answered t call address
     (on_schedule (allocates t (negsuc 0)) (on_memory (placed port_size (MsgPort (new_port t bit) []) (Some address)) s))
 
--- the memory before a port is made for a task that has a signal left, or none: without a signal nothing is asked (own choice)
+-- the memory before a port is made for a task that has a signal left, or none: without a signal nothing is asked (project rule)
 abbrev pub after_asking_for_port : Option ℕ → Memory → Memory
 after_asking_for_port None memory = memory
 after_asking_for_port (Some bit) memory = after_asking_for_object is_port port_size memory
@@ -190,12 +202,12 @@ delete_alert port memory =
     else (if is_public port memory then Some (codes "PORT")
     else (if is_awaited_at port memory.heap then Some (codes "PORT") else None)))
 
--- the task of a port has its signal no more
+-- the task of a port has its signal no more (autodoc DeleteMsgPort)
 abbrev pub gives_back : Port → Schedule → Schedule
 gives_back port s = frees port.task port.bit s
 
 -- DeleteMsgPort port: the port is freed, and its signal given back to its task, whoever calls; 0 does nothing
--- (autodoc exec.library/DeleteMsgPort; the alerts: own choice)
+-- (autodoc exec.library/DeleteMsgPort; the alerts: project rule)
 unfoldable pub does_delete_msg_port : ℕ → Call → State → Outcome
 does_delete_msg_port t call s =
     let port = argument 0 call in
@@ -213,7 +225,7 @@ add_port_alert port pri memory =
     else (if is_public port memory then Some (codes "LINK") else None))
 
 -- AddPort port name pri: the port is public under the name; its messages stay (autodoc exec.library/AddPort; that the priority is read as
--- a signed word, that the messages stay, and the alerts: own choice)
+-- a signed word, that the messages stay, and the alerts: project rule)
 unfoldable pub does_add_port : ℕ → Call → State → Outcome
 does_add_port t call s =
     let port = argument 0 call in
@@ -227,7 +239,7 @@ rem_port_alert port memory =
     if not (is_port_at port memory.heap) then Some (codes "HANDLE")
     else (if is_public port memory then None else Some (codes "LINK"))
 
--- RemPort port: the port is public no more (autodoc exec.library/RemPort; the alerts: own choice)
+-- RemPort port: the port is public no more (autodoc exec.library/RemPort; the alerts: project rule)
 unfoldable pub does_rem_port : ℕ → Call → State → Outcome
 does_rem_port t call s =
     let port = argument 0 call in
@@ -244,22 +256,22 @@ unfoldable pub with_action : PortAction → ℕ → Heap → Heap
 with_action act port heap = with_port port (record (port_of port heap) { action = act }) (messages_of port heap) heap
 
 -- PortSignal port: the port signals its task, as a new port does (RKM Libraries, Exec Messages and Ports: mp_Flags, PA_SIGNAL; that there
--- is a call for it: own choice)
+-- is a call for it: project rule)
 unfoldable pub does_port_signal : ℕ → Call → State → Outcome
 does_port_signal t call s =
     let port = argument 0 call in
     unless (port_alert port s.memory.heap) t call (λ s. done t call (on_memory (on_heap (with_action Signal port)) s)) s
 
 -- PortCause port name: the port causes the software interrupt of that name (RKM Libraries, Exec Messages and Ports: mp_Flags, PA_SOFTINT; that
--- there is a call for it: own choice)
+-- there is a call for it: project rule)
 unfoldable pub does_port_cause : ℕ → Call → State → Outcome
 does_port_cause t call s =
     let port = argument 0 call in
     let i = softint_named (unwrap_or (name_argument 1 call) []) s.bodies.softints in
     unless (port_alert port s.memory.heap) t call (λ s. done t call (on_memory (on_heap (with_action (Cause i) port)) s)) s
 
--- PortIgnore port: the port does nothing where a message arrives (RKM Libraries, Exec Messages and Ports: mp_Flags, PA_IGNORE; that there
--- is a call for it: own choice)
+-- PortIgnore port: the port does nothing if a message arrives (RKM Libraries, Exec Messages and Ports: mp_Flags, PA_IGNORE; that there
+-- is a call for it: project rule)
 unfoldable pub does_port_ignore : ℕ → Call → State → Outcome
 does_port_ignore t call s =
     let port = argument 0 call in
@@ -271,7 +283,7 @@ does_port_ignore t call s =
 unfoldable pub reply_port_alert : ℕ → Heap → Option (List ℕ)
 reply_port_alert port heap = if nat_eq port 0 then None else port_alert port heap
 
--- NewMsg port word: answers the address of a new message with that reply port, or none for 0, and that word; or 0 (own choice)
+-- NewMsg port word: answers the address of a new message with that reply port, or none for 0, and that word; or 0 (project rule)
 unfoldable pub does_new_msg : ℕ → Call → State → Outcome
 does_new_msg t call s =
     let reply = argument 0 call in
@@ -285,7 +297,7 @@ loose_alert message heap =
     if not (is_message_at message heap) then Some (codes "HANDLE")
     else (if is_queued message heap then Some (codes "LINK") else None)
 
--- FreeMsg message: a message that is in no port is freed (own choice)
+-- FreeMsg message: a message that is in no port is freed (project rule)
 unfoldable pub does_free_msg : ℕ → Call → State → Outcome
 does_free_msg t call s =
     let message = argument 0 call in
@@ -293,7 +305,7 @@ does_free_msg t call s =
 
 -- ---- what a message holds
 
--- MsgWord message: answers its word (own choice)
+-- MsgWord message: answers its word (project rule)
 unfoldable pub does_msg_word : ℕ → Call → State → Outcome
 does_msg_word t call s =
     let message = argument 0 call in
@@ -303,7 +315,7 @@ does_msg_word t call s =
 unfoldable pub with_word : ℕ → ℕ → Heap → Heap
 with_word message value heap = with_content message (record (content_of message heap) { word = value }) heap
 
--- SetMsgWord message word: the message gets another word (own choice)
+-- SetMsgWord message word: the message gets another word (project rule)
 unfoldable pub does_set_msg_word : ℕ → Call → State → Outcome
 does_set_msg_word t call s =
     let message = argument 0 call in
@@ -311,7 +323,7 @@ does_set_msg_word t call s =
     (λ s. done t call (on_memory (on_heap (with_word message (argument 1 call))) s)) s
 
 -- MsgType message: answers its type, 0 for a new one (RKM Libraries, Exec Messages and Ports: ln_Type; that a new one has type 0, and that
--- there is a call for it: own choice)
+-- there is a call for it: project rule)
 unfoldable pub does_msg_type : ℕ → Call → State → Outcome
 does_msg_type t call s =
     let message = argument 0 call in
@@ -319,15 +331,15 @@ does_msg_type t call s =
 
 -- ---- putting and replying
 
--- a message is of that type; an object of another kind stays as it is
+-- a message is of that type; an object of another kind stays as it is (autodocs PutMsg and ReplyMsg)
 unfoldable pub typed : ℕ → ℕ → Heap → Heap
 typed kind message heap = with_content message (record (content_of message heap) { kind = kind }) heap
 
--- what begins at an address, of whatever kind, stands last in a port
+-- what begins at an address, of whatever kind, is last in a port
 unfoldable pub appended : ℕ → ℕ → Heap → Heap
 appended port message heap = with_port port (port_of port heap) (messages_of port heap ++ message ∷ []) heap
 
--- a message is of that type, and stands last in a port
+-- a message is of that type, and is last in a port
 unfoldable pub posted : ℕ → ℕ → ℕ → Heap → Heap
 posted kind port message heap = appended port message (typed kind message heap)
 
@@ -337,7 +349,7 @@ performed (action.Signal task mask) s = on_schedule (signalled by_arrival task m
 performed (action.Cause i) s = causes i s
 performed action.Nothing s = s
 
--- a message is put at a port as one of that type, and the port acts
+-- a message is put at a port as one of that type, and the port acts (autodocs PutMsg and ReplyMsg)
 unfoldable pub delivered : ℕ → ℕ → ℕ → State → State
 delivered kind port message s =
     performed (acting (port_of port s.memory.heap)) (on_memory (on_heap (posted kind port message)) s)
@@ -346,7 +358,7 @@ delivered kind port message s =
 unfoldable pub put_alert : ℕ → ℕ → Heap → Option (List ℕ)
 put_alert port message heap = if not (is_port_at port heap) then Some (codes "HANDLE") else loose_alert message heap
 
--- PutMsg port message: the message is put at the port, behind those that it has (autodoc exec.library/PutMsg; the alerts: own choice)
+-- PutMsg port message: the message is put at the port, after those that it has (autodoc exec.library/PutMsg; the alerts: project rule)
 abbrev pub does_put_msg_by : Caller → Call → State → Outcome
 does_put_msg_by c call s =
     let port = argument 0 call in
@@ -354,6 +366,7 @@ does_put_msg_by c call s =
     unless_by (put_alert port message s.memory.heap) c call
     (λ s. leaving (put port message) (done_by c call (delivered nt_message port message s))) s
 
+-- PutMsg of a task (autodoc PutMsg)
 unfoldable pub does_put_msg : ℕ → Call → State → Outcome
 does_put_msg t call s = does_put_msg_by (ByTask t) call s
 
@@ -373,19 +386,20 @@ abbrev pub replied : ℕ → ℕ → Call → ℕ → State → Outcome
 replied reply t call message s = replied_by reply (ByTask t) call message s
 
 -- ReplyMsg message: the message is put at its reply port, the one that begins at that address now; one without gets the type NT_FREEMSG
--- (autodoc exec.library/ReplyMsg; the alerts: own choice)
+-- (autodoc exec.library/ReplyMsg; the alerts: project rule)
 abbrev pub does_reply_msg_by : Caller → Call → State → Outcome
 does_reply_msg_by c call s =
     let message = argument 0 call in
     unless_by (reply_alert message s.memory.heap) c call
     (λ s. replied_by (content_of message s.memory.heap).reply c call message s) s
 
+-- ReplyMsg of a task (autodoc ReplyMsg)
 unfoldable pub does_reply_msg : ℕ → Call → State → Outcome
 does_reply_msg t call s = does_reply_msg_by (ByTask t) call s
 
 -- ---- taking and waiting
 
--- the first message of a port is in no port any more
+-- the first message of a port is in no port any more (autodoc GetMsg)
 unfoldable pub taken_off : ℕ → Heap → Heap
 taken_off port heap = with_port port (port_of port heap) (drop 1 (messages_of port heap)) heap
 
@@ -403,6 +417,7 @@ does_get_msg_by c call s =
     let port = argument 0 call in
     unless_by (port_alert port s.memory.heap) c call (λ s. taken_by port (first (messages_of port s.memory.heap)) c call s) s
 
+-- GetMsg of a task (autodoc GetMsg)
 unfoldable pub does_get_msg : ℕ → Call → State → Outcome
 does_get_msg t call s = does_get_msg_by (ByTask t) call s
 
@@ -416,14 +431,14 @@ wait_alert t port heap =
 abbrev pub loses : ℕ → ℕ → Schedule → Schedule
 loses t mask s = sets_signals t 0 mask s
 
--- the first message, if there is one, is answered; else the task waits for a mask of signals that come from now on
+-- the first message, if there is one, is answered; else the task waits for a mask of signals that come from now on (autodoc WaitPort)
 abbrev pub looked : Option ℕ → ℕ → ℕ → Call → State → Outcome
 looked None mask t call s = waiting t (record call { awaited = mask }) (on_schedule (clears_and_waits t mask) s)
 looked (Some message) mask t call s = answered t call message s
 
--- WaitPort port: answers the first message of the port, and leaves it there; where there is none, the task waits for the port's signal, and
+-- WaitPort port: answers the first message of the port, and leaves it there; if there is none, the task waits for the port's signal, and
 -- looks again when it next runs, after the signal that it waited for is cleared (autodoc exec.library/WaitPort; how a task waits and looks
--- again, and the alerts: own choice)
+-- again, and the alerts: project rule)
 unfoldable pub does_wait_port : ℕ → Call → State → Outcome
 does_wait_port t call s =
     let port = argument 0 call in
@@ -435,6 +450,7 @@ does_wait_port t call s =
 
 -- ---- the words of this group
 
+-- a word on ports and messages of a task
 abbrev pub does_ports : PortWord → ℕ → Call → State → Outcome
 does_ports word.CreateMsgPort t call s = does_create_msg_port t call s
 does_ports word.DeleteMsgPort t call s = does_delete_msg_port t call s

@@ -7,14 +7,14 @@ pub data Turn : Type 0 where
   Served : (who : ℕ) → Turn
   Left : (who : ℕ) → Turn
 
--- the next that happens to one who stands in the queue is to leave it unserved
+-- the next that happens to one who is in the queue is to leave it unserved
 abbrev pub is_to_leave : ℕ → List Turn → Bool
 is_to_leave who [] = false
 is_to_leave who (Came other ∷ turns) = is_to_leave who turns
 is_to_leave who (Served other ∷ turns) = if nat_eq who other then false else is_to_leave who turns
 is_to_leave who (Left other ∷ turns) = if nat_eq who other then true else is_to_leave who turns
 
--- of those who stand in the queue, the ones that do not leave it unserved
+-- of those who are in the queue, the ones that do not leave it unserved
 abbrev pub staying : List Turn → List ℕ → List ℕ
 staying turns queue = filter (λ who. not (is_to_leave who turns)) queue
 
@@ -32,7 +32,7 @@ served (Came who ∷ turns) = served turns
 served (Served who ∷ turns) = who ∷ served turns
 served (Left who ∷ turns) = served turns
 
--- First come, first served: those who stood in the queue at first and those who came, less those that left unserved, are those who were
--- served, in that order, followed by those who stand in it at last.
+-- First come, first served: those who was in the queue at first and those who came, less those that left unserved, are those who were
+-- served, in that order, followed by those who are in it at last.
 abbrev pub IsInOrder : List ℕ → List Turn → List ℕ → Type 0
 IsInOrder first turns last = staying turns first ++ comers turns ≡ served turns ++ last

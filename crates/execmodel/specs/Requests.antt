@@ -1,7 +1,7 @@
 -- Requests of timer.device (RKM Devices, Introduction to Amiga System Devices; Devices, timer device). A request never was begun, is under way,
--- or is done: quick, or by a reply, which is the request itself, put at its reply port as a message. An address where no request begins is the
--- alert HANDLE; a request under way where it must not be, or not begun or not open where it must be, is the alert IO; one whose reply is queued
--- where it must not be, or the other way, is the alert LINK; a reply port that is not the caller's to wait at is the alert PORT (own choice).
+-- or is done: quick, or by a reply, which is the request itself, put at its reply port as a message. An address if no request begins is the
+-- alert HANDLE; a request under way if it must not be, or not begun or not open if it must be, is the alert IO; one whose reply is queued
+-- if it must not be, or the other way, is the alert LINK; a reply port that is not the caller's to wait at is the alert PORT (project rule).
 use Rattle.std.specs.Prelude.{ℕ, zero, suc, ℤ, pos, negsuc, ◌^◌, Bool, true, false, not, ◌&&◌, if◌then◌else◌, nat_eq, nat_lt, bytes_eq, length, map, unwrap_or, codes, List, [], Option, None, Some}
 use Rattle.std.specs.Int.{cast_unsigned, w32}
 use Rattle.exectrace.specs.Trace.{Timer}
@@ -30,18 +30,21 @@ use Rattle.timerdev.specs.Timing.{begins_to_wait, due_next, looked_at, system_se
 
 -- ---- requests in memory
 
+-- the object is a timer request
 abbrev pub is_request : Object → Bool
 is_request (Request content) = true
 is_request _ = false
 
--- a request begins at an address
+-- a request begins at an address (RKM Devices, Timer Device)
 unfoldable pub is_request_at : ℕ → Heap → Bool
 is_request_at address heap = is_kind is_request (object_at address heap)
 
+-- what a request holds, an idle one's for another object
 abbrev pub request_in : Object → TimerRequest
 request_in (Request content) = content
 request_in _ = idle_request 0
 
+-- what the request that begins at an address holds
 abbrev pub request_of_object : Option Object → TimerRequest
 request_of_object None = idle_request 0
 request_of_object (Some object) = request_in object
@@ -93,14 +96,16 @@ send_alert request heap = begin_alert (port_alert (request_of request heap).port
 unfoldable pub do_alert : ℕ → ℕ → Heap → Option (List ℕ)
 do_alert t request heap = begin_alert (wait_alert t (request_of request heap).port heap) request heap
 
--- the alert of WaitIO for task t by how far the request has come: it was begun; where it is under way, its reply port has to signal that task;
--- where it was replied, its reply is still queued
+-- the alert of WaitIO for task t by how far the request has come: it was begun; if it is under way, its reply port has to signal that task;
+-- if it was replied, its reply is still queued
 abbrev pub state_alert : ReqState → ℕ → ℕ → Heap → Option (List ℕ)
 state_alert Idle t request heap = Some (codes "IO")
 state_alert UnderWay t request heap = wait_alert t (request_of request heap).port heap
 state_alert Quick t request heap = None
 state_alert Replied t request heap = if is_queued request heap then None else Some (codes "LINK")
 
+-- the alerts of WaitIO: HANDLE; IO for a request that was never begun; LINK for one that was replied and whose reply is in no port; of one
+-- in progress the alert of WaitPort at its reply port
 unfoldable pub wait_io_alert : ℕ → ℕ → Heap → Option (List ℕ)
 wait_io_alert t request heap =
     if not (is_request_at request heap) then Some (codes "HANDLE")
@@ -113,21 +118,22 @@ abbrev pub where_port : Option ℕ → Heap → Option ℕ
 where_port None heap = None
 where_port (Some port) heap = if is_port_at port heap then Some port else None
 
--- the port where the reply of a request is put that finishes: none where it is done quick, nor where no port begins there
+-- the port if the reply of a request is put that finishes: none if it is done quick, nor if no port begins there (RKM Devices,
+-- quick I/O)
 unfoldable pub answering_port : ℕ → Heap → Option ℕ
 answering_port request heap = where_port (reply_port (request_of request heap)) heap
 
--- a request stands last in a port, if there is one
+-- a request is last in a port, if there is one
 abbrev pub appended_at : Option ℕ → ℕ → Heap → Heap
 appended_at None request heap = heap
 appended_at (Some port) request heap = appended port request heap
 
--- a request is done, with an error, and its reply is put
+-- a request is done, with an error, and its reply is put (autodoc AbortIO; RKM Devices, Timer Device)
 unfoldable pub finished_at : ℤ → ℕ → Heap → Heap
 finished_at error request heap =
     appended_at (answering_port request heap) request (with_request request (finished error (request_of request heap)) heap)
 
--- what is to be done where a reply arrives at a port, if there is one
+-- what is to be done if a reply arrives at a port, if there is one
 abbrev pub acting_at : Option ℕ → Heap → Action
 acting_at None heap = action.Nothing
 acting_at (Some port) heap = acting (port_of port heap)
@@ -142,7 +148,7 @@ unfoldable pub ended : ℤ → ℕ → Memory → Memory
 ended error request memory =
     record memory { heap = finished_at error request memory.heap; timer = waits_no_more request memory.timer }
 
--- the same of a state, where the port acts at which the reply arrives
+-- the same of a state, if the port acts at which the reply arrives
 abbrev pub ends_with : ℤ → ℕ → State → State
 ends_with error request s =
     performed (acting_at (answering_port request s.memory.heap) s.memory.heap) (on_memory (ended error request) s)
@@ -167,7 +173,7 @@ timer_begun (Until at) request timer = begins_to_wait request (AtSystem at) time
 timer_begun (Finish error) request timer = timer
 timer_begun (NewTime time) request timer = system_set time timer
 
--- how a request goes on that is begun now
+-- how a request goes on that is begun now (autodocs DoIO and SendIO)
 abbrev pub outcome_at : ℕ → Memory → Begun
 outcome_at request memory = outcome memory.timer.clock memory.timer.system (request_of request memory.heap)
 
@@ -178,13 +184,14 @@ begun_at quick request memory = record memory {
   timer = timer_begun (outcome_at request memory) request memory.timer;
 }
 
--- the port where the reply of a request is put that is begun so, if it is done at once
+-- the port if the reply of a request is put that is begun so, if it is done at once
 abbrev pub answering_begun : Begun → Bool → ℕ → ℕ → Heap → Option ℕ
 answering_begun (Queue due) quick system request heap = None
 answering_begun (Until at) quick system request heap = None
 answering_begun (Finish error) quick system request heap = answering_port request (under_way quick system request heap)
 answering_begun (NewTime time) quick system request heap = answering_port request (under_way quick system request heap)
 
+-- the port to which the reply of a request that is begun now is put at once: none if it is done quick or waits
 unfoldable pub replying_port : Bool → ℕ → Memory → Option ℕ
 replying_port quick request memory = answering_begun (outcome_at request memory) quick memory.timer.system request memory.heap
 
@@ -195,7 +202,7 @@ abbrev pub request_size : ℕ
 request_size = 40
 
 -- CreateIORequest port: answers the address of a new request with that reply port, or 0; 0 for port 0 (autodoc exec.library/CreateIORequest; the
--- alert: own choice)
+-- alert: project rule)
 unfoldable pub does_create_io_request : ℕ → Call → State → Outcome
 does_create_io_request t call s =
     let port = argument 0 call in
@@ -203,7 +210,7 @@ does_create_io_request t call s =
     else unless (port_alert port s.memory.heap) t call
     (λ s. makes_object t call is_request request_size (Request (idle_request port)) (on_memory (after_asking_for_object is_request request_size) s)) s
 
--- DeleteIORequest request: the request is freed; 0 does nothing (autodoc exec.library/DeleteIORequest; the alerts: own choice)
+-- DeleteIORequest request: the request is freed; 0 does nothing (autodoc exec.library/DeleteIORequest; the alerts: project rule)
 unfoldable pub does_delete_io_request : ℕ → Call → State → Outcome
 does_delete_io_request t call s =
     let request = argument 0 call in
@@ -212,7 +219,7 @@ does_delete_io_request t call s =
 
 -- ---- opening and writing
 
--- the unit of the timer that is meant, none where another device is
+-- the unit of the timer that is meant, none if another device is (autodocs OpenDevice and CloseDevice)
 abbrev pub timer_unit : List ℕ → ℕ → Option ℕ
 timer_unit name unit = if bytes_eq name (codes "timer.device") then Some unit else None
 
@@ -222,8 +229,8 @@ opened_for unit request heap =
     with_request request
     (record (request_of request heap) { unit = if is_unit unit then unit else None; error = unit_error unit }) heap
 
--- OpenDevice name unit request: opens the request for a unit of timer.device; answers 0, or IOERR_OPENFAIL where there is no such device or unit,
--- and the request is then not open. Its error is the answer (autodoc exec.library/OpenDevice; the alerts: own choice).
+-- OpenDevice name unit request: opens the request for a unit of timer.device; answers 0, or IOERR_OPENFAIL if there is no such device or unit,
+-- and the request is then not open. Its error is the answer (autodoc exec.library/OpenDevice; the alerts: project rule).
 unfoldable pub does_open_device : ℕ → Call → State → Outcome
 does_open_device t call s =
     let unit = timer_unit (unwrap_or (name_argument 0 call) []) (argument 1 call) in
@@ -235,7 +242,7 @@ does_open_device t call s =
 unfoldable pub closed_device : ℕ → Heap → Heap
 closed_device request heap = with_request request (record (request_of request heap) { unit = None }) heap
 
--- CloseDevice request: the request is not open (autodoc exec.library/CloseDevice; the alerts: own choice)
+-- CloseDevice request: the request is not open (autodoc exec.library/CloseDevice; the alerts: project rule)
 unfoldable pub does_close_device : ℕ → Call → State → Outcome
 does_close_device t call s =
     let request = argument 0 call in
@@ -258,7 +265,7 @@ set_io_alert command request heap =
     else (if is_under_way (request_of request heap) then Some (codes "IO") else None))
 
 -- SetIO request cmd secs micros: the request gets that command and that time (RKM Devices, Introduction to Amiga System Devices: io_Command;
--- Devices, timer device: tr_time; that there is a call for it, and the alerts: own choice)
+-- Devices, timer device: tr_time; that there is a call for it, and the alerts: project rule)
 unfoldable pub does_set_io : ℕ → Call → State → Outcome
 does_set_io t call s =
     let request = argument 0 call in
@@ -268,7 +275,7 @@ does_set_io t call s =
 
 -- ---- beginning and waiting: calls
 
--- SendIO request: the request begins, with its quick bit cleared (autodoc exec.library/SendIO; the alerts: own choice)
+-- SendIO request: the request begins, with its quick bit cleared (autodoc exec.library/SendIO; the alerts: project rule)
 unfoldable pub does_send_io : ℕ → Call → State → Outcome
 does_send_io t call s =
     let request = argument 0 call in
@@ -288,8 +295,8 @@ reply_taken request heap =
     let port = (request_of request heap).port in
     with_port port (port_of port heap) (without request (messages_of port heap)) heap
 
--- A task looks for a request by how far that has come. Where it is under way, the task waits for the signal of its reply port that comes from now
--- on; else it answers the error, and takes the reply, if there is one.
+-- A task looks for a request by how far that has come. If it is under way, the task waits for the signal of its reply port that comes
+-- from now on; else it answers the error, and takes the reply, if there is one. (autodoc WaitIO)
 abbrev pub looks_for : ReqState → ℕ → ℕ → Call → State → Outcome
 looks_for Idle request t call s = answered t call (error_word request s.memory.heap) s
 looks_for UnderWay request t call s =
@@ -300,9 +307,9 @@ looks_for Replied request t call s =
     leaving (out (request_of request s.memory.heap).port request)
     (answered t call (error_word request s.memory.heap) (on_memory (on_heap (reply_taken request)) s))
 
--- WaitIO request: answers the error of a request that is done, and takes its reply, if it has one; where it is under way, the task waits for the
+-- WaitIO request: answers the error of a request that is done, and takes its reply, if it has one; if it is under way, the task waits for the
 -- signal of its reply port, and looks again when it next runs, after the signal that it waited for is cleared (autodoc exec.library/WaitIO; how a
--- task waits and looks again, and the alerts: own choice)
+-- task waits and looks again, and the alerts: project rule)
 unfoldable pub does_wait_io : ℕ → Call → State → Outcome
 does_wait_io t call s =
     let request = argument 0 call in
@@ -315,29 +322,29 @@ begins_and_looks request t call s =
     let next = on_memory (begun_at true request) s in
     looks_for (request_of request next.memory.heap).state request t call next
 
--- DoIO request: the request begins, with its quick bit set. Where that does it at once, its error is answered; else the task waits for it as by
--- WaitIO. The call of a task that has waited begins nothing: it is WaitIO's (autodoc exec.library/DoIO; the alerts: own choice).
+-- DoIO request: the request begins, with its quick bit set. If that does it at once, its error is answered; else the task waits for it as by
+-- WaitIO. The call of a task that has waited begins nothing: it is WaitIO's (autodoc exec.library/DoIO; the alerts: project rule).
 unfoldable pub does_do_io : ℕ → Call → State → Outcome
 does_do_io t call s =
     let request = argument 0 call in
     if is_tried_again t s.scripts then does_wait_io t call s
     else unless (do_alert t request s.memory.heap) t call (begins_and_looks request t call) s
 
--- CheckIO request: answers 0 for a request that is under way, and else the request, and leaves its reply where it is
--- (autodoc exec.library/CheckIO; the alert: own choice)
+-- CheckIO request: answers 0 for a request that is under way, and else the request, and leaves its reply if it is
+-- (autodoc exec.library/CheckIO; the alert: project rule)
 unfoldable pub does_check_io : ℕ → Call → State → Outcome
 does_check_io t call s =
     let request = argument 0 call in
     unless (request_alert request s.memory.heap) t call
     (λ s. answered t call (if is_under_way (request_of request s.memory.heap) then 0 else request) s) s
 
--- a request that is under way is done with IOERR_ABORTED, and 0 is answered; for any other -1 (own choice)
+-- a request that is under way is done with IOERR_ABORTED, and 0 is answered; for any other -1 (project rule)
 abbrev pub aborts : Bool → ℕ → ℕ → Call → State → Outcome
 aborts true request t call s =
     with_reply (answering_port request s.memory.heap) request (answered t call 0 (ends_with (negsuc 1) request s))
 aborts false request t call s = answered t call 0xffffffff s
 
--- AbortIO request: a request that is under way is replied at once (autodoc exec.library/AbortIO; the alert: own choice)
+-- AbortIO request: a request that is under way is replied at once (autodoc exec.library/AbortIO; the alert: project rule)
 unfoldable pub does_abort_io : ℕ → Call → State → Outcome
 does_abort_io t call s =
     let request = argument 0 call in
@@ -352,24 +359,26 @@ tells part t call s =
     let request = argument 0 call in
     unless (request_alert request s.memory.heap) t call (λ s. answered t call (part (request_of request s.memory.heap)) s) s
 
--- IOSecs request, IOMicros request: answer its time (Devices, timer device: tr_time; that there are calls for it: own choice)
+-- IOSecs answers the seconds of the request's time (Devices, timer device: tr_time; that there are calls for it: project rule)
 unfoldable pub does_io_secs : ℕ → Call → State → Outcome
 does_io_secs t call s = tells (λ (q : TimerRequest). q.secs) t call s
 
+-- IOMicros answers the microseconds of the request's time
 unfoldable pub does_io_micros : ℕ → Call → State → Outcome
 does_io_micros t call s = tells (λ (q : TimerRequest). q.micros) t call s
 
--- IOError request: answers its error, as a word (RKM Devices, Introduction to Amiga System Devices: io_Error; that there is a call for it: own choice)
+-- IOError request: answers its error, as a word (RKM Devices, Introduction to Amiga System Devices: io_Error; that there is a call for it: project rule)
 unfoldable pub does_io_error : ℕ → Call → State → Outcome
 does_io_error t call s = tells (λ (q : TimerRequest). cast_unsigned w32 q.error) t call s
 
--- IOFlags request: answers 1 where IOF_QUICK is set, and else 0 (RKM Devices, Introduction to Amiga System Devices: io_Flags; that there is a call
--- for it: own choice)
+-- IOFlags request: answers 1 if IOF_QUICK is set, and else 0 (RKM Devices, Introduction to Amiga System Devices: io_Flags; that there is a call
+-- for it: project rule)
 unfoldable pub does_io_flags : ℕ → Call → State → Outcome
 does_io_flags t call s = tells (λ (q : TimerRequest). if q.quick then 1 else 0) t call s
 
 -- ---- the words of this group
 
+-- a word on requests of a task
 abbrev pub does_requests : RequestWord → ℕ → Call → State → Outcome
 does_requests word.CreateIORequest t call s = does_create_io_request t call s
 does_requests word.DeleteIORequest t call s = does_delete_io_request t call s
@@ -393,27 +402,27 @@ unfoldable pub finishes : ℕ → State → Outcome
 finishes request s =
     with_reply (answering_port request s.memory.heap) request (says (Timer request) (ends_with (pos 0) request s))
 
--- so many requests finish, one after another, while there is one that does so next
+-- that many requests finish, one after another, while there is one that does so next
 unfoldable pub finishes_each : (Clock → Option ℕ) → ℕ → State → Outcome
 finishes_each next zero s = quiet s
 finishes_each next (suc n) s =
     elim (next s.memory.timer) as (λ (x : Option ℕ). Outcome)
     [ None ↦ quiet s | Some request ↦ andthen (finishes request) (finishes_each next n) s ]
 
--- so many of those whose time has come
+-- that many of those whose time has come
 abbrev pub finishes_due : ℕ → State → Outcome
 finishes_due n s = finishes_each due_next n s
 
--- so many of those that wait for system time and whose time has come
+-- that many of those that wait for system time and whose time has come
 abbrev pub finishes_until : ℕ → State → Outcome
 finishes_until n s = finishes_each until_next n s
 
--- all requests whose time has come finish: by the moment when it came, and those of one moment in the order in which they were begun
+-- all requests whose time has come finish: by the due time when it came, and those of one due time in the order in which they were begun
 unfoldable pub finishes_all_due : State → Outcome
 finishes_all_due s = finishes_due (length s.memory.timer.waiting) s
 
--- What follows a call on requests: where it set system time, all requests finish that wait for system time and whose time has come. Those
--- that wait for the clock are not looked at (autodoc timer.device/TR_SETSYSTIME; that this is at once, and after the call's line: own choice).
+-- What follows a call on requests: if it set system time, all requests finish that wait for system time and whose time has come. Those
+-- that wait for the clock are not looked at (autodoc timer.device/TR_SETSYSTIME; that this is at once, and after the call's line: project rule).
 unfoldable pub finishes_set : State → Outcome
 finishes_set s =
     if s.memory.timer.is_set then finishes_until (length s.memory.timer.waiting) (on_memory (on_timer looked_at) s) else quiet s

@@ -1,4 +1,4 @@
--- Whole traces of small machines for rules that no law of every run tells: how long a quantum lasts, who stands behind its equals, which
+-- Whole traces of small machines for rules that no law of every run reports: how long a quantum lasts, who is after its equals, which
 -- signals a Wait takes, how often an owner has to release, and that each word which takes memory asks for it.
 use Rattle.std.specs.Prelude.{◌≡◌, pos, List, [], ◌∷◌, codes}
 use Rattle.taskscript.specs.declared.word.Word.TheVariants.{Signals, Tasks, Lists, Ports, Semaphores, Libraries, Requests}
@@ -30,7 +30,7 @@ AQuantumLastsItsServings =
 
 -- ---- priorities
 
--- The task that runs goes on when it is given the priority that it has; a ready one then stands behind its equals.
+-- The task that runs goes on when it is given the priority that it has; a ready one then is after its equals.
 abbrev pub AReadyTaskArrivesAnew : Type 0
 AReadyTaskArrivesAnew =
     trace
@@ -85,7 +85,7 @@ beside_a_port code =
 abbrev pub in_its_place : (making freeing : CommandData) → List CommandData → List CommandData
 in_its_place making freeing others = opens_into 1 (codes "x") ∷ of_library 1 CloseLibrary ∷ making ∷ freeing ∷ others
 
--- Each word that takes memory makes a library give way which is not open, and what an object took is free after it.
+-- Each word that takes memory makes a library are expunged under low memory which is not open, and what an object took is free after it.
 abbrev pub EachWordAsksForItsMemory : Type 0
 EachWordAsksForItsMemory =
     trace

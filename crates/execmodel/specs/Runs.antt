@@ -65,7 +65,7 @@ beside first second = task (codes "a") (pos 0) first ∷ task (codes "b") (negsu
 abbrev pub bare : MachineData
 bare = record { version = 1; quantum = 4; tick_micros = 20000; pool = 64; regions = []; libraries = []; softints = []; servers = []; tasks = [] }
 
--- so many bytes of public memory
+-- that many bytes of public memory
 abbrev pub room : ℕ → List Region
 room size = record { base = 4096; size = size; attrs = 1; pri = pos 0 } ∷ []
 
@@ -86,7 +86,7 @@ marks machine list = (run machine list).marks
 abbrev pub makes : CommandData
 makes = into_shared 0 (Semaphores NewSem) []
 
--- a word with the semaphore whose address stands in the first shared variable
+-- a word with the semaphore whose address is in the first shared variable
 abbrev pub its : SemaphoreWord → CommandData
 its word = command (Semaphores word) (variable (Shared 0) ∷ [])
 
@@ -146,7 +146,7 @@ is_preempted_among_equals =
     ∷ task (codes "b") (pos 0) (command (Plain Print) (number 2 ∷ []) ∷ [])
     ∷ task (codes "c") (pos 1) (command (Signals Wait) (number 0x1000 ∷ []) ∷ []) ∷ []
 
--- the mask of a Wait stands in a shared variable, which another task changes while the Wait waits
+-- the mask of a Wait is in a shared variable, which another task changes while the Wait waits
 abbrev pub waits_for_what_was_asked : List TaskData
 waits_for_what_was_asked =
     task (codes "a") (pos 1)
@@ -535,7 +535,7 @@ AnOpeningTakesARemovalBack =
     (Run 7 ∷ [])
     ≡ codes "switch a\na OpenLibrary \"x.library\" $00000000 -> $00001000\na RemLibrary $00001000\na OpenLibrary \"x.library\" $00000000 -> $00001000\na CloseLibrary $00001000\na CloseLibrary $00001000\na LibOpenCnt $00001000 -> $00000000\nalert LIB a CloseLibrary\n"
 
--- so many bytes of public memory, and two libraries that take 16 bytes each
+-- that many bytes of public memory, and two libraries that take 16 bytes each
 abbrev pub with_two_libraries : ℕ → List CommandData → MachineData
 with_two_libraries size code =
     record bare {
@@ -544,7 +544,7 @@ with_two_libraries size code =
       tasks = alone code;
     }
 
--- the same machine in version 2 of the rules, in which libraries give way
+-- the same machine in version 2 of the rules, in which libraries are expunged under low memory
 abbrev pub in_version_two : MachineData → MachineData
 in_version_two machine = record machine { version = 2 }
 
@@ -556,7 +556,7 @@ opens_into k name = into k (Libraries OpenLibrary) (quoted name ∷ number 0 ∷
 abbrev pub of_library : ℕ → LibraryWord → CommandData
 of_library k word = command (Libraries word) (variable (Private k) ∷ [])
 
--- so many bytes of public memory
+-- that many bytes of public memory
 abbrev pub takes : ℕ → CommandData
 takes size = command (Memory AllocMem) (number size ∷ number 1 ∷ [])
 
@@ -775,7 +775,7 @@ ASettingWakesATask =
     (Run 11 ∷ [])
     ≡ codes "switch a\na CreateMsgPort -> $00001000\na CreateIORequest $00001000 -> $00001028\na OpenDevice \"timer.device\" $00000003 $00001028 -> $00000000\na SetIO $00001028 $00000009 $00000000 $000F1B30\na DoIO $00001028 waits\nswitch b\nb CreateMsgPort -> $00001050\nb CreateIORequest $00001050 -> $00001078\nb OpenDevice \"timer.device\" $00000000 $00001078 -> $00000000\nb SetIO $00001078 $0000000B $00000000 $000F1B30\nb DoIO $00001078 -> $00000000\ntimer $00001028\nswitch a\na DoIO $00001028 -> $00000000\n"
 
--- two requests wait for system time, the one that was begun later for the sooner one; the third one sets it to just the later
+-- two requests wait for system time, the one that was begun later for the sooner one; the third one sets it to exactly the later
 abbrev pub sets_past_both : MachineData
 sets_past_both =
     with_timer
@@ -811,7 +811,7 @@ ASettingBackFinishesNothing =
     (Run 7 ∷ Tick 2 ∷ Run 5 ∷ Tick 2 ∷ [])
     ≡ codes "switch a\na CreateMsgPort -> $00001000\na CreateIORequest $00001000 -> $00001028\na CreateIORequest $00001000 -> $00001050\na OpenDevice \"timer.device\" $00000003 $00001028 -> $00000000\na OpenDevice \"timer.device\" $00000001 $00001050 -> $00000000\na SetIO $00001028 $00000009 $00000000 $0000C350\na SetIO $00001050 $0000000B $00000000 $00002710\nserve VERTB\nserve VERTB\na SendIO $00001028\na DoIO $00001050 -> $00000000\na SetIO $00001050 $0000000A $00000000 $00000000\na DoIO $00001050 -> $00000000\na IOMicros $00001050 -> $00002710\nserve VERTB\nserve VERTB\ntimer $00001028\n"
 
--- System time is ahead by 100000: the first three come at one moment of the clock, 20000, and the one that was begun last at 15000.
+-- System time is ahead by 100000: the first three come at one due time of the clock, 20000, and the one that was begun last at 15000.
 abbrev pub RequestsOfOneMomentFinishInTheOrderOfBeginning : Type 0
 RequestsOfOneMomentFinishInTheOrderOfBeginning =
     trace

@@ -1,6 +1,6 @@
 -- Signal semaphores (RKM Libraries, Exec Semaphores). A semaphore has an owner or none, how often the owner has to release it, and the tasks
--- that wait for it, in order of request. An address where no semaphore begins is the alert HANDLE; a semaphore that is owned where it must
--- not be, or not owned by the caller, or obtained too often is the alert SEM (own choice).
+-- that wait for it, in order of request. An address if no semaphore begins is the alert HANDLE; a semaphore that is owned if it must
+-- not be, or not owned by the caller, or obtained too often is the alert SEM (project rule).
 use Rattle.std.specs.Prelude.{ℕ, ◌==◌, Bool, true, false, not, if◌then◌else◌, is_some, drop, find, map, codes, List, [], ◌∷◌, ◌++◌, Option, None, Some}
 use Rattle.std.specs.List.{list_any}
 use Rattle.std.specs.Option.{option_map}
@@ -22,6 +22,7 @@ use Rattle.execmodel.specs.Objects.{object_at, is_kind, replaced}
 
 -- ---- semaphores in memory
 
+-- the object is a semaphore
 abbrev pub is_semaphore : Object → Bool
 is_semaphore (Semaphore sem waiters) = true
 is_semaphore _ = false
@@ -30,22 +31,26 @@ is_semaphore _ = false
 unfoldable pub is_semaphore_at : ℕ → Heap → Bool
 is_semaphore_at address heap = is_kind is_semaphore (object_at address heap)
 
+-- the owner and the count of a semaphore, those of a free one for another object
 abbrev pub sem_in : Object → Sem
 sem_in (Semaphore sem waiters) = sem
 sem_in _ = free_sem
 
+-- the owner and the count of what begins at an address
 abbrev pub sem_of_object : Option Object → Sem
 sem_of_object None = free_sem
 sem_of_object (Some object) = sem_in object
 
--- the owner, if there is one, and the count of the semaphore that begins at an address
+-- the owner, if there is one, and the count of the semaphore that begins at an address (RKM Libraries, Exec Semaphores)
 unfoldable pub sem_of : ℕ → Heap → Sem
 sem_of semaphore heap = sem_of_object (object_at semaphore heap)
 
+-- the tasks that wait for a semaphore, none for another object
 abbrev pub waiters_in : Object → List ℕ
 waiters_in (Semaphore sem waiters) = waiters
 waiters_in _ = []
 
+-- the tasks that wait for what begins at an address
 abbrev pub waiters_of_object : Option Object → List ℕ
 waiters_of_object None = []
 waiters_of_object (Some object) = waiters_in object
@@ -64,12 +69,13 @@ semaphore_alert semaphore heap = if not (is_semaphore_at semaphore heap) then So
 
 -- ---- owners
 
--- the task owns the semaphore, and has to release it once more than before
+-- the task owns the semaphore, and has to release it once more than before (autodoc ObtainSemaphore)
 unfoldable pub entered : ℕ → ℕ → Heap → Heap
 entered semaphore t heap = with_semaphore semaphore (once_more t (sem_of semaphore heap)) (waiters_of semaphore heap) heap
 
 -- ---- waiting tasks
 
+-- a task waits for a semaphore no more; another object stays as it is
 abbrev pub left_by_task : ℕ → Object → Object
 left_by_task t (Semaphore sem waiters) = Semaphore sem (without t waiters)
 left_by_task t object = object
@@ -78,7 +84,7 @@ left_by_task t object = object
 unfoldable pub dropped : ℕ → Heap → Heap
 dropped t heap = map (λ (entry : ℕ × Block). (entry.0, record entry.1 { object = left_by_task t entry.1.object })) heap
 
--- task t waits for the semaphore, behind those that wait there
+-- task t waits for the semaphore, after those that wait there (autodoc ObtainSemaphore)
 unfoldable pub queued : ℕ → ℕ → Heap → Heap
 queued semaphore t heap = with_semaphore semaphore (sem_of semaphore heap) (waiters_of semaphore heap ++ t ∷ []) heap
 
@@ -102,7 +108,7 @@ abbrev pub semaphore_size : ℕ
 semaphore_size = 46
 
 -- NewSem: answers the address of a new semaphore, which no task owns, or 0 (autodoc exec.library/InitSemaphore; that it takes the memory:
--- own choice)
+-- project rule)
 unfoldable pub does_new_sem : ℕ → Call → State → Outcome
 does_new_sem t call s =
     makes_object t call is_semaphore semaphore_size (Semaphore free_sem []) (on_memory (after_asking_for_object is_semaphore semaphore_size) s)
@@ -113,7 +119,7 @@ free_sem_alert semaphore heap =
     if not (is_semaphore_at semaphore heap) then Some (codes "HANDLE")
     else (if is_owned (sem_of semaphore heap) then Some (codes "SEM") else None)
 
--- FreeSem semaphore: a semaphore that no task owns is freed (own choice)
+-- FreeSem semaphore: a semaphore that no task owns is freed (project rule)
 unfoldable pub does_free_sem : ℕ → Call → State → Outcome
 does_free_sem t call s =
     let semaphore = argument 0 call in
@@ -121,17 +127,17 @@ does_free_sem t call s =
 
 -- ---- obtaining
 
--- the alert of a call by which task t asks for a semaphore: where it owns it, the count must not go past 32767
+-- the alert of a call by which task t asks for a semaphore: if it owns it, the count must not go past 32767
 unfoldable pub obtain_alert : ℕ → ℕ → Heap → Option (List ℕ)
 obtain_alert t semaphore heap =
     if not (is_semaphore_at semaphore heap) then Some (codes "HANDLE")
     else (if is_too_deep t (sem_of semaphore heap) then Some (codes "SEM") else None)
 
--- the semaphore is the task's at once, or the task waits for it
+-- the semaphore is the task's at once, or the task waits for it (autodocs ObtainSemaphore and AttemptSemaphore)
 unfoldable pub obtained : ℕ → ℕ → Heap → Heap
 obtained semaphore t heap = if is_open t (sem_of semaphore heap) then entered semaphore t heap else queued semaphore t heap
 
--- a task that owns the semaphore goes on, and one that does not waits
+-- a task that owns the semaphore goes on, and one that does not waits (autodoc ObtainSemaphore)
 abbrev pub obtains : Obtained → ℕ → ℕ → Call → State → Outcome
 obtains Owner semaphore t call s = done t call s
 obtains Waits semaphore t call s = leaving (asked semaphore t) (waiting t call (on_schedule (waits_at_semaphore t) s))
@@ -140,9 +146,9 @@ obtains Waits semaphore t call s = leaving (asked semaphore t) (waiting t call (
 abbrev pub is_tried_again : ℕ → Scripts → Bool
 is_tried_again t scripts = is_some (program_of scripts t).kept
 
--- ObtainSemaphore semaphore: a free semaphore is the task's, with the count 1; the owner's count is one more; any other task waits, behind
+-- ObtainSemaphore semaphore: a free semaphore is the task's, with the count 1; the owner's count is one more; any other task waits, after
 -- those that asked before. The call of a task that has waited is complete, and checks nothing: a release has made the task the owner
--- (autodoc exec.library/ObtainSemaphore; the alerts: own choice).
+-- (autodoc exec.library/ObtainSemaphore; the alerts: project rule).
 unfoldable pub does_obtain_semaphore : ℕ → Call → State → Outcome
 does_obtain_semaphore t call s =
     let semaphore = argument 0 call in
@@ -154,8 +160,8 @@ does_obtain_semaphore t call s =
 unfoldable pub attempted : ℕ → ℕ → Heap → Heap
 attempted semaphore t heap = if is_open t (sem_of semaphore heap) then entered semaphore t heap else heap
 
--- AttemptSemaphore semaphore: where ObtainSemaphore would make the task the owner this does the same and answers 1; where the task would
--- have to wait, nothing changes and the answer is 0 (autodoc exec.library/AttemptSemaphore; the alerts: own choice)
+-- AttemptSemaphore semaphore: if ObtainSemaphore would make the task the owner this does the same and answers 1; if the task would
+-- have to wait, nothing changes and the answer is 0 (autodoc exec.library/AttemptSemaphore; the alerts: project rule)
 unfoldable pub does_attempt_semaphore : ℕ → Call → State → Outcome
 does_attempt_semaphore t call s =
     let semaphore = argument 0 call in
@@ -170,11 +176,11 @@ release_alert t semaphore heap =
     if not (is_semaphore_at semaphore heap) then Some (codes "HANDLE")
     else (if is_owner t (sem_of semaphore heap) then None else Some (codes "SEM"))
 
--- the task that a release makes the owner: the last release the first one that waits, and else none
+-- the task that a release makes the owner: the last release the first one that waits, and else none (autodoc ReleaseSemaphore)
 unfoldable pub heir : ℕ → Heap → Option ℕ
 heir semaphore heap = if is_last (sem_of semaphore heap) then first (waiters_of semaphore heap) else None
 
--- the semaphore is the first waiter's, which waits no more, or is owned by no task where none waits
+-- the semaphore is the first waiter's, which waits no more, or is owned by no task if none waits
 unfoldable pub handed_on : ℕ → Heap → Heap
 handed_on semaphore heap =
     with_semaphore semaphore (owned_next (first (waiters_of semaphore heap))) (drop 1 (waiters_of semaphore heap)) heap
@@ -183,18 +189,18 @@ handed_on semaphore heap =
 unfoldable pub released_once : ℕ → Heap → Heap
 released_once semaphore heap = with_semaphore semaphore (once_less (sem_of semaphore heap)) (waiters_of semaphore heap) heap
 
--- the last release hands the semaphore on
+-- the last release hands the semaphore on (autodoc ReleaseSemaphore)
 unfoldable pub released : ℕ → Heap → Heap
 released semaphore heap = if is_last (sem_of semaphore heap) then handed_on semaphore heap else released_once semaphore heap
 
--- the new owner, if there is one, becomes ready
+-- the new owner, if there is one, becomes ready (autodoc ReleaseSemaphore)
 abbrev pub passes : Option ℕ → ℕ → ℕ → Call → State → Outcome
 passes None semaphore t call s = done t call s
 passes (Some owner) semaphore t call s = leaving (passed semaphore owner) (done t call (on_schedule (arrives by_arrival owner) s))
 
 -- ReleaseSemaphore semaphore: the owner has to release the semaphore once less. The last release hands it on: the first of the tasks that
--- wait there is the owner with the count 1, and ready; where none waits, no task owns it (autodoc exec.library/ReleaseSemaphore; the
--- alerts: own choice).
+-- wait there is the owner with the count 1, and ready; if none waits, no task owns it (autodoc exec.library/ReleaseSemaphore; the
+-- alerts: project rule).
 unfoldable pub does_release_semaphore : ℕ → Call → State → Outcome
 does_release_semaphore t call s =
     let semaphore = argument 0 call in
@@ -203,6 +209,7 @@ does_release_semaphore t call s =
 
 -- ---- the words of this group
 
+-- a word on semaphores of a task
 abbrev pub does_semaphores : SemaphoreWord → ℕ → Call → State → Outcome
 does_semaphores word.NewSem t call s = does_new_sem t call s
 does_semaphores word.FreeSem t call s = does_free_sem t call s

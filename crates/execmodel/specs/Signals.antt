@@ -14,7 +14,7 @@ use Rattle.execmodel.specs.Calls.{Caller, ByTask, argument, done, done_by, answe
 abbrev pub is_task : ℕ → Scripts → Bool
 is_task number scripts = nat_lt 0 number && nat_le number (length scripts.programs)
 
--- a mask of signals that scripts may name: 12 to 31, and not those that Exec itself uses (own choice)
+-- a mask of signals that scripts may name: 12 to 31, and not those that Exec itself uses (project rule)
 abbrev pub is_mask : ℕ → Bool
 is_mask mask = nat_eq (bit_and mask 0xfff) 0
 
@@ -24,8 +24,8 @@ mask_alert mask = if not (is_mask mask) then Some (codes "MASK") else None
 
 -- ---- allocating signals
 
--- AllocSignal a: a signal from 16 to 31, or for -1 the highest free one, is allocated and cleared, and its number answered; -1 where it
--- is not to be had (autodoc exec.library/AllocSignal; the highest one, and -1 for other numbers: own choice)
+-- AllocSignal a: a signal from 16 to 31, or for -1 the highest free one, is allocated and cleared, and its number answered; -1 if it
+-- is not to be had (autodoc exec.library/AllocSignal; the highest one, and -1 for other numbers: project rule)
 unfoldable pub does_alloc_signal : ℕ → Call → State → Outcome
 does_alloc_signal t call s =
     let n = cast_signed w32 (argument 0 call) in
@@ -35,7 +35,7 @@ does_alloc_signal t call s =
 abbrev pub free_signal_alert : ℕ → Option (List ℕ)
 free_signal_alert n = if not (is_own_signal n) then Some (codes "MASK") else None
 
--- FreeSignal a: the signal is not allocated any more; -1 does nothing (autodoc exec.library/FreeSignal; the alert: own choice)
+-- FreeSignal a: the signal is not allocated any more; -1 does nothing (autodoc exec.library/FreeSignal; the alert: project rule)
 unfoldable pub does_free_signal : ℕ → Call → State → Outcome
 does_free_signal t call s =
     let n = argument 0 call in
@@ -43,7 +43,7 @@ does_free_signal t call s =
     else unless (free_signal_alert n) t call (λ s. done t call (on_schedule (frees t n) s)) s
 
 -- SetSignal new mask: answers the received signals; those of the mask become as in new (autodoc exec.library/SetSignal; the alert:
--- own choice)
+-- project rule)
 unfoldable pub does_set_signal : ℕ → Call → State → Outcome
 does_set_signal t call s =
     let new = argument 0 call in
@@ -57,7 +57,7 @@ does_set_signal t call s =
 abbrev pub signal_alert : ℕ → ℕ → Scripts → Option (List ℕ)
 signal_alert number mask scripts = if not (is_task number scripts) then Some (codes "HANDLE") else mask_alert mask
 
--- Signal t mask: the task of that number receives the signals of the mask (autodoc exec.library/Signal; the alerts: own choice)
+-- Signal t mask: the task of that number receives the signals of the mask (autodoc exec.library/Signal; the alerts: project rule)
 abbrev pub does_signal_by : Caller → Call → State → Outcome
 does_signal_by c call s =
     let other = argument 0 call in
@@ -65,6 +65,7 @@ does_signal_by c call s =
     unless_by (signal_alert other mask s.scripts) c call
     (λ s. done_by c call (on_schedule (signalled by_arrival (other - 1) mask) s)) s
 
+-- Signal of a task (autodoc Signal)
 unfoldable pub does_signal : ℕ → Call → State → Outcome
 does_signal t call s = does_signal_by (ByTask t) call s
 
@@ -73,8 +74,8 @@ abbrev pub waited : ℕ → Call → Option ℕ → State → Outcome
 waited t call None s = waiting t call s
 waited t call (Some signals) s = answered t call signals s
 
--- Wait mask: answers the signals of the mask that were received, and they leave; where there are none, the task waits for them
--- and tries again when it next runs (autodoc exec.library/Wait; the retry, and the alert: own choice)
+-- Wait mask: answers the signals of the mask that were received, and they leave; if there are none, the task waits for them
+-- and tries again when it next runs (autodoc exec.library/Wait; the retry, and the alert: project rule)
 unfoldable pub does_wait : ℕ → Call → State → Outcome
 does_wait t call s =
     let mask = argument 0 call in
@@ -83,6 +84,7 @@ does_wait t call s =
 
 -- ---- the words of this group
 
+-- a word on signals of a task
 abbrev pub does_signals : SignalWord → ℕ → Call → State → Outcome
 does_signals word.AllocSignal t call s = does_alloc_signal t call s
 does_signals word.FreeSignal t call s = does_free_signal t call s

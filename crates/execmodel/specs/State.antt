@@ -12,7 +12,7 @@ use Rattle.softint.specs.declared.latches.Latches.{Latches}
 use Rattle.timerdev.specs.Timing.{new_timer}
 pub use Rattle.execmodel.specs.Blocks.{Object, Plain, ListHead, Node, MsgPort, Message, Semaphore, Library, Request, Block, Heap, PublicPort, Due, AtClock, AtSystem, Waiting, Timer, Memory, on_heap, on_timer}
 
--- a command of a task with the values that its arguments had when it was first tried, and the place of the command after it; and, where
+-- a command of a task with the values that its arguments had when it was first tried, and the place of the command after it; and, if
 -- the task waits in it at a port, the signals that it waits for, else 0
 pub record Call : Type 0 where
   pub word : Word
@@ -35,17 +35,19 @@ pub record Scripts : Type 0 where
   pub programs : List Program
   pub shared : List ℕ
 
--- what the software interrupts and the servers of all sources execute, both in the order of the file; nothing changes it
+-- what the software interrupts and the servers of all sources execute, both in the order of the file; nothing changes it (RKM Libraries,
+-- Exec Interrupts)
 pub record Bodies : Type 0 where
   pub softints : List SoftintData
   pub servers : List ServerData
 
 -- the interrupts that are pending: the software interrupts that are caused, by number from 0, in order of arrival; and the latches, which
--- tell the sources that ask to be served
+-- say the sources that ask to be served (RKM Libraries, Exec Interrupts)
 pub record Pending : Type 0 where
   pub caused : List ℕ
   pub latches : Latches
 
+-- the abstract machine at one time
 pub record State : Type 0 where
   -- the tasks' names, priorities, states and signals, the ready sequence, and the running task
   pub schedule : Schedule
@@ -102,6 +104,7 @@ unless_stopped next s = if s.stopped then quiet s else next s
 
 -- ---- parts of a state
 
+-- the program that is read at a number that no task has
 abbrev pub no_program : Program
 no_program = record { code = []; place = 0; variables = []; kept = None; starts = false }
 
@@ -109,28 +112,33 @@ no_program = record { code = []; place = 0; variables = []; kept = None; starts 
 abbrev pub program_of : Scripts → ℕ → Program
 program_of scripts t = slice_index_or scripts.programs t no_program
 
+-- a task has another program
 abbrev pub with_program : ℕ → Program → Scripts → Scripts
 with_program t program scripts = record scripts { programs = slice_set scripts.programs t program }
 
--- an action on the schedule alone, on the scripts alone, on the memory alone, or on the pending interrupts alone
+-- a change of the schedule alone
 abbrev pub on_schedule : (Schedule → Schedule) → State → State
 on_schedule f s = record s { schedule = f s.schedule }
 
+-- a change of the scripts alone
 abbrev pub on_scripts : (Scripts → Scripts) → State → State
 on_scripts f s = record s { scripts = f s.scripts }
 
+-- a change of the memory alone
 abbrev pub on_memory : (Memory → Memory) → State → State
 on_memory f s = record s { memory = f s.memory }
 
+-- a change of what is pending alone
 abbrev pub on_pending : (Pending → Pending) → State → State
 on_pending f s = record s { pending = f s.pending }
 
 -- ---- the first state
 
--- the limits on variables of one task, and on shared ones (own choice)
+-- the number of variables of one task (project rule)
 abbrev pub private_variables : ℕ
 private_variables = 32
 
+-- the number of variables that all bodies share (project rule)
 abbrev pub shared_variables : ℕ
 shared_variables = 64
 
@@ -138,12 +146,13 @@ shared_variables = 64
 abbrev pub begun_with : List CommandData → Bool → Program
 begun_with code starts = record { code = code; place = 0; variables = replicate private_variables 0; kept = None; starts = starts }
 
+-- the program of a task of the file before its first command
 abbrev pub begun : TaskData → Program
 begun task = begun_with task.code task.start
 
--- The machine of a file before its start: no task was added, nothing runs, it was not yet told to be idle, and no interrupt was
--- asked for. No memory is allocated, no port is public, and no request waits; the clock of the timer and system time begin at 0 (own
--- choice).
+-- The machine of a file before its start: no task was added, nothing runs, it was not yet reported as idle, and no interrupt was
+-- asked for. No memory is allocated, no port is public, and no request waits; the clock of the timer and system time begin at 0 (project
+-- rule).
 unfoldable pub booted : MachineData → State
 booted machine = record {
   schedule = unstarted (length machine.tasks) (map (λ (task : TaskData). task.pri) machine.tasks) (map (λ (task : TaskData). task.name) machine.tasks) machine.quantum;

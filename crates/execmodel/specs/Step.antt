@@ -39,7 +39,7 @@ announced None s = quiet s
 announced (Some (switch.To t)) s = says (Switch (name_of s.schedule t)) s
 announced (Some switch.Idle) s = says Idle s
 
--- the switch to another task, or to being idle
+-- the switch to another task, or to being idle (RKM Libraries, Exec Tasks)
 unfoldable pub switches : State → Outcome
 switches s = announced (switch_of by_arrival s.schedule) (on_schedule (rescheduled by_arrival) s)
 
@@ -49,7 +49,7 @@ settle s = unless_stopped (andthen interrupts (unless_stopped switches)) s
 
 -- ---- step
 
--- A call of task t, by the group of its word. Behind a call on requests that has set system time, and after its line, the requests finish
+-- A call of task t, by the group of its word. After a call on requests that has set system time, and after its line, the requests finish
 -- that wait for system time and whose time has come.
 abbrev pub does_word : Word → ℕ → Call → State → Outcome
 does_word (Plain word) t call s = does_plain word t call s
@@ -64,6 +64,7 @@ does_word (Interrupts word) t call s = does_interrupts word t call s
 does_word (Libraries word) t call s = does_libraries word t call s
 does_word (Requests word) t call s = andthen (does_requests word t call) finishes_set s
 
+-- a call of a task, by its word
 unfoldable pub does : ℕ → Call → State → Outcome
 does t call s = does_word call.word t call s
 
@@ -71,11 +72,12 @@ does t call s = does_word call.word t call s
 unfoldable pub ends : ℕ → State → Outcome
 ends t s = says (trace.Call (name_of s.schedule t) (codes "RemTask") (Value 0 ∷ []) Done) (on_schedule (leaves t) s)
 
--- what task t does with its next call; where no task runs the step is used up
+-- what task t does with its next call; if no task runs the step is used up
 abbrev pub call_step : ℕ → Option Call → State → Outcome
 call_step t None s = ends t s
 call_step t (Some call) s = does t call s
 
+-- the step of the running task, and nothing if none runs
 abbrev pub task_step : Option ℕ → State → Outcome
 task_step None s = quiet s
 task_step (Some t) s = call_step t (next_call t s.scripts) s
@@ -85,6 +87,8 @@ abbrev pub softint_or_task_step : Option ℕ → State → Outcome
 softint_or_task_step None s = task_step s.schedule.running s
 softint_or_task_step (Some i) s = runs_softint i s
 
+-- what a step does: the next software interrupt, or else the running task's command (RKM Libraries, Exec Interrupts: software interrupts;
+-- one a step: project rule)
 unfoldable pub acting : State → Outcome
 acting s = softint_or_task_step (next_softint s) s
 
@@ -96,14 +100,15 @@ acts s = unless_stopped acting s
 unfoldable pub step : State → Outcome
 step s = andthen acts settle s
 
--- so many steps
+-- that many steps
 unfoldable pub steps : ℕ → State → Outcome
 steps zero s = quiet s
 steps (suc n) s = andthen (steps n) step s
 
 -- ---- run
 
--- an interrupt is requested: its source asks to be served, and the machine settles; a stopped machine does nothing
+-- an interrupt is requested: its source asks to be served, and the machine settles; a stopped machine does nothing (RKM Libraries, Exec
+-- Interrupts)
 unfoldable pub request : Source → State → Outcome
 request asks s = unless_stopped (λ s. settle (on_pending (with_latch_of asks true) s)) s
 
@@ -111,7 +116,7 @@ request asks s = unless_stopped (λ s. settle (on_pending (with_latch_of asks tr
 unfoldable pub tick : State → Outcome
 tick s = unless_stopped (λ s. request Vertb (on_memory (on_timer ticked) s)) s
 
--- so many ticks
+-- that many ticks
 unfoldable pub ticks : ℕ → State → Outcome
 ticks zero s = quiet s
 ticks (suc n) s = andthen (ticks n) tick s
@@ -120,7 +125,7 @@ ticks (suc n) s = andthen (ticks n) tick s
 abbrev pub started : Scripts → ℕ → Schedule → Schedule
 started scripts t s = if (program_of scripts t).starts then added by_arrival t s else s
 
--- so many tasks are added, in the order of the file
+-- that many tasks are added, in the order of the file
 unfoldable pub all_added : Scripts → ℕ → Schedule → Schedule
 all_added scripts zero s = s
 all_added scripts (suc n) s = started scripts n (all_added scripts n s)
@@ -129,6 +134,7 @@ all_added scripts (suc n) s = started scripts n (all_added scripts n s)
 unfoldable pub starts : State → Outcome
 starts s = settle (on_schedule (all_added s.scripts (length s.scripts.programs)) s)
 
+-- an event: that many steps, that many ticks, or one request of an interrupt source
 unfoldable pub event : Event → State → Outcome
 event (Run n) s = steps n s
 event (Tick n) s = ticks n s

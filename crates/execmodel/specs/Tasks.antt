@@ -46,7 +46,7 @@ abbrev pub add_task_alert : ℕ → Scripts → Option (List ℕ)
 add_task_alert number scripts = if not (is_task number scripts) then Some (codes "HANDLE") else None
 
 -- AddTask task: begins a task that never was added, and answers its number; 0 for any other (autodoc exec.library/AddTask; that an
--- ended task is not begun again: own choice)
+-- ended task is not begun again: project rule)
 unfoldable pub does_add_task : ℕ → Call → State → Outcome
 does_add_task t call s =
     let number = argument 0 call in
@@ -59,7 +59,7 @@ does_add_task t call s =
 abbrev pub is_caller : ℕ → ℕ → Bool
 is_caller t number = nat_eq number 0 || nat_eq (number - 1) t
 
--- a task that does not run ends; where it waits for a semaphore, it does so no more
+-- a task that does not run ends; if it waits for a semaphore, it does so no more
 abbrev pub ends_other : ℕ → ℕ → Call → State → Outcome
 ends_other other t call s =
     let out_of_queues = on_memory (on_heap (dropped other)) s in
@@ -67,7 +67,7 @@ ends_other other t call s =
     leaving_queue (awaited_by other s.memory.heap) other (done t call ended)
 
 -- RemTask task: ends the caller, or another live task, which is ready or waits. What it owns stays its own (autodoc exec.library/RemTask;
--- the alert, and that a waiting task may be ended: own choice).
+-- the alert, and that a waiting task may be ended: project rule).
 unfoldable pub does_rem_task : ℕ → Call → State → Outcome
 does_rem_task t call s =
     let number = argument 0 call in
@@ -79,7 +79,7 @@ abbrev pub number_or_none : Option ℕ → ℕ
 number_or_none None = 0
 number_or_none (Some t) = t + 1
 
--- the number of the live task of a name, or of the caller where no name stands
+-- the number of the live task of a name, or of the caller where no name is
 abbrev pub found_number : ℕ → Option (List ℕ) → Schedule → ℕ
 found_number t None s = t + 1
 found_number t (Some name) s = number_or_none (found name s)
@@ -90,6 +90,7 @@ does_find_task t call s = answered t call (found_number t (name_argument 0 call)
 
 -- ---- the words of this group
 
+-- a word on tasks of a task
 abbrev pub does_tasks : TaskWord → ℕ → Call → State → Outcome
 does_tasks word.SetTaskPri t call s = does_set_task_pri t call s
 does_tasks word.AddTask t call s = does_add_task t call s

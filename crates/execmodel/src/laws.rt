@@ -2,14 +2,12 @@
 ghost use Rattle.std.specs.Prelude.{◌≡◌, true, List};
 ghost use Rattle.taskscript.specs.declared.event.Event.{Event};
 ghost use Rattle.execmodel.specs.Keeping.{PlainWordsChangeScripts, SignalWordsChangeSignalsAndStates, NestingWordsChangeNestings, TaskWordsChangeStatesPrioritiesAndObjects, ListWordsChangeTheMemory, MemoryWordsChangeTheMemory, PortWordsChangePortsSignalsAndStates, SemaphoreWordsChangeStatesAndObjects, InterruptWordsChangeWhatIsCaused, LibraryWordsChangeTheMemory, RequestWordsChangeRequestsPortsSignalsAndStates};
-ghost use Rattle.execmodel.specs.Laws.{FirstInFirstOut, EachByteHasOneOwner, FreeMemRefusesObjects, OwnersChangeAtTheLastRelease, FreeSemaphoresHaveNoWaiters, SemaphoresPassInOrder, QueuesAgreeWithTheSchedule, EachStateIsSettled, SwitchesGoToTheChosen, OnlySwitchesSaySo, WaitersHaveReceivedNone, ReceivedSignalsStay, InterruptsKeepNestings, ThreeServingsAtMost, OpenLibrariesStay, LibrariesAreAskedInVersionTwo, UnaskedWordsTakeMemoryAsItIs, VersionOneIsTheMachineAsItWas, AskingChangesTheBlocks, ReplyPortsLive, RequestsUnderWayWait, TheClockCountsTicks, SystemTimeGoesWithTheClock, CallsFitTheirWords, LinesAreShort, LibrariesGiveWayAsFarAsNeeded, OnlyClosedLibrariesGiveWay};
+ghost use Rattle.execmodel.specs.Laws.{FirstInFirstOut, EachByteHasOneOwner, FreeMemRefusesObjects, OwnersChangeAtTheLastRelease, FreeSemaphoresHaveNoWaiters, SemaphoresPassInOrder, QueuesAgreeWithTheSchedule, EachStateIsSettled, SwitchesGoToTheChosen, EachSwitchLineIsAChoice, OnlySwitchesSaySo, WaitersHaveReceivedNone, ReceivedSignalsStay, InterruptsKeepNestings, ThreeServingsAtMost, OpenLibrariesStay, LibrariesHaveOneBase, LibrariesAreAskedInVersionTwo, UnaskedWordsTakeMemoryAsItIs, VersionOneIsTheMachineAsItWas, AskingChangesTheBlocks, ReplyPortsLive, RequestsUnderWayWait, TheClockCountsTicks, SystemTimeGoesWithTheClock, CallsFitTheirWords, LinesAreShort, LibrariesGiveWayAsFarAsNeeded, OnlyClosedLibrariesGiveWay};
 ghost use Rattle.execmodel.specs.State.{State, Outcome, quiet, andthen, unless_stopped};
 ghost use Rattle.execmodel.specs.Step.{event, events};
 
-/// After an alert no event does anything: the state stays as it is, no line is printed and no mark is left. Where an alert comes between
+/// After an alert no event does anything: the state stays as it is, no line is printed and no mark is left. If an alert comes between
 /// two parts of an action, as in the midst of a body or of a settle, the second part does nothing.
-///
-/// Source: own choice.
 pub fn an_alert_ends_all()
     ensures event { (e : Event) (s : State) → s.stopped ≡ true → event e s ≡ quiet s }
     ensures events { (list : List Event) (s : State) → s.stopped ≡ true → events list s ≡ quiet s }
@@ -25,8 +23,6 @@ pub fn an_alert_ends_all()
 /// priorities, and words of interrupts which software interrupts are caused; words of requests the objects, which requests wait for the timer,
 /// system time, signals, which tasks are ready, running or waiting, and which software interrupts are caused, but neither the clock nor
 /// which ports are public. Each word may change the scripts, and an alert stops the machine.
-///
-/// Source: own choice.
 pub fn each_group_keeps_to_its_part()
     ensures plain { PlainWordsChangeScripts }
     ensures signals { SignalWordsChangeSignalsAndStates }
@@ -71,18 +67,18 @@ pub fn exclusion()
     ensures order { SemaphoresPassInOrder }
 {}
 
-/// The queues agree with the schedule: in every state of every run just the running task has the state Running, just the ready tasks stand
-/// in the ready sequence, each once, and just those that wait for a semaphore stand in the queue of one, each once and in no other.
+/// The queues agree with the schedule: in every state of every run exactly the running task has the state Running, exactly the ready tasks are
+/// in the ready sequence, each once, and exactly those that wait for a semaphore are in the queue of one, each once and in no other.
 ///
 /// Source: RKM Libraries, Exec Tasks: task states.
 pub fn agreement()
     ensures { QueuesAgreeWithTheSchedule }
 {}
 
-/// After the start and after each step, tick and request of every run, unless an alert stopped the machine: where no task runs none is ready; where
-/// switching is allowed no ready task has a higher priority than the running one; and a request is left only where interrupts are not
+/// After the start and after each step, tick and request of every run, unless an alert stopped the machine: if no task runs none is ready; if
+/// switching is allowed no ready task has a higher priority than the running one; and a request is left only if interrupts are not
 /// allowed. A switch to a task is to the earliest among those of greatest priority, of the ready tasks and the one that ran until then,
-/// which comes last; and a task that runs leaves for one of its own priority only where its quantum has ended. Nothing else says that a
+/// which comes last; and a task that runs leaves for one of its own priority only if its quantum has ended. Nothing else says that a
 /// switch is made.
 ///
 /// Source: RKM Libraries, Exec Tasks: task scheduling.
@@ -90,6 +86,14 @@ pub fn priority()
     ensures settled { EachStateIsSettled }
     ensures switched { SwitchesGoToTheChosen }
     ensures only { OnlySwitchesSaySo }
+{}
+
+/// Each line of a switch to a task in the text of a run is said by the switch of the run's start, or of a step, a tick or a request in a state
+/// that the run comes to. Of each such switch `priority` says that it goes to the chosen task.
+///
+/// RKM Libraries, Exec Tasks: task scheduling.
+pub fn switch_lines()
+    ensures { EachSwitchLineIsAChoice }
 {}
 
 /// No signal is lost: in every state of every run a task that waits for signals has received none of them; and a signal that a task has
@@ -119,12 +123,17 @@ pub fn open_stays()
     ensures { OpenLibrariesStay }
 {}
 
-/// In version 1 of the rules no library gives way: each run of a machine of version 1 is the run of the machine as it was, in which AllocMem,
-/// NewList, NewNode, CreateMsgPort, NewMsg, NewSem, CreateIORequest and OpenLibrary take memory as it is. In every state of every run libraries
-/// are asked just where the machine is of version 2, and where they are not, each of these words does what it did. In any version asking
-/// changes the blocks and the objects in them alone, and nothing where the block has a place already.
+/// A loaded library is at one base only: in every state of every run, two bases of one library are the same.
 ///
-/// Source: own choice.
+/// RKM Libraries, Exec Libraries.
+pub fn libraries_have_one_base()
+    ensures { LibrariesHaveOneBase }
+{}
+
+/// In version 1 of the rules no library is expunged under low memory: each run of a machine of version 1 is the run of the machine as it was, in which AllocMem,
+/// NewList, NewNode, CreateMsgPort, NewMsg, NewSem, CreateIORequest and OpenLibrary take memory as it is. In every state of every run libraries
+/// are asked exactly if the machine is of version 2, and if they are not, each of these words does what it did. In any version asking
+/// changes the blocks and the objects in them alone, and nothing if the block has a place already.
 pub fn version_one()
     ensures run { VersionOneIsTheMachineAsItWas }
     ensures asked { LibrariesAreAskedInVersionTwo }
@@ -132,21 +141,21 @@ pub fn version_one()
     ensures beside { AskingChangesTheBlocks }
 {}
 
-/// Libraries give way as far as a block needs it, and no further: where libraries are asked for a block, the first so many of the file give way,
-/// one after another, no fewer would have been enough, and after that the block has a place, or all of them gave way. In every state of every
+/// Libraries are expunged under low memory as far as a block needs it, and no further: if libraries are asked for a block, the first that many of the file are expunged under low memory,
+/// one after another, no fewer would have been enough, and after that the block has a place, or all of them were expunged under low memory. In every state of every
 /// run, asking frees no block but those of libraries that are not open: what is no library stays as it is, and an open library stays at its
 /// base, in its block and as often open.
 ///
-/// Source: autodoc exec.library/AllocMem; the order of asking: own choice.
+/// Source: autodoc exec.library/AllocMem; the order of asking: project rule.
 pub fn libraries_give_way()
     ensures needed { LibrariesGiveWayAsFarAsNeeded }
     ensures closed { OnlyClosedLibrariesGiveWay }
 {}
 
 /// The reply port of a request that is under way lives, in every state of every run: so whatever finishes the request, a tick, a setting of
-/// system time or AbortIO, finds the port where the reply is to be put. No port that a request under way is to be replied at is deleted.
+/// system time or AbortIO, finds the port if the reply is to be put. No port that a request under way is to be replied at is deleted.
 ///
-/// Source: RKM Devices, Introduction to Amiga System Devices; that the port may not be deleted: own choice.
+/// Source: RKM Devices, Introduction to Amiga System Devices; that the port may not be deleted: project rule.
 pub fn reply_ports_live()
     ensures { ReplyPortsLive }
 {}
@@ -159,34 +168,30 @@ pub fn requests_under_way_wait()
 {}
 
 /// The clock is the number of ticks times what it gains at each, in every state of every run, also under Disable: nothing else moves it. After an
-/// alert it stands still.
+/// alert it is still.
 ///
-/// Source: RKM Devices, Timer Device; that the clock begins at 0 and counts under Disable too: own choice.
+/// Source: RKM Devices, Timer Device; that the clock begins at 0 and counts under Disable too: project rule.
 pub fn the_clock_counts_ticks()
     ensures { TheClockCountsTicks }
 {}
 
-/// System time goes with the clock: what it is ahead of it, or behind it, stays in each step, tick and request of every run, unless the
+/// System time goes with the clock: what it is ahead of it, or after it, stays in each step, tick and request of every run, unless the
 /// running task in this step begins a request of the command TR_SETSYSTIME, by SendIO or DoIO; then system time is the time of that request.
 ///
-/// Source: RKM Devices, Timer Device; autodoc timer.device/TR_SETSYSTIME; that system time begins with the clock: own choice.
+/// Source: RKM Devices, Timer Device; autodoc timer.device/TR_SETSYSTIME; that system time begins with the clock: project rule.
 pub fn system_time_goes_with_the_clock()
     ensures { SystemTimeGoesWithTheClock }
 {}
 
 /// No line is long: each line of every run has at most 160 bytes, its line feed included. A name has at most 31 bytes, and a call has at
 /// most four arguments, of which at most one is a name.
-///
-/// Source: own choice.
 pub fn lines_are_short()
     ensures { LinesAreShort }
 {}
 
 /// A call has the arguments of its word, one of each kind: in every state of every run so have the call that a task is to make, one that it
-/// waits in too, and each call of the body of a software interrupt or of a server. Where the word asks for a value a value stands, and
-/// where it asks for a name a name.
-///
-/// Source: own choice.
+/// waits in too, and each call of the body of a software interrupt or of a server. If the word asks for a value a value is, and
+/// if it asks for a name a name.
 pub fn calls_fit_their_words()
     ensures { CallsFitTheirWords }
 {}

@@ -13,7 +13,7 @@ pub fn nothing_follows_an_alert()
     ensures { NothingFollowsAnAlert }
 {}
 
-/// A task that waits is made ready by its signal, and runs at once where its priority is higher.
+/// A task that waits is made ready by its signal, and runs at once if its priority is higher.
 pub fn a_signal_wakes_a_higher_task()
     ensures { SignalWakesAHigherTask }
 {}
@@ -23,7 +23,7 @@ pub fn equal_priority_does_not_preempt()
     ensures { EqualPriorityDoesNotPreempt }
 {}
 
-/// A pre-empted task stands behind the ready ones of its priority.
+/// A pre-empted task is after the ready ones of its priority.
 pub fn a_preempted_task_arrives_anew()
     ensures { APreemptedTaskArrivesAnew }
 {}
@@ -43,7 +43,7 @@ pub fn forbid_keeps_others_off()
     ensures { ForbidKeepsOthersOff }
 {}
 
-/// A task whose quantum has ended lets a ready one of its priority run, and stands behind it.
+/// A task whose quantum has ended lets a ready one of its priority run, and is after it.
 pub fn an_ended_quantum_lets_an_equal_run()
     ensures { AnEndedQuantumLetsAnEqualRun }
 {}
@@ -58,7 +58,7 @@ pub fn a_live_task_is_found_by_its_name()
     ensures { ALiveTaskIsFoundByItsName }
 {}
 
-/// Sizes round up to a multiple of 8, and AllocMem answers 0 for size 0 and where nothing fits.
+/// Sizes round up to a multiple of 8, and AllocMem answers 0 for size 0 and if nothing fits.
 pub fn sizes_round_up()
     ensures { SizesRoundUp }
 {}
@@ -68,7 +68,7 @@ pub fn suitable_regions_are_tried_by_priority()
     ensures { SuitableRegionsAreTriedByPriority }
 {}
 
-/// A node is enqueued before those of lower priority, and behind its equals.
+/// A node is enqueued before those of lower priority, and after its equals.
 pub fn equals_stand_in_order_of_arrival()
     ensures { EqualsStandInOrderOfArrival }
 {}
@@ -78,13 +78,13 @@ pub fn a_list_in_use_is_not_freed()
     ensures { AListInUseIsNotFreed }
 {}
 
-/// So many objects of each kind may live at once; a priority past its range is the alert VALUE.
+/// That many objects of each kind may live at once; a priority past its range is the alert VALUE.
 pub fn each_kind_has_its_pool()
     ensures { EachKindHasItsPool }
 {}
 
 /// Messages are taken in order of arrival; a signal that came for no message only makes the task of a port look again.
-/// The marks tell what came and what was taken.
+/// The marks say what came and what was taken.
 pub fn messages_are_taken_in_order_of_arrival()
     ensures trace { MessagesAreTakenInOrderOfArrival }
     ensures marks { MarksTellWhatCameAndWhatWasTaken }
@@ -101,21 +101,21 @@ pub fn a_reply_goes_to_the_reply_port()
 {}
 
 /// The last release hands a semaphore to the first task that asked for it, whose call is tried again and prints its plain line; a release
-/// by a task that does not own it is the alert SEM. The marks tell who asked for it and who was made its owner; a call that waits for
+/// by a task that does not own it is the alert SEM. The marks say who asked for it and who was made its owner; a call that waits for
 /// nothing leaves none, nor does a release that is not the last.
 pub fn a_semaphore_is_handed_to_the_first_that_asked()
     ensures trace { ASemaphoreIsHandedToTheFirstThatAsked }
     ensures marks { MarksTellWhoAskedAndWhoGotIt }
 {}
 
-/// A removed task leaves the queue of a semaphore, and the next one gets it. AttemptSemaphore answers 1 where it got it and 0 where
-/// it did not, and a semaphore that is owned is not freed. The marks tell who asked for it, who left and who was made its owner.
+/// A removed task leaves the queue of a semaphore, and the next one gets it. AttemptSemaphore answers 1 if it got it and 0 if
+/// it did not, and a semaphore that is owned is not freed. The marks say who asked for it, who left and who was made its owner.
 pub fn a_removed_task_leaves_the_queue()
     ensures trace { ARemovedTaskLeavesTheQueue }
     ensures marks { MarksTellWhoAskedAndWhoLeft }
 {}
 
-/// A semaphore that is obtained and released where no task waits leaves no mark.
+/// A semaphore that is obtained and released if no task waits leaves no mark.
 pub fn where_no_task_waits_there_is_no_mark()
     ensures { WhereNoTaskWaitsThereIsNoMark }
 {}
@@ -137,7 +137,7 @@ pub fn softints_run_one_a_step_by_priority()
     ensures { SoftintsRunOneAStepByPriority }
 {}
 
-/// A software interrupt runs also where no task runs, and a task that it wakes runs after it.
+/// A software interrupt runs also if no task runs, and a task that it wakes runs after it.
 pub fn a_softint_runs_where_no_task_runs()
     ensures { ASoftintRunsWhereNoTaskRuns }
 {}
@@ -155,7 +155,7 @@ pub fn an_alert_in_a_body_stops_all()
     ensures command { NoCommandFollowsAnAlertInASoftint }
 {}
 
-/// A port may cause a software interrupt where a message arrives, and its body takes the message; the marks tell it.
+/// A port may cause a software interrupt if a message arrives, and its body takes the message; the marks say it.
 pub fn a_port_may_cause_a_softint()
     ensures trace { APortMayCauseASoftint }
     ensures marks { MarksTellWhatASoftintTook }
@@ -172,14 +172,14 @@ pub fn an_opening_takes_a_removal_back()
     ensures { AnOpeningTakesARemovalBack }
 {}
 
-/// Where a block finds no place, in version 2 of the rules, a library that is not open is expunged, and an open one stays until it is closed for
+/// If a block finds no place, in version 2 of the rules, a library that is not open is expunged, and an open one stays until it is closed for
 /// the last time. In version 1 neither happens.
 pub fn libraries_give_way()
     ensures two { LibrariesGiveWay }
     ensures one { NoLibraryGivesWayInVersionOne }
 {}
 
-/// An open library that was asked to give way is expunged at its last close, also where the block found no place after all. In version 1 it
+/// An open library that was expunged under low memory is expunged at its last close, also if the block found no place after all. In version 1 it
 /// stays.
 pub fn what_was_marked_in_vain_stays_so()
     ensures two { WhatWasMarkedInVainStaysSo }
@@ -191,12 +191,12 @@ pub fn the_first_fit_ends_the_asking()
     ensures { TheFirstFitEndsTheAsking }
 {}
 
-/// No library is asked where as many objects of the kind live as may, nor for a block of no bytes. An object of another kind makes it give way.
+/// No library is asked if as many objects of the kind live as may, nor for a block of no bytes. An object of another kind expunges it.
 pub fn nothing_is_asked_for_what_is_never_taken()
     ensures { NothingIsAskedForWhatIsNeverTaken }
 {}
 
-/// A library that is to be loaded makes another one give way that is not open; an open one is marked, and the opening answers 0.
+/// A library that is to be loaded makes another one are expunged under low memory that is not open; an open one is marked, and the opening answers 0.
 pub fn a_library_gives_way_to_another()
     ensures { ALibraryGivesWayToAnother }
 {}
@@ -234,7 +234,7 @@ pub fn wait_io_takes_the_reply()
     ensures marks { MarksTellWhichReplyWasTaken }
 {}
 
-/// A request finishes at the tick whose time is just the one when it is due, and one that is due a microsecond later at the next tick.
+/// A request finishes at the tick whose time is exactly the one when it is due, and one that is due a microsecond later at the next tick.
 pub fn a_request_that_is_due_now_finishes()
     ensures { ARequestThatIsDueNowFinishes }
 {}
@@ -244,7 +244,7 @@ pub fn requests_of_one_time_finish_in_the_order_of_beginning()
     ensures { RequestsOfOneTimeFinishInTheOrderOfBeginning }
 {}
 
-/// The microseconds of a request count also where they are a second or more.
+/// The microseconds of a request count also if they are a second or more.
 pub fn microseconds_count_beyond_a_second()
     ensures { MicrosecondsCountBeyondASecond }
 {}
@@ -254,7 +254,7 @@ pub fn an_awaited_port_is_not_deleted()
     ensures { AnAwaitedPortIsNotDeleted }
 {}
 
-/// The timer has units 0, 1 and 3: a request for another one is not open, which its error tells, and cannot begin.
+/// The timer has units 0, 1 and 3: a request for another one is not open, which its error reports, and cannot begin.
 pub fn the_timer_has_three_units()
     ensures { TheTimerHasThreeUnits }
 {}
@@ -270,19 +270,19 @@ pub fn a_task_waits_until_a_system_time()
     ensures { ATaskWaitsUntilASystemTime }
 {}
 
-/// A request for a system time that is just the one now is done at once, and quick, as one of time zero is; one for a microsecond later
+/// A request for a system time that is exactly the one now is done at once, and quick, as one of time zero is; one for a microsecond later
 /// waits.
 pub fn a_time_that_has_come_is_done_at_once()
     ensures { ATimeThatHasComeIsDoneAtOnce }
 {}
 
-/// A task that waits for a system time is woken where another task sets system time to it, without a tick.
+/// A task that waits for a system time is woken if another task sets system time to it, without a tick.
 pub fn a_setting_wakes_a_task()
     ensures { ASettingWakesATask }
 {}
 
 /// The request that sets system time is replied first and the line of its call is printed; then those finish whose system time has come, by
-/// their times, each with its line. The marks tell the order of the replies.
+/// their times, each with its line. The marks say the order of the replies.
 pub fn the_setter_is_replied_first()
     ensures trace { TheSetterIsRepliedFirst }
     ensures marks { MarksTellThatTheSetterWasRepliedFirst }
@@ -293,14 +293,14 @@ pub fn a_setting_leaves_the_other_units_alone()
     ensures { ASettingLeavesTheOtherUnitsAlone }
 {}
 
-/// Where system time is set back, no request finishes, and those that wait for it wait longer; TR_GETSYSTIME tells system time, and not the
+/// If system time is set back, no request finishes, and those that wait for it wait longer; TR_GETSYSTIME reports system time, and not the
 /// clock.
 pub fn a_setting_back_finishes_nothing()
     ensures { ASettingBackFinishesNothing }
 {}
 
-/// At a tick requests of all units finish by the moment when their times come, those for a system time by what it is ahead of the clock then;
-/// those of one moment in the order in which they were begun, whatever their units.
+/// At a tick requests of all units finish by the due time when their times come, those for a system time by what it is ahead of the clock then;
+/// those of one due time in the order in which they were begun, whatever their units.
 pub fn requests_of_one_moment_finish_in_the_order_of_beginning()
     ensures { RequestsOfOneMomentFinishInTheOrderOfBeginning }
 {}
@@ -316,7 +316,7 @@ pub fn a_quantum_lasts_its_servings()
     ensures { AQuantumLastsItsServings }
 {}
 
-/// A task that runs and gets the priority that it has runs on; a ready one stands behind its equals then.
+/// A task that runs and gets the priority that it has runs on; a ready one is after its equals then.
 pub fn a_ready_task_of_another_priority_arrives_anew()
     ensures { AReadyTaskArrivesAnew }
 {}
@@ -331,7 +331,7 @@ pub fn an_attempt_of_the_owner_counts()
     ensures { AnAttemptOfTheOwnerCounts }
 {}
 
-/// NewMsg, NewSem, CreateMsgPort, CreateIORequest and NewList make a library give way that is not open, where they lack memory in version 2
+/// NewMsg, NewSem, CreateMsgPort, CreateIORequest and NewList expunge a library that is not open, if they lack memory in version 2
 /// of the rules; what an object took is free once it is freed.
 pub fn each_word_asks_for_its_memory()
     ensures { EachWordAsksForItsMemory }

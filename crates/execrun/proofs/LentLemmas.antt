@@ -44,7 +44,7 @@ head (x ∷ xs) = x
 abbrev tape_of : Held → SinkState → Tape
 tape_of taken state = record { taken = taken; state = state }
 
--- what the writer held afterwards, where it told what it held before
+-- what the writer held afterwards, if it reported what it held before
 abbrev told : Held → Held → Held
 told None held = None
 told (Some xs) held = held

@@ -1,3 +1,4 @@
+-- The lemma files of `execrun`.
 mod CommandLemmas
 mod LentLemmas
 mod ReadLemmas

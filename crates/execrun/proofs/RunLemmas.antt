@@ -26,7 +26,7 @@ use Rattle.execrun.specs.declared.ending.Ending.TheVariants.{Failed}
 use Rattle.execrun.specs.declared.fault.Fault.{Fault}
 use Rattle.execrun.specs.declared.fault.Fault.TheVariants.{Machine, Events, NoMemory, CannotRead, WriteFailed}
 
--- where words are right, clap fails for want of memory alone
+-- if words are right, clap fails when out of memory alone
 lacks_memory : (kinds : Kinds) (error : Error) → kinds ≡ [] → HasKind kinds error → kind_of error ≡ OutOfMemory
 lacks_memory kinds error none (inl memory) = memory
 lacks_memory [] error none (inr among) = absurd among

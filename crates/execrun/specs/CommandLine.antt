@@ -19,7 +19,7 @@ nameless_app = record (new_app (codes "execsim")) { top = record (new_app (codes
 abbrev pub two_paths : App
 two_paths = with_rule (with_rule nameless_app (path_rule (codes "MACHINE"))) (path_rule (codes "EVENTS"))
 
--- a command that takes a machine file and an event text: where a parse of it succeeds, it has both
+-- a command that takes a machine file and an event text: if a parse of it succeeds, it has both
 pub record TakesTwoPaths (c : Command) : Type 0 where
   pub app : app_of c ≡ two_paths
   pub machine : (m : ArgMatches) → IsParsedFrom c m → is_some (first_value (found_of m) (codes "MACHINE")) ≡ true

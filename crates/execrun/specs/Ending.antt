@@ -1,4 +1,4 @@
--- The ends of the program: the status that stands for each, and which of them go without a word on standard error.
+-- The ends of the program: the status that represents each, and which of them go without a word on standard error.
 use Rattle.std.specs.Prelude.{⊤, ℕ, List, Option}
 use Rattle.std.specs.Io.KnownBytes.{Appends, Keeps}
 use Rattle.std.specs.declared.result.Result.{Result}

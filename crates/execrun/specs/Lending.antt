@@ -1,4 +1,4 @@
--- What a writer that is lent tells.
+-- What a writer that is lent reports.
 use Rattle.std.specs.Prelude.{ℕ, List, ◌∷◌, Option, None, Some}
 
 -- the name of the loan, and after it what the writer holds

@@ -19,7 +19,7 @@ use Rattle.execrun.specs.declared.ending.Ending.{Ending}
 use Rattle.execrun.specs.declared.fault.Fault.{Fault}
 use Rattle.execrun.specs.declared.fault.Fault.TheVariants.{NoMemory, CannotRead, WriteFailed}
 
--- the bytes that a writer holds, where it tells them
+-- the bytes that a writer holds, if it reports them
 abbrev pub Held : Type 0
 Held = Option (List ℕ)
 
@@ -44,7 +44,7 @@ pub record WritesTrace (machine events : List ℕ) (before after : Held) (result
   pub answers : result ≡ answer_of ended flushed
 
 -- Both texts were read, and the trace of their run was written: it is that of the machine at the one path over the events at the other,
--- as far as it is told what stands there, and both are within the limit.
+-- as far as it is reported what is there, and both are within the limit.
 pub record RunsFiles (text_at : TextAt) (paths : Paths) (before after : Held) (result : Result End Fault) : Type 0 where
   pub machine : List ℕ
   pub events : List ℕ
@@ -83,7 +83,7 @@ pub record RunsWords (text_at : TextAt) (words : List Text) (before after : Held
   pub ends : ending ≡ ending_after result
   pub runs : RunsGiven text_at words before after result ⊎ ReadsNothing (IsGivenIn words) before after result
 
--- The same where the end is told by the number of its status.
+-- The same if the end is reported by the number of its status.
 pub record EndsRun (text_at : TextAt) (words : List Text) (before after : Held) (code : ℕ) : Type 0 where
   pub ending : Ending
   pub status : code ≡ code_of (status_of ending)

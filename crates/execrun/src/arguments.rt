@@ -20,7 +20,7 @@ const OUTPUT_BUFFER: usize = 65_536;
 ///
 /// # Errors
 ///
-/// An error of the kind `OutOfMemory` where memory is refused, and another where the arguments are no text.
+/// An error of the kind `OutOfMemory` if memory is refused, and another if the arguments are no text.
 fn run_buffered<R: Env + Files + AllocGlobal, W: Write + Drop, E: Write>(
     rt: &R,
     out: W,
@@ -39,7 +39,7 @@ fn run_buffered<R: Env + Files + AllocGlobal, W: Write + Drop, E: Write>(
     Ok(status)
 }
 
-/// How the program ends where its arguments could not be had.
+/// How the program ends if its arguments could not be had.
 fn ending_without_words<'a>(alloc: Global, error: &io::Error) -> Ending<'a>
     ensures memory { error_kind error.now ≡ ErrorKind.OutOfMemory → result ≡ Ending.Failed Fault.NoMemory }
     ensures not_text { error_kind error.now ≢ ErrorKind.OutOfMemory
@@ -58,8 +58,6 @@ fn ending_without_words<'a>(alloc: Global, error: &io::Error) -> Ending<'a>
 /// Runs the program on the process's arguments, and answers the status with which it ends.
 ///
 /// Arguments that are no text are refused as a command line is.
-///
-/// Source: own choice.
 pub fn run_on_arguments<R: Env + Files + AllocGlobal, W: Write + Drop, E: Write>(
     rt: &R,
     out: W,

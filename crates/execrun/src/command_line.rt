@@ -53,9 +53,7 @@ fn command<'a>(alloc: Global) -> Result<Command<'a>, AllocError>
 ///
 /// # Errors
 ///
-/// What `clap` answers: the text of the help where it is asked for, a mistake in the words, or that memory was refused.
-///
-/// Source: own choice.
+/// What `clap` answers: the text of the help if it is asked for, a mistake in the words, or that memory was refused.
 pub fn paths_given<'a>(alloc: Global, words: &'a [&'a str]) -> Result<Paths<'a>, Error>
     ensures given { IfOk result (AreGivenBy (texts words.now)) }
     ensures refused { FailsBy (fault_of two_paths (texts words.now)) result }
@@ -69,8 +67,6 @@ pub fn paths_given<'a>(alloc: Global, words: &'a [&'a str]) -> Result<Paths<'a>,
 }
 
 /// The error of a command line whose words are no text.
-///
-/// Source: own choice.
 pub fn not_text_error(alloc: Global) -> Result<Error, AllocError>
     ensures { IfOk result (λ error. kind_of error ≡ ErrorKind.InvalidValue) }
 {
@@ -92,9 +88,7 @@ fn write_text<W: Write>(text: &str, out: &mut W) -> io::Result<()>
 ///
 /// # Errors
 ///
-/// `NoMemory` where memory for the text is refused, and nothing is written then; `WriteFailed` where the text cannot be written.
-///
-/// Source: own choice.
+/// `NoMemory` if memory for the text is refused, and nothing is written then; `WriteFailed` if the text cannot be written.
 pub fn write_answer<'a, W: Write>(
     alloc: Global,
     answer: &Error,

@@ -26,9 +26,7 @@ pub enum Status {
 }
 
 impl Status {
-    /// The number that stands for it where the program ends.
-    ///
-    /// Source: own choice.
+    /// The number that represents it if the program ends.
     pub fn code(self) -> u8
         ensures { result ≡ code_of self }
     {
@@ -62,9 +60,7 @@ impl<'a> From<Result<End, Fault<'a>>> for Ending<'a> {
 }
 
 impl Ending<'_> {
-    /// The status that stands for this end.
-    ///
-    /// Source: own choice.
+    /// The status that represents this end.
     pub fn status(&self) -> Status
         ensures { result ≡ status_of self.now }
     {
@@ -95,13 +91,11 @@ fn write_fault<E: Write>(fault: &Fault<'_>, err: &mut E) -> io::Result<()>
     err.flush()
 }
 
-/// Says on standard error why the program ends, where there is something to say, and flushes it.
+/// Says on standard error why the program ends, if there is something to say, and flushes it.
 ///
 /// # Errors
 ///
-/// That of the writer, where a write or the flush fails. A first part may have been written.
-///
-/// Source: own choice.
+/// That of the writer, if a write or the flush fails. A prefix may have been written.
 pub fn say<E: Write>(ending: &Ending<'_>, err: &mut E) -> io::Result<()>
     ensures says { OnOk result (Says (E.contents err.old) (E.contents err.new) ending.now) }
     ensures silent { IsSilent ending.now → err.new ≡ err.old }
@@ -116,8 +110,6 @@ pub fn say<E: Write>(ending: &Ending<'_>, err: &mut E) -> io::Result<()>
 
 /// Says on standard error why the program ends, as `say` does, and answers its status.
 /// A write that fails there changes nothing.
-///
-/// Source: own choice.
 pub fn report<E: Write>(ending: &Ending<'_>, err: &mut E) -> Status
     ensures status { result ≡ status_of ending.now }
     ensures silent { IsSilent ending.now → err.new ≡ err.old }

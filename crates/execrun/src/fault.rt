@@ -55,7 +55,7 @@ impl fmt::Display for Fault<'_> {
     }
 }
 
-/// A fault of an event text, shown by its name, and by the number of the line where that is what is wrong.
+/// A fault of an event text, shown by its name, and by the number of the line if that is what is wrong.
 #[derive(Clone, Copy)]
 struct ShownEventFault(EventFault);
 

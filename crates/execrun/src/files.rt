@@ -22,9 +22,7 @@ fn fault_at(path: &str, fault: ReadFault) -> Fault<'_>
 ///
 /// # Errors
 ///
-/// `NoMemory` where memory is refused, and `CannotRead` where the text cannot be opened or read, or is longer.
-///
-/// Source: own choice.
+/// `NoMemory` if memory is refused, and `CannotRead` if the text cannot be opened or read, or is longer.
 #[tactic(auto, using(crate::proofs::ReadLemmas::read_whole))]
 pub fn read_text<'a, T: Texts>(
     texts: &T,

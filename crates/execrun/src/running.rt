@@ -41,7 +41,7 @@ fn answer<'a>(ended: Result<End, SimFault>, flushed: bool) -> Result<End, Fault<
 ///
 /// # Errors
 ///
-/// The simulator's fault, and otherwise `WriteFailed` where what was written cannot be flushed. What was written before a fault
+/// The simulator's fault, and otherwise `WriteFailed` if what was written cannot be flushed. What was written before a fault
 /// is flushed too.
 fn write_trace<'a, W: Write>(
     alloc: Global,
@@ -125,8 +125,6 @@ fn ending_of<'a, T: Texts, W: Write>(
 /// ends.
 ///
 /// The trace, or the help, goes to `out`, and is flushed. What went wrong goes to `err`, where a write that fails changes nothing.
-///
-/// Source: own choice.
 pub fn run_on_texts<T: Texts, W: Write, E: Write>(
     texts: &T,
     alloc: Global,
@@ -136,7 +134,7 @@ pub fn run_on_texts<T: Texts, W: Write, E: Write>(
 ) -> u8
     ensures status { result ≤ 4 }
     ensures right { AreRight (words_of words.now) → result ≢ 2 }
-    // A command line is also refused for want of memory, with 4.
+    // A command line is also refused when out of memory, with 4.
     ensures refused { AreRefused (words_of words.now) → (result ≡ 2) ⊎ (result ≡ 4) }
     ensures runs { AreRight (words_of words.now) → EndsRun (T.text_at texts.now) (words_of words.now) (W.contents out.old) (W.contents out.new) result }
     ensures ran { AreRight (words_of words.now) → result ≡ 0 → WritesWhole (T.text_at texts.now) (words_of words.now) (W.contents out.old) (W.contents out.new) End.Ran }
@@ -153,8 +151,6 @@ pub fn run_on_texts<T: Texts, W: Write, E: Write>(
 /// which it ends.
 ///
 /// The trace, or the help, goes to `out`, and is flushed. What went wrong goes to `err`, where a write that fails changes nothing.
-///
-/// Source: own choice.
 pub fn run<R: Files, W: Write, E: Write>(
     rt: &R,
     alloc: Global,
@@ -164,7 +160,7 @@ pub fn run<R: Files, W: Write, E: Write>(
 ) -> u8
     ensures status { result ≤ 4 }
     ensures right { AreRight (words_of words.now) → result ≢ 2 }
-    // A command line is also refused for want of memory, with 4.
+    // A command line is also refused when out of memory, with 4.
     ensures refused { AreRefused (words_of words.now) → (result ≡ 2) ⊎ (result ≡ 4) }
     ensures runs { AreRight (words_of words.now) → EndsRun nothing_told (words_of words.now) (W.contents out.old) (W.contents out.new) result }
     ensures ran { AreRight (words_of words.now) → result ≡ 0 → WritesWhole nothing_told (words_of words.now) (W.contents out.old) (W.contents out.new) End.Ran }

@@ -22,7 +22,7 @@ module _ {m n : Seen} {a b : Tape} (t : ℕ) (call : Call) where
   unfolding does_alloc_mem
   alloc_refused refused follows = follows_as (λ s e. rw refused refl) follows
 
-  -- a plain block is taken where it fits
+  -- a plain block is taken if it fits
   block_taken : {o : Seen} (size reqs : ℕ) (place : Option ℕ) → place ≡ place_for size reqs m.memory
       → n ≡ record m { memory = placed size Plain place m.memory }
       → Follows (answered t call (unwrap_or place 0)) n o a b → Follows (takes_block t call size reqs) m o a b
@@ -34,7 +34,7 @@ module _ {m n : Seen} {a b : Tape} (t : ℕ) (call : Call) where
       (follows_change (moves_memory (placed size Plain place) (placed size Plain place) (placed-in_order size Plain place) is) follows)
 
 module _ {m n o : Seen} {a b : Tape} (t : ℕ) (call : Call) where
-  -- libraries are asked to give way, and then the block is taken
+  -- libraries are expunged under low memory, and then the block is taken
   pub alloc_tried : (place : Option ℕ) → has_only alloc_bits (argument 1 call) ≡ true
       → place ≡ place_for (argument 0 call) (argument 1 call) (after_asking (argument 0 call) (argument 1 call) m.memory)
       → n ≡ record m { memory = placed (argument 0 call) Plain place (after_asking (argument 0 call) (argument 1 call) m.memory) }

@@ -1,21 +1,25 @@
 -- How the machine follows the body of a software interrupt or of a server.
-use Rattle.std.proofs.Common.{◌≡◌, ℕ, zero, suc, ◌+◌, ◌≤◌, true, false, List, [], ◌∷◌, length, take, Option, None, Some, refl, ap, sym, ◌∙◌, subst, add-one}
-use Rattle.std.specs.Prelude.{slice_get}
+use Rattle.std.proofs.Common.{◌≡◌, ℕ, zero, suc, ◌+◌, ◌≤◌, true, false, List, [], ◌∷◌, length, take, Option, None, Some, refl, ap, sym, ◌∙◌, subst, add-one, map}
+use Rattle.std.specs.Prelude.{IfSome, slice_get}
+use Rattle.std.specs.Option.{option_map}
+use Rattle.std.proofs.lemmas.Option.{slice_get-map}
 use Rattle.std.proofs.lemmas.List.{take_all}
 use Rattle.exectrace.specs.Sink.{Tape, Puts}
 use Rattle.exectrace.specs.Trace.{printed_line, Server, Softint}
-use Rattle.taskscript.specs.Commands.{CommandData}
-use Rattle.execmodel.specs.State.{Timer as Clock, Bodies, State, says, andthen, unless_stopped}
-use Rattle.execmodel.specs.Bodies.{body_step, runs_body}
-use Rattle.execmodel.specs.Calls.{call_in_body}
-use Rattle.execmodel.specs.State.{Call}
-use Rattle.execmodel.specs.Bodies.{does_in_body}
+use Rattle.taskscript.specs.declared.command.Command.{Command}
+use Rattle.taskscript.specs.declared.variable.Variable.{Variable}
+use Rattle.taskscript.specs.declared.word.Word.TheVariants.{Plain}
+use Rattle.taskscript.specs.declared.word.plain.PlainWord.{PlainWord}
+use Rattle.taskscript.specs.Commands.{CommandData, command_view}
+use Rattle.execmodel.specs.State.{Timer as Clock, Bodies, Call, State, quiet, says, andthen, unless_stopped, on_scripts}
+use Rattle.execmodel.specs.Bodies.{body_step, does_in_body, does_plain_by, does_word_by, runs_body}
+use Rattle.execmodel.specs.Calls.{Caller, ByBody, call_in_body, silent_by, stored_shared}
 use Rattle.execmodel.specs.Interrupts.{runs_server, server_at, softint_at}
 use Rattle.execsim.specs.declared.bodies.Body.{Body}
 use Rattle.execsim.specs.Actions.{does_at_place, softint_body}
 use Rattle.execsim.specs.Agreement.{Seen, Agrees, Follows}
 use Rattle.execsim.specs.Views.{code_of_body, name_of_body}
-use Rattle.execsim.proofs.Following.{andthen-assoc, andthen-quiet, andthen-second, follows_as, follows_known, follows_nothing, follows_says, follows_then, guarded_going, guarded_stopped, reads_scripts}
+use Rattle.execsim.proofs.Following.{andthen-assoc, andthen-quiet, andthen-second, follows_as, follows_known, follows_nothing, follows_quietly, follows_says, follows_then, guarded_going, guarded_stopped, moves_scripts, reads_scripts}
 use Rattle.execsim.proofs.Keeping.{body_keeps}
 
 -- ---- one command
@@ -25,6 +29,30 @@ pub step_as : {m n : Seen} {a b : Tape} (name : List ℕ) (command : CommandData
 unfolding body_step
 step_as name command call is follows = follows_as {g = does_in_body name call}
     (λ s e. ap (λ (c : Call). does_in_body name c s) (reads_scripts (call_in_body command) (sym is) s e)) follows
+
+-- the command at a place of a body, by the commands that the machine holds
+pub command_there : (code : List Command) (all : List CommandData) (place : ℕ) (found : Option Command) → found ≡ slice_get code place
+    → map command_view code ≡ all → option_map command_view found ≡ slice_get all place
+command_there code all place found at is =
+    ap (option_map command_view) at ∙ sym (slice_get-map command_view code place) ∙ ap (λ l. slice_get l place) is
+
+-- a plain word that prints nothing stores a value
+pub plain_in_body : (call : Call) (word : PlainWord) (value : Option ℕ) → call.word ≡ Plain word
+    → IfSome value (λ v. (by : Caller) (s : State) → does_plain_by word by call s ≡ silent_by by call v s)
+    → IfSome value (λ v. (name : List ℕ) (s : State) → does_in_body name call s ≡ silent_by (ByBody name) call v s)
+unfolding does_in_body
+plain_in_body call word None is same = _
+plain_in_body call word (Some v) is same = λ name s. ap (λ w. does_word_by w (ByBody name) call s) is ∙ same (ByBody name) s
+
+pub silently : {m n : Seen} (name : List ℕ) (call : Call) (target : Option Variable) (value : ℕ) (tape : Tape)
+    → n ≡ record m { scripts = stored_shared target value m.scripts } → call.target ≡ target → Follows (silent_by (ByBody name) call value) m n tape tape
+silently name call target value tape is same = follows_as {g = λ s. quiet (on_scripts (stored_shared target value) s)}
+    (λ s e. ap (λ t. quiet (on_scripts (stored_shared t value) s)) same) (follows_quietly tape (moves_scripts (stored_shared target value) is))
+
+pub stored_as : {m n : Seen} {a b : Tape} (name : List ℕ) (command : CommandData) (call : Call) (value : ℕ) → call ≡ call_in_body command m.scripts
+    → ((name : List ℕ) (s : State) → does_in_body name call s ≡ silent_by (ByBody name) call value s)
+    → Follows (silent_by (ByBody name) call value) m n a b → Follows (body_step name command) m n a b
+stored_as name command call value is same follows = step_as name command call is (follows_as {g = silent_by (ByBody name) call value} (λ s e. same name s) follows)
 
 module _ {m : Seen} (name : List ℕ) (here : Option CommandData) where
   pub place_stopped : (t : Tape) → m.stopped ≡ true → Follows (does_at_place name here) m m t t

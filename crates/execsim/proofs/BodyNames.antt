@@ -1,4 +1,4 @@
--- The names of the software interrupts of a file differ, so that each stands once among the names that were put in, at its number.
+-- The names of the software interrupts of a file differ, so that each is once among the names that were put in, at its number.
 use Rattle.std.proofs.Common.{◌≡◌, ◌≢◌, ℕ, suc, ◌+◌, ◌<◌, Bool, true, false, cond, not, List, [], ◌∷◌, ◌++◌, length, map, take, get_or, None, Some, refl, sym, ap, ◌∙◌, arith}
 use Rattle.std.specs.Prelude.{◌||◌, nat_lt, bytes_eq}
 use Rattle.std.specs.List.{AllPairs, list_any, position, position_or_len}
@@ -62,7 +62,7 @@ new_name names k name differ within here = none_alike name (take k names) (λ i 
       let lt : i < k = omega (arith, before, count) in
       differ i k name lt within (sym (e ∙ get_or-take k names i name lt) ∙ sym here)
 
--- one more name of all is put in behind those before it
+-- one more name of all is put in after those before it
 pub name_put_in : {X Y : Type 0} (bytes : X → List ℕ) (name_of : Y → List ℕ) (keys : List X) (all : List Y) (k : ℕ) (x : X) (y : Y) → k < length all → y ≡ get_or all k y
     → bytes x ≡ name_of y → AllPairs (λ s t. s ≢ t) (map name_of all) → map bytes keys ≡ map name_of (take k all)
     → map bytes (cond (list_any (has_name bytes (bytes x)) keys) keys (keys ++ x ∷ [])) ≡ map name_of (take (k + 1) all)

@@ -26,7 +26,7 @@ shown_one_more value shown arguments values k argument made below room there is 
     ap (map shown) (take_more_set values k made room)
     ∙ shown_more value shown arguments (take k values) made k argument below there is before
 
--- the first of some values, where all of them are shown as the values of all arguments
+-- the first of some values, if all of them are shown as the values of all arguments
 pub first_shown : {A B C D : Type 0} (shown : A → C) (value : D → C) (view : B → D) (n : ℕ) (values : List A) (arguments : List B)
     → map shown values ≡ map (λ a. value (view a)) arguments → map shown (take n values) ≡ map value (map view (take n arguments))
 first_shown shown value view n values arguments e =

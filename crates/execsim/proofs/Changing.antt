@@ -4,6 +4,7 @@ use Rattle.std.proofs.lemmas.Option.{slice_get-map}
 use Rattle.std.specs.Option.{option_map}
 use Rattle.std.specs.Prelude.{Option, IfSome, if◌then◌else◌, nat_eq, bit_and, bit_or, slice_get}
 use Rattle.exectrace.specs.Sink.{Tape}
+use Rattle.exectrace.specs.Trace as trace
 use Rattle.taskscript.specs.declared.command.Argument.{Argument}
 use Rattle.taskscript.specs.declared.command.Command.{Command}
 use Rattle.taskscript.specs.Commands.{ArgumentData, CommandData, argument_view, command_view}
@@ -20,7 +21,7 @@ use Rattle.execsim.proofs.Calling.{next-command}
 use Rattle.execsim.proofs.Following.{moves_scripts, follows_as, follows_quietly}
 use Rattle.execsim.proofs.Stepping.{task_step_as}
 
--- what is done next, where it is a command
+-- what is done next, if it is a command
 pub next_changes : (t : ℕ) (scripts : Scripts) (command : CommandData) (place : ℕ) (change : Option Change) → (program_of scripts t).kept ≡ None
     → slice_get (program_of scripts t).code (program_of scripts t).place ≡ Some command → place ≡ (program_of scripts t).place + 1
     → IfSome change (λ change. (s : State) → does t (call_of t place command scripts) s ≡ changes t change s)
@@ -30,25 +31,23 @@ next_changes t scripts command place (Some change) kept here behind is = λ s.
     ap (λ call. call_step t call s) (next-command t scripts command kept here)
     ∙ ap (λ next. does t (call_of t next command scripts) s) (sym behind) ∙ is s
 
--- the number at an argument of a command
-module _ (t k : ℕ) (command : Command) (scripts : Scripts) where
+-- the number at an argument of a command, if the arguments have these values
+module _ (value : ArgumentData → trace.Argument) (k : ℕ) (command : Command) where
   pub number_there : (found : Argument) (n : ℕ) → slice_get (take command.count command.arguments) k ≡ Some found
-      → ((name : List ℕ) → n ≡ number_in (Some (evaluated t scripts (argument_view name found))))
-      → (next : ℕ) → n ≡ argument k (call_of t next (command_view command) scripts)
-  unfolding call_of
-  number_there found n at is next =
+      → ((name : List ℕ) → n ≡ number_in (Some (value (argument_view name found))))
+      → n ≡ number_in (slice_get (map value (command_view command).arguments) k)
+  number_there found n at is =
       let view : Argument → ArgumentData = argument_view command.name.bytes in
       let all : List Argument = take command.count command.arguments in
-      is command.name.bytes ∙ sym (ap number_in (slice_get-map (evaluated t scripts) (map view all) k
-      ∙ ap (option_map (evaluated t scripts)) (slice_get-map view all k ∙ ap (option_map view) at)))
+      is command.name.bytes ∙ sym (ap number_in (slice_get-map value (map view all) k
+      ∙ ap (option_map value) (slice_get-map view all k ∙ ap (option_map view) at)))
 
-  pub number_past : slice_get (take command.count command.arguments) k ≡ None → (next : ℕ) → 0 ≡ argument k (call_of t next (command_view command) scripts)
-  unfolding call_of
-  number_past at next =
+  pub number_past : slice_get (take command.count command.arguments) k ≡ None → 0 ≡ number_in (slice_get (map value (command_view command).arguments) k)
+  number_past at =
       let view : Argument → ArgumentData = argument_view command.name.bytes in
       let all : List Argument = take command.count command.arguments in
-      sym (ap number_in (slice_get-map (evaluated t scripts) (map view all) k
-      ∙ ap (option_map (evaluated t scripts)) (slice_get-map view all k ∙ ap (option_map view) at)))
+      sym (ap number_in (slice_get-map value (map view all) k
+      ∙ ap (option_map value) (slice_get-map view all k ∙ ap (option_map view) at)))
 
 -- a call of a plain word, by the numbers at its arguments
 module _ (t : ℕ) (call : Call) (first second : ℕ) (one : first ≡ argument 0 call) (two : second ≡ argument 1 call) where

@@ -33,7 +33,7 @@ use Rattle.execsim.proofs.Reached.{ticks_reached, events_reached}
 
 -- ---- what moves the clock
 
--- the clock stands, and so does what it gains at each tick
+-- the clock is, and so does what it gains at each tick
 abbrev Stands : State → List Mark → State → Type 0
 Stands s marks r = clock_alone r.memory.timer ≡ clock_alone s.memory.timer
 
@@ -90,7 +90,7 @@ each_stands = record {
 
 -- ---- what ticks bring
 
--- the clock gains so many ticks at most
+-- the clock gains that many ticks at most
 pub record Gains (n : ℕ) (s r : State) : Type 0 where
   pub micros : r.memory.timer.tick_micros ≡ s.memory.timer.tick_micros
   pub clock : r.memory.timer.clock ≤ s.memory.timer.clock + n * s.memory.timer.tick_micros
@@ -166,7 +166,7 @@ clock_shown s e = ap (λ (y : Memory). y.timer.clock) e.memory
 micros_shown : {m : Seen} (s : State) → Agrees m s → m.memory.timer.tick_micros ≡ s.memory.timer.tick_micros
 micros_shown s e = ap (λ (y : Memory). y.timer.tick_micros) e.memory
 
--- after an action that brings so many ticks at most, and to a state that the machine comes to
+-- after an action that brings that many ticks at most, and to a state that the machine comes to
 module _ {next : State → Outcome} {m n : Seen} {a b : Tape} (spent left total : ℕ) (within : spent + left ≤ total) (gains : (s : State) → Gains spent s (next s).state)
     (reaches : (s : State) → IsReached s → IsReached (next s).state) where
   pub time_left : (a.state ≡ Good → IsInTime total m) → FollowsWhileGood next m n a b → b.state ≡ Good → IsInTime left n
@@ -188,7 +188,7 @@ module _ {next : State → Outcome} {m n : Seen} {a b : Tape} (spent left total 
       let enough = time.time in
       record {
         known = record { state = r; agrees = e_r; reached = reaches s time.known.reached };
-        time = subst (λ (k : ℕ). n.memory.timer.clock + left * k < 2 ^ 63) (sym micros) (omega (arith, before, after, known, parts, most, enough));
+        time = subst (λ (k : ℕ). n.memory.timer.clock + left * k + 2 ^ 54 ≤ 2 ^ 64) (sym micros) (omega (arith, before, after, known, parts, most, enough));
       }
 
 -- after some ticks of many there is time for one more

@@ -1,4 +1,4 @@
--- How the machine follows where libraries give way to a block: the order of the public ports is of no account.
+-- How the machine follows if libraries are expunged under low memory to a block: the order of the public ports is of no account.
 use Rattle.std.proofs.Common.{◌≡◌, ℕ, Bool, true, false, cond, List, [], ◌∷◌, Option, None, Some, refl, ap, ◌∙◌}
 use Rattle.std.specs.Prelude.{◌&&◌, is_some, length, nat_eq, not}
 use Rattle.std.specs.List.{range_with_len}

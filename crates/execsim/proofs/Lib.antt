@@ -1,6 +1,8 @@
+-- The lemma files of `execsim`.
 pub mod Accepted
 pub mod Acting
 pub mod Allocating
+pub mod Awaiting
 pub mod BodyCalls
 pub mod BodyNames
 pub mod Booting

@@ -105,7 +105,7 @@ module _ {m o : Seen} {a b : Tape} (t : ℕ) (call : Call) (alert : Heap → Opt
 
 -- ---- objects made
 
--- where an object goes does not depend on the order of the public ports
+-- if an object goes does not depend on the order of the public ports
 pub room-in_order : (kind : Object → Bool) (size : ℕ) (y : Memory) → place_for_object kind size (queues_in_order y) ≡ place_for_object kind size y
 unfolding place_for_object
 room-in_order kind size y = refl
@@ -116,7 +116,7 @@ unfolding does_new_node
 node_refused t call outside follows = follows_as (λ s e. rw outside refl) follows
 
 module _ {m n o : Seen} {a b : Tape} (t : ℕ) (call : Call) where
-  -- an object is made where it fits, and the call answers the address that it got
+  -- an object is made if it fits, and the call answers the address that it got
   object_made : (kind : Object → Bool) (size : ℕ) (object : Object) (place : Option ℕ) → place ≡ place_for_object kind size m.memory
       → n ≡ record m { memory = placed size object place m.memory } → Follows (answered t call (unwrap_or place 0)) n o a b
       → Follows (makes_object t call kind size object) m o a b
@@ -128,7 +128,7 @@ module _ {m n o : Seen} {a b : Tape} (t : ℕ) (call : Call) where
       (follows_change (moves_memory (placed size object place) (placed size object place) (placed-in_order size object place) is) follows)
 
 module _ {m n o : Seen} {a b : Tape} (t : ℕ) (call : Call) where
-  -- libraries are asked to give way to an object, and then it is made
+  -- libraries are expunged under low memory to an object, and then it is made
   pub follows_made : (kind : Object → Bool) (size : ℕ) (object : Object) (place : Option ℕ)
       → place ≡ place_for_object kind size (after_asking_for_object kind size m.memory)
       → n ≡ record m { memory = placed size object place (after_asking_for_object kind size m.memory) }

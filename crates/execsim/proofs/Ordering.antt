@@ -53,7 +53,7 @@ displaced-in_order : (running : Option ℕ) (y : Schedule) → displaced by_prio
 displaced-in_order None y = refl
 displaced-in_order (Some r) y = arrives-in_order r y
 
--- a change that is made by a test goes the same way where both of its sides do
+-- a change that is made by a test goes the same way if both of its sides do
 pub by_test : (b : Bool) (x y : Schedule) (z w : Schedule) → z ≡ in_order x → w ≡ in_order y
     → (if b then z else w) ≡ in_order (if b then x else y)
 by_test true x y z w p q = p
@@ -116,7 +116,7 @@ times_all_put key n s (x ∷ xs) =
     moved true a c = omega arith
     moved false a c = omega arith
 
--- each stands in the order as often as it stood before
+-- each is in the order as often as it was before
 pub times_in_order : (key : ℕ → ℤ) (n : ℕ) (xs : List ℕ) → times n (order key xs) ≡ times n xs
 unfolding order
 times_in_order key n xs = let all = times_all_put key n [] xs in omega (arith, all)

@@ -50,7 +50,7 @@ module _ {m : Seen} {a b : Tape} (t : ℕ) (call : Call) where
       rw same refl)
       follows
 
-  -- the caller has that signal left, and libraries are asked to give way to its port
+  -- the caller has that signal left, and libraries are expunged under low memory for its port
   asked_first : {n : Seen} (bit : ℕ) → Some bit ≡ grant (negsuc 0) (signals_of m.schedule t)
       → Follows (model.makes_port t call (Some bit)) (record m { memory = after_asking_for_object is_port port_size m.memory }) n a b
       → Follows (model.does_create_msg_port t call) m n a b

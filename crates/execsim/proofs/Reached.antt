@@ -82,7 +82,7 @@ agree_after_steps {n = n} i shown follows good =
       reached = steps_reached i known.state known.reached;
     })
 
--- ---- what the queues tell
+-- ---- what the queues say
 
 -- the running task waits for no semaphore
 pub runs_for_none : (m : Seen) (t : ℕ) → m.schedule.running ≡ Some t → QueuesAgree m → WaitsForNone t m.memory.heap

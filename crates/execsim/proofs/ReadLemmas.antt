@@ -12,7 +12,7 @@ given_in_all limit front n all TooLong short sum given = omega arith
 given_in_all limit front n all Failed short sum given = omega arith
 given_in_all limit front n all OutOfMemory short sum given = omega arith
 
--- a fault behind n bytes that came is one of the whole reading
+-- a fault after n bytes that came is one of the whole reading
 pub fault_after : (a b c : Option (List ℕ)) (limit n : ℕ) (front : List ℕ) (fault : ReadFault) → Consumes a b front → n ≡ length front → n ≤ limit
     → GaveBeforeFault (limit - n) fault b c → GaveBeforeFault limit fault a c
 fault_after a b c limit n front fault came size short given = (

@@ -315,7 +315,7 @@ sets_no_more : (command : ℕ) → nat_eq command 11 ≡ true → nat_eq command
 sets_no_more command sets = nat_eq-other command 9
     (λ is. let none : false ≡ true = ap (λ (c : ℕ). nat_eq c 11) (sym is) ∙ sets in cc)
 
--- how a request goes on that begins with its quick bit set: it is under way, where it is to wait, and else done quick
+-- how a request goes on that begins with its quick bit set: it is under way, if it is to wait, and else done quick
 module _ (request : ℕ) (memory : Memory) (there : is_request_at request memory.heap ≡ true) where
   -- the request as it is before
   abbrev asks : TimerRequest
@@ -340,7 +340,7 @@ module _ (request : ℕ) (memory : Memory) (there : is_request_at request memory
       (stays_request request (begun true memory.timer.system asks) memory.heap there))
       ∙ ap done_state quick
 
-  -- its state, where it goes on so
+  -- its state, if it goes on so
   abbrev state_so : Begun → ReqState
   state_so how = (request_of request (heap_begun how true memory.timer.system request memory.heap)).state
 
@@ -486,7 +486,7 @@ none_due : (heap : Heap) (found : Option ℕ) → None ≡ finishing heap found 
 none_due heap None is = refl
 none_due heap (Some other) is = absurd cc
 
--- so many requests finish, by the first one
+-- that many requests finish, by the first one
 abbrev finishes_from : (Clock → Option ℕ) → ℕ → Option ℕ → State → Outcome
 finishes_from next n found s =
     elim found as (λ (x : Option ℕ). Outcome) [ None ↦ quiet s | Some request ↦ andthen (finishes request) (finishes_each next n) s ]
@@ -611,7 +611,7 @@ until_takes_one timer request is =
 abbrev pub finishes_all : (Clock → Option ℕ) → State → Outcome
 finishes_all next s = finishes_each next (length s.memory.timer.waiting) s
 
--- The requests that finish from now on end what all of them began: so many may, at least as many as wait.
+-- The requests that finish from now on end what all of them began: that many may, at least as many as wait.
 pub record EndsAll (next : Clock → Option ℕ) (m : Seen) (a : Tape) (now : Seen) (b : Tape) : Type 0 where
   pub left : ℕ
   pub enough : length now.memory.timer.waiting ≤ left

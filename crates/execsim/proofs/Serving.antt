@@ -80,7 +80,7 @@ module _ {m : Seen} (s : State) (a : Agrees m s) where
 abbrev unclaimed : Bool → List ℕ → State → Outcome
 unclaimed last others = if last then quiet else runs_chain others
 
--- where a chain goes on: with the server at a place, or not at all
+-- if a chain goes on: with the server at a place, or not at all
 drop_none : (xs : List ℕ) (place : ℕ) → slice_get xs place ≡ None → drop place xs ≡ []
 drop_none [] zero e = refl
 drop_none [] (suc n) e = refl
@@ -231,7 +231,7 @@ serves_with {m} {n} {o} {p} {a} {b} {c} {d} asks is puts finishes follows =
         let t = on_schedule (serving_counted asks) s in
         (finishes.agrees t (counts.agrees s e)).bodies ∙ ap (λ (x : Bodies × Clock). x.0) (finishing_keeps asks t)
 
--- so many servings, by the source that is served next
+-- that many servings, by the source that is served next
 abbrev serving_of : ℕ → Option Source → State → Outcome
 serving_of left next s = elim next as (λ (x : Option Source). Outcome) [ None ↦ quiet s | Some asks ↦ andthen (serves asks) (unless_stopped (servings left)) s ]
 

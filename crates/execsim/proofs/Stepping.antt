@@ -62,7 +62,7 @@ settle_going going follows = follows_as {g = andthen interrupts (unless_stopped 
 
 -- Step
 
--- a call on requests, and then those that wait for system time, where the call set it
+-- a call on requests, and then those that wait for system time, if the call set it
 pub asks_and_sets : {m n o : Seen} {a b c : Tape} (is : RequestWord) (t : ℕ) (call : Call) → call.word ≡ Requests is
     → Follows (does_requests is t call) m n a b → Follows finishes_set n o b c → Follows (does t call) m o a c
 unfolding does

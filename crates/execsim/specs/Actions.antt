@@ -28,7 +28,7 @@ use Rattle.execheap.specs.declared.awaited.Awaited.TheVariants as awaited
 use Rattle.execheap.specs.declared.refusal.Refusal.{Refusal}
 use Rattle.execheap.specs.Refusals.{code_of}
 
--- software interrupt i is caused: it is to run behind the caused ones of its priority
+-- software interrupt i is caused: it is to run after the caused ones of its priority
 abbrev pub caused : ℕ → Seen → Seen
 caused i s = record s { pending = with_caused by_priority i s.bodies.softints s.pending }
 
@@ -114,11 +114,11 @@ served asks s =
     andthen (says (Serve (text_of_source asks))) (andthen (finishes_for asks) (runs_chain (chain_of asks s.bodies.servers)))
     (on_schedule (serving_counted asks) s)
 
--- a command of the body of that name is done, where there is one, unless an alert has stopped the machine
+-- a command of the body of that name is done, if there is one, unless an alert has stopped the machine
 abbrev pub does_at_place : List ℕ → Option CommandData → State → Outcome
 does_at_place name None s = quiet s
 does_at_place name (Some command) s = unless_stopped (body_step name command) s
 
--- the running task does one command; where none runs, the step is used up
+-- the running task does one command; if none runs, the step is used up
 abbrev pub running_task_step : State → Outcome
 running_task_step s = task_step s.schedule.running s

@@ -54,7 +54,7 @@ pub record Follows (next : State → Outcome) (old new : Seen) (before after : T
   pub agrees : (s : State) → Agrees old s → Agrees new (next s).state
   pub prints : (s : State) → Agrees old s → Puts before after (printed (next s).lines)
 
--- The same as long as the sink is good. Once it is not, its lines are lost and the machine stays behind the action.
+-- The same as long as the sink is good. Once it is not, its lines are lost and the machine stays after the action.
 pub record FollowsWhileGood (next : State → Outcome) (old new : Seen) (before after : Tape) : Type 0 where
   pub agrees : (s : State) → Agrees old s → after.state ≡ Good → Agrees new (next s).state
   pub prints : (s : State) → Agrees old s → Puts before after (printed (next s).lines)

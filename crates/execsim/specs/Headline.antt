@@ -33,7 +33,7 @@ abbrev pub flow_of : Bool → Flow
 flow_of true = Alerted
 flow_of false = Going
 
--- The machine goes on as the action says, from any state that it agrees with, and its lines are written. A failed write fails it: a first part
+-- The machine goes on as the action says, from any state that it agrees with, and its lines are written. A failed write fails it: a prefix
 -- of the lines is written, and what the machine holds then is of no account, since it does nothing more.
 pub record Acts (next : State → Outcome) (old new : Shown) (before after : Tape) (result : Result Flow WriteFault) : Type 0 where
   pub agrees : (s : State) → Agrees old.seen s → IsOk result → Agrees new.seen (next s).state
@@ -41,7 +41,7 @@ pub record Acts (next : State → Outcome) (old new : Shown) (before after : Tap
   pub going : IfOk result (λ flow. (flow ≡ flow_of new.seen.stopped) × (new.failed ≡ false))
   pub failing : MatchResult result (λ _. Unit {0}) (λ _. new.failed ≡ true)
 
--- After an action the answer tells whether an alert has stopped the machine, or that the sink has failed, which fails the machine.
+-- After an action the answer says whether an alert has stopped the machine, or that the sink has failed, which fails the machine.
 pub record Finishes (stopped failed : Bool) (out : Tape) (result : Result Flow WriteFault) : Type 0 where
   pub written : IsOk result ↔ (out.state ≡ Good)
   pub going : IfOk result (λ flow. (flow ≡ flow_of stopped) × (failed ≡ false))
@@ -55,6 +55,7 @@ pub record StaysFailed (old new : Shown) (before after : Tape) (result : Result 
 
 -- ---- the whole way
 
+-- how a run ended: by an alert or not
 abbrev pub end_of : Bool → End
 end_of true = end.Alerted
 end_of false = end.Ran
@@ -77,7 +78,7 @@ pub record RunsWhole (file : Result MachineData FileFault) (script : Result (Lis
   pub writes : TakesAll before after (printed (run machine events).lines)
   pub ends : how ≡ end_of (run machine events).state.stopped
 
--- both texts are read, and the trace of their run breaks off where the sink failed
+-- both texts are read, and the trace of their run breaks off if the sink failed
 pub record RunsShort (file : Result MachineData FileFault) (script : Result (List Event) EventFault) (before after : Tape) : Type 0 where
   pub machine : MachineData
   pub events : List Event
@@ -85,19 +86,19 @@ pub record RunsShort (file : Result MachineData FileFault) (script : Result (Lis
   pub reads_events : script ≡ Ok events
   pub writes : Breaks before after (printed (run machine events).lines)
 
--- the machine file is refused by its fault, or for want of memory; nothing is written
+-- the machine file is refused by its fault, or when out of memory; nothing is written
 pub record RefusesFile (file : Result MachineData FileFault) (before after : Tape) (why : FileFault) : Type 0 where
   pub defined : ¬ (why ≡ file_fault.OutOfMemory) → file ≡ Err why
   pub untouched : after ≡ before
 
--- the machine file is read, and the event text is refused by its fault, or for want of memory; nothing is written
+-- the machine file is read, and the event text is refused by its fault, or when out of memory; nothing is written
 pub record RefusesEvents (file : Result MachineData FileFault) (script : Result (List Event) EventFault) (before after : Tape) (why : EventFault) : Type 0 where
   pub machine : MachineData
   pub reads_file : file ≡ Ok machine
   pub defined : ¬ (why ≡ event_fault.OutOfMemory) → script ≡ Err why
   pub untouched : after ≡ before
 
--- both texts are read, and memory is lacking for the machine; nothing is written
+-- both texts are read, and memory is refused for the machine; nothing is written
 pub record LacksMemory (file : Result MachineData FileFault) (script : Result (List Event) EventFault) (before after : Tape) : Type 0 where
   pub machine : MachineData
   pub events : List Event
@@ -106,7 +107,7 @@ pub record LacksMemory (file : Result MachineData FileFault) (script : Result (L
   pub untouched : after ≡ before
 
 -- The headline: the trace of the run of the defined machine over the defined events, exactly; or the first fault of the texts, and
--- nothing written; or a part of that same trace, where the sink failed.
+-- nothing written; or a part of that same trace, if the sink failed.
 abbrev pub Simulates : Result MachineData FileFault → Result (List Event) EventFault → Tape → Tape → Result End SimFault → Type 0
 Simulates file script before after (Ok how) = RunsWhole file script before after how
 Simulates file script before after (Err (fault.File why)) = RefusesFile file before after why

@@ -5,6 +5,8 @@ pub mod Changes
 pub mod Endings
 pub mod Headline
 pub mod Reached
+pub mod Readers
 pub mod Reading
+pub mod Standing
 pub mod Time
 pub mod Views

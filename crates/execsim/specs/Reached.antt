@@ -15,8 +15,8 @@ pub data IsReached : State → Type 0 where
   after_start : (s : State) → IsReached s → IsReached (starts s).state
   after_event : (e : Event) (s : State) → IsReached s → IsReached (event e s).state
 
--- Just the running task has the state Running, just the ready ones stand among the ready, each once, and just those that wait for a
--- semaphore stand in its queue, each in one and once. So the running task waits for none.
+-- Just the running task has the state Running, exactly the ready ones are among the ready, each once, and exactly those that wait for a
+-- semaphore are in its queue, each in one and once. So the running task waits for none.
 abbrev pub QueuesAgree : Seen → Type 0
 QueuesAgree seen = (t : ℕ) → model.Agrees t seen.schedule (λ semaphore. waiters_of semaphore seen.memory.heap)
 

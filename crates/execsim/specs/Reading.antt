@@ -5,7 +5,7 @@ use Rattle.std.specs.declared.io.ErrorKind.{ErrorKind}
 use Rattle.execsim.specs.declared.reading.ReadFault.{ReadFault}
 use Rattle.execsim.specs.declared.reading.ReadFault.TheVariants.{Failed, TooLong, OutOfMemory}
 
--- the number of a fault (own choice)
+-- the number of a fault (project rule)
 abbrev pub read_fault_number : ReadFault → ℕ
 read_fault_number Failed = 1
 read_fault_number TooLong = 2
@@ -16,12 +16,12 @@ abbrev pub read_fault_of : ErrorKind → ReadFault
 read_fault_of ErrorKind.OutOfMemory = OutOfMemory
 read_fault_of kind = Failed
 
--- the reader gave some bytes, and they stand behind the old ones
+-- the reader gave some bytes, and they are after the old ones
 abbrev pub Adds : Option (List ℕ) → Option (List ℕ) → List ℕ → List ℕ → Type 0
 Adds before after old new = (bs : List ℕ) × Consumes before after bs × (new ≡ old ++ bs)
 
--- what the reader gave before a fault: just one byte past the limit before `TooLong`, none past it before a read that failed, and at most one
--- where memory was refused, to the bytes or to the reader
+-- what the reader gave before a fault: exactly one byte past the limit before `TooLong`, none past it before a read that failed, and at most one
+-- if memory was refused, to the bytes or to the reader
 abbrev pub IsGivenBefore : ℕ → ReadFault → ℕ → Type 0
 IsGivenBefore limit TooLong n = n ≡ limit + 1
 IsGivenBefore limit Failed n = n ≤ limit

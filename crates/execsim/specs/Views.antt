@@ -36,7 +36,7 @@ abbrev pub caller_view : Caller → calls.Caller
 caller_view (caller.Task t) = ByTask t
 caller_view (caller.Body name) = ByBody name.bytes
 
--- a body, or one of so many tasks
+-- a body, or one of that many tasks
 abbrev pub IsCaller : ℕ → Caller → Type 0
 IsCaller tasks (caller.Task t) = t < tasks
 IsCaller tasks (caller.Body name) = Unit {0}

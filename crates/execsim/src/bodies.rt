@@ -173,8 +173,6 @@ fn server_claims(servers: &[Server], k: usize) -> bool
 
 impl Bodies {
     /// The software interrupts and the servers of a file.
-    ///
-    /// Source: own choice.
     pub fn new(
         alloc: Global,
         softints: &[SoftintRecord],
@@ -196,9 +194,7 @@ impl Bodies {
         })
     }
 
-    /// The number of the software interrupt of a name; where none has it, the number of all of them.
-    ///
-    /// Source: own choice.
+    /// The number of the software interrupt of a name; if none has it, the number of all of them.
     pub fn softint_named(&self, name: Name) -> usize
         ensures { result ≡ softint_named name.bytes self.now.softints }
     {
@@ -209,8 +205,6 @@ impl Bodies {
     }
 
     /// How many software interrupts there are.
-    ///
-    /// Source: own choice.
     pub fn softint_count(&self) -> usize
         ensures { result ≡ length self.now.softints }
     {
@@ -218,8 +212,6 @@ impl Bodies {
     }
 
     /// How many servers there are.
-    ///
-    /// Source: own choice.
     pub fn server_count(&self) -> usize
         ensures { result ≡ length self.now.servers }
     {
@@ -235,9 +227,7 @@ impl Bodies {
         server_claims(&self.servers, k)
     }
 
-    /// The name of a body; an empty one where there is none of that number.
-    ///
-    /// Source: own choice.
+    /// The name of a body; an empty one if there is none of that number.
     pub fn name(&self, body: Body) -> Name
         ensures { result.bytes ≡ name_of_body body self.now }
     {
@@ -247,9 +237,7 @@ impl Bodies {
         }
     }
 
-    /// The commands of a body; none where there is none of that number.
-    ///
-    /// Source: own choice.
+    /// The commands of a body; none if there is none of that number.
     pub fn code(&self, body: Body) -> &[Command]
         ensures { map command_view result.now ≡ code_of_body body self.now }
     {

@@ -1,23 +1,27 @@
 //! The calls that a body makes, how they end, and a whole body. A body has the shared variables alone, prints under its own name, and runs to
 //! its end at once, or to an alert.
-ghost use Rattle.std.specs.Prelude.{◌≡◌, ℕ, List, length, map, slice_get};
+ghost use Rattle.std.specs.Prelude.{◌≡◌, ◌≤◌, ℕ, List, IfSome, Some, length, map, slice_get, take};
 ghost use Rattle.exectrace.specs.Short.{short_argument};
 ghost use Rattle.exectrace.specs.Sink.{Puts, Tape};
 ghost use Rattle.exectrace.specs.Shown.{shown_outcome};
 ghost use Rattle.exectrace.specs.Trace.{printed_line};
 ghost use Rattle.exectrace.specs.Trace as trace;
 ghost use Rattle.taskscript.specs.Words.{word_text};
-ghost use Rattle.execmodel.specs.Bodies.{body_step, does_in_body, does_interrupts_by, does_plain_by, does_ports_by, does_signals_by, runs_body};
-ghost use Rattle.execmodel.specs.Calls.{ByBody, alerted_by, answered_by, call_in_body, done_by, evaluated_in_body, silent_by, stored_shared};
+ghost use Rattle.execmodel.specs.Bodies.{does_in_body, does_interrupts_by, does_plain_by, does_ports_by, does_signals_by, runs_body};
+ghost use Rattle.execmodel.specs.State.{State};
+ghost use Rattle.execmodel.specs.State as model;
+ghost use Rattle.execmodel.specs.Calls.{ByBody, alerted_by, answered_by, argument, call_in_body, done_by, evaluated_in_body, number_in, silent_by, stored_shared};
+ghost use Rattle.execmodel.specs.Calls as calls;
 ghost use Rattle.execsim.specs.Actions.{does_at_place};
 ghost use Rattle.execsim.specs.Agreement.{Follows};
 ghost use Rattle.taskscript.specs.Commands.{argument_view, command_view};
 ghost use Rattle.execsim.specs.Views.{call_view, code_of_body, name_of_body};
-ghost use Rattle.std.specs.Option.{option_map};
 
 use crate::bodies::Body;
 use crate::call::{Call, Caller};
+use crate::change::argument_at;
 use crate::kernel::Kernel;
+use crate::plain::{all_bits, common_bits, difference, sum};
 use crate::program::command_at;
 use execlist::space::ListSpace;
 use exectrace::lines::CallOutcome;
@@ -45,31 +49,91 @@ impl<S: ListSpace> Kernel<S> {
         }
     }
 
-    /// The values of all arguments of a command in a body.
-    fn evaluate_all_in_body(&self, arguments: &[Argument; 4]) -> [ShortArg; 4]
-        ensures { (name : List ℕ) → map (short_argument name) result ≡ map (λ a. evaluated_in_body self.now.scripts (argument_view name a)) arguments.now }
+    /// Puts the values of the first `count` arguments of a command of a body if they are to be; what is past them is unused.
+    #[inline(always)]
+    fn evaluate_all_in_body(
+        &self,
+        arguments: &[Argument; 4],
+        count: usize,
+        values: &mut [ShortArg; 4],
+    )
+        requires few { count ≤ 4 }
+        ensures { (name : List ℕ) → map (short_argument name) (take count values.new)
+            ≡ map (λ a. evaluated_in_body self.now.scripts (argument_view name a)) (take count arguments.now) }
     {
-        let [first, second, third, fourth] = *arguments;
-        [
-            self.evaluate_in_body(first),
-            self.evaluate_in_body(second),
-            self.evaluate_in_body(third),
-            self.evaluate_in_body(fourth),
-        ]
+        for k in 0..count {
+            values[k] = self.evaluate_in_body(arguments[k]);
+        }
     }
 
     /// The call that a command of a body is.
     fn call_in_body(&self, command: &Command) -> Call
         ensures { call_view result ≡ call_in_body (command_view command.now) self.now.scripts }
     {
-        Call {
+        let count = command.count as usize;
+        let mut call = Call {
             word: command.word,
             target: command.target,
-            arguments: self.evaluate_all_in_body(&command.arguments),
-            count: command.count as usize,
+            arguments: [ShortArg::Value(0); 4],
+            count,
             quoted: command.name,
             next: 0,
             awaited: 0,
+        };
+        self.evaluate_all_in_body(&command.arguments, count, &mut call.arguments);
+        call
+    }
+
+    // ---- a plain word that prints nothing
+
+    /// The number that an argument is in a body; 0 for a name.
+    fn number_in_body(&self, argument: Argument) -> u32
+        ensures { (name : List ℕ) → result ≡ number_in (Some (evaluated_in_body self.now.scripts (argument_view name argument))) }
+    {
+        match self.evaluate_in_body(argument) {
+            ShortArg::Value(n) => n,
+            ShortArg::Quoted => 0,
+        }
+    }
+
+    /// The number at an argument of a command of a body, counted from 0; 0 if there is none.
+    fn number_at_in_body(&self, command: &Command, k: usize) -> u32
+        ensures { result ≡ argument k (call_in_body (command_view command.now) self.now.scripts) }
+    {
+        match argument_at(command, k) {
+            Some(argument) => self.number_in_body(*argument),
+            None => 0,
+        }
+    }
+
+    /// The value that a plain word stores in a body; none for one that prints or jumps.
+    fn plain_value_in_body(&self, word: PlainWord, command: &Command) -> Option<u32>
+        ensures { IfSome result (λ value. (by : calls.Caller) (s : State)
+            → does_plain_by word by (call_in_body (command_view command.now) self.now.scripts) s
+            ≡ silent_by by (call_in_body (command_view command.now) self.now.scripts) value s) }
+    {
+        let first = self.number_at_in_body(command, 0);
+        let second = self.number_at_in_body(command, 1);
+        match word {
+            PlainWord::Set => Some(first),
+            PlainWord::Add => Some(sum(first, second)),
+            PlainWord::Sub => Some(difference(first, second)),
+            PlainWord::And => Some(common_bits(first, second)),
+            PlainWord::Or => Some(all_bits(first, second)),
+            PlainWord::Jump | PlainWord::JumpZ | PlainWord::JumpNZ | PlainWord::Print => None,
+        }
+    }
+
+    /// The value that a command of a body stores, if it is of a plain word that prints nothing.
+    fn value_in_body(&self, command: &Command) -> Option<u32>
+        ensures { IfSome result (λ value. (name : List ℕ) (s : State)
+            → does_in_body name (call_in_body (command_view command.now) self.now.scripts) s
+            ≡ silent_by (ByBody name) (call_in_body (command_view command.now) self.now.scripts) value s) }
+    {
+        match command.word {
+            Word::Plain(PlainWord::Print) => None,
+            Word::Plain(word) => self.plain_value_in_body(word, command),
+            _ => None,
         }
     }
 
@@ -116,11 +180,12 @@ impl<S: ListSpace> Kernel<S> {
         self.store_in_body(call.target, value);
     }
 
-    /// A word that is no call of Exec answers, and prints nothing.
-    pub(crate) fn silent_in_body(&mut self, call: &Call, value: u32)
-        ensures { (name : List ℕ) (tape : Tape) → Follows (silent_by (ByBody name) (call_view call.now) value) self.old self.new tape tape }
+    /// A word that is no call of Exec answers, into its target if it has one, and prints nothing, in the body of any name.
+    pub(crate) fn silent_in_body(&mut self, target: Option<Variable>, value: u32)
+        ensures { (name : List ℕ) (call : model.Call) (tape : Tape) → call.target ≡ target
+            → Follows (silent_by (ByBody name) call value) self.old self.new tape tape }
     {
-        self.store_in_body(call.target, value);
+        self.store_in_body(target, value);
     }
 
     /// The call is refused: it changes nothing, and the machine stops for good.
@@ -216,22 +281,8 @@ impl<S: ListSpace> Kernel<S> {
 
     // ---- a whole body
 
-    /// One command of the body of that name.
-    fn body_step<W: Sink>(&mut self, name: &Name, command: &Command, out: &mut W)
-        ensures { Follows (body_step name.now.bytes (command_view command.now)) self.old self.new (W.tape out.old) (W.tape out.new) }
-    {
-        let call = self.call_in_body(command);
-        self.does_in_body(name, &call, out);
-    }
-
-    /// The command at a place of a body, copied, since the machine is changed while it runs.
-    fn command_in_body(&self, body: Body, place: usize) -> Option<Command>
-        ensures { option_map command_view result ≡ slice_get (code_of_body body self.now.bodies) place }
-    {
-        command_at(self.bodies.code(body), place).copied()
-    }
-
-    /// The command at a place of a body is done, unless an alert has stopped the machine.
+    /// The command at a place of a body is done, unless an alert has stopped the machine. A plain word that prints nothing is done at once,
+    /// and no call is made of it.
     fn do_place<W: Sink>(&mut self, body: Body, place: usize, name: &Name, out: &mut W)
         ensures { Follows (does_at_place name.now.bytes (slice_get (code_of_body body self.old.bodies) place))
             self.old self.new (W.tape out.old) (W.tape out.new) }
@@ -239,9 +290,18 @@ impl<S: ListSpace> Kernel<S> {
         if self.stopped {
             return;
         }
-        match self.command_in_body(body, place) {
+        match command_at(self.bodies.code(body), place) {
             None => {}
-            Some(command) => self.body_step(name, &command, out),
+            Some(command) => match self.value_in_body(command) {
+                Some(value) => {
+                    let target = command.target;
+                    self.silent_in_body(target, value);
+                }
+                None => {
+                    let call = self.call_in_body(command);
+                    self.does_in_body(name, &call, out);
+                }
+            },
         }
     }
 

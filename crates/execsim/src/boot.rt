@@ -187,7 +187,7 @@ fn libraries_of(alloc: Global, libraries: &[LibraryRecord]) -> Result<Vec<LibIni
     Ok(inits)
 }
 
-/// The memory of a file: nothing is allocated, and no library is loaded; libraries are asked to give way where the file is of version 2.
+/// The memory of a file: nothing is allocated, and no library is loaded; libraries are expunged under low memory if the file is of version 2.
 fn heap_of<S: ListSpace>(alloc: Global, file: &MachineFile) -> Result<Heap<S>, AllocError>
     ensures { IfOk result (λ heap. heap ≡ record {
       regions = file.now.regions;

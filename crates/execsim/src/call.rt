@@ -1,4 +1,4 @@
-//! The calls that a task makes of its commands: since at most one argument of a command is a name, the name stands beside the arguments. And
+//! The calls that a task makes of its commands: since at most one argument of a command is a name, the name is beside the arguments. And
 //! who makes a call.
 ghost use Rattle.std.specs.Prelude.{◌≤◌};
 
@@ -15,11 +15,11 @@ pub struct Call {
     /// The arguments from left to right; past the first `count` of them they mean nothing.
     pub arguments: [ShortArg; 4],
     pub count: usize,
-    /// The name among the arguments; where none is a name, it means nothing.
+    /// The name among the arguments; if none is a name, it means nothing.
     pub quoted: Name,
     /// The place of the command after it.
     pub next: usize,
-    /// The signals that the task waits for, where it waits in the call at a port; else 0.
+    /// The signals that the task waits for, if it waits in the call at a port; else 0.
     pub awaited: u32,
     ghost few: { count ≤ 4 },
 }

@@ -22,7 +22,7 @@ use taskq::TaskId;
 
 impl<S: ListSpace> Kernel<S> {
     /// Prints the line of a call of task t.
-    fn say<W: Sink>(&self, t: TaskId, call: &Call, outcome: CallOutcome, out: &mut W)
+    pub(crate) fn say<W: Sink>(&self, t: TaskId, call: &Call, outcome: CallOutcome, out: &mut W)
         requires { HasTask t self.now }
         ensures { Puts (W.tape out.old) (W.tape out.new) (printed_line (line_seen t (call_view call.now) (shown_outcome outcome) self.now)) }
     {
@@ -116,7 +116,7 @@ impl<S: ListSpace> Kernel<S> {
     {
         match caller {
             Caller::Task(t) => self.silent(*t, call, value),
-            Caller::Body(_) => self.silent_in_body(call, value),
+            Caller::Body(_) => self.silent_in_body(call.target, value),
         }
     }
 

@@ -13,7 +13,7 @@ use taskq::TaskId;
 use taskscript::InterruptWord;
 
 impl<S: ListSpace> Kernel<S> {
-    /// Cause name: the software interrupt of that name is to run, behind those of its priority; one that is caused already stays where it is
+    /// Cause name: the software interrupt of that name is to run, after those of its priority; one that is caused already stays where it is
     /// (autodoc exec.library/Cause).
     pub(crate) fn cause_named<W: Sink>(&mut self, caller: &Caller, call: &Call, out: &mut W)
         requires { HasCaller caller.now self.old }

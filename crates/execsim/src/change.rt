@@ -25,8 +25,8 @@ pub struct Change {
     pub next: usize,
 }
 
-/// The argument of a command, counted from 0, if it has so many.
-fn argument_at(command: &Command, k: usize) -> Option<&Argument>
+/// The argument of a command, counted from 0, if it has that many.
+pub(crate) fn argument_at(command: &Command, k: usize) -> Option<&Argument>
     ensures { option_copied result ≡ slice_get (take command.now.count command.now.arguments) k }
 {
     command.arguments[..command.count as usize].get(k)
@@ -46,7 +46,7 @@ impl<S: ListSpace> Kernel<S> {
         }
     }
 
-    /// The number that stands at an argument of a command of task t, counted from 0; 0 where none does.
+    /// The number that is at an argument of a command of task t, counted from 0; 0 if none does.
     fn number_at(&self, t: TaskId, command: &Command, k: usize) -> u32
         requires { HasTask t self.now }
         ensures { (next : ℕ) → result ≡ argument k (call_of t next (command_view command.now) self.now.scripts) }
@@ -57,7 +57,7 @@ impl<S: ListSpace> Kernel<S> {
         }
     }
 
-    /// What a command of task t of that plain word changes, where the next one stands at that place; none for a word that prints.
+    /// What a command of task t of that plain word changes, if the next one is at that place; none for a word that prints.
     fn change_of(
         &self,
         t: TaskId,
@@ -123,7 +123,7 @@ impl<S: ListSpace> Kernel<S> {
         }
     }
 
-    /// What task t changes by what it does next, where that is a plain word that prints nothing.
+    /// What task t changes by what it does next, if that is a plain word that prints nothing.
     pub(crate) fn next_change(&self, t: TaskId) -> Option<Change>
         requires { HasTask t self.now }
         ensures { IfSome result (λ change. (s : State) → call_step t (next_call t self.now.scripts) s ≡ changes t change s) }

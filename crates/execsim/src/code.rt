@@ -4,9 +4,7 @@ ghost use Rattle.std.specs.Prelude.{◌≡◌, IfOk};
 use std::alloc::{AllocError, Global};
 use taskscript::Command;
 
-/// A copy of the commands of a body. An error means that memory is lacking.
-///
-/// Source: own choice.
+/// A copy of the commands of a body. An error means that memory is refused.
 pub fn copied_code(alloc: Global, code: &[Command]) -> Result<Vec<Command>, AllocError>
     ensures { IfOk result (λ v. v.items ≡ code.now) }
 {

@@ -1,4 +1,4 @@
-//! Interrupts: how they are caused and requested, and how they run, software interrupts one a step, the servers of a source where it is
+//! Interrupts: how they are caused and requested, and how they run, software interrupts one a step, the servers of a source if it is
 //! served (RKM Libraries, Exec Interrupts).
 ghost use Rattle.std.specs.Prelude.{◌≡◌, is_some, true, slice_get};
 ghost use Rattle.softint.specs.Sources.{highest};
@@ -21,8 +21,6 @@ use taskscript::Source as NamedSource;
 const SOURCES: u32 = 3;
 
 /// The source of a name of the texts.
-///
-/// Source: own choice.
 pub fn source_named(name: NamedSource) -> Source
     ensures { result ≡ source_named name }
 {
@@ -47,7 +45,7 @@ fn text_of_source(source: Source) -> &'static str
 impl<S: ListSpace> Kernel<S> {
     // ---- causing and requesting
 
-    /// A software interrupt is caused: it is to run behind the caused ones of its priority, unless it is caused already. A number that none
+    /// A software interrupt is caused: it is to run after the caused ones of its priority, unless it is caused already. A number that none
     /// has does nothing.
     pub(crate) fn cause(&mut self, i: IntId)
         ensures { self.new ≡ caused i self.old }
@@ -57,7 +55,7 @@ impl<S: ListSpace> Kernel<S> {
         }
     }
 
-    /// The number of the software interrupt of a name; where none has it, the number of all of them.
+    /// The number of the software interrupt of a name; if none has it, the number of all of them.
     pub(crate) fn softint_named(&self, name: Name) -> IntId
         ensures { result ≡ softint_named name.bytes self.now.bodies.softints }
     {
@@ -73,7 +71,7 @@ impl<S: ListSpace> Kernel<S> {
 
     // ---- software interrupts
 
-    /// The software interrupt that runs next, where interrupts are allowed and one is caused. It is not caused any more.
+    /// The software interrupt that runs next, if interrupts are allowed and one is caused. It is not caused any more.
     pub(crate) fn take_softint(&mut self) -> Option<IntId>
         ensures answer { result ≡ softint_seen self.old }
         ensures next { self.new ≡ record self.old { pending = without_softint result self.old.pending } }
@@ -106,7 +104,7 @@ impl<S: ListSpace> Kernel<S> {
         self.run_body(body, out);
     }
 
-    /// The server at a place of the chain of a source, from 0, or none where the chain is shorter.
+    /// The server at a place of the chain of a source, from 0, or none if the chain is shorter.
     fn server_at(&self, source: Source, place: usize) -> Option<ServerId>
         ensures { result ≡ slice_get (chain_of source self.now.bodies.servers) place }
     {
@@ -133,7 +131,7 @@ impl<S: ListSpace> Kernel<S> {
 
     // ---- serving
 
-    /// The source that is served next: the latched one of highest level, where interrupts are allowed. Its latch is cleared.
+    /// The source that is served next: the latched one of highest level, if interrupts are allowed. Its latch is cleared.
     fn take_request(&mut self) -> Option<Source>
         ensures answer { result ≡ source_seen self.old }
         ensures next { self.new ≡ record self.old { pending = without_request result self.old.pending } }
@@ -173,7 +171,7 @@ impl<S: ListSpace> Kernel<S> {
         self.ints.any_raised()
     }
 
-    /// All that asks is served, where interrupts are allowed: there are three sources, and no serving sets a latch.
+    /// All that asks is served, if interrupts are allowed: there are three sources, and no serving sets a latch.
     #[inline(never)]
     fn serve_all<W: Sink>(&mut self, out: &mut W)
         ensures { Follows interrupts self.old self.new (W.tape out.old) (W.tape out.new) }
@@ -191,7 +189,7 @@ impl<S: ListSpace> Kernel<S> {
         }
     }
 
-    /// All that asks is served, where interrupts are allowed. Mostly nothing asks, and nothing else is looked at then.
+    /// All that asks is served, if interrupts are allowed. Mostly nothing asks, and nothing else is looked at then.
     #[inline(always)]
     pub(crate) fn interrupt<W: Sink>(&mut self, out: &mut W)
         ensures { Follows interrupts self.old self.new (W.tape out.old) (W.tape out.new) }

@@ -105,7 +105,7 @@ impl<S: ListSpace> Kernel<S> {
         self.sched.name(t)
     }
 
-    /// What a variable holds for task t; 0 where there is no such variable.
+    /// What a variable holds for task t; 0 if there is no such variable.
     pub(crate) fn content(&self, t: TaskId, variable: Variable) -> u32
         requires { HasTask t self.now }
         ensures { result ≡ content t self.now.scripts variable }
@@ -116,7 +116,7 @@ impl<S: ListSpace> Kernel<S> {
         }
     }
 
-    /// What a shared variable holds; 0 where there is no such variable.
+    /// What a shared variable holds; 0 if there is no such variable.
     pub(crate) fn shared_content(&self, k: usize) -> u32
         ensures { result ≡ slice_index_or self.now.scripts.shared k 0 }
     {
@@ -136,7 +136,7 @@ impl<S: ListSpace> Kernel<S> {
         }
     }
 
-    /// Puts the values of so many arguments of a command for task t where they are to stand; what stands past them is unused.
+    /// Puts the values of that many arguments of a command for task t where they are to be; what is past them is unused.
     #[inline(always)]
     pub(crate) fn evaluate_all(
         &self,
@@ -167,7 +167,7 @@ impl<S: ListSpace> Kernel<S> {
         }
     }
 
-    /// Gives a shared variable a value; nothing changes where there is no such variable.
+    /// Gives a shared variable a value; nothing changes if there is no such variable.
     pub(crate) fn store_shared(&mut self, k: usize, value: u32)
         ensures { self.new ≡ record self.old { scripts = record self.old.scripts { shared = slice_set self.old.scripts.shared k value } } }
     {

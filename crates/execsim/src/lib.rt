@@ -25,12 +25,16 @@ mod reading;
 mod requests;
 mod semaphores;
 mod simulation;
+mod standing;
 mod step;
 mod task_signals;
 mod tasks;
 
+/// What is seen of a block of memory and of the object that begins there.
+pub use execheap::{BlockView, LibraryView, ObjectView, PortView};
 /// Laws of every run of the abstract machine, which the machine follows.
+pub use call::Call;
 pub use execmodel::laws;
-pub use machine::{Flow, Machine};
+pub use machine::{Flow, Machine, MachineView, TaskView};
 pub use reading::{FILE_LIMIT, ReadFault, read_limited};
 pub use simulation::{End, SimFault, simulate, simulate_on};

@@ -16,8 +16,8 @@ use taskq::TaskId;
 use taskscript::LibraryWord;
 
 impl<S: ListSpace> Kernel<S> {
-    /// Opens the library of a name with at least that version, if there is one and it has a place, once others were asked to give way to it
-    /// where it is to be loaded.
+    /// Opens the library of a name with at least that version, if there is one and it has a place, once others were expunged under low memory to it
+    /// if it is to be loaded.
     fn open(&mut self, name: Name, version: u32) -> Option<u32>
         ensures answer { result ≡ opening name.bytes version self.old.memory }
         ensures next { self.new ≡ record self.old { memory = opened name.bytes version self.old.memory } }
@@ -25,9 +25,9 @@ impl<S: ListSpace> Kernel<S> {
         self.memory.open_library(name.as_str(), version)
     }
 
-    /// OpenLibrary name version: answers the base of the library of that name, which is loaded first where it is absent, and is open once
-    /// more; 0 where there is none of the name, its version is lower, it is open 65,535 times, or there is no place for it (autodoc
-    /// exec.library/OpenLibrary; the count, and that a library takes memory with MEMF_PUBLIC: own choice).
+    /// OpenLibrary name version: answers the base of the library of that name, which is loaded first if it is absent, and is open once
+    /// more; 0 if there is none of the name, its version is lower, it is open 65,535 times, or there is no place for it (autodoc
+    /// exec.library/OpenLibrary; the count, and that a library takes memory with MEMF_PUBLIC: project rule).
     fn open_library<W: Sink>(&mut self, t: TaskId, call: &Call, out: &mut W)
         requires { HasTask t self.old }
         ensures { Follows (does_open_library t (call_view call.now)) self.old self.new (W.tape out.old) (W.tape out.new) }
@@ -37,8 +37,8 @@ impl<S: ListSpace> Kernel<S> {
         self.answered(t, call, base.unwrap_or(0), out);
     }
 
-    /// CloseLibrary base: the library is open once less, and goes where it is to be expunged and is open no more; 0 does nothing. HANDLE
-    /// where no loaded library begins there, LIB where it is not open (autodoc exec.library/CloseLibrary; the alerts: own choice).
+    /// CloseLibrary base: the library is open once less, and goes if it is to be expunged and is open no more; 0 does nothing. HANDLE
+    /// if no loaded library begins there, LIB if it is not open (autodoc exec.library/CloseLibrary; the alerts: project rule).
     fn close_library<W: Sink>(&mut self, t: TaskId, call: &Call, out: &mut W)
         requires { HasTask t self.old }
         ensures { Follows (does_close_library t (call_view call.now)) self.old self.new (W.tape out.old) (W.tape out.new) }
@@ -52,8 +52,8 @@ impl<S: ListSpace> Kernel<S> {
         }
     }
 
-    /// RemLibrary base: the library is expunged, or is to be when it is closed for the last time. HANDLE where no loaded library begins there
-    /// (autodoc exec.library/RemLibrary; the alert: own choice).
+    /// RemLibrary base: the library is expunged, or is to be when it is closed for the last time. HANDLE if no loaded library begins there
+    /// (autodoc exec.library/RemLibrary; the alert: project rule).
     fn rem_library<W: Sink>(&mut self, t: TaskId, call: &Call, out: &mut W)
         requires { HasTask t self.old }
         ensures { Follows (does_rem_library t (call_view call.now)) self.old self.new (W.tape out.old) (W.tape out.new) }
@@ -63,8 +63,8 @@ impl<S: ListSpace> Kernel<S> {
         self.concluded(tried, t, call, out);
     }
 
-    /// LibOpenCnt base: answers how often the library is open. HANDLE where no loaded library begins there (RKM Libraries, Exec Libraries:
-    /// lib_OpenCnt; that there is a call for it: own choice).
+    /// LibOpenCnt base: answers how often the library is open. HANDLE if no loaded library begins there (RKM Libraries, Exec Libraries:
+    /// lib_OpenCnt; that there is a call for it: project rule).
     fn lib_open_cnt<W: Sink>(&mut self, t: TaskId, call: &Call, out: &mut W)
         requires { HasTask t self.old }
         ensures { Follows (does_lib_open_cnt t (call_view call.now)) self.old self.new (W.tape out.old) (W.tape out.new) }

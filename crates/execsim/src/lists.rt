@@ -28,7 +28,7 @@ use taskscript::ListWord;
 impl<S: ListSpace> Kernel<S> {
     // ---- made and freed
 
-    /// A new empty list, if there is room for one once libraries were asked to give way to it.
+    /// A new empty list, if there is room for one once libraries were expunged under low memory to it.
     fn make_list(&mut self) -> Option<u32>
         ensures address { result ≡ place_for_object is_list list_size (after_asking_for_object is_list list_size self.old.memory) }
         ensures next { self.new ≡ record self.old {
@@ -39,7 +39,7 @@ impl<S: ListSpace> Kernel<S> {
     }
 
     /// A new node with the priority that the word is, read as a signed one, and with that name or none, if there is room for one once
-    /// libraries were asked to give way to it.
+    /// libraries were expunged under low memory to it.
     fn make_node(&mut self, pri: u32, name: Option<Name>) -> Option<u32>
         requires inside { IsTrue (is_priority (cast_signed w32 pri)) }
         ensures address { result ≡ place_for_object is_node node_size (after_asking_for_object is_node node_size self.old.memory) }
@@ -51,7 +51,7 @@ impl<S: ListSpace> Kernel<S> {
         self.memory.new_node(pri.cast_signed() as i8, name)
     }
 
-    /// NewList: answers the address of a new empty list, or 0 (autodoc amiga.lib/NewList; that it takes the memory: own choice).
+    /// NewList: answers the address of a new empty list, or 0 (autodoc amiga.lib/NewList; that it takes the memory: project rule).
     fn new_list<W: Sink>(&mut self, t: TaskId, call: &Call, out: &mut W)
         requires { HasTask t self.old }
         ensures { Follows (does_new_list t (call_view call.now)) self.old self.new (W.tape out.old) (W.tape out.new) }
@@ -60,7 +60,7 @@ impl<S: ListSpace> Kernel<S> {
         self.answered(t, call, list.unwrap_or(0), out);
     }
 
-    /// FreeList list: frees an empty list. HANDLE where no list begins there, LINK where it has nodes (own choice).
+    /// FreeList list: frees an empty list. HANDLE if no list begins there, LINK if it has nodes (project rule).
     fn free_list<W: Sink>(&mut self, t: TaskId, call: &Call, out: &mut W)
         requires { HasTask t self.old }
         ensures { Follows (does_free_list t (call_view call.now)) self.old self.new (W.tape out.old) (W.tape out.new) }
@@ -70,8 +70,8 @@ impl<S: ListSpace> Kernel<S> {
         self.concluded(tried, t, call, out);
     }
 
-    /// NewNode pri name: answers the address of a new node, which is not linked, or 0. VALUE where the priority, read as a signed word, is
-    /// not in -128 to 127 (own choice).
+    /// NewNode pri name: answers the address of a new node, which is not linked, or 0. VALUE if the priority, read as a signed word, is
+    /// not in -128 to 127 (project rule).
     fn new_node<W: Sink>(&mut self, t: TaskId, call: &Call, out: &mut W)
         requires { HasTask t self.old }
         ensures { Follows (does_new_node t (call_view call.now)) self.old self.new (W.tape out.old) (W.tape out.new) }
@@ -85,7 +85,7 @@ impl<S: ListSpace> Kernel<S> {
         }
     }
 
-    /// FreeNode node: frees a node. HANDLE where none begins there, LINK where it is linked (own choice).
+    /// FreeNode node: frees a node. HANDLE if none begins there, LINK if it is linked (project rule).
     fn free_node<W: Sink>(&mut self, t: TaskId, call: &Call, out: &mut W)
         requires { HasTask t self.old }
         ensures { Follows (does_free_node t (call_view call.now)) self.old self.new (W.tape out.old) (W.tape out.new) }
@@ -97,8 +97,8 @@ impl<S: ListSpace> Kernel<S> {
 
     // ---- linked
 
-    /// AddHead list node: puts the node first. HANDLE where either is none, LINK where the node is linked (autodoc
-    /// exec.library/AddHead; the alerts: own choice).
+    /// AddHead list node: puts the node first. HANDLE if either is none, LINK if the node is linked (autodoc
+    /// exec.library/AddHead; the alerts: project rule).
     fn add_head<W: Sink>(&mut self, t: TaskId, call: &Call, out: &mut W)
         requires { HasTask t self.old }
         ensures { Follows (does_add_head t (call_view call.now)) self.old self.new (W.tape out.old) (W.tape out.new) }
@@ -132,8 +132,8 @@ impl<S: ListSpace> Kernel<S> {
         self.concluded(tried, t, call, out);
     }
 
-    /// Insert list node pred: puts the node after pred, or first where pred is 0. HANDLE where one of them is none, LINK where the node is
-    /// linked or pred does not stand in the list (autodoc exec.library/Insert; the alerts: own choice).
+    /// Insert list node pred: puts the node after pred, or first if pred is 0. HANDLE if one of them is none, LINK if the node is
+    /// linked or pred is not in the list (autodoc exec.library/Insert; the alerts: project rule).
     fn insert<W: Sink>(&mut self, t: TaskId, call: &Call, out: &mut W)
         requires { HasTask t self.old }
         ensures { Follows (does_insert t (call_view call.now)) self.old self.new (W.tape out.old) (W.tape out.new) }
@@ -147,8 +147,8 @@ impl<S: ListSpace> Kernel<S> {
 
     // ---- unlinked
 
-    /// Remove node: takes the node out of its list. HANDLE where none begins there, LINK where it is not linked (autodoc
-    /// exec.library/Remove; the alerts: own choice).
+    /// Remove node: takes the node out of its list. HANDLE if none begins there, LINK if it is not linked (autodoc
+    /// exec.library/Remove; the alerts: project rule).
     fn remove<W: Sink>(&mut self, t: TaskId, call: &Call, out: &mut W)
         requires { HasTask t self.old }
         ensures { Follows (does_remove t (call_view call.now)) self.old self.new (W.tape out.old) (W.tape out.new) }
@@ -158,8 +158,8 @@ impl<S: ListSpace> Kernel<S> {
         self.concluded(tried, t, call, out);
     }
 
-    /// RemHead list: takes the first node out and answers it, or 0 for an empty list. HANDLE where no list begins there (autodoc
-    /// exec.library/RemHead; the alert: own choice).
+    /// RemHead list: takes the first node out and answers it, or 0 for an empty list. HANDLE if no list begins there (autodoc
+    /// exec.library/RemHead; the alert: project rule).
     fn rem_head<W: Sink>(&mut self, t: TaskId, call: &Call, out: &mut W)
         requires { HasTask t self.old }
         ensures { Follows (does_rem_head t (call_view call.now)) self.old self.new (W.tape out.old) (W.tape out.new) }
@@ -169,8 +169,8 @@ impl<S: ListSpace> Kernel<S> {
         self.concluded_with(tried, t, call, out);
     }
 
-    /// RemTail list: takes the last node out and answers it, or 0 for an empty list. HANDLE where no list begins there (autodoc
-    /// exec.library/RemTail; the alert: own choice).
+    /// RemTail list: takes the last node out and answers it, or 0 for an empty list. HANDLE if no list begins there (autodoc
+    /// exec.library/RemTail; the alert: project rule).
     fn rem_tail<W: Sink>(&mut self, t: TaskId, call: &Call, out: &mut W)
         requires { HasTask t self.old }
         ensures { Follows (does_rem_tail t (call_view call.now)) self.old self.new (W.tape out.old) (W.tape out.new) }
@@ -182,8 +182,8 @@ impl<S: ListSpace> Kernel<S> {
 
     // ---- scanned
 
-    /// First list: answers the first node, or 0 for an empty list. HANDLE where no list begins there (RKM Libraries, Exec Lists and
-    /// Queues: scanning a list; the alert: own choice).
+    /// First list: answers the first node, or 0 for an empty list. HANDLE if no list begins there (RKM Libraries, Exec Lists and
+    /// Queues: scanning a list; the alert: project rule).
     fn first<W: Sink>(&mut self, t: TaskId, call: &Call, out: &mut W)
         requires { HasTask t self.old }
         ensures { Follows (does_first t (call_view call.now)) self.old self.new (W.tape out.old) (W.tape out.new) }
@@ -193,8 +193,8 @@ impl<S: ListSpace> Kernel<S> {
         self.concluded_with(tried, t, call, out);
     }
 
-    /// Last list: answers the last node, or 0 for an empty list. HANDLE where no list begins there (RKM Libraries, Exec Lists and
-    /// Queues: scanning a list; the alert: own choice).
+    /// Last list: answers the last node, or 0 for an empty list. HANDLE if no list begins there (RKM Libraries, Exec Lists and
+    /// Queues: scanning a list; the alert: project rule).
     fn last<W: Sink>(&mut self, t: TaskId, call: &Call, out: &mut W)
         requires { HasTask t self.old }
         ensures { Follows (does_last t (call_view call.now)) self.old self.new (W.tape out.old) (W.tape out.new) }
@@ -204,8 +204,8 @@ impl<S: ListSpace> Kernel<S> {
         self.concluded_with(tried, t, call, out);
     }
 
-    /// Succ node: answers the node after a linked one, or 0. HANDLE where none begins there, LINK where it is not linked (RKM Libraries,
-    /// Exec Lists and Queues: `ln_Succ`; the alerts: own choice).
+    /// Succ node: answers the node after a linked one, or 0. HANDLE if none begins there, LINK if it is not linked (RKM Libraries,
+    /// Exec Lists and Queues: `ln_Succ`; the alerts: project rule).
     fn succ<W: Sink>(&mut self, t: TaskId, call: &Call, out: &mut W)
         requires { HasTask t self.old }
         ensures { Follows (does_succ t (call_view call.now)) self.old self.new (W.tape out.old) (W.tape out.new) }
@@ -215,8 +215,8 @@ impl<S: ListSpace> Kernel<S> {
         self.concluded_with(tried, t, call, out);
     }
 
-    /// Pred node: answers the node before a linked one, or 0. HANDLE where none begins there, LINK where it is not linked (RKM Libraries,
-    /// Exec Lists and Queues: `ln_Pred`; the alerts: own choice).
+    /// Pred node: answers the node before a linked one, or 0. HANDLE if none begins there, LINK if it is not linked (RKM Libraries,
+    /// Exec Lists and Queues: `ln_Pred`; the alerts: project rule).
     fn pred<W: Sink>(&mut self, t: TaskId, call: &Call, out: &mut W)
         requires { HasTask t self.old }
         ensures { Follows (does_pred t (call_view call.now)) self.old self.new (W.tape out.old) (W.tape out.new) }
@@ -226,7 +226,7 @@ impl<S: ListSpace> Kernel<S> {
         self.concluded_with(tried, t, call, out);
     }
 
-    /// The address of the first node of that name in a list, or after a linked node, or 0. Where no name is given it is the empty one.
+    /// The address of the first node of that name in a list, or after a linked node, or 0. If no name is given it is the empty one.
     fn find(&self, start: u32, name: Option<Name>) -> Result<u32, Refusal>
         ensures alert { alert_of result ≡ find_alert start self.now.memory.heap }
         ensures answer { IfOk result (λ answer. answer ≡ found_node start (unwrap_or (option_map (λ n. n.bytes) name) []) self.now.memory.heap) }
@@ -237,8 +237,8 @@ impl<S: ListSpace> Kernel<S> {
         }
     }
 
-    /// FindName start name: answers the first node of that name in a list, or after a linked node, or 0. HANDLE where neither begins at
-    /// the start, LINK where the node is not linked (autodoc exec.library/FindName; the alerts: own choice).
+    /// FindName start name: answers the first node of that name in a list, or after a linked node, or 0. HANDLE if neither begins at
+    /// the start, LINK if the node is not linked (autodoc exec.library/FindName; the alerts: project rule).
     fn find_name<W: Sink>(&mut self, t: TaskId, call: &Call, out: &mut W)
         requires { HasTask t self.old }
         ensures { Follows (does_find_name t (call_view call.now)) self.old self.new (W.tape out.old) (W.tape out.new) }

@@ -11,11 +11,15 @@ ghost use Rattle.execsim.specs.Headline.{Acts, StaysFailed, Finishes, flow_of};
 ghost use Rattle.execsim.specs.Reached.{QueuesAgree};
 ghost use Rattle.execsim.specs.Time.{HasTimeFor};
 
+mod readers;
+mod standing;
+
 use crate::boot::kernel_of;
 use crate::kernel::Kernel;
 use execlist::space::ListSpace;
 use exectrace::sinks::written;
 use exectrace::{Sink, WriteFault};
+pub use readers::{MachineView, TaskView};
 use std::alloc::{AllocError, Global};
 use std::marker::Model;
 use taskscript::{Event, MachineFile};
@@ -55,7 +59,7 @@ fn flow_for(stopped: bool) -> Flow
     if stopped { Flow::Alerted } else { Flow::Going }
 }
 
-/// Answers whether a machine goes on, or notes that it has failed where the sink has failed.
+/// Answers whether a machine goes on, or notes that it has failed if the sink has failed.
 fn finish<W: Sink>(stopped: bool, failed: &mut bool, out: &W) -> Result<Flow, WriteFault>
     requires { failed.old ≡ false }
     ensures { Finishes stopped failed.new (W.tape out.now) result }
@@ -77,8 +81,6 @@ impl<S: ListSpace> Machine<S> {
     /// # Errors
     ///
     /// Memory is lacking.
-    ///
-    /// Source: own choice.
     pub fn boot(alloc: Global, file: &MachineFile) -> Result<Machine<S>, AllocError>
         ensures agrees { IfOk result (λ m. Agrees m.seen (booted file.now)) }
         ensures whole { IfOk result (λ m. m.failed ≡ false) }
@@ -97,15 +99,14 @@ impl<S: ListSpace> Machine<S> {
     ///
     /// # Errors
     ///
-    /// A write failed: a first part of the lines was taken, the sink is then failed or has taken nothing 16 times in a row, and the machine
+    /// A write failed: a prefix of the lines was taken, the sink is then failed or has taken nothing 16 times in a row, and the machine
     /// has failed. What it holds then is of no account: a machine that has failed writes nothing and answers the same again.
-    ///
-    /// Source: own choice.
     pub fn start<W: Sink>(&mut self, out: &mut W) -> Result<Flow, WriteFault>
         requires { self.old.failed ≡ false → (W.tape out.old).state ≡ SinkState.Good }
         ensures acts { self.old.failed ≡ false → Acts starts self.old self.new (W.tape out.old) (W.tape out.new) result }
         ensures time_left { self.old.failed ≡ false → IsOk result
             → (ticks : ℕ) → HasTimeFor ticks self.old.seen → HasTimeFor ticks self.new.seen }
+        ensures good { IsOk result → (W.tape out.new).state ≡ SinkState.Good }
         ensures failed { self.old.failed ≡ true → StaysFailed self.old self.new (W.tape out.old) (W.tape out.new) result }
     {
         if self.failed {
@@ -116,24 +117,23 @@ impl<S: ListSpace> Machine<S> {
         finish(stopped, &mut self.failed, out)
     }
 
-    /// Does one event: so many steps or ticks, each followed by a settle, or a request of an interrupt, followed by one. After an alert nothing
+    /// Does one event: that many steps or ticks, each followed by a settle, or a request of an interrupt, followed by one. After an alert nothing
     /// happens, and the answer is `Alerted`.
     ///
-    /// The lines that the event prints are written to `out`, which is good unless the machine has failed. The clock of the timer is to stay
-    /// below 2 to the power 63 microseconds: each tick adds the file's `tick_micros` to it, which a machine bears for a million ticks at
-    /// least.
+    /// The lines that the event prints are written to `out`, which is good unless the machine has failed. The sums of the clock are to stay
+    /// below 2 to the power 64 microseconds: each tick adds the file's `tick_micros` to it, which a machine bears for a million ticks at
+    /// least, and what system time and the time of a request add is less than 2 to the power 54.
     ///
     /// # Errors
     ///
     /// As those of `start`. After a failed write the rest of the event is not simulated.
-    ///
-    /// Source: own choice.
     pub fn event<W: Sink>(&mut self, one: Event, out: &mut W) -> Result<Flow, WriteFault>
         requires good { self.old.failed ≡ false → (W.tape out.old).state ≡ SinkState.Good }
         requires time { self.old.failed ≡ false → HasTimeFor (ticks_of one) self.old.seen }
         ensures acts { self.old.failed ≡ false → Acts (event one) self.old self.new (W.tape out.old) (W.tape out.new) result }
         ensures time_left { self.old.failed ≡ false → IsOk result
             → (ticks : ℕ) → HasTimeFor (ticks_of one + ticks) self.old.seen → HasTimeFor ticks self.new.seen }
+        ensures good { IsOk result → (W.tape out.new).state ≡ SinkState.Good }
         ensures failed { self.old.failed ≡ true → StaysFailed self.old self.new (W.tape out.old) (W.tape out.new) result }
     {
         if self.failed {
@@ -145,9 +145,7 @@ impl<S: ListSpace> Machine<S> {
     }
 
     /// Does nothing: its clause is what always holds of a machine that has not failed. Just the running task has the state of one, and it
-    /// waits for no semaphore; and just the tasks that wait for a semaphore stand in its queue, each in one and once.
-    ///
-    /// Source: own choice.
+    /// waits for no semaphore; and exactly the tasks that wait for a semaphore are in its queue, each in one and once.
     pub fn facts(&self)
         ensures { self.now.failed ≡ false → QueuesAgree self.now.seen }
     {

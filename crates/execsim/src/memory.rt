@@ -37,7 +37,7 @@ fn can_be_asked(reqs: u32) -> bool
 }
 
 impl<S: ListSpace> Kernel<S> {
-    /// A plain block of so many bytes, if one fits once libraries were asked to give way to it.
+    /// A plain block of that many bytes, if one fits once libraries were expunged under low memory to it.
     fn allocate(&mut self, size: u32, reqs: u32) -> Option<u32>
         ensures answer { result ≡ place_for size reqs (after_asking size reqs self.old.memory) }
         ensures next { self.new ≡ record self.old { memory = placed size Plain result (after_asking size reqs self.old.memory) } }
@@ -62,9 +62,9 @@ impl<S: ListSpace> Kernel<S> {
         self.memory.avail(reqs)
     }
 
-    /// AllocMem size reqs: answers the address of a plain block, or 0 where none fits once libraries were asked to give way, or the size is
-    /// 0. VALUE where the requirements have other bits than MEMF_PUBLIC, MEMF_CHIP, MEMF_FAST and MEMF_CLEAR (autodoc
-    /// exec.library/AllocMem; size 0, and the alert: own choice).
+    /// AllocMem size reqs: answers the address of a plain block, or 0 if none fits once libraries were expunged under low memory, or the size is
+    /// 0. VALUE if the requirements have other bits than MEMF_PUBLIC, MEMF_CHIP, MEMF_FAST and MEMF_CLEAR (autodoc
+    /// exec.library/AllocMem; size 0, and the alert: project rule).
     fn alloc_mem<W: Sink>(&mut self, t: TaskId, call: &Call, out: &mut W)
         requires { HasTask t self.old }
         ensures { Follows (does_alloc_mem t (call_view call.now)) self.old self.new (W.tape out.old) (W.tape out.new) }

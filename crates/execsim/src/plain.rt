@@ -41,7 +41,7 @@ pub(crate) fn all_bits(a: u32, b: u32) -> u32
     a | b
 }
 
-/// The first place where the number is 0, and else the second.
+/// The first place if the number is 0, and else the second.
 pub(crate) fn place_at_zero(n: u32, zero: usize, other: usize) -> usize
     ensures { result ≡ (if nat_eq n 0 then zero else other) }
 {

@@ -36,7 +36,7 @@ use taskscript::PortWord;
 /// What AllocSignal is asked for by a call that takes any signal: the word of -1.
 const ANY_SIGNAL: u32 = 0xffff_ffff;
 
-/// A name, or the empty one where none is given.
+/// A name, or the empty one if none is given.
 pub(crate) fn name_or_empty(name: Option<Name>) -> Name
     ensures { result.bytes ≡ unwrap_or (option_map (λ n. n.bytes) name) [] }
 {
@@ -59,7 +59,7 @@ impl<S: ListSpace> Kernel<S> {
         self.sched.next_signal()
     }
 
-    /// A new port of task t, which signals it by the signal of that number, if there is room for one once libraries were asked to give way
+    /// A new port of task t, which signals it by the signal of that number, if there is room for one once libraries were expunged under low memory
     /// to it.
     fn make_port(&mut self, t: TaskId, bit: u32) -> Option<u32>
         requires own { 16 ≤ bit }
@@ -72,9 +72,9 @@ impl<S: ListSpace> Kernel<S> {
         self.memory.new_port(t, bit)
     }
 
-    /// CreateMsgPort: answers the address of a new port, which signals the caller by a newly allocated signal; or 0 where the caller has no
-    /// signal left, and then no library is asked to give way, or there is no room for the port (autodoc exec.library/CreateMsgPort; when
-    /// libraries are asked: own choice).
+    /// CreateMsgPort: answers the address of a new port, which signals the caller by a newly allocated signal; or 0 if the caller has no
+    /// signal left, and then no library is expunged under low memory, or there is no room for the port (autodoc exec.library/CreateMsgPort; when
+    /// libraries are asked: project rule).
     fn create_msg_port<W: Sink>(&mut self, t: TaskId, call: &Call, out: &mut W)
         requires known { HasTask t self.old }
         requires runs { Runs t self.old }
@@ -124,8 +124,8 @@ impl<S: ListSpace> Kernel<S> {
         }
     }
 
-    /// DeleteMsgPort port: frees a port and gives its signal back to its task; 0 does nothing. HANDLE where no port begins there, PORT
-    /// where it has messages, is public, or is the reply port of a request under way (autodoc exec.library/DeleteMsgPort; the alerts: own choice).
+    /// DeleteMsgPort port: frees a port and gives its signal back to its task; 0 does nothing. HANDLE if no port begins there, PORT
+    /// if it has messages, is public, or is the reply port of a request under way (autodoc exec.library/DeleteMsgPort; the alerts: project rule).
     fn delete_msg_port<W: Sink>(&mut self, t: TaskId, call: &Call, out: &mut W)
         requires { HasTask t self.old }
         ensures { Follows (does_delete_msg_port t (call_view call.now)) self.old self.new (W.tape out.old) (W.tape out.new) }
@@ -154,8 +154,8 @@ impl<S: ListSpace> Kernel<S> {
             .add_port(port, name_or_empty(name), pri.cast_signed() as i8)
     }
 
-    /// AddPort port name pri: makes a port public. HANDLE where no port begins there, VALUE where the priority, read as a signed word, is
-    /// not in -128 to 127, LINK where the port is public (autodoc exec.library/AddPort; the alerts: own choice).
+    /// AddPort port name pri: makes a port public. HANDLE if no port begins there, VALUE if the priority, read as a signed word, is
+    /// not in -128 to 127, LINK if the port is public (autodoc exec.library/AddPort; the alerts: project rule).
     fn add_port<W: Sink>(&mut self, t: TaskId, call: &Call, out: &mut W)
         requires { HasTask t self.old }
         ensures { Follows (does_add_port t (call_view call.now)) self.old self.new (W.tape out.old) (W.tape out.new) }
@@ -172,8 +172,8 @@ impl<S: ListSpace> Kernel<S> {
         }
     }
 
-    /// RemPort port: makes a port public no more. HANDLE where no port begins there, LINK where it is not public (autodoc
-    /// exec.library/RemPort; the alerts: own choice).
+    /// RemPort port: makes a port public no more. HANDLE if no port begins there, LINK if it is not public (autodoc
+    /// exec.library/RemPort; the alerts: project rule).
     fn rem_port<W: Sink>(&mut self, t: TaskId, call: &Call, out: &mut W)
         requires { HasTask t self.old }
         ensures { Follows (does_rem_port t (call_view call.now)) self.old self.new (W.tape out.old) (W.tape out.new) }
@@ -183,7 +183,7 @@ impl<S: ListSpace> Kernel<S> {
         self.concluded(tried, t, call, out);
     }
 
-    /// The address of the public port of a name, or 0. Where no name is given it is the empty one.
+    /// The address of the public port of a name, or 0. If no name is given it is the empty one.
     fn public_port(&self, name: Option<Name>) -> u32
         ensures { result ≡ port_or_none (find (is_called (unwrap_or (option_map (λ n. n.bytes) name) [])) self.now.memory.public) }
     {
@@ -204,8 +204,8 @@ impl<S: ListSpace> Kernel<S> {
 
     // ---- the action of a port
 
-    /// PortSignal port: the port signals its task, as a new port does. HANDLE where no port begins there (RKM Libraries, Exec Messages and
-    /// Ports: mp_Flags, PA_SIGNAL; that there is a call for it: own choice).
+    /// PortSignal port: the port signals its task, as a new port does. HANDLE if no port begins there (RKM Libraries, Exec Messages and
+    /// Ports: mp_Flags, PA_SIGNAL; that there is a call for it: project rule).
     fn port_signal<W: Sink>(&mut self, t: TaskId, call: &Call, out: &mut W)
         requires { HasTask t self.old }
         ensures { Follows (does_port_signal t (call_view call.now)) self.old self.new (W.tape out.old) (W.tape out.new) }
@@ -215,8 +215,8 @@ impl<S: ListSpace> Kernel<S> {
         self.concluded(tried, t, call, out);
     }
 
-    /// PortCause port name: the port causes the software interrupt of that name. HANDLE where no port begins there (RKM Libraries, Exec
-    /// Messages and Ports: mp_Flags, PA_SOFTINT; that there is a call for it: own choice).
+    /// PortCause port name: the port causes the software interrupt of that name. HANDLE if no port begins there (RKM Libraries, Exec
+    /// Messages and Ports: mp_Flags, PA_SOFTINT; that there is a call for it: project rule).
     fn port_cause<W: Sink>(&mut self, t: TaskId, call: &Call, out: &mut W)
         requires { HasTask t self.old }
         ensures { Follows (does_port_cause t (call_view call.now)) self.old self.new (W.tape out.old) (W.tape out.new) }
@@ -227,8 +227,8 @@ impl<S: ListSpace> Kernel<S> {
         self.concluded(tried, t, call, out);
     }
 
-    /// PortIgnore port: the port does nothing where a message arrives. HANDLE where no port begins there (RKM Libraries, Exec Messages and
-    /// Ports: mp_Flags, PA_IGNORE; that there is a call for it: own choice).
+    /// PortIgnore port: the port does nothing if a message arrives. HANDLE if no port begins there (RKM Libraries, Exec Messages and
+    /// Ports: mp_Flags, PA_IGNORE; that there is a call for it: project rule).
     fn port_ignore<W: Sink>(&mut self, t: TaskId, call: &Call, out: &mut W)
         requires { HasTask t self.old }
         ensures { Follows (does_port_ignore t (call_view call.now)) self.old self.new (W.tape out.old) (W.tape out.new) }
@@ -240,8 +240,8 @@ impl<S: ListSpace> Kernel<S> {
 
     // ---- messages made and freed
 
-    /// NewMsg port word: answers the address of a new message with that reply port, or none for 0, and that word; or 0. HANDLE where the
-    /// reply port is not 0 and no port begins there (own choice).
+    /// NewMsg port word: answers the address of a new message with that reply port, or none for 0, and that word; or 0. HANDLE if the
+    /// reply port is not 0 and no port begins there (project rule).
     fn new_msg<W: Sink>(&mut self, t: TaskId, call: &Call, out: &mut W)
         requires { HasTask t self.old }
         ensures { Follows (does_new_msg t (call_view call.now)) self.old self.new (W.tape out.old) (W.tape out.new) }
@@ -254,7 +254,7 @@ impl<S: ListSpace> Kernel<S> {
         }
     }
 
-    /// FreeMsg message: frees a message. HANDLE where none begins there, LINK where a port has it (own choice).
+    /// FreeMsg message: frees a message. HANDLE if none begins there, LINK if a port has it (project rule).
     fn free_msg<W: Sink>(&mut self, t: TaskId, call: &Call, out: &mut W)
         requires { HasTask t self.old }
         ensures { Follows (does_free_msg t (call_view call.now)) self.old self.new (W.tape out.old) (W.tape out.new) }
@@ -266,7 +266,7 @@ impl<S: ListSpace> Kernel<S> {
 
     // ---- what a message holds
 
-    /// MsgWord message: answers its word. HANDLE where no message begins there (own choice).
+    /// MsgWord message: answers its word. HANDLE if no message begins there (project rule).
     fn msg_word<W: Sink>(&mut self, t: TaskId, call: &Call, out: &mut W)
         requires { HasTask t self.old }
         ensures { Follows (does_msg_word t (call_view call.now)) self.old self.new (W.tape out.old) (W.tape out.new) }
@@ -276,7 +276,7 @@ impl<S: ListSpace> Kernel<S> {
         self.concluded_with(tried, t, call, out);
     }
 
-    /// SetMsgWord message word: gives the message another word. HANDLE where no message begins there (own choice).
+    /// SetMsgWord message word: gives the message another word. HANDLE if no message begins there (project rule).
     fn set_msg_word<W: Sink>(&mut self, t: TaskId, call: &Call, out: &mut W)
         requires { HasTask t self.old }
         ensures { Follows (does_set_msg_word t (call_view call.now)) self.old self.new (W.tape out.old) (W.tape out.new) }
@@ -298,8 +298,8 @@ impl<S: ListSpace> Kernel<S> {
         }
     }
 
-    /// MsgType message: answers its type, 0 for a new one. HANDLE where no message begins there (RKM Libraries, Exec Messages and Ports:
-    /// ln_Type; that a new one has type 0, and the alert: own choice).
+    /// MsgType message: answers its type, 0 for a new one. HANDLE if no message begins there (RKM Libraries, Exec Messages and Ports:
+    /// ln_Type; that a new one has type 0, and the alert: project rule).
     fn msg_type<W: Sink>(&mut self, t: TaskId, call: &Call, out: &mut W)
         requires { HasTask t self.old }
         ensures { Follows (does_msg_type t (call_view call.now)) self.old self.new (W.tape out.old) (W.tape out.new) }
@@ -351,8 +351,8 @@ impl<S: ListSpace> Kernel<S> {
         }
     }
 
-    /// PutMsg port message: puts a message at a port, behind those that it has. HANDLE where either is none, LINK where a port has the
-    /// message (autodoc exec.library/PutMsg; the alerts: own choice).
+    /// PutMsg port message: puts a message at a port, after those that it has. HANDLE if either is none, LINK if a port has the
+    /// message (autodoc exec.library/PutMsg; the alerts: project rule).
     pub(crate) fn put_msg<W: Sink>(&mut self, caller: &Caller, call: &Call, out: &mut W)
         requires { HasCaller caller.now self.old }
         ensures { Follows (does_put_msg_by (caller_view caller.now) (call_view call.now)) self.old self.new (W.tape out.old) (W.tape out.new) }
@@ -363,9 +363,9 @@ impl<S: ListSpace> Kernel<S> {
         self.performed(tried, caller, call, out);
     }
 
-    /// ReplyMsg message: puts a message at its reply port; one without gets the type NT_FREEMSG. HANDLE where no message begins there,
-    /// LINK where a port has it, HANDLE where no port begins at its reply port's address (autodoc exec.library/ReplyMsg; the alerts: own
-    /// choice).
+    /// ReplyMsg message: puts a message at its reply port; one without gets the type NT_FREEMSG. HANDLE if no message begins there,
+    /// LINK if a port has it, HANDLE if no port begins at its reply port's address (autodoc exec.library/ReplyMsg; the alerts: project
+    /// rule).
     pub(crate) fn reply_msg<W: Sink>(&mut self, caller: &Caller, call: &Call, out: &mut W)
         requires { HasCaller caller.now self.old }
         ensures { Follows (does_reply_msg_by (caller_view caller.now) (call_view call.now)) self.old self.new (W.tape out.old) (W.tape out.new) }
@@ -377,8 +377,8 @@ impl<S: ListSpace> Kernel<S> {
 
     // ---- taking and waiting
 
-    /// GetMsg port: answers the first message, which leaves the port, or 0. HANDLE where no port begins there (autodoc
-    /// exec.library/GetMsg; the alert: own choice).
+    /// GetMsg port: answers the first message, which leaves the port, or 0. HANDLE if no port begins there (autodoc
+    /// exec.library/GetMsg; the alert: project rule).
     pub(crate) fn get_msg<W: Sink>(&mut self, caller: &Caller, call: &Call, out: &mut W)
         requires { HasCaller caller.now self.old }
         ensures { Follows (does_get_msg_by (caller_view caller.now) (call_view call.now)) self.old self.new (W.tape out.old) (W.tape out.new) }
@@ -434,9 +434,9 @@ impl<S: ListSpace> Kernel<S> {
         }
     }
 
-    /// WaitPort port: answers the first message of the port, and leaves it there; where there is none, the task waits for the port's
-    /// signal, and looks again when it next runs, after that signal is cleared. HANDLE where no port begins there, PORT where it does not
-    /// signal the caller (autodoc exec.library/WaitPort; how a task waits and looks again, and the alerts: own choice).
+    /// WaitPort port: answers the first message of the port, and leaves it there; if there is none, the task waits for the port's
+    /// signal, and looks again when it next runs, after that signal is cleared. HANDLE if no port begins there, PORT if it does not
+    /// signal the caller (autodoc exec.library/WaitPort; how a task waits and looks again, and the alerts: project rule).
     fn wait_port<W: Sink>(&mut self, t: TaskId, call: &Call, out: &mut W)
         requires known { HasTask t self.old }
         requires runs { Runs t self.old }

@@ -17,17 +17,13 @@ pub const PRIVATE_VARIABLES: usize = 32;
 
 impl Call {
     /// The arguments that the word has, as the trace prints them, each name as the call's.
-    ///
-    /// Source: own choice.
     pub fn shown(&self) -> &[ShortArg]
         ensures { map (short_argument self.now.quoted.bytes) result.now ≡ (call_view self.now).arguments }
     {
         &self.arguments[..self.count]
     }
 
-    /// The number that stands at an argument, counted from 0; 0 where none does.
-    ///
-    /// Source: own choice.
+    /// The number that is at an argument, counted from 0; 0 if none does.
     pub fn number(&self, k: usize) -> u32
         ensures { result ≡ argument k (call_view self.now) }
     {
@@ -37,9 +33,7 @@ impl Call {
         }
     }
 
-    /// The name that stands at an argument, counted from 0, if one does.
-    ///
-    /// Source: own choice.
+    /// The name that is at an argument, counted from 0, if one does.
     pub fn name(&self, k: usize) -> Option<Name>
         ensures { option_map (λ n. n.bytes) result ≡ name_argument k (call_view self.now) }
     {
@@ -50,8 +44,6 @@ impl Call {
     }
 
     /// The call, waiting for these signals.
-    ///
-    /// Source: own choice.
     pub fn awaiting(&self, mask: u32) -> Call
         ensures { call_view result ≡ record (call_view self.now) { awaited = mask } }
     {
@@ -62,15 +54,13 @@ impl Call {
 }
 
 /// The command of that place, if there is one.
-///
-/// Source: own choice.
 pub fn command_at(code: &[Command], place: usize) -> Option<&Command>
     ensures { option_copied result ≡ slice_get code.now place }
 {
     code.get(place)
 }
 
-/// A call that stands where no task waits in one.
+/// A call for a task that waits in none.
 fn no_call() -> Call {
     Call {
         word: Word::Plain(PlainWord::Print),
@@ -89,7 +79,7 @@ pub struct Program {
     code: Vec<Command>,
     place: usize,
     variables: [u32; PRIVATE_VARIABLES],
-    // The call that the task waits in, where `waits` says that it does. They stand apart so that one that goes on writes one byte.
+    // The call that the task waits in, if `waits` says that it does. They are separate so that one that goes on writes one byte.
     call: Call,
     waits: bool,
     starts: bool,
@@ -114,8 +104,6 @@ impl Model for Program {
 
 impl Program {
     /// The program of these commands, at its first one, with every variable 0, of a task that starts with the machine or not.
-    ///
-    /// Source: own choice.
     pub fn new(code: Vec<Command>, starts: bool) -> Self
         ensures { result ≡ begun_with (map command_view code.items) starts }
     {
@@ -130,8 +118,6 @@ impl Program {
     }
 
     /// Whether the task starts with the machine.
-    ///
-    /// Source: own choice.
     pub fn starts(&self) -> bool
         ensures { result ≡ self.now.starts }
     {
@@ -139,8 +125,6 @@ impl Program {
     }
 
     /// The call that the task waits in, if any.
-    ///
-    /// Source: own choice.
     pub fn kept(&self) -> Option<&Call>
         ensures { option_map call_view (option_copied result) ≡ self.now.kept }
     {
@@ -148,8 +132,6 @@ impl Program {
     }
 
     /// The next command, if any is left.
-    ///
-    /// Source: own choice.
     pub fn command(&self) -> Option<&Command>
         ensures { option_map command_view (option_copied result) ≡ slice_get self.now.code self.now.place }
     {
@@ -157,8 +139,6 @@ impl Program {
     }
 
     /// The place of the command after the next one.
-    ///
-    /// Source: own choice.
     pub fn next(&self) -> usize
         requires { self.now.place < length self.now.code }
         ensures { result ≡ self.now.place + 1 }
@@ -166,18 +146,32 @@ impl Program {
         self.place + 1
     }
 
-    /// What a variable of the task holds; 0 where it has no such variable.
+    /// The place of the next command, from 0.
     ///
-    /// Source: own choice.
+    /// Source: project rule.
+    pub fn place(&self) -> usize
+        ensures { result ≡ self.now.place }
+    {
+        self.place
+    }
+
+    /// The variables of the task, by number.
+    ///
+    /// Source: project rule.
+    pub fn variables(&self) -> &[u32]
+        ensures { result.now ≡ self.now.variables }
+    {
+        &self.variables
+    }
+
+    /// What a variable of the task holds; 0 if it has no such variable.
     pub fn variable(&self, k: usize) -> u32
         ensures { result ≡ slice_index_or self.now.variables k 0 }
     {
         self.variables.get(k).copied().unwrap_or(0)
     }
 
-    /// Gives a variable of the task a value; nothing changes where it has no such variable.
-    ///
-    /// Source: own choice.
+    /// Gives a variable of the task a value; nothing changes if it has no such variable.
     pub fn store(&mut self, k: usize, value: u32)
         ensures { self.new ≡ record self.old { variables = slice_set self.old.variables k value } }
     {
@@ -187,8 +181,6 @@ impl Program {
     }
 
     /// The task goes on at the command of that place.
-    ///
-    /// Source: own choice.
     pub fn go_on(&mut self, next: usize)
         ensures { self.new ≡ record self.old { place = next; kept = None } }
     {
@@ -197,8 +189,6 @@ impl Program {
     }
 
     /// The task will try this call again.
-    ///
-    /// Source: own choice.
     pub fn keep(&mut self, call: &Call)
         ensures { self.new ≡ record self.old { kept = Some (call_view call.now) } }
     {

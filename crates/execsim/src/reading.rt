@@ -27,7 +27,7 @@ pub enum ReadFault {
 }
 
 impl ReadFault {
-    /// The number of the fault, 1 to 3 (own choice).
+    /// The number of the fault, 1 to 3 (project rule).
     pub fn number(self) -> u8
         ensures { result ≡ read_fault_number self }
     {
@@ -51,7 +51,7 @@ impl From<io::Error> for ReadFault {
 /// How many bytes one read is given room for.
 const PIECE: usize = 8192;
 
-/// Reads once into a piece, and keeps what came behind the bytes so far: how many bytes came, none at the reader's end. There is room for one
+/// Reads once into a piece, and keeps what came after the bytes so far: how many bytes came, none at the reader's end. There is room for one
 /// byte past the limit, and no more.
 fn read_piece<R: Read>(
     reader: &mut R,
@@ -73,15 +73,13 @@ fn read_piece<R: Read>(
     }
 }
 
-/// All bytes that a reader has left, where they are at most `FILE_LIMIT`. Not more than one byte past the limit is read, in at most
+/// All bytes that a reader has left, if they are at most `FILE_LIMIT`. Not more than one byte past the limit is read, in at most
 /// `FILE_LIMIT + 1` reads: each but the last gives a byte.
 ///
 /// # Errors
 ///
-/// `Failed` where a read answers an error, also one after which it could be made again, `TooLong` where one byte past the limit has come,
-/// and `OutOfMemory` where memory is refused, to the bytes or to the reader.
-///
-/// Source: own choice.
+/// `Failed` if a read answers an error, also one after which it could be made again, `TooLong` if one byte past the limit has come,
+/// and `OutOfMemory` if memory is refused, to the bytes or to the reader.
 pub fn read_limited<R: Read>(alloc: Global, reader: &mut R) -> Result<Vec<u8>, ReadFault>
     ensures within { IfOk result (λ bytes. vec_len bytes ≤ 4194304) }
     ensures whole { IfOk result (λ bytes. IfSome (R.remaining reader.old) (λ all. bytes.items ≡ all)) }

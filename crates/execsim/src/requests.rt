@@ -1,5 +1,5 @@
 //! Requests of timer.device: how they are made and freed, opened, written, begun, waited for and aborted; and how those finish whose time
-//! has come, at a tick or where system time is set. A request is named by the address of its block. The calls of `Heap` have the effects
+//! has come, at a tick or if system time is set. A request is named by the address of its block. The calls of `Heap` have the effects
 //! on memory; what a reply does to a task is done here.
 ghost use Rattle.std.specs.Prelude.{◌≡◌, ◌^◌, false, true, pos, unwrap_or, IfOk, OnErr, OnOk, if◌then◌else◌};
 ghost use Rattle.std.specs.Int.{cast_unsigned, w32};
@@ -33,7 +33,7 @@ use taskscript::RequestWord;
 /// What AbortIO answers for a request that is not under way: the word of -1.
 const NOT_ABORTED: u32 = 0xffff_ffff;
 
-/// The unit of timer.device that is meant; none where another device is.
+/// The unit of timer.device that is meant; none if another device is.
 fn timer_unit(device: Name, unit: u32) -> Option<u32>
     ensures { result ≡ timer_unit device.bytes unit }
 {
@@ -68,8 +68,8 @@ fn flag_word(set: bool) -> u32
 impl<S: ListSpace> Kernel<S> {
     // ---- made and freed
 
-    /// CreateIORequest port: answers the address of a new request with that reply port, or 0; 0 for port 0. HANDLE where the port is not 0
-    /// and none begins there (autodoc exec.library/CreateIORequest; the alert: own choice).
+    /// CreateIORequest port: answers the address of a new request with that reply port, or 0; 0 for port 0. HANDLE if the port is not 0
+    /// and none begins there (autodoc exec.library/CreateIORequest; the alert: project rule).
     fn create_io_request<W: Sink>(&mut self, t: TaskId, call: &Call, out: &mut W)
         requires { HasTask t self.old }
         ensures { Follows (does_create_io_request t (call_view call.now)) self.old self.new (W.tape out.old) (W.tape out.new) }
@@ -85,8 +85,8 @@ impl<S: ListSpace> Kernel<S> {
         }
     }
 
-    /// DeleteIORequest request: frees a request; 0 does nothing. HANDLE where none begins there, IO where it is under way, LINK where its
-    /// reply is queued (autodoc exec.library/DeleteIORequest; the alerts: own choice).
+    /// DeleteIORequest request: frees a request; 0 does nothing. HANDLE if none begins there, IO if it is under way, LINK if its
+    /// reply is queued (autodoc exec.library/DeleteIORequest; the alerts: project rule).
     fn delete_io_request<W: Sink>(&mut self, t: TaskId, call: &Call, out: &mut W)
         requires { HasTask t self.old }
         ensures { Follows (does_delete_io_request t (call_view call.now)) self.old self.new (W.tape out.old) (W.tape out.new) }
@@ -102,7 +102,7 @@ impl<S: ListSpace> Kernel<S> {
 
     // ---- opening and writing
 
-    /// Opens a request for a unit of timer.device, none where another device is meant, and answers its error as a word.
+    /// Opens a request for a unit of timer.device, none if another device is meant, and answers its error as a word.
     fn open_request(&mut self, request: u32, unit: Option<u32>) -> Result<u32, Refusal>
         ensures alert { alert_of result ≡ resting_alert request self.old.memory.heap }
         ensures answer { IfOk result (λ error. error ≡ cast_unsigned w32 (unit_error unit)) }
@@ -115,9 +115,9 @@ impl<S: ListSpace> Kernel<S> {
         }
     }
 
-    /// OpenDevice name unit request: opens a request for a unit of timer.device, and answers 0; or the word of IOERR_OPENFAIL (-1) where
-    /// there is no such device or unit, and the request is then not open. HANDLE where no request begins there, IO where it is under way
-    /// (autodoc exec.library/OpenDevice; the alerts: own choice).
+    /// OpenDevice name unit request: opens a request for a unit of timer.device, and answers 0; or the word of IOERR_OPENFAIL (-1) if
+    /// there is no such device or unit, and the request is then not open. HANDLE if no request begins there, IO if it is under way
+    /// (autodoc exec.library/OpenDevice; the alerts: project rule).
     fn open_device<W: Sink>(&mut self, t: TaskId, call: &Call, out: &mut W)
         requires { HasTask t self.old }
         ensures { Follows (does_open_device t (call_view call.now)) self.old self.new (W.tape out.old) (W.tape out.new) }
@@ -127,8 +127,8 @@ impl<S: ListSpace> Kernel<S> {
         self.concluded_with(tried, t, call, out);
     }
 
-    /// CloseDevice request: the request is not open. HANDLE where none begins there, IO where it is under way (autodoc
-    /// exec.library/CloseDevice; the alerts: own choice).
+    /// CloseDevice request: the request is not open. HANDLE if none begins there, IO if it is under way (autodoc
+    /// exec.library/CloseDevice; the alerts: project rule).
     fn close_device<W: Sink>(&mut self, t: TaskId, call: &Call, out: &mut W)
         requires { HasTask t self.old }
         ensures { Follows (does_close_device t (call_view call.now)) self.old self.new (W.tape out.old) (W.tape out.new) }
@@ -138,9 +138,9 @@ impl<S: ListSpace> Kernel<S> {
         self.concluded(tried, t, call, out);
     }
 
-    /// SetIO request cmd secs micros: gives a request a command and a time in seconds and microseconds. HANDLE where no request begins
-    /// there, VALUE where the command is above 65535, IO where the request is under way (RKM Devices, Introduction to Amiga System Devices:
-    /// io_Command; Devices, timer device: tr_time; that there is a call for it, and the alerts: own choice).
+    /// SetIO request cmd secs micros: gives a request a command and a time in seconds and microseconds. HANDLE if no request begins
+    /// there, VALUE if the command is above 65535, IO if the request is under way (RKM Devices, Introduction to Amiga System Devices:
+    /// io_Command; Devices, timer device: tr_time; that there is a call for it, and the alerts: project rule).
     fn set_io<W: Sink>(&mut self, t: TaskId, call: &Call, out: &mut W)
         requires { HasTask t self.old }
         ensures { Follows (does_set_io t (call_view call.now)) self.old self.new (W.tape out.old) (W.tape out.new) }
@@ -161,9 +161,9 @@ impl<S: ListSpace> Kernel<S> {
 
     // ---- beginning and waiting
 
-    /// SendIO request: begins a request with IOF_QUICK cleared; where that does it at once, it is replied. HANDLE where no request begins
-    /// there, IO where it is under way or not open, LINK where its reply is queued, HANDLE where no port begins at its reply port's address
-    /// (autodoc exec.library/SendIO; the alerts: own choice).
+    /// SendIO request: begins a request with IOF_QUICK cleared; if that does it at once, it is replied. HANDLE if no request begins
+    /// there, IO if it is under way or not open, LINK if its reply is queued, HANDLE if no port begins at its reply port's address
+    /// (autodoc exec.library/SendIO; the alerts: project rule).
     fn send_io<W: Sink>(&mut self, t: TaskId, call: &Call, out: &mut W)
         requires { HasTask t self.old }
         ensures { Follows (does_send_io t (call_view call.now)) self.old self.new (W.tape out.old) (W.tape out.new) }
@@ -186,10 +186,10 @@ impl<S: ListSpace> Kernel<S> {
         }
     }
 
-    /// WaitIO request: answers the error of a request that is done, and takes its reply, if it has one; where it is under way, the task waits
-    /// for the signal of its reply port, and looks again when it next runs, after that signal is cleared. HANDLE where no request begins
-    /// there, IO where it never was begun, LINK where it was replied and its reply is not queued, PORT where it is under way and its reply
-    /// port does not signal the caller (autodoc exec.library/WaitIO; how a task waits and looks again, and the alerts: own choice).
+    /// WaitIO request: answers the error of a request that is done, and takes its reply, if it has one; if it is under way, the task waits
+    /// for the signal of its reply port, and looks again when it next runs, after that signal is cleared. HANDLE if no request begins
+    /// there, IO if it never was begun, LINK if it was replied and its reply is not queued, PORT if it is under way and its reply
+    /// port does not signal the caller (autodoc exec.library/WaitIO; how a task waits and looks again, and the alerts: project rule).
     fn wait_io<W: Sink>(&mut self, t: TaskId, call: &Call, out: &mut W)
         requires known { HasTask t self.old }
         requires runs { Runs t self.old }
@@ -205,9 +205,9 @@ impl<S: ListSpace> Kernel<S> {
         }
     }
 
-    /// DoIO request: begins a request with IOF_QUICK set; where that does it at once, its error is answered, else the task waits for it as
-    /// by WaitIO. The call of a task that has waited begins nothing: it is WaitIO's. Alerts as SendIO's, and PORT where the reply port does
-    /// not signal the caller (autodoc exec.library/DoIO; the alerts: own choice).
+    /// DoIO request: begins a request with IOF_QUICK set; if that does it at once, its error is answered, else the task waits for it as
+    /// by WaitIO. The call of a task that has waited begins nothing: it is WaitIO's. Alerts as SendIO's, and PORT if the reply port does
+    /// not signal the caller (autodoc exec.library/DoIO; the alerts: project rule).
     fn do_io<W: Sink>(&mut self, t: TaskId, call: &Call, out: &mut W)
         requires known { HasTask t self.old }
         requires runs { Runs t self.old }
@@ -235,8 +235,8 @@ impl<S: ListSpace> Kernel<S> {
         }
     }
 
-    /// CheckIO request: answers 0 for a request that is under way, and else the request, and leaves its reply where it is. HANDLE where no
-    /// request begins there (autodoc exec.library/CheckIO; the alert: own choice).
+    /// CheckIO request: answers 0 for a request that is under way, and else the request, and leaves its reply if it is. HANDLE if no
+    /// request begins there (autodoc exec.library/CheckIO; the alert: project rule).
     fn check_io<W: Sink>(&mut self, t: TaskId, call: &Call, out: &mut W)
         requires { HasTask t self.old }
         ensures { Follows (does_check_io t (call_view call.now)) self.old self.new (W.tape out.old) (W.tape out.new) }
@@ -271,7 +271,7 @@ impl<S: ListSpace> Kernel<S> {
     }
 
     /// AbortIO request: a request that is under way is replied at once, with the error IOERR_ABORTED (-2), and 0 is answered; for any other
-    /// the word of -1. HANDLE where no request begins there (autodoc exec.library/AbortIO; the alert: own choice).
+    /// the word of -1. HANDLE if no request begins there (autodoc exec.library/AbortIO; the alert: project rule).
     fn abort_io<W: Sink>(&mut self, t: TaskId, call: &Call, out: &mut W)
         requires { HasTask t self.old }
         ensures { Follows (does_abort_io t (call_view call.now)) self.old self.new (W.tape out.old) (W.tape out.new) }
@@ -283,8 +283,8 @@ impl<S: ListSpace> Kernel<S> {
 
     // ---- what a request holds
 
-    /// IOSecs request: answers the seconds of its time. HANDLE where no request begins there (Devices, timer device: tr_time; that there is
-    /// a call for it, and the alert: own choice).
+    /// IOSecs request: answers the seconds of its time. HANDLE if no request begins there (Devices, timer device: tr_time; that there is
+    /// a call for it, and the alert: project rule).
     fn io_secs<W: Sink>(&mut self, t: TaskId, call: &Call, out: &mut W)
         requires { HasTask t self.old }
         ensures { Follows (does_io_secs t (call_view call.now)) self.old self.new (W.tape out.old) (W.tape out.new) }
@@ -293,8 +293,8 @@ impl<S: ListSpace> Kernel<S> {
         self.concluded_with(tried, t, call, out);
     }
 
-    /// IOMicros request: answers the microseconds of its time. HANDLE where no request begins there (Devices, timer device: tr_time; that
-    /// there is a call for it, and the alert: own choice).
+    /// IOMicros request: answers the microseconds of its time. HANDLE if no request begins there (Devices, timer device: tr_time; that
+    /// there is a call for it, and the alert: project rule).
     fn io_micros<W: Sink>(&mut self, t: TaskId, call: &Call, out: &mut W)
         requires { HasTask t self.old }
         ensures { Follows (does_io_micros t (call_view call.now)) self.old self.new (W.tape out.old) (W.tape out.new) }
@@ -314,9 +314,9 @@ impl<S: ListSpace> Kernel<S> {
         }
     }
 
-    /// IOError request: answers its error as a word: 0, or that of IOERR_OPENFAIL (-1), IOERR_ABORTED (-2) or IOERR_NOCMD (-3). HANDLE where
-    /// no request begins there (RKM Devices, Introduction to Amiga System Devices: io_Error; that there is a call for it, and the alert: own
-    /// choice).
+    /// IOError request: answers its error as a word: 0, or that of IOERR_OPENFAIL (-1), IOERR_ABORTED (-2) or IOERR_NOCMD (-3). HANDLE if
+    /// no request begins there (RKM Devices, Introduction to Amiga System Devices: io_Error; that there is a call for it, and the alert: project
+    /// rule).
     fn io_error<W: Sink>(&mut self, t: TaskId, call: &Call, out: &mut W)
         requires { HasTask t self.old }
         ensures { Follows (does_io_error t (call_view call.now)) self.old self.new (W.tape out.old) (W.tape out.new) }
@@ -325,7 +325,7 @@ impl<S: ListSpace> Kernel<S> {
         self.concluded_with(tried, t, call, out);
     }
 
-    /// IOF_QUICK of a request as a word: 1 where it is set, and else 0.
+    /// IOF_QUICK of a request as a word: 1 if it is set, and else 0.
     fn flags(&self, request: u32) -> Result<u32, Refusal>
         ensures alert { alert_of result ≡ request_alert request self.now.memory.heap }
         ensures answer { IfOk result (λ flags. flags ≡ (if (request_of request self.now.memory.heap).quick then 1 else 0)) }
@@ -336,8 +336,8 @@ impl<S: ListSpace> Kernel<S> {
         }
     }
 
-    /// IOFlags request: answers 1 where IOF_QUICK is set, and else 0. HANDLE where no request begins there (RKM Devices, Introduction to
-    /// Amiga System Devices: io_Flags; that there is a call for it, and the alert: own choice).
+    /// IOFlags request: answers 1 if IOF_QUICK is set, and else 0. HANDLE if no request begins there (RKM Devices, Introduction to
+    /// Amiga System Devices: io_Flags; that there is a call for it, and the alert: project rule).
     fn io_flags<W: Sink>(&mut self, t: TaskId, call: &Call, out: &mut W)
         requires { HasTask t self.old }
         ensures { Follows (does_io_flags t (call_view call.now)) self.old self.new (W.tape out.old) (W.tape out.new) }
@@ -403,7 +403,7 @@ impl<S: ListSpace> Kernel<S> {
         self.perform(action);
     }
 
-    /// All requests whose time has come finish, one after another: by the moment when it came, and those of one moment in the order in
+    /// All requests whose time has come finish, one after another: by the due time when it came, and those of one due time in the order in
     /// which they were begun.
     fn finish_all_due<W: Sink>(&mut self, out: &mut W)
         ensures { Follows finishes_all_due self.old self.new (W.tape out.old) (W.tape out.new) }
@@ -452,7 +452,7 @@ impl<S: ListSpace> Kernel<S> {
         }
     }
 
-    /// What follows a call on requests: where it set system time, all requests finish that wait for system time and whose time has come.
+    /// What follows a call on requests: if it set system time, all requests finish that wait for system time and whose time has come.
     /// Those that wait for the clock are not looked at.
     pub(crate) fn finish_set<W: Sink>(&mut self, out: &mut W)
         ensures { Follows finishes_set self.old self.new (W.tape out.old) (W.tape out.new) }

@@ -40,7 +40,7 @@ fn attempted(has: bool) -> u32
 impl<S: ListSpace> Kernel<S> {
     // ---- made and freed
 
-    /// A new semaphore, which no task owns, if there is room for one once libraries were asked to give way to it.
+    /// A new semaphore, which no task owns, if there is room for one once libraries were expunged under low memory to it.
     fn make_semaphore(&mut self) -> Option<u32>
         ensures address { result ≡ place_for_object is_semaphore semaphore_size (after_asking_for_object is_semaphore semaphore_size self.old.memory) }
         ensures next { self.new ≡ record self.old {
@@ -51,7 +51,7 @@ impl<S: ListSpace> Kernel<S> {
     }
 
     /// NewSem: answers the address of a new semaphore, which no task owns, or 0 (autodoc exec.library/InitSemaphore; that it takes the
-    /// memory: own choice).
+    /// memory: project rule).
     fn new_sem<W: Sink>(&mut self, t: TaskId, call: &Call, out: &mut W)
         requires { HasTask t self.old }
         ensures { Follows (does_new_sem t (call_view call.now)) self.old self.new (W.tape out.old) (W.tape out.new) }
@@ -60,7 +60,7 @@ impl<S: ListSpace> Kernel<S> {
         self.answered(t, call, semaphore.unwrap_or(0), out);
     }
 
-    /// FreeSem semaphore: frees a semaphore. HANDLE where none begins there, SEM where a task owns it (own choice).
+    /// FreeSem semaphore: frees a semaphore. HANDLE if none begins there, SEM if a task owns it (project rule).
     fn free_sem<W: Sink>(&mut self, t: TaskId, call: &Call, out: &mut W)
         requires { HasTask t self.old }
         ensures { Follows (does_free_sem t (call_view call.now)) self.old self.new (W.tape out.old) (W.tape out.new) }
@@ -88,7 +88,7 @@ impl<S: ListSpace> Kernel<S> {
         self.sched.wait_sem();
     }
 
-    /// A call by which task t asks for a semaphore: it is done where the task has it, else the task waits; or it is refused by its alert.
+    /// A call by which task t asks for a semaphore: it is done if the task has it, else the task waits; or it is refused by its alert.
     fn obtains<W: Sink>(
         &mut self,
         tried: Result<Obtained, Refusal>,
@@ -113,8 +113,8 @@ impl<S: ListSpace> Kernel<S> {
     }
 
     /// ObtainSemaphore semaphore: a free semaphore is the caller's, with the count 1; the owner's count is one more; any other task waits,
-    /// behind those that asked before. The call of a task that has waited is complete. HANDLE where no semaphore begins there, SEM where the
-    /// count would go past 32767 (autodoc exec.library/ObtainSemaphore; the alerts: own choice).
+    /// after those that asked before. The call of a task that has waited is complete. HANDLE if no semaphore begins there, SEM if the
+    /// count would go past 32767 (autodoc exec.library/ObtainSemaphore; the alerts: project rule).
     fn obtain_semaphore<W: Sink>(&mut self, t: TaskId, call: &Call, out: &mut W)
         requires known { HasTask t self.old }
         requires runs { Runs t self.old }
@@ -131,9 +131,9 @@ impl<S: ListSpace> Kernel<S> {
         }
     }
 
-    /// AttemptSemaphore semaphore: as ObtainSemaphore where no wait is needed, and answers 1; else nothing changes and the answer is 0.
-    /// HANDLE where no semaphore begins there, SEM where the count would go past 32767 (autodoc exec.library/AttemptSemaphore; the alerts:
-    /// own choice).
+    /// AttemptSemaphore semaphore: as ObtainSemaphore if no wait is needed, and answers 1; else nothing changes and the answer is 0.
+    /// HANDLE if no semaphore begins there, SEM if the count would go past 32767 (autodoc exec.library/AttemptSemaphore; the alerts:
+    /// project rule).
     fn attempt_semaphore<W: Sink>(&mut self, t: TaskId, call: &Call, out: &mut W)
         requires { HasTask t self.old }
         ensures { Follows (does_attempt_semaphore t (call_view call.now)) self.old self.new (W.tape out.old) (W.tape out.new) }
@@ -180,8 +180,8 @@ impl<S: ListSpace> Kernel<S> {
     }
 
     /// ReleaseSemaphore semaphore: the owner has to release the semaphore once less. The last release hands it on: the first of the tasks
-    /// that wait there is the owner with the count 1, and ready; where none waits, no task owns it. HANDLE where no semaphore begins there,
-    /// SEM where the caller does not own it (autodoc exec.library/ReleaseSemaphore; the alerts: own choice).
+    /// that wait there is the owner with the count 1, and ready; if none waits, no task owns it. HANDLE if no semaphore begins there,
+    /// SEM if the caller does not own it (autodoc exec.library/ReleaseSemaphore; the alerts: project rule).
     fn release_semaphore<W: Sink>(&mut self, t: TaskId, call: &Call, out: &mut W)
         requires known { HasTask t self.old }
         requires agree { QueuesAgree self.old }

@@ -25,10 +25,10 @@ pub enum End {
 /// Why there is no whole trace. The faults are judged in this order, and nothing is written before the first three are past.
 #[derive(Clone, Copy, Debug, PartialEq, Eq, Error)]
 pub enum SimFault {
-    /// The machine file is refused, or memory is lacking to read it.
+    /// The machine file is refused, or memory is refused to read it.
     #[error("machine: {0}")]
     File(FileFault),
-    /// The event text is refused, or memory is lacking to read it.
+    /// The event text is refused, or memory is refused to read it.
     #[error("events: {0}")]
     Events(EventFault),
     /// Memory is lacking for the machine.
@@ -56,10 +56,8 @@ fn ended(answer: Result<Flow, WriteFault>) -> Result<End, SimFault>
 ///
 /// # Errors
 ///
-/// `File` and `Events` are the first fault of the texts, and nothing is written; `Memory` means that memory is lacking for the machine,
+/// `File` and `Events` are the first fault of the texts, and nothing is written; `Memory` means that memory is refused for the machine,
 /// and nothing is written; `Write` means that the sink failed, after a part of the trace.
-///
-/// Source: own choice.
 pub fn simulate<W: Sink>(
     alloc: Global,
     file: &[u8],
@@ -77,8 +75,6 @@ pub fn simulate<W: Sink>(
 /// # Errors
 ///
 /// Those of `simulate`.
-///
-/// Source: own choice.
 pub fn simulate_on<S: ListSpace, W: Sink>(
     alloc: Global,
     file: &[u8],

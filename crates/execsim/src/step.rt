@@ -91,7 +91,7 @@ impl<S: ListSpace> Kernel<S> {
 
     // ---- step
 
-    /// A call of task t, by the group of its word. Where it sets system time, those that wait for that are looked at after the call's own
+    /// A call of task t, by the group of its word. If it sets system time, those that wait for that are looked at after the call's own
     /// line.
     #[tactic(auto, unfolding(execmodel::specs::Step::does))]
     fn does<W: Sink>(&mut self, t: TaskId, call: &Call, out: &mut W)
@@ -200,7 +200,7 @@ impl<S: ListSpace> Kernel<S> {
         }
     }
 
-    /// The running task does one command; where none runs, the step is used up.
+    /// The running task does one command; if none runs, the step is used up.
     fn run_task<W: Sink>(&mut self, out: &mut W)
         requires { IsInOrder self.old }
         ensures { Follows running_task_step self.old self.new (W.tape out.old) (W.tape out.new) }
@@ -222,7 +222,7 @@ impl<S: ListSpace> Kernel<S> {
         }
     }
 
-    fn running(&self) -> Option<TaskId>
+    pub(crate) fn running(&self) -> Option<TaskId>
         ensures value { result ≡ self.now.schedule.running }
         ensures known { IfSome result (λ t. HasTask t self.now) }
     {
@@ -259,7 +259,7 @@ impl<S: ListSpace> Kernel<S> {
         }
     }
 
-    /// So many steps.
+    /// That many steps.
     fn steps<W: Sink>(&mut self, n: u32, out: &mut W)
         requires { (W.tape out.old).state ≡ SinkState.Good → IsKnown self.old }
         ensures { FollowsWhileGood (steps n) self.old self.new (W.tape out.old) (W.tape out.new) }
@@ -313,7 +313,7 @@ impl<S: ListSpace> Kernel<S> {
         }
     }
 
-    /// So many ticks.
+    /// That many ticks.
     fn ticks<W: Sink>(&mut self, n: u32, out: &mut W)
         requires { (W.tape out.old).state ≡ SinkState.Good → IsInTime n self.old }
         ensures { FollowsWhileGood (ticks n) self.old self.new (W.tape out.old) (W.tape out.new) }

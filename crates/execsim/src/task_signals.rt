@@ -24,7 +24,7 @@ fn is_mask(mask: u32) -> bool
     mask & 0xfff == 0
 }
 
-/// Whether a number stands for no signal: -1.
+/// Whether a number represents no signal: -1.
 fn is_no_signal(n: u32) -> bool
     ensures { result ≡ nat_eq n 0xffffffff }
 {
@@ -125,8 +125,8 @@ impl<S: ListSpace> Kernel<S> {
         self.sched.wait(mask)
     }
 
-    /// Signal t mask: the task of that number receives the signals of the mask. HANDLE where there is no such task, MASK where the mask
-    /// holds a signal that scripts may not name (autodoc exec.library/Signal; the alerts: own choice).
+    /// Signal t mask: the task of that number receives the signals of the mask. HANDLE if there is no such task, MASK if the mask
+    /// holds a signal that scripts may not name (autodoc exec.library/Signal; the alerts: project rule).
     pub(crate) fn signal<W: Sink>(&mut self, caller: &Caller, call: &Call, out: &mut W)
         requires { HasCaller caller.now self.old }
         ensures { Follows (does_signal_by (caller_view caller.now) (call_view call.now)) self.old self.new (W.tape out.old) (W.tape out.new) }

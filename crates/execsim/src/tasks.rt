@@ -81,7 +81,7 @@ impl<S: ListSpace> Kernel<S> {
         self.sched.leave();
     }
 
-    /// Ends a live task that does not run; where it waits for a semaphore, it does so no more.
+    /// Ends a live task that does not run; if it waits for a semaphore, it does so no more.
     fn remove_task(&mut self, t: TaskId)
         requires live { IsTrue (is_live (status_of self.old.schedule t)) }
         requires known { HasTask t self.old }
@@ -146,7 +146,7 @@ impl<S: ListSpace> Kernel<S> {
         }
     }
 
-    /// The number of the live task of that name, or 0; where no name is given, that of task t.
+    /// The number of the live task of that name, or 0; if no name is given, that of task t.
     fn found_number(&self, t: TaskId, name: Option<Name>) -> u32
         requires { HasTask t self.now }
         ensures { result ≡ found_number t (option_map (λ n. n.bytes) name) self.now.schedule }

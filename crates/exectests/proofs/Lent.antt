@@ -1,4 +1,4 @@
--- How many libraries there are stays as it is, whichever give way and whichever is opened.
+-- How many libraries there are stays as it is, whichever are expunged under low memory and whichever is opened.
 use Rattle.std.proofs.Common.{◌≡◌, ℕ, ◌≤◌, true, false, cond, length, refl, sym, subst, arith, Option, Some, None}
 use Rattle.std.proofs.lemmas.List.{length-set}
 use Rattle.execlib.specs.Libraries.{Lent, Libraries, after_asking, is_loaded, library_at, opened, public_memory, ready_to_open}

@@ -1,1 +1,2 @@
+-- The lemma files of `exectests`.
 pub mod Lent

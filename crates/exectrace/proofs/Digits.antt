@@ -10,7 +10,7 @@ use Rattle.std.proofs.lemmas.List.Sums.{AllPass-from_list_all}
 use Rattle.std.proofs.Math.Nat.{div-add-mod, div-div-eq-div-mul, div-one, div-eq_of_lt}
 use Rattle.exectrace.specs.Trace.{digit_at, hex_digit, value_text}
 
--- whether the digit for a number stands for that number
+-- whether the digit for a number represents that number
 reads_back : ℕ → Bool
 reads_back n = digit_value (hex_digit n) == n
 

@@ -1,3 +1,4 @@
+-- The lemma files of `exectrace`.
 pub mod Pieces
 pub mod Digits
 pub mod Examples

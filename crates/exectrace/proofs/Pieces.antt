@@ -56,7 +56,7 @@ good_at_end before after k (suc n) m below e all = e
 stopped_not_good : (state : SinkState) → (state ≡ Failed) ⊎ (state ≡ Empty 16) → state ≢ Good
 stopped_not_good state stopped good = elim stopped [ inl failed ↦ cc | inr empty ↦ cc ]
 
--- Where a text breaks off.
+-- If a text breaks off.
 
 -- all of a first text was taken, and a second one broke off
 Breaks-then : (a b c : Tape) (xs ys : List ℕ) → Appends a.taken b.taken xs → Breaks b c ys → Breaks a c (xs ++ ys)
@@ -140,7 +140,7 @@ puts_rest a b c n xs (Err fault) good first broke =
     let whole : Breaks a c xs = subst (λ zs. Breaks a c zs) (take-append-drop n xs) (Breaks-then a b c _ _ first more) in
     record { while_good = λ _. inr whole; afterwards = λ bad. absurd (bad good) }
 
--- one after another, where the bytes are another spelling of the two texts
+-- one after another, if the bytes are another spelling of the two texts
 pub puts_then : {a b c : Tape} {xs ys : List ℕ} (bytes : List ℕ) → Puts a b xs → Puts b c ys → bytes ≡ xs ++ ys → Puts a c bytes
 puts_then {a} {b} {c} {xs} {ys} bytes p q e = rw e (Puts-trans a b c xs ys p q)
 
@@ -176,7 +176,7 @@ adds_over {a} {b} {c} {before} {after} {text} p q e =
 pub adds_none : (a : Tape) (before : List ℕ) → Adds a a before before []
 adds_none a before = adds_fitting a before before [] (sym (append-nil before))
 
--- one text after another, where the bytes are another spelling of the two
+-- one text after another, if the bytes are another spelling of the two
 pub adds_then : {a b c : Tape} {built between after xs ys : List ℕ} (text : List ℕ)
     → Adds a b built between xs → Adds b c between after ys → text ≡ xs ++ ys → Adds a c built after text
 adds_then {a} {b} {c} {built} {between} {after} {xs} {ys} text p q e = record {

@@ -1,4 +1,4 @@
--- What an argument stands for whose name stands beside the arguments.
+-- What an argument represents whose name is beside the arguments.
 use Rattle.std.specs.Prelude.{ℕ, List}
 use Rattle.exectrace.specs.declared.lines.ShortArg.{ShortArg}
 use Rattle.exectrace.specs.declared.lines.ShortArg.TheVariants as short

@@ -1,4 +1,4 @@
--- The line of the definitions that a `Line` stands for.
+-- The line of the definitions that a `Line` represents.
 use Rattle.std.specs.Prelude.{map}
 use Rattle.exectrace.specs.declared.lines.Line.{Line}
 use Rattle.exectrace.specs.declared.lines.Line.TheVariants as line

@@ -6,7 +6,7 @@ use Rattle.std.specs.Io.KnownBytes.{Appends, Keeps}
 use Rattle.exectrace.specs.declared.sinks.SinkState.{SinkState}
 use Rattle.exectrace.specs.declared.sinks.SinkState.TheVariants.{Good, Empty, Failed}
 
--- what a sink tells: the bytes that it has taken, where they are known, and its state
+-- what a sink reports: the bytes that it has taken, if they are known, and its state
 pub record Tape : Type 0 where
   pub taken : Option (List ℕ)
   pub state : SinkState
@@ -34,7 +34,7 @@ pub record TakesAll (old new : Tape) (bytes : List ℕ) : Type 0 where
   pub took : Appends old.taken new.taken bytes
   pub good : new.state ≡ Good
 
--- From one tape to another only a first part of these bytes was taken, and the sink takes no more:
+-- From one tape to another only a prefix of these bytes was taken, and the sink takes no more:
 -- its last write answered an error, or its last 16 took no byte.
 pub record Breaks (old new : Tape) (bytes : List ℕ) : Type 0 where
   pub written : List ℕ
@@ -49,7 +49,7 @@ abbrev pub Writes : {T E : Type 0} → Tape → Tape → List ℕ → Result T E
 Writes old new bytes result = MatchResult result (λ _. TakesAll old new bytes) (λ _. Breaks old new bytes)
 
 -- A call that does not fail wrote these bytes to a good sink, or broke off among them; a sink that was not good is left
--- alone. So a sink's own state tells at the end whether all was written, and one such call may follow another.
+-- alone. So a sink's own state reports at the end whether all was written, and one such call may follow another.
 pub record Puts (old new : Tape) (bytes : List ℕ) : Type 0 where
   pub while_good : old.state ≡ Good → TakesAll old new bytes ⊎ Breaks old new bytes
   pub afterwards : old.state ≢ Good → new ≡ old

@@ -23,7 +23,7 @@ pub data TraceLine : Type 0 where
   Call : (name word : List ℕ) (arguments : List Argument) (outcome : Outcome) → TraceLine
   -- the latch of an interrupt source is served
   Serve : (source : List ℕ) → TraceLine
-  -- the request at this address finishes at a tick
+  -- the request at this address finishes at a tick, or as system time is set
   Timer : (value : ℕ) → TraceLine
   -- the body of a server begins
   Server : (name : List ℕ) → TraceLine
@@ -49,6 +49,7 @@ abbrev pub argument_text : Argument → List ℕ
 argument_text (Value n) = codes " " ++ value_text n
 argument_text (Quoted name) = codes " \"" ++ name ++ codes "\""
 
+-- the end of the line of a call: nothing, its answer, or that it waits
 abbrev pub outcome_text : Outcome → List ℕ
 outcome_text Done = []
 outcome_text (Answers n) = codes " -> " ++ value_text n

@@ -1,9 +1,9 @@
 //! Sinks, and the printed lines of a trace.
 //!
-//! A [`Sink`] takes bytes, and tells which it took and how its last writes went; [`WriteSink`] makes one of a std writer.
+//! A [`Sink`] takes bytes, and says which it took and how its last writes went; [`WriteSink`] makes one of a std writer.
 //! A [`Line`] is one line of a trace, and [`emit`] writes it. Who prints many lines in a row uses [`printing`], whose
 //! calls do not fail, and asks [`sinks::written`] at the end. The text of each line, and that a sink is given up after 16
-//! writes in a row that took no byte, are this project's own choice.
+//! writes in a row that took no byte, are this project's project rule.
 #![tactic(auto)]
 
 pub mod laws;

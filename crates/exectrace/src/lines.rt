@@ -27,12 +27,12 @@ impl Default for Arg {
     }
 }
 
-/// An argument of a call of which at most one name is quoted: the name stands beside the arguments.
+/// An argument of a call of which at most one name is quoted: the name is beside the arguments.
 #[derive(Clone, Copy)]
 pub enum ShortArg {
     /// A 32-bit word, printed as `$` and eight digits.
     Value(u32),
-    /// The name that stands beside, printed between double quotes.
+    /// The name that is beside, printed between double quotes.
     Quoted,
 }
 
@@ -70,7 +70,7 @@ pub enum Line {
     Wait(CallLine),
     /// `serve SOURCE`: a latch is served.
     Serve(Name),
-    /// `timer VALUE`: a queued request, at this address, finishes at a tick.
+    /// `timer VALUE`: a queued request, at this address, finishes at a tick, or as system time is set.
     Timer(u32),
     /// `server NAME`: a server's body begins.
     Server(Name),
@@ -82,8 +82,6 @@ pub enum Line {
 
 impl Arg {
     /// Whether it is a name between double quotes.
-    ///
-    /// Source: own choice.
     pub fn is_quoted(&self) -> bool
         ensures { result ≡ is_quoted (shown_argument self.now) }
     {
@@ -102,7 +100,7 @@ impl Arg {
     }
 }
 
-/// How many bytes these arguments take in a line: 10 each, and up to 24 more where one is quoted.
+/// How many bytes these arguments take in a line: 10 each, and up to 24 more if one is quoted.
 fn arguments_len(arguments: &[Arg]) -> usize
     requires { length arguments.now ≤ 4 }
     ensures value { result ≡ length (flat_map argument_text (map shown_argument arguments.now)) }
@@ -140,8 +138,6 @@ impl CallLine {
 
 impl Line {
     /// How many arguments are quoted.
-    ///
-    /// Source: own choice.
     pub fn quoted_count(&self) -> usize
         ensures { result ≡ quoted_count (shown self.now) }
     {
@@ -152,8 +148,6 @@ impl Line {
     }
 
     /// How many bytes the printed line has, its line feed included.
-    ///
-    /// Source: own choice.
     pub fn printed_len(&self) -> usize
         ensures value { result ≡ length (printed_line (shown self.now)) }
         ensures fits { quoted_count (shown self.now) ≤ 1 → result ≤ 160 }

@@ -1,7 +1,7 @@
 //! The printed lines of a trace, without memory: each is built in fixed room and handed over in one piece.
 //!
 //! Each `put` writes to a good sink, and does nothing on one that is not good: the sink's own state remembers that a
-//! write failed, so one call can follow another with no test between, and `written` tells at the end.
+//! write failed, so one call can follow another with no test between, and `written` reports at the end.
 ghost use Rattle.std.specs.Prelude.{◌≡◌, ◌<◌, ◌≤◌, ◌/◌, ◌%◌, length, map, codes, ◌++◌};
 ghost use Rattle.std.specs.List.{flat_map};
 ghost use Rattle.exectrace.specs.Sink.{Adds, Puts, Writes};
@@ -170,7 +170,7 @@ fn add_arguments<W: Sink>(line: &mut Draft, arguments: &[Arg], out: &mut W)
     }
 }
 
-/// Adds a space and the argument, which is that name where it is quoted.
+/// Adds a space and the argument, which is that name if it is quoted.
 #[inline(always)]
 fn add_short<W: Sink>(line: &mut Draft, argument: &ShortArg, quoted: &Name, out: &mut W)
     ensures { Adds (W.tape out.old) (W.tape out.new) line.old.items line.new.items (argument_text (short_argument quoted.now.bytes argument.now)) }
@@ -238,8 +238,6 @@ fn add_end<W: Sink>(line: &mut Draft, outcome: CallOutcome, out: &mut W)
 }
 
 /// Puts `switch NAME`: the task of this name begins to run.
-///
-/// Source: own choice.
 pub fn put_switch<W: Sink>(name: &Name, out: &mut W)
     ensures { Puts (W.tape out.old) (W.tape out.new) (printed_line (Switch name.now.bytes)) }
 {
@@ -247,8 +245,6 @@ pub fn put_switch<W: Sink>(name: &Name, out: &mut W)
 }
 
 /// Puts `idle`: no task runs.
-///
-/// Source: own choice.
 #[inline(never)]
 pub fn put_idle<W: Sink>(out: &mut W)
     ensures { Puts (W.tape out.old) (W.tape out.new) (printed_line Idle) }
@@ -258,8 +254,6 @@ pub fn put_idle<W: Sink>(out: &mut W)
 
 /// Puts `NAME WORD{ ARG}`, and ` -> VALUE` or ` waits` by the outcome: the task, server or software interrupt of this
 /// name made the call of this word.
-///
-/// Source: own choice.
 #[inline(never)]
 pub fn put_call<W: Sink>(
     name: &Name,
@@ -280,9 +274,7 @@ pub fn put_call<W: Sink>(
     hand_over(&line, out);
 }
 
-/// Puts the line of a call as `put_call` does, where each quoted argument is that name.
-///
-/// Source: own choice.
+/// Puts the line of a call as `put_call` does, if each quoted argument is that name.
 #[inline(never)]
 pub fn put_short_call<W: Sink>(
     name: &Name,
@@ -305,17 +297,13 @@ pub fn put_short_call<W: Sink>(
 }
 
 /// Puts `serve SOURCE`: the latch of this interrupt source is served.
-///
-/// Source: own choice.
 pub fn put_serve<W: Sink>(source: &str, out: &mut W)
     ensures { Puts (W.tape out.old) (W.tape out.new) (printed_line (Serve source.now)) }
 {
     put_between(b"serve ", source.as_bytes(), b"\n", out);
 }
 
-/// Puts `timer VALUE`: the queued request at this address finishes at a tick.
-///
-/// Source: own choice.
+/// Puts `timer VALUE`: the queued request at this address finishes at a tick, or as system time is set.
 pub fn put_timer<W: Sink>(value: u32, out: &mut W)
     ensures { Puts (W.tape out.old) (W.tape out.new) (printed_line (Timer value)) }
 {
@@ -324,8 +312,6 @@ pub fn put_timer<W: Sink>(value: u32, out: &mut W)
 }
 
 /// Puts `server NAME`: the body of the interrupt server of this name begins.
-///
-/// Source: own choice.
 pub fn put_server<W: Sink>(name: &Name, out: &mut W)
     ensures { Puts (W.tape out.old) (W.tape out.new) (printed_line (Server name.now.bytes)) }
 {
@@ -333,8 +319,6 @@ pub fn put_server<W: Sink>(name: &Name, out: &mut W)
 }
 
 /// Puts `softint NAME`: the body of the software interrupt of this name begins.
-///
-/// Source: own choice.
 pub fn put_softint<W: Sink>(name: &Name, out: &mut W)
     ensures { Puts (W.tape out.old) (W.tape out.new) (printed_line (Softint name.now.bytes)) }
 {
@@ -343,8 +327,6 @@ pub fn put_softint<W: Sink>(name: &Name, out: &mut W)
 
 /// Puts `alert CODE NAME WORD`: the call of this word, by the task, server or software interrupt of this name, was
 /// refused for the reason that the code names.
-///
-/// Source: own choice.
 #[inline(never)]
 pub fn put_alert<W: Sink>(code: &str, name: &Name, word: &str, out: &mut W)
     ensures { Puts (W.tape out.old) (W.tape out.new) (printed_line (Alert code.now name.now.bytes word.now)) }
@@ -368,8 +350,6 @@ fn put_call_line<W: Sink>(call: &CallLine, outcome: CallOutcome, out: &mut W)
 }
 
 /// Puts any line: the one call for all of the above.
-///
-/// Source: own choice.
 pub fn put_line<W: Sink>(line: &Line, out: &mut W)
     ensures { Puts (W.tape out.old) (W.tape out.new) (printed_line (shown line.now)) }
 {
@@ -390,10 +370,8 @@ pub fn put_line<W: Sink>(line: &Line, out: &mut W)
 /// Writes one line to a good sink, without memory. The sink is handed the whole line at once, and again what it did not take.
 ///
 /// At most one argument of the line is quoted, and then no line is longer than 160 bytes. `Ok` leaves the sink good,
-/// and all bytes of the line were taken. At `WriteFault` only a first part of them was: the sink failed, or took no
+/// and all bytes of the line were taken. At `WriteFault` only a prefix of them was: the sink failed, or took no
 /// byte 16 times in a row.
-///
-/// Source: own choice.
 pub fn emit<W: Sink>(line: &Line, out: &mut W) -> Result<(), WriteFault>
     requires good { (W.tape out.old).state ≡ SinkState.Good }
     requires one_quoted { quoted_count (shown line.now) ≤ 1 }

@@ -13,7 +13,7 @@ use thiserror::Error;
 pub enum SinkState {
     /// The last write took a byte, or there was none yet.
     Good,
-    /// The last so many writes took no byte, one after another: 1 to 16.
+    /// The last that many writes took no byte, one after another: 1 to 16.
     Empty(u8),
     /// The last write answered an error, and took no byte.
     Failed,
@@ -31,19 +31,19 @@ impl SinkState {
     }
 }
 
-/// What takes the bytes of a sink answered an error. It comes where the writer's own `write` fails.
+/// What takes the bytes of a sink answered an error. It comes if the writer's own `write` fails.
 #[derive(Clone, Copy, Debug, PartialEq, Eq, Error)]
 #[error("the sink failed")]
 pub struct SinkFault;
 
-/// A text was not written to its end. It comes where a sink fails, or takes no byte 16 times in a row.
+/// A text was not written to its end. It comes if a sink fails, or takes no byte 16 times in a row.
 #[derive(Clone, Copy, Debug, PartialEq, Eq, Error)]
 #[error("write failed")]
 pub struct WriteFault;
 
 /// What takes bytes.
 pub trait Sink {
-    /// The bytes that it has taken, where they are known, and its state.
+    /// The bytes that it has taken, if they are known, and its state.
     ghost tape: { Self → Tape };
 
     /// Hands over bytes, at least one, to a sink whose last 16 writes did not all take none. `Ok(n)` means that the
@@ -60,7 +60,7 @@ pub trait Sink {
 
 /// A sink over a std writer.
 ///
-/// Its bytes are those that the writer holds, where the writer tells them: what it held when the sink was made, and
+/// Its bytes are those that the writer holds, if the writer reports them: what it held when the sink was made, and
 /// after it what it has taken since. What a call writes is the difference of the two tapes.
 #[derive(Drop)]
 pub struct WriteSink<W> {
@@ -71,8 +71,6 @@ pub struct WriteSink<W> {
 
 impl<W: Write> WriteSink<W> {
     /// A good sink, whose bytes are those that the writer holds. It takes no memory.
-    ///
-    /// Source: own choice.
     pub fn new(writer: W) -> Self
         ensures { ⟦<WriteSink<W> as Sink>⟧.tape result ≡ record { taken = W.contents writer; state = SinkState.Good } }
     {
@@ -83,8 +81,6 @@ impl<W: Write> WriteSink<W> {
     }
 
     /// The writer, which holds what the sink took.
-    ///
-    /// Source: own choice.
     pub fn into_inner(self) -> W
         ensures { W.contents result ≡ (⟦<WriteSink<W> as Sink>⟧.tape self).taken }
     {
@@ -145,8 +141,6 @@ fn write_rest<W: Sink>(bytes: &[u8], out: &mut W) -> Result<(), WriteFault>
 }
 
 /// Writes all the bytes to a good sink, and nothing to one that is not good. Mostly the first write takes them all.
-///
-/// Source: own choice.
 #[inline(never)]
 pub fn put<W: Sink>(bytes: &[u8], out: &mut W)
     ensures { Puts (W.tape out.old) (W.tape out.new) bytes.now }
@@ -164,8 +158,6 @@ pub fn put<W: Sink>(bytes: &[u8], out: &mut W)
 }
 
 /// Whether all was written that was put to a sink that was good before.
-///
-/// Source: own choice.
 pub fn written<W: Sink>(out: &W) -> Result<(), WriteFault>
     ensures { IsOk result ↔ ((W.tape out.now).state ≡ SinkState.Good) }
 {

@@ -20,10 +20,10 @@ const DEEPEST: i8 = 127;
 /// A call would take a nesting count out of its range, from -1 to 127.
 #[derive(Clone, Copy, Debug, PartialEq, Eq, Error)]
 pub enum NestFault {
-    /// `forbid` or `disable` was called where its count is 127.
+    /// `forbid` or `disable` was called if its count is 127.
     #[error("nested too deep")]
     TooDeep,
-    /// `permit` or `enable` was called where its count is -1.
+    /// `permit` or `enable` was called if its count is -1.
     #[error("not nested")]
     NotNested,
 }
@@ -64,7 +64,7 @@ impl Nest {
 
     /// Counts one more Forbid: no other task is given the processor until as many calls of `permit`.
     ///
-    /// It is `TooDeep` and changes nothing where the count is 127 (own choice).
+    /// It is `TooDeep` and changes nothing if the count is 127 (project rule).
     /// Source: autodoc exec.library/Forbid.
     pub fn forbid(&mut self) -> Result<(), NestFault>
         ensures ok { OnOk result (after_forbid self.old ≡ Some self.new) }
@@ -80,7 +80,7 @@ impl Nest {
 
     /// Takes back one Forbid.
     ///
-    /// It is `NotNested` and changes nothing where the count is -1 (own choice).
+    /// It is `NotNested` and changes nothing if the count is -1 (project rule).
     /// Source: autodoc exec.library/Permit.
     pub fn permit(&mut self) -> Result<(), NestFault>
         ensures ok { OnOk result (after_permit self.old ≡ Some self.new) }
@@ -97,7 +97,7 @@ impl Nest {
     /// Counts one more Disable: until as many calls of `enable` no other task is given the processor and no interrupt
     /// is served.
     ///
-    /// It is `TooDeep` and changes nothing where the count is 127 (own choice).
+    /// It is `TooDeep` and changes nothing if the count is 127 (project rule).
     /// Source: autodoc exec.library/Disable.
     pub fn disable(&mut self) -> Result<(), NestFault>
         ensures ok { OnOk result (after_disable self.old ≡ Some self.new) }
@@ -113,7 +113,7 @@ impl Nest {
 
     /// Takes back one Disable.
     ///
-    /// It is `NotNested` and changes nothing where the count is -1 (own choice).
+    /// It is `NotNested` and changes nothing if the count is -1 (project rule).
     /// Source: autodoc exec.library/Enable.
     pub fn enable(&mut self) -> Result<(), NestFault>
         ensures ok { OnOk result (after_enable self.old ≡ Some self.new) }
@@ -143,5 +143,23 @@ impl Nest {
         ensures { result ≡ may_interrupt self.now }
     {
         self.disables == NOT_NESTED
+    }
+
+    /// How often Forbid was called and not taken back, less 1: -1 to 127.
+    ///
+    /// Source: RKM Libraries, Exec Tasks: `TDNestCnt`.
+    pub fn forbids(&self) -> i8
+        ensures { result ≡ self.now.forbids }
+    {
+        self.forbids
+    }
+
+    /// How often Disable was called and not taken back, less 1: -1 to 127.
+    ///
+    /// Source: RKM Libraries, Exec Tasks: `IDNestCnt`.
+    pub fn disables(&self) -> i8
+        ensures { result ≡ self.now.disables }
+    {
+        self.disables
     }
 }

@@ -1,1 +1,3 @@
+-- The lemma files of `iorequest`.
+pub mod Counted
 pub mod Under

@@ -1,4 +1,4 @@
--- Whether any item of a list passes a test is told by one item and those behind it.
+-- Whether any item of a list passes a test is reported by one item and those after it.
 use Rattle.std.proofs.Common.{◌≡◌, ℕ, zero, suc, ◌+◌, ◌<◌, ◌≤◌, Bool, false, List, [], ◌∷◌, length, drop, slice_index_or, refl, ap, ◌∙◌, arith}
 use Rattle.std.specs.Prelude.{◌||◌}
 use Rattle.std.specs.List.{list_any}
@@ -7,14 +7,14 @@ use Rattle.std.proofs.Math.Seq.{drop-cons}
 or_false : (a b : Bool) → a ≡ false → (a || b) ≡ b
 or_false a b fails = ap (λ (t : Bool). t || b) fails
 
--- the item at i does not pass: those behind it tell
+-- the item at i does not pass: those after it say
 pub none_here : {A : Type 0} (test : A → Bool) (xs : List A) (i : ℕ) (d : A) → i < length xs → test (slice_index_or xs i d) ≡ false
     → list_any test (drop i xs) ≡ list_any test (drop (i + 1) xs)
 none_here test xs i d small fails =
     let next : suc i ≡ i + 1 = omega arith in
     ap (list_any test) (drop-cons xs i d small) ∙ or_false (test (slice_index_or xs i d)) _ fails ∙ ap (λ k. list_any test (drop k xs)) next
 
--- behind the last item there is none
+-- after the last item there is none
 pub none_behind : {A : Type 0} (test : A → Bool) (xs : List A) (i : ℕ) → length xs ≤ i → list_any test (drop i xs) ≡ false
 none_behind test [] zero all = refl
 none_behind test [] (suc i) all = refl

@@ -3,7 +3,7 @@ use Rattle.std.specs.Prelude.{ℕ}
 use Rattle.iorequest.specs.declared.fault.ReqFault.{ReqFault}
 use Rattle.iorequest.specs.declared.fault.ReqFault.TheVariants.{InUse, NotOpen, PoolFull}
 
--- the number of a fault (own choice)
+-- the number of a fault (project rule)
 abbrev pub fault_number : ReqFault → ℕ
 fault_number InUse = 1
 fault_number NotOpen = 2

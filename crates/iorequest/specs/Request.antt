@@ -11,6 +11,7 @@ abbrev pub idle_request : ℕ → Request
 idle_request port =
     record { port = port; state = Idle; unit = None; command = 0; secs = 0; micros = 0; error = pos 0; quick = false }
 
+-- the request is in progress
 abbrev pub is_way : ReqState → Bool
 is_way UnderWay = true
 is_way _ = false
@@ -19,6 +20,7 @@ is_way _ = false
 abbrev pub is_under_way : Request → Bool
 is_under_way q = is_way q.state
 
+-- the request is open for some unit
 abbrev pub is_open : Request → Bool
 is_open q = is_some q.unit
 
@@ -49,6 +51,7 @@ sets_time q = nat_eq q.command 11
 -- the request is open for the unit whose requests name a system time, UNIT_WAITUNTIL
 abbrev pub is_until : Request → Bool
 is_until q = is_unit_until q.unit where
+  -- the unit is 3, UNIT_WAITUNTIL
   is_unit_until : Option ℕ → Bool
   is_unit_until None = false
   is_unit_until (Some unit) = nat_eq unit 3
@@ -57,7 +60,7 @@ is_until q = is_unit_until q.unit where
 abbrev pub is_to_wait : (system : ℕ) → Request → Bool
 is_to_wait system q = adds q && (if is_until q then nat_lt system (time_of q) else not (nat_eq (time_of q) 0))
 
--- the time of the clock at which a request is due that begins when the clock tells `now`
+-- the time of the clock at which a request is due that begins when the clock reports `now`
 abbrev pub due_of : ℕ → Request → ℕ
 due_of now q = now + time_of q
 
@@ -72,16 +75,17 @@ outcome now system q =
     if sets_time q then NewTime (time_of q)
     else (if is_to_wait system q then (if is_until q then Until (time_of q) else Queue (due_of now q)) else Finish (error_of q))
 
--- system time in the time field, the seconds modulo 2 to the power 32 (own choice), where the request asks for it
+-- system time in the time field, the seconds modulo 2 to the power 32 (project rule), if the request asks for it
 abbrev pub told : (system : ℕ) → Request → Request
 told system q = if asks_time q then record q { secs = system / second % 2 ^ 32; micros = system % second } else q
 
--- the request under way: its error is 0, and IOF_QUICK is as it was said, but cleared where it is to wait
+-- the request under way: its error is 0, and IOF_QUICK is as it was said, but cleared if it is to wait
 abbrev pub begun : Bool → (system : ℕ) → Request → Request
 begun quick system q = record (told system q) { state = UnderWay; error = pos 0; quick = quick && not (is_to_wait system q) }
 
 -- ---- finishing
 
+-- the state of a request that is done: quick, or replied
 abbrev pub done_state : Bool → ReqState
 done_state true = Quick
 done_state false = Replied
@@ -90,6 +94,6 @@ done_state false = Replied
 abbrev pub finished : ℤ → Request → Request
 finished error q = record q { state = done_state q.quick; error = error }
 
--- the port to which the finished request is replied, none where it is done quick
+-- the port to which the finished request is replied, none if it is done quick
 abbrev pub reply_port : Request → Option ℕ
 reply_port q = if q.quick then None else Some q.port

@@ -23,11 +23,11 @@ is_under_way_at port (Some q) = nat_eq q.port port && is_under_way q
 
 -- ---- refusals
 
--- request r is not to be under way (own choice)
+-- request r is not to be under way (project rule)
 abbrev pub in_use_fault : ℕ → Pooled Request → Option ReqFault
 in_use_fault r m = if is_under_way (request_at r m) then Some InUse else None
 
--- request r is to begin: it is not to be under way, and is to be open (own choice)
+-- request r is to begin: it is not to be under way, and is to be open (project rule)
 abbrev pub begin_fault : ℕ → Pooled Request → Option ReqFault
 begin_fault r m =
     if is_under_way (request_at r m) then Some InUse else (if is_open (request_at r m) then None else Some NotOpen)

@@ -19,7 +19,7 @@ pub enum ReqFault {
 }
 
 impl ReqFault {
-    /// The number of the fault, 1 to 3 (own choice).
+    /// The number of the fault, 1 to 3 (project rule).
     pub fn number(self) -> u8
         ensures { result ≡ fault_number self }
     {

@@ -1,11 +1,11 @@
 //! One timer request, and what comes of beginning it.
 ghost use Rattle.std.specs.Prelude.{◌≡◌, ◌+◌, ◌<◌, ◌^◌};
-ghost use Rattle.iorequest.specs.Request.{is_under_way, is_open, is_until, is_to_wait, time_of, begun, outcome};
+ghost use Rattle.iorequest.specs.Request.{idle_request, is_under_way, is_open, is_until, is_to_wait, time_of, begun, outcome};
 
 /// TR_ADDREQUEST: a reply once a time is over.
 const TR_ADDREQUEST: u16 = 9;
 
-/// TR_GETSYSTIME: system time is told.
+/// TR_GETSYSTIME: system time is reported.
 const TR_GETSYSTIME: u16 = 10;
 
 /// TR_SETSYSTIME: system time is set.
@@ -20,7 +20,7 @@ const IOERR_NOCMD: i8 = -3;
 /// The microseconds of a second.
 const SECOND: u64 = 1_000_000;
 
-/// How far a request has come. RKM Devices, Introduction to Amiga System Devices; that an idle one is told apart: own choice.
+/// How far a request has come. RKM Devices, Introduction to Amiga System Devices; that an idle one is distinguished: project rule.
 #[derive(Clone, Copy, Debug, PartialEq, Eq)]
 pub enum ReqState {
     /// It never was begun.
@@ -65,6 +65,24 @@ pub enum Begun {
 }
 
 impl Request {
+    /// A request that never was begun, with that reply port: it is not open, and every other field is 0.
+    ///
+    /// Source: autodoc exec.library/CreateIORequest.
+    pub fn idle(port: u32) -> Request
+        ensures { result ≡ idle_request port }
+    {
+        Request {
+            port,
+            state: ReqState::Idle,
+            unit: None,
+            command: 0,
+            secs: 0,
+            micros: 0,
+            error: 0,
+            quick: false,
+        }
+    }
+
     /// Whether it was begun and is not finished.
     ///
     /// Source: autodoc exec.library/CheckIO.
@@ -122,7 +140,7 @@ impl Request {
         }
     }
 
-    /// What comes of beginning it when the clock tells `now` and system time is `sys`, both in microseconds.
+    /// What comes of beginning it when the clock reports `now` and system time is `sys`, both in microseconds.
     ///
     /// Source: RKM Devices, timer device: TR_ADDREQUEST, TR_GETSYSTIME and TR_SETSYSTIME.
     pub fn outcome(self, now: u64, sys: u64) -> Begun

@@ -1,9 +1,10 @@
 //! The timer requests of a machine, by number.
-ghost use Rattle.std.specs.Prelude.{◌≡◌, ◌+◌, ◌<◌, ◌^◌, ◌≤◌, take, length, false, Some, IfOk, IsSome, IsTrue};
+ghost use Rattle.std.specs.Prelude.{◌≡◌, ◌+◌, ◌<◌, ◌^◌, ◌≤◌, take, length, false, true, Some, IfOk, IsSome, IsTrue};
 ghost use Rattle.std.specs.List.{list_any};
 ghost use Rattle.execlist.specs.Pool.{IsStocked, all_free, next_number};
 ghost use Rattle.std.specs.Option.{ok_or};
 ghost use Rattle.execlist.specs.Answers.{fault_or, kept_or};
+ghost use Rattle.iorequest.specs.Counting.{key_of};
 ghost use Rattle.iorequest.specs.Request.{is_under_way, is_open, time_of, begun, outcome, finished, reply_port};
 ghost use Rattle.iorequest.specs.Requests.{is_request, request_at, request_made, request_freed, with_request, in_use_fault, begin_fault, unit_error, opened, closed, written_with, is_under_way_at};
 
@@ -24,44 +25,51 @@ const UNIT_VBLANK: u32 = 1;
 
 /// Timer requests.
 ///
-/// All room is made by `new`; no other call takes memory, and `under_way` alone looks at all requests.
+/// All room is made by `new`; no other call takes memory. `under_way` alone looks at all requests, and only if one is under way whose
+/// reply port has the same key.
 /// RKM Devices, Timer Device.
 #[derive(Drop)]
 pub struct Requests {
     requests: Pool<Request>,
     room: usize,
+    // for each key of a reply port, how many requests are under way
+    counts: Vec<usize>,
 }
 
 impl Model for Requests {
     ghost use Rattle.std.specs.Prelude.{◌≡◌, length};
     ghost use Rattle.execlist.specs.Pool.{Pooled};
+    ghost use Rattle.iorequest.specs.Counting.{IsCounted};
     ghost use Rattle.iorequest.specs.declared.request.Request.{Request};
 
     ghost Value = { Pooled Request };
 
     ghost view = { λ q. q.requests };
 
-    ghost invariant = { λ q. q.room ≡ length q.requests.slots };
+    ghost invariant = { λ q. (q.room ≡ length q.requests.slots) × IsCounted q.requests.slots q.counts.items };
 }
 
 impl Requests {
-    /// Room for so many requests. There is none yet.
+    /// Room for that many requests. There is none yet.
     ///
-    /// An error means that memory is lacking.
-    ///
-    /// Source: own choice.
+    /// An error means that memory is refused.
     pub fn new(alloc: Global, n: usize) -> Result<Self, AllocError>
         ensures { IfOk result (λ q. q ≡ all_free n) }
     {
         let requests = Pool::new(alloc, n)?;
-        Ok(Requests { requests, room: n })
+        let counts = vec![in alloc; 0; keys_for(n)]?;
+        Ok(Requests {
+            requests,
+            room: n,
+            counts,
+        })
     }
 
     // ---- making and freeing
 
     /// Makes a request with that reply port. It is idle and not open, and every other field is 0.
     ///
-    /// The reply port is what the caller calls it by; nothing here looks at it. Answers the request's number, or PoolFull where every
+    /// The reply port is what the caller calls it by; nothing here looks at it. Answers the request's number, or PoolFull if every
     /// request is in use. Autodoc exec.library/CreateIORequest.
     pub fn create(&mut self, port: u32) -> Result<ReqId, ReqFault>
         ensures answer { result ≡ ok_or (next_number self.old) ReqFault.PoolFull }
@@ -70,23 +78,14 @@ impl Requests {
     {
         match self.requests.next() {
             Some(r) => {
-                self.requests.give(Request {
-                    port,
-                    state: ReqState::Idle,
-                    unit: None,
-                    command: 0,
-                    secs: 0,
-                    micros: 0,
-                    error: 0,
-                    quick: false,
-                });
+                self.requests.give(Request::idle(port));
                 Ok(r)
             }
             None => Err(ReqFault::PoolFull),
         }
     }
 
-    /// Frees a request: its number may be given again. It is InUse where the request is under way (own choice).
+    /// Frees a request: its number may be given again. It is InUse if the request is under way (project rule).
     /// Autodoc exec.library/DeleteIORequest.
     pub fn delete(&mut self, r: ReqId) -> Result<(), ReqFault>
         requires { IsTrue (is_request r self.old) }
@@ -102,10 +101,10 @@ impl Requests {
 
     // ---- opening and writing
 
-    /// Opens a request for a unit of the timer, none where another device is meant. UNIT_MICROHZ (0), UNIT_VBLANK (1) and UNIT_WAITUNTIL
+    /// Opens a request for a unit of the timer, none if another device is meant. UNIT_MICROHZ (0), UNIT_VBLANK (1) and UNIT_WAITUNTIL
     /// (3) are there; for any other the request is not open afterwards.
     ///
-    /// Answers the error, which the request has then: 0, or IOERR_OPENFAIL (-1). It is InUse where the request is under way (own choice).
+    /// Answers the error, which the request has then: 0, or IOERR_OPENFAIL (-1). It is InUse if the request is under way (project rule).
     /// Autodoc exec.library/OpenDevice; RKM Devices, Timer Device: units.
     pub fn open_device(&mut self, r: ReqId, unit: Option<u32>) -> Result<i8, ReqFault>
         requires { IsTrue (is_request r self.old) }
@@ -117,7 +116,7 @@ impl Requests {
             return Err(ReqFault::InUse);
         }
         let error = unit_error(unit);
-        self.requests.set(
+        self.replace(
             r,
             Request {
                 port: request.port,
@@ -133,7 +132,7 @@ impl Requests {
         Ok(error)
     }
 
-    /// Leaves a request not open. It is InUse where the request is under way (own choice). Autodoc exec.library/CloseDevice.
+    /// Leaves a request not open. It is InUse if the request is under way (project rule). Autodoc exec.library/CloseDevice.
     pub fn close_device(&mut self, r: ReqId) -> Result<(), ReqFault>
         requires { IsTrue (is_request r self.old) }
         ensures answer { result ≡ fault_or (in_use_fault r self.old) tt }
@@ -144,11 +143,11 @@ impl Requests {
             return Err(ReqFault::InUse);
         }
         request.unit = None;
-        self.requests.set(r, request);
+        self.replace(r, request);
         Ok(())
     }
 
-    /// Gives a request a command and a time, in seconds and microseconds. It is InUse where the request is under way (own choice).
+    /// Gives a request a command and a time, in seconds and microseconds. It is InUse if the request is under way (project rule).
     /// RKM Devices, Introduction to Amiga System Devices: `io_Command`; Timer Device: `tr_time`.
     pub fn set(&mut self, r: ReqId, cmd: u16, secs: u32, micros: u32) -> Result<(), ReqFault>
         requires { IsTrue (is_request r self.old) }
@@ -162,21 +161,21 @@ impl Requests {
         request.command = cmd;
         request.secs = secs;
         request.micros = micros;
-        self.requests.set(r, request);
+        self.replace(r, request);
         Ok(())
     }
 
     // ---- beginning and finishing
 
-    /// Begins a request, with IOF_QUICK set or not, when the clock tells `now` and system time is `sys`, both in microseconds. Its error
-    /// becomes 0, and it is under way until `finish`. TR_ADDREQUEST (9) clears IOF_QUICK where it is to wait: for a positive time to be
+    /// Begins a request, with IOF_QUICK set or not, when the clock reports `now` and system time is `sys`, both in microseconds. Its error
+    /// becomes 0, and it is under way until `finish`. TR_ADDREQUEST (9) clears IOF_QUICK if it is to wait: for a positive time to be
     /// over, or, on UNIT_WAITUNTIL, for a system time that is still to come. TR_GETSYSTIME (10) puts system time into the time field, its
-    /// seconds modulo 2 to the power 32 (own choice).
+    /// seconds modulo 2 to the power 32 (project rule).
     ///
     /// Answers how it goes on: `Queue` with the time of the clock when it is due; `Until` with the system time when it is due; `NewTime`
     /// for TR_SETSYSTIME (11), with what system time becomes: the caller sets it, and finishes the request with error 0; or `Finish` with
-    /// its error, which is IOERR_NOCMD (-3) for a command that the timer does not know. It is InUse where the request is under way, and
-    /// NotOpen where it is not open (own choice). The sum of the clock and the request's time is below 2 to the power 64.
+    /// its error, which is IOERR_NOCMD (-3) for a command that the timer does not know. It is InUse if the request is under way, and
+    /// NotOpen if it is not open (project rule). The sum of the clock and the request's time is below 2 to the power 64.
     /// Autodoc timer.device: TR_ADDREQUEST, TR_GETSYSTIME, TR_SETSYSTIME; RKM Devices, Timer Device: UNIT_WAITUNTIL.
     pub fn begin(&mut self, r: ReqId, quick: bool, now: u64, sys: u64) -> Result<Begun, ReqFault>
         requires live { IsTrue (is_request r self.old) }
@@ -192,13 +191,13 @@ impl Requests {
         if !request.is_open() {
             return Err(ReqFault::NotOpen);
         }
-        self.requests.set(r, request.begun(quick, sys));
+        self.put_under_way(r, request.begun(quick, sys));
         Ok(request.outcome(now, sys))
     }
 
     /// Finishes a request that is under way, with an error: one whose IOF_QUICK is set is done quick, any other is replied.
     ///
-    /// Answers the reply port, to which the caller replies it, or none where it is done quick.
+    /// Answers the reply port, to which the caller replies it, or none if it is done quick.
     /// RKM Devices, Introduction to Amiga System Devices: quick I/O.
     pub fn finish(&mut self, r: ReqId, error: i8) -> Option<u32>
         requires { IsTrue (is_under_way (request_at r self.old)) }
@@ -209,25 +208,25 @@ impl Requests {
         request.error = error;
         if request.quick {
             request.state = ReqState::Quick;
-            self.requests.set(r, request);
+            self.end(r, request);
             None
         } else {
             request.state = ReqState::Replied;
-            self.requests.set(r, request);
+            self.end(r, request);
             Some(request.port)
         }
     }
 
     // ---- reading
 
-    /// Answers whether there is a request of that number: whether the calls that ask for one may be made. Own choice.
+    /// Answers whether there is a request of that number: whether the calls that ask for one may be made. Project rule.
     pub fn is_request(&self, r: ReqId) -> bool
         ensures { result ≡ is_request r self.now }
     {
         self.requests.get(r).is_some()
     }
 
-    /// Answers the number that `create` would give, or none where every request is in use. Own choice.
+    /// Answers the number that `create` would give, or none if every request is in use. Project rule.
     pub fn next_request(&self) -> Option<ReqId>
         ensures { result ≡ next_number self.now }
     {
@@ -242,7 +241,7 @@ impl Requests {
         self.request(r).state
     }
 
-    /// Answers whether a request is open. Own choice: Exec cannot tell.
+    /// Answers whether a request is open. Project rule: Exec cannot say.
     pub fn is_open(&self, r: ReqId) -> bool
         requires { IsTrue (is_request r self.now) }
         ensures { result ≡ is_open (request_at r self.now) }
@@ -290,10 +289,13 @@ impl Requests {
         self.request(r).quick
     }
 
-    /// Answers whether a request with that reply port is under way. Own choice: Exec cannot tell.
+    /// Answers whether a request with that reply port is under way. Project rule: Exec cannot say.
     pub fn under_way(&self, port: u32) -> bool
         ensures { result ≡ list_any (is_under_way_at port) self.now.slots }
     {
+        if self.counts[key_of(port, self.counts.len())] == 0 {
+            return false;
+        }
         for r in 0..self.room {
             if is_under_way_at(port, self.requests.get(r)) {
                 return true;
@@ -303,12 +305,57 @@ impl Requests {
     }
 
     /// Does nothing: its clause is what always holds of the number that is next.
-    ///
-    /// Source: own choice.
     pub fn facts(&self)
         ensures { IsStocked self.now }
     {
         self.requests.facts();
+    }
+
+    // Request r, which is not under way, is another one that is not.
+    fn replace(&mut self, r: ReqId, request: Request)
+        requires live { IsTrue (is_request r self.old) }
+        requires before { is_under_way (request_at r self.old) ≡ false }
+        requires after { is_under_way request ≡ false }
+        ensures { self.new ≡ with_request r request self.old }
+    {
+        self.requests.set(r, request);
+    }
+
+    // Request r, which is not under way, is another one that is.
+    fn put_under_way(&mut self, r: ReqId, request: Request)
+        requires live { IsTrue (is_request r self.old) }
+        requires before { is_under_way (request_at r self.old) ≡ false }
+        requires after { is_under_way request ≡ true }
+        ensures { self.new ≡ with_request r request self.old }
+    {
+        self.requests.set(r, request);
+        let key = key_of(request.port, self.counts.len());
+        self.counts[key] += 1;
+    }
+
+    // Request r, which is under way, is another one of its reply port that is not.
+    fn end(&mut self, r: ReqId, request: Request)
+        requires live { IsTrue (is_request r self.old) }
+        requires before { is_under_way (request_at r self.old) ≡ true }
+        requires after { is_under_way request ≡ false }
+        requires port { request.port ≡ (request_at r self.old).port }
+        ensures { self.new ≡ with_request r request self.old }
+    {
+        self.requests.set(r, request);
+        let key = key_of(request.port, self.counts.len());
+        self.counts[key] -= 1;
+    }
+
+    /// A request; if there is none of that number, an idle one with no reply port.
+    ///
+    /// Source: RKM Devices, Timer Device: `struct timerequest`.
+    pub fn request_at(&self, r: ReqId) -> Request
+        ensures { result ≡ request_at r self.now }
+    {
+        match self.requests.get(r) {
+            Some(request) => request,
+            None => Request::idle(0),
+        }
     }
 
     // A request.
@@ -318,6 +365,22 @@ impl Requests {
     {
         self.requests.get(r).unwrap()
     }
+}
+
+// The number of keys for this number of requests: at least one.
+fn keys_for(requests: usize) -> usize
+    ensures { 0 < result }
+{
+    if requests == 0 { 1 } else { requests }
+}
+
+// The key of a reply port, below `keys`.
+fn key_of(port: u32, keys: usize) -> usize
+    requires { 0 < keys }
+    ensures value { result ≡ key_of keys port }
+    ensures within { result < keys }
+{
+    port as usize / 8 % keys
 }
 
 // The error of opening a unit.

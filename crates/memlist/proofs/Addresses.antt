@@ -1,4 +1,4 @@
--- Where blocks are, and where a fit may be.
+-- If blocks are, and if a fit may be.
 use Rattle.std.proofs.Common.{◌≡◌, ◌≢◌, ℕ, zero, suc, ◌+◌, ◌-◌, ◌<◌, ◌≤◌, Bool, true, cond, List, [], ◌∷◌, ◌++◌, refl, sym, ◌∙◌, ap, subst, arith}
 use Rattle.std.specs.Prelude.{Some, None, slice_get}
 use Rattle.std.specs.List.{AllByRecursion, list_all}
@@ -23,7 +23,7 @@ use Rattle.memlist.proofs.Tiling.{aligned_in, laid_at}
 use Rattle.memlist.proofs.Keeping.{from_home, in_some}
 use Rattle.memlist.proofs.Fitting.{fit_parts, homed, split_lowest, within_split}
 
--- No block begins where a gap does
+-- No block begins if a gap does
 
 no_gap : {A : Type 0} (xs : List Gap) (gap : Gap) (ys : List Gap) → [] ≡ xs ++ gap ∷ ys → A
 no_gap [] gap ys e = cc
@@ -92,7 +92,7 @@ live_placed regions blocks address size tag w found =
     placed regions blocks h.place h.region address size w h.at
     (block_within h.region.base (blocks_in h.region blocks) (region_end h.region) address size tag (laid_at regions blocks h.place h.region h.at w.laid) mine)
 
--- Where a block fits
+-- If a block fits
 
 pub fitted_placed : (regions : List Region) (blocks : Blocks) (size reqs address : ℕ) → IsWellFormed regions blocks → fit regions blocks size reqs ≡ Some address → IsPlaced address (round size)
 unfolding gaps

@@ -219,7 +219,7 @@ module _ (base : ℕ) (words : List ℕ) (head : ℕ) (gaps : List Gap) (c : IsC
       let w = last_within base x xs (base + 4 * length words) (apart_whole base (x ∷ xs) above (base + 4 * length words) (parts_apart (x ∷ xs) above is)) in
       absurd (omega (arith, w.begins, c.low, last))
 
-  -- where nothing was walked, the head is followed
+  -- if nothing was walked, the head is followed
   pub head_read : (before : ℕ) → before ≡ 0 → (walk : IsWalked gaps before) → head ≡ first_or 0 walk.above
   head_read before zero_is walk =
       let none = none_below walk.below walk.above walk.is (sym zero_is ∙ walk.last) in

@@ -77,7 +77,7 @@ more-block base slots slot rest some =
     entries-append base slots (slot ∷ rest)
     ∙ ap (λ b. entries base slots ++ cond b (entries (unit + 8) rest) ((unit, (slot.size, slot.tag)) ∷ entries (unit + 8) rest)) (nat_eq-other slot.size 0 some)
 
--- what a block leaves below an address, where it is the last one
+-- what a block leaves below an address, if it is the last one
 behind : (base : ℕ) (slots : List Slot) (slot : Slot) (unit top : ℕ) → slot.size ≢ 0 → unit ≡ base + 8 * length slots
     → gaps_between base (entries base (slots ++ slot ∷ [])) top ≡ gaps_between base (entries base slots) unit ++ stretch (unit + slot.size) top
 behind base slots slot unit top some at =
@@ -102,7 +102,7 @@ look-full base slots slot unit top some le at =
     let left = gaps_between base (entries base slots) unit in
     (sym (ap (last_or 0) (behind base slots slot unit top some at ∙ ap (λ gs. left ++ gs) (stretch_none (unit + slot.size) top (omega (arith, le))) ∙ append-nil left)), omega (arith, at))
 
--- Where nothing begins any more
+-- If nothing begins any more
 
 pub base-chunk : (base top : ℕ) → base < top → base ≡ last_left base [] top
 base-chunk base top lt = sym (ap (last_or 0) (stretch_some base top lt))
@@ -110,7 +110,7 @@ base-chunk base top lt = sym (ap (last_or 0) (stretch_some base top lt))
 pub base-none : (base top : ℕ) → top ≤ base → 0 ≡ last_left base [] top
 base-none base top le = sym (ap (last_or 0) (stretch_none base top le))
 
--- Where the descent begins
+-- If the descent begins
 
 parted : (slots : List Slot) (place : ℕ) (d : Slot) → place < length slots → slots ≡ take place slots ++ get_or slots place d ∷ drop (suc place) slots
 parted slots place d within =
@@ -149,7 +149,7 @@ module _ (region : Region) (slots : List Slot) (space : Space) (h : IsHeader reg
       (gaps-above address (address + slot.size) upper (region_end region) (omega arith) (laid-upper base lower block upper (region_end region) laid))
       low high)
 
-  -- where a block begins, there is its unit
+  -- if a block begins, there is its unit
   pub unit_of : (address place n tag : ℕ) → block_at address (entries region.base slots) ≡ Some (n, tag) → place ≡ (address - region.base) / 8 → address ≡ region.base + 8 * place
   unit_of address place n tag found at =
       let w = live_within region slots space h address n tag found in

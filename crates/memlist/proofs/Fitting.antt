@@ -60,7 +60,7 @@ filtered_first : (p : Region → Bool) (y : Region) (ys : List Region) (k : ℕ)
 filtered_first p y ys zero x t later at = let here : y ≡ x = cc in record { place = 0; at = at; passes = subst (λ (r : Region). p r ≡ true) here t }
 filtered_first p y ys (suc k) x t later at = member_later p y ys x (later k x at)
 
--- what stands in a filtered list
+-- what is in a filtered list
 filtered : (p : Region → Bool) (xs : List Region) (k : ℕ) (x : Region) → slice_get (filter p xs) k ≡ Some x → IsMember p xs x
 filtered p [] k x at = cc
 filtered p (y ∷ ys) k x at =

@@ -207,7 +207,7 @@ module _ (region : Region) (slots : List Slot) (space : Space) (h : IsHeader reg
       (subst (λ from. AreApart from space.gaps (region_end region)) (sym h.base)
       (subst (λ gaps. AreApart region.base gaps (region_end region)) (sym h.free) apart))
 
-  -- where a gap begins, there is its unit
+  -- if a gap begins, there is its unit
   pub spot_within : (n before : ℕ) (spot : IsSpot n space.gaps before) → IsGapWithin region.base (region_end region) spot.gap
   spot_within n before spot =
       let a = aligned_region region h.aligned in

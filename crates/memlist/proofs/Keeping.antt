@@ -204,7 +204,7 @@ freed_well_formed regions blocks address w = record {
   laid = are_laid_freed regions blocks address w.laid;
 }
 
--- A block is put where it fits
+-- A block is put if it fits
 
 none_overlap_at : (region : Region) (regions : List Region) (place : ℕ) (other : Region) → list_any (overlaps region) regions ≡ false → slice_get regions place ≡ Some other → overlaps region other ≡ false
 none_overlap_at region [] place other e at = cc

@@ -1,3 +1,4 @@
+-- The lemma files of `memlist`.
 pub mod Answered
 pub mod Gaps
 pub mod Edits

@@ -1,4 +1,4 @@
--- A memory as a whole: what its headers keep, where a block fits, and what a change of one header does to its value.
+-- A memory as a whole: what its headers keep, if a block fits, and what a change of one header does to its value.
 use Rattle.std.proofs.Common.{◌≡◌, ◌≢◌, ℕ, zero, suc, ◌+◌, ◌*◌, ◌^◌, ◌<◌, ◌≤◌, Bool, true, false, cond, List, [], ◌∷◌, ◌++◌, length, set, get_or, map, refl, sym, ◌∙◌, ap, subst, arith}
 use Rattle.std.specs.Prelude.{bit_and, nat_eq, nat_le, not, ◌&&◌, Option, Some, None, is_some, slice_get, IsSome, IsSomeAnd, IfSome}
 use Rattle.std.specs.List.{AllByRecursion, filter, flat_map, list_all, sum_by}
@@ -214,7 +214,7 @@ rooms all (area ∷ rest) size reqs shown =
       | false ↦ rooms all rest size reqs shown.1
     ]
 
--- Where a block fits
+-- If a block fits
 
 pub fit_nothing : (regions : List Region) (blocks : Blocks) (size reqs : ℕ) → size ≡ 0 → fit regions blocks size reqs ≡ None
 unfolding fit
@@ -238,7 +238,7 @@ fit_some areas size reqs place area gap m some at choice lowest =
     ∙ ap (λ (free : List Gap). option_map (λ (gap : Gap). gap.address) (lowest_gap (round size) free)) shown
     ∙ ap (option_map (λ (gap : Gap). gap.address)) lowest
 
--- a block fits just where there is an offer for it
+-- a block fits exactly if there is an offer for it
 pub fit_offered : (areas : List Area) (size reqs : ℕ) (offer : Option Offer) → AreMemory areas → size ≢ 0 → IsOffer areas (round size) reqs areas offer
     → is_some offer ≡ is_some (fit (regions_of areas) (merged areas) size reqs)
 fit_offered areas size reqs None m some none = ap is_some (sym (fit_none areas size reqs m some none))

@@ -99,7 +99,7 @@ pub parted_here : (address : ℕ) (gaps : List Gap) (before : ℕ) (p : IsPassed
 parted_here address gaps before p below above is low high rest =
     p.last ∙ ap (last_or 0) (same_part address p.below p.above below above (sym p.is ∙ is) p.passed rest low high)
 
--- where one gap that is not below an address is met, none is below it that has not been met
+-- if one gap that is not below an address is met, none is below it that has not been met
 rest_above : (address : ℕ) (xs : List Gap) (gap : Gap) (rest us vs : List Gap) → xs ++ gap ∷ rest ≡ us ++ vs → AllByRecursion (λ (gap : Gap). gap.address < address) xs → address ≤ gap.address
     → AllByRecursion (λ (gap : Gap). gap.address < address) us → AllByRecursion (λ (gap : Gap). address ≤ gap.address) vs → xs ≡ us
 rest_above address [] gap rest [] vs is a b c d = refl

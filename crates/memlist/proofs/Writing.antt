@@ -174,7 +174,7 @@ pub last_append : (none : ℕ) (xs : List Gap) (gap : Gap) → last_or none (xs 
 last_append none [] gap = refl
 last_append none (x ∷ xs) gap = last_append x.address xs gap
 
--- the block touches the chunk below it just where the joined gap begins below it
+-- the block touches the chunk below it exactly if the joined gap begins below it
 pub ends_front : (below : List Gap) (start address : ℕ) → start ≤ address → AllEndBefore start below → ends_at address (below ++ stretch start address) ≡ nat_lt start address
 ends_front below start address le all =
     stretch_cases (λ gs. ends_at address (below ++ gs) ≡ nat_lt start address) start address
@@ -226,7 +226,7 @@ record IsPart (low high from to : ℕ) : Type 0 where
   first : from % 8 ≡ 0
   last : to % 8 ≡ 0
 
--- a stretch that may be empty lies apart from the rest where one of its ends does
+-- a stretch that may be empty lies apart from the rest if one of its ends does
 part_above : (low high from to : ℕ) → low ≤ from → from % 8 ≡ 0 → from ≤ high → from ≤ to → AreApart low (stretch from to) high → IsPart low high from to
 part_above low high from to le place within up =
     stretch_cases (λ gs. AreApart low gs high → IsPart low high from to) from to
@@ -316,7 +316,7 @@ module _ (base : ℕ) (words : List ℕ) (head : ℕ) (gaps : List Gap) (c : IsC
         len = length-written words (word_place base around.start) (first_or 0 around.above) (around.end - around.start);
       }
 
-  -- one that does not becomes a chunk of its own, behind what is before it
+  -- one that does not becomes a chunk of its own, after what is before it
   pub joined_own : (before : ℕ) → around.start ≡ address → before ≡ last_or 0 around.below
       → IsChained base (linked_words base (written words (word_place base around.start) (first_or 0 around.above) (around.end - around.start)) before around.start) (linked_head head before around.start)
       (around.below ++ record { address = around.start; size = around.end - around.start } ∷ around.above)
@@ -357,7 +357,7 @@ pub same_space : (base words_len words_len' : ℕ) (gaps gaps' : List Gap) (spac
 same_space base words_len words_len' gaps gaps' space is len =
     ap (λ n. let s : Space = record { base = base; end = base + 4 * n; gaps = gaps' } in s) len ∙ ap (λ (s : Space). let t : Space = record { base = s.base; end = s.end; gaps = gaps' } in t) is
 
--- where a spot's gap lies
+-- if a spot's gap lies
 pub record IsSpotIn (base count n : ℕ) (gap : Gap) : Type 0 where
   pub low : base ≤ gap.address
   pub reach : gap.address + gap.size ≤ 2147483648
@@ -410,7 +410,7 @@ new_space base size words words' place low some whole reach len is =
 
 -- What a block that is freed joins, by what is found round it
 
--- where the chunk lies that a block joins, and that the sum of their sizes is a number of 32 bits
+-- if the chunk lies that a block joins, and that the sum of their sizes is a number of 32 bits
 pub record IsLower (base count address before size : ℕ) : Type 0 where
   pub above : before ≤ address
   pub fits : address - before + size ≤ 2147483648

@@ -23,6 +23,7 @@ with_block address size tag blocks = put nat_cmp address (size, tag) blocks
 abbrev pub freed : ℕ → Blocks → Blocks
 freed address blocks = where_key nat_cmp (λ other. not (nat_eq other address)) blocks
 
+-- an address is in a region
 abbrev pub is_in : Region → ℕ → Bool
 is_in region address = nat_le region.base address && nat_lt address (region_end region)
 
@@ -39,6 +40,6 @@ abbrev pub gaps_between : ℕ → Blocks → ℕ → List Gap
 gaps_between from [] to = stretch from to
 gaps_between from (block ∷ rest) to = stretch from block.0 ++ gaps_between (block.0 + block.1.0) rest to
 
--- a region's gaps, the lowest first: the maximal stretches of the region outside all blocks
+-- a region's gaps, the lowest first: the maximal stretches of the region outside all blocks (RKM Libraries, Exec Memory Allocation)
 unfoldable pub gaps : Region → Blocks → List Gap
 gaps region blocks = gaps_between region.base (blocks_in region blocks) (region_end region)

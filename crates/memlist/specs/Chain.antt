@@ -5,27 +5,27 @@ use Rattle.std.specs.List.{AllByRecursion}
 use Rattle.memlist.specs.declared.gap.Gap.{Gap}
 use Rattle.memlist.specs.Fit.{lowest_gap}
 
--- the place of the word that stands for an address, among the words from a base on
+-- the place of the word that represents an address, among the words from a base on
 abbrev pub word_place : ℕ → ℕ → ℕ
 word_place base address = (address - base) / 4
 
--- where the first of some gaps begins, or what is given instead where there is none
+-- if the first of some gaps begins, or what is given instead if there is none
 abbrev pub first_or : ℕ → List Gap → ℕ
 first_or none [] = none
 first_or none (gap ∷ rest) = gap.address
 
--- where the last of some gaps begins, or what is given instead where there is none
+-- if the last of some gaps begins, or what is given instead if there is none
 abbrev pub last_or : ℕ → List Gap → ℕ
 last_or none [] = none
 last_or none (gap ∷ rest) = last_or gap.address rest
 
--- each gap's first two words hold where the next gap begins and the gap's size; the last one is followed by what is given
+-- each gap's first two words hold if the next gap begins and the gap's size; the last one is followed by what is given
 abbrev pub IsLinked : ℕ → List ℕ → List Gap → ℕ → Type 0
 IsLinked base words [] next = Unit {0}
 IsLinked base words (gap ∷ rest) next =
     (get_or words (word_place base gap.address) 0 ≡ first_or next rest) × (get_or words (word_place base gap.address + 1) 0 ≡ gap.size) × IsLinked base words rest next
 
--- the chunks that are read one after another from an address on, so many at most
+-- the chunks that are read one after another from an address on, that many at most
 abbrev pub chain : ℕ → ℕ → List ℕ → ℕ → List Gap
 chain zero base words address = []
 chain (suc most) base words address =
@@ -41,11 +41,11 @@ abbrev pub cut_words : ℕ → List ℕ → Gap → ℕ → ℕ → List ℕ
 cut_words base words gap size next =
     if nat_eq size gap.size then words else written words (word_place base (gap.address + size)) next (gap.size - size)
 
--- where the chunk that is left begins, or the next one where nothing is left
+-- if the chunk that is left begins, or the next one if nothing is left
 abbrev pub cut_rest : Gap → ℕ → ℕ → ℕ
 cut_rest gap size next = if nat_eq size gap.size then next else gap.address + size
 
--- the words, and the head, after the chunk at an address, or the head where that is 0, was made to name the next
+-- the words, and the head, after the chunk at an address, or the head if that is 0, was made to name the next
 abbrev pub linked_words : ℕ → List ℕ → ℕ → ℕ → List ℕ
 linked_words base words before next = if nat_eq before 0 then words else set words (word_place base before) next
 
@@ -58,7 +58,7 @@ ends_at address [] = false
 ends_at address (gap ∷ []) = nat_eq (gap.address + gap.size) address
 ends_at address (gap ∷ other ∷ rest) = ends_at address (other ∷ rest)
 
--- where the next chunk begins and what size there is, once a block of n bytes is joined with the first of some gaps if that touches it
+-- if the next chunk begins and what size there is, once a block of n bytes is joined with the first of some gaps if that touches it
 abbrev pub upper_next : ℕ → List Gap → ℕ
 upper_next end [] = 0
 upper_next end (gap ∷ rest) = if nat_eq gap.address end then first_or 0 rest else gap.address
@@ -103,7 +103,7 @@ pub record IsPassed (P : Gap → Type 0) (gaps : List Gap) (before : ℕ) : Type
   pub last : before ≡ last_or 0 below
   pub passed : AllByRecursion P below
 
--- where the last gap below an address begins, or 0 where there is none
+-- if the last gap below an address begins, or 0 if there is none
 abbrev pub IsLastBelow : ℕ → List Gap → ℕ → Type 0
 IsLastBelow address gaps before =
     (below above : List Gap) → gaps ≡ below ++ above → AllByRecursion (λ (gap : Gap). gap.address < address) below → AllByRecursion (λ (gap : Gap). address ≤ gap.address) above
@@ -118,7 +118,7 @@ abbrev pub IsNextBelow : ℕ → List Gap → ℕ → Option ℕ → Type 0
 IsNextBelow address gaps before None = IsLastBelow address gaps before
 IsNextBelow address gaps before (Some next) = IsClimbed address gaps next
 
--- the lowest gap of at least a size is the one after the gap at an address, or the first where that is 0
+-- the lowest gap of at least a size is the one after the gap at an address, or the first if that is 0
 pub record IsSpot (size : ℕ) (gaps : List Gap) (before : ℕ) : Type 0 where
   pub below : List Gap
   pub gap : Gap

@@ -1,4 +1,4 @@
--- Where AllocMem takes memory, and what AvailMem answers (RKM Libraries, Exec Memory Allocation).
+-- If AllocMem takes memory, and what AvailMem answers (RKM Libraries, Exec Memory Allocation).
 use Rattle.std.specs.Prelude.{ℕ, ℤ, ◌+◌, ◌*◌, ◌/◌, ◌^◌, max, Bool, not, ◌&&◌, nat_eq, nat_le, if◌then◌else◌, bit_and, List, [], ◌∷◌, map, Option, None, is_some}
 use Rattle.std.specs.List.{filter, find, flat_map, sum_by}
 use Rattle.std.specs.Option.{option_map, option_and_then}
@@ -8,11 +8,11 @@ use Rattle.memlist.specs.declared.region.Region.{Region}
 use Rattle.memlist.specs.Regions.{total_size}
 use Rattle.memlist.specs.Blocks.{Blocks, gaps}
 
--- the least multiple of 8 that is at least n; it has no upper bound and so never wraps
+-- the least multiple of 8 that is at least n; it has no upper bound and so never wraps (RKM Libraries, Exec Memory Allocation)
 abbrev pub round : ℕ → ℕ
 round n = (n + 7) / 8 * 8
 
--- a region is suitable if it has all of bits 0 to 2 that are asked for
+-- a region is suitable if it has all of bits 0 to 2 that are asked for (autodoc AllocMem)
 abbrev pub is_suitable : ℕ → Region → Bool
 is_suitable reqs region = nat_eq (bit_and region.attrs (bit_and reqs 7)) (bit_and reqs 7)
 
@@ -24,6 +24,7 @@ lowest_gap size free = find (λ (gap : Gap). nat_le size gap.size) free
 abbrev pub has_room : ℕ → ℕ → Blocks → Region → Bool
 has_room size reqs blocks region = is_suitable reqs region && is_some (lowest_gap size (gaps region blocks))
 
+-- the priority of a region
 abbrev pub region_pri : Region → ℤ
 region_pri region = region.pri
 
@@ -31,9 +32,9 @@ region_pri region = region.pri
 abbrev pub front : ℕ → Blocks → Region → Option ℕ
 front size blocks region = option_map (λ (gap : Gap). gap.address) (lowest_gap size (gaps region blocks))
 
--- Where a block of so many bytes goes: of the suitable regions with a gap of at least its rounded size, the
--- earliest among those of greatest priority, and in it the front of the lowest such gap. None where there is
--- no such region, and for size 0 (own choice).
+-- If a block of that many bytes goes: of the suitable regions with a gap of at least its rounded size, the earliest among those of
+-- greatest priority, and in it the front of the lowest such gap. None if there is no such region, and for size 0 (project rule). (autodoc
+-- AllocMem)
 unfoldable pub fit : List Region → Blocks → ℕ → ℕ → Option ℕ
 fit regions blocks size reqs =
     if nat_eq size 0 then None
@@ -43,6 +44,7 @@ fit regions blocks size reqs =
 abbrev pub free_sizes : List Region → Blocks → ℕ → List ℕ
 free_sizes regions blocks reqs = map (λ (gap : Gap). gap.size) (flat_map (λ region. gaps region blocks) (filter (is_suitable reqs) regions))
 
+-- the greatest of some numbers, 0 of none
 abbrev pub greatest : List ℕ → ℕ
 greatest [] = 0
 greatest (n ∷ rest) = max n (greatest rest)

@@ -5,7 +5,7 @@ use Rattle.memlist.specs.declared.region.Region.{Region}
 use Rattle.memlist.specs.declared.region.MemFault.{MemFault}
 use Rattle.memlist.specs.declared.region.MemFault.TheVariants.{Misaligned, Overlap, TooLarge, OutOfMemory}
 
--- the number of a fault (own choice)
+-- the number of a fault (project rule)
 abbrev pub fault_number : MemFault → ℕ
 fault_number Misaligned = 1
 fault_number Overlap = 2
@@ -24,6 +24,7 @@ is_aligned region = nat_eq (region.base % 8) 0 && nat_eq (region.size % 8) 0 && 
 abbrev pub is_in_reach : Region → Bool
 is_in_reach region = nat_le (region_end region) 2147483648
 
+-- the bytes of all regions together
 abbrev pub total_size : List Region → ℕ
 total_size regions = sum_by (λ (region : Region). region.size) regions
 
@@ -40,7 +41,7 @@ abbrev pub are_apart : List Region → Bool
 are_apart [] = true
 are_apart (region ∷ rest) = not (list_any (overlaps region) rest) && are_apart rest
 
--- the first of Misaligned, TooLarge and Overlap that holds, where the regions may have that many bytes in all
+-- the first of Misaligned, TooLarge and Overlap that holds, if the regions may have that many bytes in all
 unfoldable pub regions_fault : ℕ → List Region → Option MemFault
 regions_fault total regions =
     if not (list_all is_aligned regions) then Some Misaligned

@@ -15,7 +15,7 @@ pub struct Chunk {
 /// The size of a word in bytes.
 pub const WORD: u32 = 4;
 
-/// The place of the word that stands for an address.
+/// The place of the word that represents an address.
 ///
 /// Source: RKM Libraries, Exec Memory Allocation: MemChunk.
 pub fn word_place(base: u32, address: u32) -> usize
@@ -51,7 +51,7 @@ pub fn write(words: &mut Vec<u32>, place: usize, chunk: Chunk)
 }
 
 /// Cuts the first bytes off a gap, so that what is left is a chunk of its own before the next one. The answer is where it
-/// begins, or where the next one does if nothing is left.
+/// begins, or if the next one does if nothing is left.
 ///
 /// Source: RKM Libraries, Exec Memory Allocation: MemChunk.
 pub fn cut(words: &mut Vec<u32>, base: u32, gap: Gap, size: u32, next: u32) -> u32
@@ -74,7 +74,7 @@ pub fn cut(words: &mut Vec<u32>, base: u32, gap: Gap, size: u32, next: u32) -> u
     address
 }
 
-/// Makes the chunk at an address, or the head where that is 0, name the next one.
+/// Makes the chunk at an address, or the head if that is 0, name the next one.
 ///
 /// Source: RKM Libraries, Exec Memory Allocation: MemChunk.
 pub fn link(head: &mut u32, words: &mut Vec<u32>, base: u32, before: u32, next: u32)

@@ -1,5 +1,5 @@
 //! The chunk below a block, found in the table of blocks: from the block downwards, the first block that does not reach up to the
-//! one above it has a gap behind it.
+//! one above it has a gap after it.
 ghost use Rattle.std.specs.Prelude.{◌≡◌, ◌+◌, ◌*◌, ◌≤◌, ℕ, List, [], length, take};
 ghost use Rattle.memlist.specs.declared.slot.Slot.{Slot};
 ghost use Rattle.memlist.specs.Chain.{IsLastBelow};
@@ -18,7 +18,7 @@ pub enum Look {
     Below(u32),
 }
 
-/// Looks at a unit for the last chunk below `top`, where no block begins between the two.
+/// Looks at a unit for the last chunk below `top`, if no block begins between the two.
 fn look_at(slot: Slot, unit: u32, top: u32) -> Look
     requires { unit ≤ top }
     ensures { (base : ℕ) (slots : List Slot) → unit ≡ base + MEM_BLOCKSIZE * length slots → IsLook base slots slot top result }
@@ -32,17 +32,17 @@ fn look_at(slot: Slot, unit: u32, top: u32) -> Look
     }
 }
 
-/// The chunk at the base where no block begins below `top`, or 0 where that is the base.
+/// The chunk at the base if no block begins below `top`, or 0 if that is the base.
 fn at_base(base: u32, top: u32) -> u32
     ensures { result ≡ last_left base [] top }
 {
     if base < top { base } else { 0 }
 }
 
-/// The chunk before a block that has so many units below it, or 0 where there is none. The chain is walked up from its first
+/// The chunk before a block that has that many units below it, or 0 if there is none. The chain is walked up from its first
 /// chunk and the units down from the block, in turn: whichever comes to an end first says where it is.
 ///
-/// Source: autodoc exec.library/Deallocate; how the chunk is looked for is own choice.
+/// Source: autodoc exec.library/Deallocate; how the chunk is looked for is a project rule.
 pub fn chunk_below(base: u32, slots: &[Slot], space: &FreeSpace, units: usize, address: u32) -> u32
     requires units { units ≤ length slots.now }
     requires address { address ≡ base + MEM_BLOCKSIZE * units }

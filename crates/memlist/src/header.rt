@@ -1,6 +1,6 @@
-//! One region with its blocks and its gaps, as Exec keeps it behind a MemHeader.
+//! One region with its blocks and its gaps, as Exec keeps it after a MemHeader.
 //!
-//! The blocks stand in a table with a slot for each unit of 8 bytes, so that a look-up is an index; the gaps are chunks in
+//! The blocks are in a table with a slot for each unit of 8 bytes, so that a look-up is an index; the gaps are chunks in
 //! the region's own words.
 ghost use Rattle.std.specs.Prelude.{◌≡◌, ◌-◌, ◌*◌, ◌/◌, ◌%◌, ◌<◌, ◌≤◌, [], IsTrue, IsSome, IfOk, IfSome, int_lt, length, map};
 ghost use Rattle.std.specs.List.{sum_by};
@@ -40,8 +40,6 @@ impl Model for MemHeader {
 
 impl MemHeader {
     /// A region in which nothing is allocated, with a slot for each unit and a word for each 4 bytes.
-    ///
-    /// Source: own choice.
     pub fn new(alloc: Global, region: Region) -> Result<MemHeader, AllocError>
         requires aligned { IsTrue (is_aligned region) }
         requires in_reach { IsTrue (is_in_reach region) }
@@ -59,8 +57,6 @@ impl MemHeader {
     }
 
     /// The region that it manages.
-    ///
-    /// Source: own choice.
     pub fn region(&self) -> Region
         ensures { result ≡ self.now.region }
     {
@@ -86,8 +82,6 @@ impl MemHeader {
     }
 
     /// The words of the region.
-    ///
-    /// Source: own choice.
     pub fn words(&self) -> &[u32]
         ensures len { WORD * length result.now ≡ self.now.region.size }
         ensures linked { IsLinked self.now.region.base result.now (area_gaps self.now) 0 }
@@ -95,7 +89,7 @@ impl MemHeader {
         self.space.words()
     }
 
-    /// Where the first chunk begins, or 0 where nothing is free.
+    /// If the first chunk begins, or 0 if nothing is free.
     ///
     /// Source: RKM Libraries, Exec Memory Allocation: MemHeader, mh_First.
     pub fn head(&self) -> u32
@@ -105,8 +99,6 @@ impl MemHeader {
     }
 
     /// Whether an address lies in the region.
-    ///
-    /// Source: own choice.
     pub fn holds(&self, address: u32) -> bool
         ensures { result ≡ is_in self.now.region address }
     {
@@ -114,8 +106,6 @@ impl MemHeader {
     }
 
     /// The size and the tag of the block that begins at an address of the region.
-    ///
-    /// Source: own choice.
     pub fn block_at(&self, address: u32) -> Option<(u32, u32)>
         requires { IsTrue (is_in self.now.region address) }
         ensures { result ≡ block_at address self.now.blocks }
@@ -128,7 +118,7 @@ impl MemHeader {
         }
     }
 
-    /// The chunk before the lowest gap of at least that many bytes, or 0 where that gap is the first.
+    /// The chunk before the lowest gap of at least that many bytes, or 0 if that gap is the first.
     ///
     /// Source: autodoc exec.library/Allocate: first fit.
     pub fn lowest_gap(&self, size: u64) -> Option<u32>
@@ -138,7 +128,7 @@ impl MemHeader {
     }
 
     /// Puts a block at the front of the lowest gap that has room for it, which is the one after the chunk at an address, or the
-    /// first where that is 0; and answers the block's address.
+    /// first if that is 0; and answers the block's address.
     ///
     /// Source: autodoc exec.library/Allocate.
     pub fn take(&mut self, before: u32, size: u64, tag: u32) -> u32
@@ -181,7 +171,7 @@ impl MemHeader {
         self.space.total()
     }
 
-    /// The size of the greatest gap, or 0 where there is none.
+    /// The size of the greatest gap, or 0 if there is none.
     ///
     /// Source: autodoc exec.library/AvailMem: MEMF_LARGEST.
     pub fn largest_gap(&self) -> u32

@@ -35,26 +35,22 @@ pub fn regions_are_tiled()
 {}
 
 /// The blocks of a well-formed memory lie in its regions and do not meet.
-///
-/// Source: own choice.
 pub fn blocks_are_disjoint()
     ensures { (regions : List Region) (blocks : Blocks) → IsWellFormed regions blocks → AreDisjoint regions blocks }
 {}
 
-/// Where a block fits, no block begins, and there it lies on whole units; so does each block of a well-formed memory. An
+/// If a block fits, no block begins, and there it lies on whole units; so does each block of a well-formed memory. An
 /// address is never 0.
 ///
-/// Source: autodoc exec.library/AllocMem: the block's alignment, and 0 where there is none.
+/// Source: autodoc exec.library/AllocMem: the block's alignment, and 0 if there is none.
 pub fn blocks_are_placed()
     ensures fresh { (regions : List Region) (blocks : Blocks) (size reqs address : ℕ) → IsWellFormed regions blocks → fit regions blocks size reqs ≡ Some address → block_at address blocks ≡ None }
     ensures fitted { (regions : List Region) (blocks : Blocks) (size reqs address : ℕ) → IsWellFormed regions blocks → fit regions blocks size reqs ≡ Some address → IsPlaced address (round size) }
     ensures live { (regions : List Region) (blocks : Blocks) (address size tag : ℕ) → IsWellFormed regions blocks → block_at address blocks ≡ Some (size, tag) → IsPlaced address size }
 {}
 
-/// A memory in which nothing is allocated is well formed, and it stays so when a block is put where it fits and when one
+/// A memory in which nothing is allocated is well formed, and it stays so when a block is put if it fits and when one
 /// is freed.
-///
-/// Source: own choice.
 pub fn memory_stays_well_formed()
     ensures untouched { (total : ℕ) (regions : List Region) → regions_fault total regions ≡ None → IsWellFormed regions [] }
     ensures allocated { (regions : List Region) (blocks : Blocks) (size reqs tag address : ℕ) → IsWellFormed regions blocks → fit regions blocks size reqs ≡ Some address → IsWellFormed regions (with_block address (round size) tag blocks) }

@@ -40,7 +40,7 @@ impl Model for MemList {
 #[error("no plain block of that size begins there")]
 pub struct NotABlock;
 
-/// Where a block may be put: the place of a header, and in it the chunk before the gap, or 0 where the gap is the first.
+/// Where a block may be put: the place of a header, and in it the chunk before the gap, or 0 if the gap is the first.
 #[derive(Clone, Copy, Debug)]
 pub struct Offer {
     pub header: usize,
@@ -51,10 +51,8 @@ impl MemList {
     /// The memory of a machine with these regions, in the order of its file, which may have `total` bytes in all, with nothing
     /// allocated.
     ///
-    /// The fault is that of `check_regions`; where that has none, OutOfMemory is answered if there is no memory for the
+    /// The fault is that of `check_regions`; if that has none, OutOfMemory is answered if there is no memory for the
     /// list itself.
-    ///
-    /// Source: own choice.
     pub fn new(alloc: Global, regions: &[Region], total: u32) -> Result<MemList, MemFault>
         ensures value { IfOk result (λ memory. memory ≡ untouched regions.now) }
         ensures sound { OnOk result (regions_fault total regions.now ≡ None) }
@@ -68,8 +66,6 @@ impl MemList {
     }
 
     /// The law of every memory list: its blocks lie in its regions, in order and beside one another. It costs nothing.
-    ///
-    /// Source: own choice.
     pub fn is_well_formed(&self)
         ensures { IsWellFormed self.now.regions self.now.blocks }
     {
@@ -80,10 +76,10 @@ impl MemList {
     ///
     /// Of `reqs` only bits 0 to 2 count: the block lies in a region that has each of them. Among these the region of
     /// greatest priority that has a large enough gap is taken, the earliest of equals, and in it the front of the lowest
-    /// such gap. None is answered, and nothing changes, where there is no such gap or the size is 0. A `tag` of 0 makes
+    /// such gap. None is answered, and nothing changes, if there is no such gap or the size is 0. A `tag` of 0 makes
     /// a plain block; any other names what owns the block.
     ///
-    /// Source: autodoc exec.library/AllocMem; size 0 is own choice.
+    /// Source: autodoc exec.library/AllocMem; size 0 is a project rule.
     pub fn alloc_mem(&mut self, size: u32, reqs: u32, tag: u32) -> Option<u32>
         ensures address { result ≡ fit self.old.regions self.old.blocks size reqs }
         ensures allocated { self.new ≡ allocated size tag result self.old }
@@ -100,7 +96,7 @@ impl MemList {
 
     /// Whether `alloc_mem` would find a gap for a block of that size, and changes nothing. Never for size 0.
     ///
-    /// Source: autodoc exec.library/AllocMem; to ask beforehand is own choice.
+    /// Source: autodoc exec.library/AllocMem; to ask beforehand is a project rule.
     pub fn fits(&self, size: u32, reqs: u32) -> bool
         ensures { result ≡ is_some (fit self.now.regions self.now.blocks size reqs) }
     {
@@ -113,7 +109,7 @@ impl MemList {
     /// Frees a plain block: its tag is 0, and the size is not 0 and rounds up to the block's size. For anything else the
     /// answer is `NotABlock` and nothing changes.
     ///
-    /// Source: autodoc exec.library/FreeMem; the refusals are own choice.
+    /// Source: autodoc exec.library/FreeMem; the refusals are project rule.
     pub fn free_mem(&mut self, address: u32, size: u32) -> Result<(), NotABlock>
         ensures variant { is_ok result ≡ can_free address size self.old.blocks }
         ensures ok { OnOk result (self.new ≡ without_block address self.old) }
@@ -128,7 +124,7 @@ impl MemList {
 
     /// Frees the block that begins at an address, whatever its tag.
     ///
-    /// Source: autodoc exec.library/FreeMem; the tag is own choice.
+    /// Source: autodoc exec.library/FreeMem; the tag is a project rule.
     pub fn free_block(&mut self, address: u32)
         requires { IsSome (block_at address self.old.blocks) }
         ensures { self.new ≡ without_block address self.old }
@@ -138,8 +134,6 @@ impl MemList {
     }
 
     /// The size, as it was rounded, and the tag of the block that begins at an address.
-    ///
-    /// Source: own choice.
     pub fn block_at(&self, address: u32) -> Option<(u32, u32)>
         ensures { result ≡ block_at address self.now.blocks }
     {
@@ -149,12 +143,24 @@ impl MemList {
         }
     }
 
-    /// The words of a region, named by its place in the machine's file: word i stands for the region's base plus 4 times i.
+    /// A region, named by its place in the machine's file; none past the last.
+    ///
+    /// Source: RKM Libraries, Exec Memory Allocation: MemHeader.
+    pub fn region(&self, k: usize) -> Option<Region>
+        ensures { result ≡ slice_get self.now.regions k }
+    {
+        match self.headers.get(k) {
+            Some(header) => Some(header.region()),
+            None => None,
+        }
+    }
+
+    /// The words of a region, named by its place in the machine's file: word i represents the region's base plus 4 times i.
     /// The first two words of each free chunk are the address of the next chunk, or 0 at the end, and its size in bytes.
     /// Read from `head` on, the chain is exactly the region's gaps, in order of address, and no two of them touch. It takes
     /// no memory.
     ///
-    /// Source: RKM Libraries, Exec Memory Allocation (MemChunk); the call is own choice.
+    /// Source: RKM Libraries, Exec Memory Allocation (MemChunk); the call is a project rule.
     pub fn words(&self, k: usize) -> &[u32]
         requires { k < length self.now.regions }
         ensures { IfSome (slice_get self.now.regions k) (λ region. IsFreeChain region result.now (gaps region self.now.blocks)) }
@@ -162,10 +168,10 @@ impl MemList {
         self.headers[k].words()
     }
 
-    /// Where the first free chunk of a region begins, or 0 where nothing of it is free. The region is named by its place in
+    /// If the first free chunk of a region begins, or 0 if nothing of it is free. The region is named by its place in
     /// the machine's file. It takes no memory.
     ///
-    /// Source: RKM Libraries, Exec Memory Allocation (MemHeader, mh_First); the call is own choice.
+    /// Source: RKM Libraries, Exec Memory Allocation (MemHeader, mh_First); the call is a project rule.
     pub fn head(&self, k: usize) -> u32
         requires { k < length self.now.regions }
         ensures { IfSome (slice_get self.now.regions k) (λ region. result ≡ first_or 0 (gaps region self.now.blocks)) }
@@ -313,7 +319,7 @@ fn installed_of(headers: &[MemHeader], reqs: u32) -> u32
     total
 }
 
-/// The size of the greatest gap of the suitable regions, or 0 where there is none.
+/// The size of the greatest gap of the suitable regions, or 0 if there is none.
 fn largest_of(headers: &[MemHeader], reqs: u32) -> u32
     ensures { result ≡ largest_of reqs headers.now }
 {

@@ -48,7 +48,7 @@ pub enum MemFault {
 }
 
 impl MemFault {
-    /// The number of the fault, 1 to 4 (own choice).
+    /// The number of the fault, 1 to 4 (project rule).
     pub fn number(self) -> u8
         ensures { result ≡ fault_number self }
     {
@@ -59,7 +59,7 @@ impl MemFault {
 /// Checks the regions of a machine, which may have `total` bytes in all: the first of Misaligned, TooLarge and Overlap that
 /// holds of them is the fault. No regions at all are accepted, and so are regions that touch.
 ///
-/// Source: own choice; the attributes and priorities are those of RKM Libraries, Exec Memory Allocation.
+/// Source: project rule; the attributes and priorities are those of RKM Libraries, Exec Memory Allocation.
 #[tactic(auto, unfolding(crate::specs::Regions::regions_fault))]
 pub fn check_regions(regions: &[Region], total: u32) -> Result<(), MemFault>
     ensures { MatchResult result (λ _. regions_fault total regions.now ≡ None) (λ fault. regions_fault total regions.now ≡ Some fault) }

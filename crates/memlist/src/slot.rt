@@ -2,7 +2,7 @@
 ghost use Rattle.std.specs.Prelude.{◌≡◌};
 ghost use Rattle.memlist.specs.Areas.{block_of};
 
-/// What begins at a unit: a block of that size in bytes with that tag, or none where the size is 0.
+/// What begins at a unit: a block of that size in bytes with that tag, or none if the size is 0.
 #[derive(Clone, Copy, Debug)]
 pub struct Slot {
     pub size: u32,
@@ -13,8 +13,6 @@ impl Slot {
     pub const EMPTY: Slot = Slot { size: 0, tag: 0 };
 
     /// The size and the tag of the block that begins there.
-    ///
-    /// Source: own choice.
     pub fn block(&self) -> Option<(u32, u32)>
         ensures { result ≡ block_of self.now }
     {

@@ -14,7 +14,7 @@ use crate::region::{MEM_BLOCKSIZE, REACH};
 use std::alloc::{AllocError, Global};
 use std::marker::Model;
 
-/// The words of a region, and where the first chunk among them begins, or 0 where nothing is free.
+/// The words of a region, and if the first chunk among them begins, or 0 if nothing is free.
 #[derive(Drop)]
 pub struct FreeSpace {
     base: u32,
@@ -38,9 +38,7 @@ impl Model for FreeSpace {
 }
 
 impl FreeSpace {
-    /// So many bytes from an address on, all of them free.
-    ///
-    /// Source: own choice.
+    /// That many bytes from an address on, all of them free.
     pub fn new(alloc: Global, base: u32, size: u32) -> Result<FreeSpace, AllocError>
         requires place { base % MEM_BLOCKSIZE ≡ 0 }
         requires low { MEM_BLOCKSIZE ≤ base }
@@ -58,9 +56,7 @@ impl FreeSpace {
         })
     }
 
-    /// The words, the first of which stands for the lowest address.
-    ///
-    /// Source: own choice.
+    /// The words, the first of which represents the lowest address.
     pub fn words(&self) -> &[u32]
         ensures len { self.now.base + WORD * length result.now ≡ self.now.end }
         ensures linked { IsLinked self.now.base result.now self.now.gaps 0 }
@@ -68,7 +64,7 @@ impl FreeSpace {
         &self.words
     }
 
-    /// Where the first chunk begins, or 0 where there is none.
+    /// If the first chunk begins, or 0 if there is none.
     ///
     /// Source: RKM Libraries, Exec Memory Allocation: MemHeader, mh_First.
     pub fn head(&self) -> u32
@@ -77,7 +73,7 @@ impl FreeSpace {
         self.head
     }
 
-    /// Where the chunk after the one at an address begins, or the first where that is 0; 0 where there is none.
+    /// If the chunk after the one at an address begins, or the first if that is 0; 0 if there is none.
     fn next(&self, before: u32) -> u32
         requires { IsWalked self.now.gaps before }
         ensures is { (walk : IsWalked self.now.gaps before) → result ≡ first_or 0 walk.above }
@@ -90,7 +86,7 @@ impl FreeSpace {
         }
     }
 
-    /// The gap after the chunk at an address, or the first where that is 0.
+    /// The gap after the chunk at an address, or the first if that is 0.
     fn after(&self, before: u32) -> Option<Gap>
         requires { IsWalked self.now.gaps before }
         ensures is { (walk : IsWalked self.now.gaps before) → result ≡ slice_get walk.above 0 }
@@ -109,7 +105,7 @@ impl FreeSpace {
         })
     }
 
-    /// The chunk before the lowest gap of at least that many bytes, or 0 where that gap is the first.
+    /// The chunk before the lowest gap of at least that many bytes, or 0 if that gap is the first.
     ///
     /// Source: autodoc exec.library/Allocate: first fit.
     pub fn lowest_gap(&self, size: u64) -> Option<u32>
@@ -125,7 +121,7 @@ impl FreeSpace {
         None
     }
 
-    /// The chunk after the one at an address, or the first where that is 0, if it begins below another address.
+    /// The chunk after the one at an address, or the first if that is 0, if it begins below another address.
     ///
     /// Source: RKM Libraries, Exec Memory Allocation: MemChunk.
     pub fn next_below(&self, before: u32, address: u32) -> Option<u32>
@@ -144,7 +140,7 @@ impl FreeSpace {
         }
     }
 
-    /// Takes so many bytes off the front of the lowest gap that has them, which is the one after the chunk at an address, and
+    /// Takes that many bytes off the front of the lowest gap that has them, which is the one after the chunk at an address, and
     /// answers where they begin.
     ///
     /// Source: autodoc exec.library/Allocate.
@@ -174,7 +170,7 @@ impl FreeSpace {
         u64::from(before) + u64::from(chunk.size) == u64::from(address)
     }
 
-    /// The chunk that a block of so many bytes becomes with the gap that begins at its end, if one does, where the chunk before
+    /// The chunk that a block of that many bytes becomes with the gap that begins at its end, if one does, if the chunk before
     /// it begins at an address.
     fn upper(&self, before: u32, end: u32, size: u32) -> Chunk
         requires walk { IsWalked self.now.gaps before }
@@ -201,7 +197,7 @@ impl FreeSpace {
         }
     }
 
-    /// Frees a block, which joins the gaps that touch it. The chunk before it begins at `before`, which is 0 where there is none.
+    /// Frees a block, which joins the gaps that touch it. The chunk before it begins at `before`, which is 0 if there is none.
     ///
     /// Source: autodoc exec.library/Deallocate.
     pub fn join(&mut self, before: u32, address: u32, size: u32)
@@ -242,7 +238,7 @@ impl FreeSpace {
         total
     }
 
-    /// The size of the greatest gap, or 0 where there is none.
+    /// The size of the greatest gap, or 0 if there is none.
     ///
     /// Source: autodoc exec.library/AvailMem: MEMF_LARGEST.
     pub fn largest(&self) -> u32

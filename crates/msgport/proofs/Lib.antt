@@ -1,2 +1,3 @@
+-- The lemma files of `msgport`.
 pub mod Linking
 mod AtFirst

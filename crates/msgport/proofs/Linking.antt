@@ -1,5 +1,5 @@
 -- What is linked where: a port that is not public is in no list, a message that is not held in none of those, a free port has no message, and what
--- is freed leaves nothing behind.
+-- is freed leaves nothing after.
 use Rattle.std.proofs.Common.{◌≡◌, ◌≢◌, ℕ, zero, suc, ◌<◌, ◌≤◌, true, false, cond, not, eqb, List, [], ◌∷◌, ◌++◌, length, refl, sym, ◌∙◌, ap, subst, arith, inl, inr, Option, Some, None, is_some, slice_set, IsTrue}
 use Rattle.std.specs.Prelude.{◌⊎◌, ◌||◌, Bool, nat_lt, unwrap_or}
 use Rattle.std.proofs.lemmas.Bool.{cond-true, cond-false, eq-eqb, ne_eqb, cases_eq, cases_lt, lt-ltb}
@@ -11,11 +11,11 @@ use Rattle.msgport.specs.declared.fault.PortFault.TheVariants.{Unknown, Link}
 use Rattle.msgport.specs.Ports.{MessagePorts, IsHeld, is_port, is_message, is_queued, is_linked, loose_fault, reply_fault, messages_of, appended, port_freed, message_freed}
 use Rattle.execlist.proofs.Pools.{item_of, slot_known, slot_other, slot_same}
 
--- how often a node of that home stands in header h
+-- how often a node of that home is in header h
 abbrev standing : Option ℕ → ℕ → ℕ
 standing o h = cond (is_at o h) 1 0
 
--- a node stands in the sequence of its home alone
+-- a node is in the sequence of its home alone
 abbrev Stands : List (List ℕ) → ℕ → Option ℕ → Type 0
 Stands all n o = (h : ℕ) → times n (sequence all h) ≡ standing o h
 
@@ -27,7 +27,7 @@ only_one [] k one = absurd (omega (arith, one))
 only_one (xs ∷ []) k one = refl
 only_one (xs ∷ ys ∷ all) k one = absurd (omega (arith, one))
 
--- what does not stand in the only sequence stands in none
+-- what is not in the only sequence is in none
 pub not_listed : (all : List (List ℕ)) (n : ℕ) (o : Option ℕ) → length all ≡ 1 → Stands all n o → IsTrue (not (nat_lt 0 (times n (sequence all 0)))) → o ≡ None
 not_listed all n None one stands none = refl
 not_listed all n (Some zero) one stands none = absurd (let bad = rw (stands 0) at none in cc)
@@ -45,7 +45,7 @@ not_at (Some k) h other = by_case (cases_eq k h) where
   by_case (inl e) = absurd (other (ap Some e))
   by_case (inr ne) = cond-false _ _ _ (ne_eqb k h ne)
 
--- a header in which no node stands is empty
+-- a header without a node is empty
 pub empty_where : (all : List (List ℕ)) (places : List (Option ℕ)) (h : ℕ) → ((m : ℕ) → times m (sequence all h) ≡ standing (home places m) h)
     → ((m : ℕ) → home places m ≡ Some h → ⊥) → sequence all h ≡ []
 empty_where all places h stands nobody = nothing_stands (sequence all h) (λ m. stands m ∙ not_at (home places m) h (nobody m))
@@ -54,13 +54,13 @@ first_none : (xs : List ℕ) → IsTrue (not (is_some (first xs))) → xs ≡ []
 first_none [] none = refl
 first_none (x ∷ xs) none = absurd cc
 
--- where a port has no message, no message stands there
+-- if a port has no message, no message is there
 pub nobody_at : (all : List (List ℕ)) (m h : ℕ) (o : Option ℕ) → times m (sequence all h) ≡ standing o h
     → IsTrue (not (is_some (first (sequence all h)))) → o ≡ Some h → ⊥
 nobody_at all m h o stands none e =
     omega (arith, ap (times m) (first_none (sequence all h) none), stands, ap (λ p. standing p h) e, stands_at h)
 
--- a home that is given up: each other stands where it stood
+-- a home that is given up: each other is where it was
 pub left_home : (places : List (Option ℕ)) (m n p : ℕ) → home (slice_set places m None) n ≡ Some p → home places n ≡ Some p
 left_home places m n p e = by_case (cases_eq n m) (cases_lt m (length places)) where
   by_case : (n ≡ m) ⊎ (n ≡ m → ⊥) → (m < length places) ⊎ (length places ≤ m) → home places n ≡ Some p
@@ -74,7 +74,7 @@ pub none_or : (o : Option ℕ) → ((p : ℕ) → o ≡ Some p → ⊥) → o �
 none_or None never = refl
 none_or (Some p) never = absurd (never p refl)
 
--- what does not stand in a sequence leaves it as it is
+-- what is not in a sequence leaves it as it is
 pub without_absent : (n : ℕ) (xs : List ℕ) → nat_lt 0 (times n xs) ≡ false → without n xs ≡ xs
 without_absent n [] none = refl
 without_absent n (x ∷ xs) none = by_case (eqb x n) none (without_absent n xs) where
@@ -119,7 +119,7 @@ not_in all n o one stands none = not_listed all n o one stands (ap not none)
 
 -- what is linked stays linked to what lives
 module _ {lists : ℕ} {listings : List (Option ℕ)} {stores : ℕ} {holdings : List (Option ℕ)} {s : MessagePorts} (held : IsHeld lists listings stores holdings s) where
-  -- where a port is freed that has no message and is in no list
+  -- if a port is freed that has no message and is in no list
   pub freed_held : (p : ℕ) → ((m : ℕ) → home s.places m ≡ Some p → ⊥) → home listings p ≡ None → IsHeld lists listings stores holdings (port_freed p s)
   freed_held p nobody unlisted = record {
     one_list = held.one_list;
@@ -137,7 +137,7 @@ module _ {lists : ℕ} {listings : List (Option ℕ)} {stores : ℕ} {holdings :
     lives : (q : ℕ) → q ≢ p → IsTrue (is_some (slot s.ports.slots q)) → IsTrue (is_some (slot (slice_set s.ports.slots p None) q))
     lives q other there = ap is_some (slot_other s.ports.slots p q None other) ∙ there
 
-  -- where a message is freed that is in no port and not held
+  -- if a message is freed that is in no port and not held
   pub unlinked_held : (m : ℕ) → home s.places m ≡ None → home holdings m ≡ None → IsHeld lists listings stores holdings (message_freed m s)
   unlinked_held m loose unheld = record {
     one_list = held.one_list;
@@ -155,7 +155,7 @@ module _ {lists : ℕ} {listings : List (Option ℕ)} {stores : ℕ} {holdings :
     lives : (n : ℕ) → n ≢ m → IsTrue (is_some (slot s.messages.slots n)) → IsTrue (is_some (slot (slice_set s.messages.slots m None) n))
     lives n other there = ap is_some (slot_other s.messages.slots m n None other) ∙ there
 
-  -- where a message is put at a port
+  -- if a message is put at a port
   pub appended_held : (p m : ℕ) → IsTrue (is_port p s) → IsTrue (is_message m s) → home holdings m ≡ None → IsHeld lists listings stores holdings (appended p m s)
   appended_held p m port message unheld = record {
     one_list = held.one_list;
@@ -181,7 +181,7 @@ module _ {lists : ℕ} {listings : List (Option ℕ)} {stores : ℕ} {holdings :
           known = slot_known s.messages.slots m _ (item_of (slot s.messages.slots m) message).1
     port_at n q (inr other) e = held.live_port n q (sym (slot_other s.places m n (Some p) other) ∙ e)
 
-  -- where a message is taken out of its port, and what else stands in the ports stays
+  -- if a message is taken out of its port, and what else is in the ports stays
   pub taken_held : (m : ℕ) (queues : List (List ℕ)) → length queues ≡ length s.queues → IsHeld lists listings stores holdings (record s { queues = queues; places = slice_set s.places m None })
   taken_held m queues each = record {
     one_list = held.one_list;

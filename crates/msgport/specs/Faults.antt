@@ -3,7 +3,7 @@ use Rattle.std.specs.Prelude.{ℕ}
 use Rattle.msgport.specs.declared.fault.PortFault.{PortFault}
 use Rattle.msgport.specs.declared.fault.PortFault.TheVariants.{NotEmpty, Link, Unknown, PoolFull}
 
--- the number of a fault (own choice)
+-- the number of a fault (project rule)
 abbrev pub fault_number : PortFault → ℕ
 fault_number NotEmpty = 1
 fault_number Link = 2

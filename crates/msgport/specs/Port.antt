@@ -21,6 +21,8 @@ acting_by Signal port = action.Signal port.task (2 ^ port.bit)
 acting_by (Cause i) port = action.Cause i
 acting_by Ignore port = action.Nothing
 
+-- what a port does when a message arrives: it signals its task, causes its software interrupt, or does nothing (RKM Libraries, Exec
+-- Messages and Ports: mp_Flags)
 abbrev pub acting : Port → Action
 acting port = acting_by port.action port
 
@@ -30,6 +32,6 @@ wait_bit_by Signal task port = if port.task == task then Some port.bit else None
 wait_bit_by (Cause i) task port = None
 wait_bit_by Ignore task port = None
 
--- the number of the signal that the task waits for at the port, if the port signals that task
+-- the number of the signal that the task waits for at the port, if the port signals that task (autodoc WaitPort)
 abbrev pub wait_bit : ℕ → Port → Option ℕ
 wait_bit task port = wait_bit_by port.action task port

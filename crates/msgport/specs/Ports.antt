@@ -28,15 +28,19 @@ pub record MessagePorts : Type 0 where
 
 -- ---- types of messages (exec/nodes.h)
 
+-- the type of a message that was never put (include file exec/nodes.h: NT_UNKNOWN)
 abbrev pub nt_unknown : ℕ
 nt_unknown = 0
 
+-- the type of a message that was put (NT_MESSAGE)
 abbrev pub nt_message : ℕ
 nt_message = 5
 
+-- the type of a message that was replied and has no reply port (NT_FREEMSG)
 abbrev pub nt_freemsg : ℕ
 nt_freemsg = 6
 
+-- the type of a message that was replied (NT_REPLYMSG)
 abbrev pub nt_replymsg : ℕ
 nt_replymsg = 7
 
@@ -121,7 +125,7 @@ delete_fault p s =
 
 -- ---- changes
 
--- room for so many ports and messages, of which there is none
+-- room for that many ports and messages, of which there is none
 abbrev pub no_ports : (ports messages : ℕ) → MessagePorts
 no_ports ports messages = record {
   ports = all_free ports;
@@ -158,15 +162,15 @@ with_message m message s = record s { messages = written m message s.messages }
 abbrev pub typed : ℕ → ℕ → MessagePorts → MessagePorts
 typed kind m s = with_message m (record (message_at m s) { kind = kind }) s
 
--- message m stands last in port p
+-- message m is last in port p
 abbrev pub appended : (p m : ℕ) → MessagePorts → MessagePorts
 appended p m s = record s { queues = slice_set s.queues p (messages_of p s ++ m ∷ []); places = slice_set s.places m (Some p) }
 
--- message m is of that type, and stands last in port p (autodocs exec.library/PutMsg and exec.library/ReplyMsg)
+-- message m is of that type, and is last in port p (autodocs exec.library/PutMsg and exec.library/ReplyMsg)
 abbrev pub posted : ℕ → (p m : ℕ) → MessagePorts → MessagePorts
 posted kind p m s = appended p m (typed kind m s)
 
--- message m is held, behind those that are
+-- message m is held, after those that are
 abbrev pub held : ℕ → MessagePorts → MessagePorts
 held m s = record s { holding = s.holding ++ m ∷ [] }
 
@@ -200,7 +204,7 @@ made_private p s = record s { public = without p s.public }
 
 -- ---- what always holds
 
--- What the code keeps: one list of public ports and one of held messages, and what is linked lives. The listings tell which port is in the
+-- What the code keeps: one list of public ports and one of held messages, and what is linked lives. The listings say which port is in the
 -- first, the holdings which message is in the second.
 pub record IsHeld (lists : ℕ) (listings : List (Option ℕ)) (stores : ℕ) (holdings : List (Option ℕ)) (s : MessagePorts) : Type 0 where
   pub one_list : lists ≡ 1
@@ -215,8 +219,8 @@ pub record IsHeld (lists : ℕ) (listings : List (Option ℕ)) (stores : ℕ) (h
   pub live_port : (m p : ℕ) → home s.places m ≡ Some p → IsTrue (is_port p s)
   pub live_listed : (p h : ℕ) → home listings p ≡ Some h → IsTrue (is_port p s)
 
--- A message that is queued stands once in the port that has it and in no other, one that is held stands once among those, and in no port, and
--- a public port stands once among the public ones. What is linked lives.
+-- A message that is queued is once in the port that has it and in no other, one that is held is once among those, and in no port, and
+-- a public port is once among the public ones. What is linked lives.
 pub record IsSound (s : MessagePorts) : Type 0 where
   pub stands : (p m : ℕ) → times m (messages_of p s) ≡ (if is_at (home s.places m) p then 1 else 0)
   pub stands_held : (m : ℕ) → times m s.holding ≡ (if is_held m s then 1 else 0)

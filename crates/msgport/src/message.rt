@@ -9,7 +9,7 @@ pub const NT_FREEMSG: u8 = 6;
 /// The type of a message that was put at its reply port. By exec/nodes.h.
 pub const NT_REPLYMSG: u8 = 7;
 
-/// The type of a new message (own choice). By exec/nodes.h.
+/// The type of a new message (project rule). By exec/nodes.h.
 pub const NT_UNKNOWN: u8 = 0;
 
 /// A message beside its place: its type, its word, and its reply port or 0. RKM Libraries, Exec Messages and Ports.

@@ -1,4 +1,4 @@
-//! One port: whom it tells of a message that arrives, and how.
+//! One port: whom it notifies of a message that arrives, and how.
 ghost use Rattle.std.specs.Prelude.{◌≡◌, ◌<◌, ◌≤◌, IfSome};
 ghost use Rattle.msgport.specs.Port.{Port as Owned, acting, new_port, wait_bit};
 
@@ -51,6 +51,15 @@ impl Port {
         (self.task, self.bit)
     }
 
+    /// What the port does when a message arrives.
+    ///
+    /// Source: RKM Libraries, Exec Messages and Ports: `mp_Flags`.
+    pub fn action(&self) -> PortAction
+        ensures { result ≡ self.now.action }
+    {
+        self.action
+    }
+
     /// The port with another action.
     ///
     /// Source: RKM Libraries, Exec Messages and Ports: `mp_Flags`.
@@ -64,7 +73,7 @@ impl Port {
         }
     }
 
-    /// What is to be done where a message arrives.
+    /// What is to be done if a message arrives.
     ///
     /// Source: autodoc exec.library/PutMsg.
     pub fn acting(&self) -> Action
@@ -77,7 +86,7 @@ impl Port {
         }
     }
 
-    /// The number of the signal that the task waits for at this port, none where the port is another's or signals no task.
+    /// The number of the signal that the task waits for at this port, none if the port is another's or signals no task.
     ///
     /// Source: autodoc exec.library/WaitPort.
     pub fn wait_bit(&self, task: TaskId) -> Option<u32>

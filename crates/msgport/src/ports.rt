@@ -10,6 +10,8 @@ ghost use Rattle.execlist.specs.Answers.{fault_or, kept_or};
 ghost use Rattle.msgport.specs.Ports.{loose_fault, post_fault, reply_fault, queued_fault, private_fault, public_fault, delete_fault};
 ghost use Rattle.msgport.specs.Ports.{no_ports, port_made, message_made, port_freed, message_freed, with_port, with_message, typed, appended, posted, held, let_go, taken_out, taken_off, made_public, made_private, nt_message, nt_freemsg, nt_replymsg};
 
+mod readers;
+
 use crate::action::{Action, PortAction, TaskId};
 use crate::fault::PortFault;
 use crate::message::{Message, NT_FREEMSG, NT_MESSAGE, NT_REPLYMSG, NT_UNKNOWN};
@@ -73,7 +75,7 @@ impl<S: ListSpace> Model for Ports<S> {
     }) };
 }
 
-/// The numbers of so many ports and messages, all of them free.
+/// The numbers of that many ports and messages, all of them free.
 fn pools_of(
     alloc: Global,
     ports: usize,
@@ -103,11 +105,9 @@ fn headers_of<S: ListSpace>(alloc: Global, ports: usize, msgs: usize) -> Result<
 }
 
 impl<S: ListSpace> Ports<S> {
-    /// Room for so many ports and messages, at most 4,096 of each. There is no port and no message yet.
+    /// Room for that many ports and messages, at most 4,096 of each. There is no port and no message yet.
     ///
-    /// An error means that memory is lacking.
-    ///
-    /// Source: own choice.
+    /// An error means that memory is refused.
     pub fn new(alloc: Global, ports: usize, msgs: usize) -> Result<Self, AllocError>
         requires few_ports { ports ≤ 4096 }
         requires few_messages { msgs ≤ 4096 }
@@ -127,10 +127,10 @@ impl<S: ListSpace> Ports<S> {
 
     // ---- making and freeing
 
-    /// Makes a port of a task, with the number of the signal (0 to 31) by which it tells the task of a message. It has
+    /// Makes a port of a task, with the number of the signal (0 to 31) by which it notifies the task of a message. It has
     /// the action PA_SIGNAL, no message, and is not public.
     ///
-    /// Answers its number, or PoolFull where every port is in use. Autodoc exec.library/CreateMsgPort.
+    /// Answers its number, or PoolFull if every port is in use. Autodoc exec.library/CreateMsgPort.
     pub fn create_port(&mut self, task: TaskId, bit: u32) -> Result<PortId, PortFault>
         requires { bit < 32 }
         ensures answer { result ≡ ok_or (next_number self.old.ports) PortFault.PoolFull }
@@ -148,10 +148,10 @@ impl<S: ListSpace> Ports<S> {
         }
     }
 
-    /// Makes a message with a reply port, 0 for none, and a word. It is of type 0 (own choice) and in no port.
+    /// Makes a message with a reply port, 0 for none, and a word. It is of type 0 (project rule) and in no port.
     ///
     /// The reply port is what the caller calls it by; nothing here looks at it. Answers the message's number, or PoolFull
-    /// where every message is in use. Own choice: Exec leaves the making of messages to the program.
+    /// if every message is in use. Project rule: Exec leaves the making of messages to the program.
     pub fn make_msg(&mut self, reply: u32, word: u32) -> Result<MsgId, PortFault>
         ensures answer { result ≡ ok_or (next_number self.old.messages) PortFault.PoolFull }
         ensures next { self.new ≡ message_made reply word self.old }
@@ -171,9 +171,9 @@ impl<S: ListSpace> Ports<S> {
         }
     }
 
-    /// Answers the number that `create_port` would give, or none where every port is in use.
+    /// Answers the number that `create_port` would give, or none if every port is in use.
     ///
-    /// Own choice: a caller can ask before it makes a port.
+    /// Project rule: a caller can ask before it makes a port.
     pub fn next_port(&self) -> Option<PortId>
         ensures value { result ≡ next_number self.now.ports }
         ensures known { IfSome result (λ p. p < length self.now.ports.slots) }
@@ -182,9 +182,9 @@ impl<S: ListSpace> Ports<S> {
         self.ports.next()
     }
 
-    /// Answers the number that `make_msg` would give, or none where every message is in use.
+    /// Answers the number that `make_msg` would give, or none if every message is in use.
     ///
-    /// Own choice: a caller can ask before it makes a message.
+    /// Project rule: a caller can ask before it makes a message.
     pub fn next_message(&self) -> Option<MsgId>
         ensures value { result ≡ next_number self.now.messages }
         ensures known { IfSome result (λ m. m < length self.now.messages.slots) }
@@ -195,7 +195,7 @@ impl<S: ListSpace> Ports<S> {
 
     /// Frees a port, and answers its task and the number of its signal.
     ///
-    /// It is Unknown where there is no such port, else NotEmpty where it has messages, and else Link where it is public.
+    /// It is Unknown if there is no such port, else NotEmpty if it has messages, and else Link if it is public.
     /// Autodoc exec.library/DeleteMsgPort.
     pub fn delete_port(&mut self, p: PortId) -> Result<(TaskId, u32), PortFault>
         ensures answer { result ≡ fault_or (delete_fault p self.old) ((port_at p self.old).task, (port_at p self.old).bit) }
@@ -214,7 +214,7 @@ impl<S: ListSpace> Ports<S> {
 
     /// Frees a message.
     ///
-    /// It is Unknown where there is no such message, and else Link where a port has it or it is held. Own choice, as `make_msg`.
+    /// It is Unknown if there is no such message, and else Link if a port has it or it is held. Project rule, as `make_msg`.
     pub fn free_msg(&mut self, m: MsgId) -> Result<(), PortFault>
         ensures answer { result ≡ fault_or (loose_fault m self.old) tt }
         ensures next { self.new ≡ kept_or (loose_fault m self.old) self.old (message_freed m self.old) }
@@ -230,9 +230,9 @@ impl<S: ListSpace> Ports<S> {
 
     // ---- putting and taking
 
-    /// Puts a message at a port, behind those that it has, as one of type NT_MESSAGE, and answers what is to be done for it.
+    /// Puts a message at a port, after those that it has, as one of type NT_MESSAGE, and answers what is to be done for it.
     ///
-    /// It is Unknown where there is no such port or no such message, and else Link where a port has the message already, or it is held.
+    /// It is Unknown if there is no such port or no such message, and else Link if a port has the message already, or it is held.
     /// Autodoc exec.library/PutMsg.
     pub fn put(&mut self, p: PortId, m: MsgId) -> Result<Action, PortFault>
         ensures answer { result ≡ fault_or (post_fault p m self.old) (acting (port_at p self.old)) }
@@ -244,10 +244,10 @@ impl<S: ListSpace> Ports<S> {
         }
     }
 
-    /// Puts a message at a port, behind those that it has, as one of type NT_REPLYMSG, and answers what is to be done for
-    /// it. It is not held any more. Which port is the reply port of the message is for the caller to tell.
+    /// Puts a message at a port, after those that it has, as one of type NT_REPLYMSG, and answers what is to be done for
+    /// it. It is not held any more. Which port is the reply port of the message is for the caller to say.
     ///
-    /// It is Unknown where there is no such port or no such message, and else Link where a port has the message already.
+    /// It is Unknown if there is no such port or no such message, and else Link if a port has the message already.
     /// Autodoc exec.library/ReplyMsg.
     pub fn reply(&mut self, p: PortId, m: MsgId) -> Result<Action, PortFault>
         ensures answer { result ≡ fault_or (reply_fault p m self.old) (acting (port_at p self.old)) }
@@ -264,7 +264,7 @@ impl<S: ListSpace> Ports<S> {
 
     /// Gives a message that has no reply port the type NT_FREEMSG.
     ///
-    /// It is Unknown where there is no such message, and else Link where a port has it or it is held. Autodoc exec.library/ReplyMsg.
+    /// It is Unknown if there is no such message, and else Link if a port has it or it is held. Autodoc exec.library/ReplyMsg.
     pub fn reply_none(&mut self, m: MsgId) -> Result<(), PortFault>
         ensures answer { result ≡ fault_or (loose_fault m self.old) tt }
         ensures next { self.new ≡ kept_or (loose_fault m self.old) self.old (typed nt_freemsg m self.old) }
@@ -278,7 +278,7 @@ impl<S: ListSpace> Ports<S> {
         }
     }
 
-    /// Takes the first message off a port and answers it, or answers none where the port has none.
+    /// Takes the first message off a port and answers it, or answers none if the port has none.
     /// Autodoc exec.library/GetMsg.
     pub fn get(&mut self, p: PortId) -> Option<MsgId>
         requires { IsTrue (is_port p self.old) }
@@ -299,9 +299,9 @@ impl<S: ListSpace> Ports<S> {
         self.queues.first(p)
     }
 
-    /// Takes a message out of the port that has it, wherever it stands there.
+    /// Takes a message out of the port that has it, wherever it is there.
     ///
-    /// It is Unknown where there is no such message, and else Link where no port has it. Autodoc exec.library/WaitIO: it takes the reply out of
+    /// It is Unknown if there is no such message, and else Link if no port has it. Autodoc exec.library/WaitIO: it takes the reply out of
     /// its port.
     pub fn take_out(&mut self, m: MsgId) -> Result<(), PortFault>
         ensures answer { result ≡ fault_or (queued_fault m self.old) tt }
@@ -316,9 +316,9 @@ impl<S: ListSpace> Ports<S> {
         }
     }
 
-    /// Holds a message, behind those that are held: it is in no port, and only a reply puts it at one.
+    /// Holds a message, after those that are held: it is in no port, and only a reply puts it at one.
     ///
-    /// It is Unknown where there is no such message, and else Link where a port has it or it is held. Own choice: a device holds a request that
+    /// It is Unknown if there is no such message, and else Link if a port has it or it is held. Project rule: a device holds a request that
     /// is under way.
     pub fn hold(&mut self, m: MsgId) -> Result<(), PortFault>
         ensures answer { result ≡ fault_or (loose_fault m self.old) tt }
@@ -333,7 +333,7 @@ impl<S: ListSpace> Ports<S> {
         }
     }
 
-    /// A message is held no more; one that is not held stays as it is. Own choice: a device that is done with a request without a reply.
+    /// A message is held no more; one that is not held stays as it is. Project rule: a device that is done with a request without a reply.
     pub fn let_go(&mut self, m: MsgId)
         requires { IsTrue (is_message m self.old) }
         ensures gone { is_held m self.new ≡ false }
@@ -348,7 +348,7 @@ impl<S: ListSpace> Ports<S> {
 
     /// Makes a port public under a name, before the first public port of lower priority (-128 to 127).
     ///
-    /// It is Unknown where there is no such port, and else Link where it is public already. Autodoc exec.library/AddPort.
+    /// It is Unknown if there is no such port, and else Link if it is public already. Autodoc exec.library/AddPort.
     pub fn add_port(&mut self, p: PortId, name: Name, pri: i8) -> Result<(), PortFault>
         ensures answer { result ≡ fault_or (private_fault p self.old) tt }
         ensures next { self.new ≡ kept_or (private_fault p self.old) self.old (made_public p name.bytes pri self.old) }
@@ -364,7 +364,7 @@ impl<S: ListSpace> Ports<S> {
 
     /// Makes a port public no more.
     ///
-    /// It is Unknown where there is no such port, and else Link where it is not public. Autodoc exec.library/RemPort.
+    /// It is Unknown if there is no such port, and else Link if it is not public. Autodoc exec.library/RemPort.
     pub fn rem_port(&mut self, p: PortId) -> Result<(), PortFault>
         ensures answer { result ≡ fault_or (public_fault p self.old) tt }
         ensures next { self.new ≡ kept_or (public_fault p self.old) self.old (made_private p self.old) }
@@ -380,7 +380,7 @@ impl<S: ListSpace> Ports<S> {
 
     /// Answers the first public port of that name, or none. Names compare byte for byte.
     ///
-    /// The public ports stand by priority, and those of one priority in the order in which they were made public.
+    /// The public ports are by priority, and those of one priority in the order in which they were made public.
     /// Autodoc exec.library/FindPort.
     pub fn find_port(&self, name: &str) -> Option<PortId>
         ensures value { result ≡ find (is_named self.now.keys name.now) self.now.public }
@@ -391,14 +391,14 @@ impl<S: ListSpace> Ports<S> {
 
     // ---- one port or message
 
-    /// Answers whether there is a port of that number: whether the calls that ask for one may be made. Own choice.
+    /// Answers whether there is a port of that number: whether the calls that ask for one may be made. Project rule.
     pub fn is_port(&self, p: PortId) -> bool
         ensures { result ≡ is_port p self.now }
     {
         self.ports.get(p).is_some()
     }
 
-    /// Answers whether there is a message of that number: whether the calls that ask for one may be made. Own choice.
+    /// Answers whether there is a message of that number: whether the calls that ask for one may be made. Project rule.
     pub fn is_message(&self, m: MsgId) -> bool
         ensures { result ≡ is_message m self.now }
     {
@@ -414,8 +414,8 @@ impl<S: ListSpace> Ports<S> {
         self.set_port(p, port.with_action(action));
     }
 
-    /// Answers the number of the signal (0 to 31) by which a port with the action PA_SIGNAL tells a task of messages, or
-    /// none where the port is another task's or has another action. Autodoc exec.library/WaitPort.
+    /// Answers the number of the signal (0 to 31) by which a port with the action PA_SIGNAL notifies a task of messages, or
+    /// none if the port is another task's or has another action. Autodoc exec.library/WaitPort.
     pub fn wait_bit(&self, p: PortId, task: TaskId) -> Option<u32>
         requires { IsTrue (is_port p self.now) }
         ensures value { result ≡ wait_bit task (port_at p self.now) }
@@ -424,7 +424,7 @@ impl<S: ListSpace> Ports<S> {
         self.port(p).wait_bit(task)
     }
 
-    /// Answers the word of a message. Own choice: what a message carries.
+    /// Answers the word of a message. Project rule: what a message carries.
     pub fn word(&self, m: MsgId) -> u32
         requires { IsTrue (is_message m self.now) }
         ensures { result ≡ (message_at m self.now).word }
@@ -433,8 +433,6 @@ impl<S: ListSpace> Ports<S> {
     }
 
     /// Gives a message another word.
-    ///
-    /// Source: own choice.
     pub fn set_word(&mut self, m: MsgId, word: u32)
         requires { IsTrue (is_message m self.old) }
         ensures { self.new ≡ with_message m (record (message_at m self.old) { word = word }) self.old }
@@ -468,7 +466,7 @@ impl<S: ListSpace> Ports<S> {
         self.message(m).reply
     }
 
-    /// Answers whether a port has the message, or it is held. Own choice: Exec cannot tell.
+    /// Answers whether a port has the message, or it is held. Project rule: Exec cannot say.
     pub fn is_linked(&self, m: MsgId) -> bool
         requires { IsTrue (is_message m self.now) }
         ensures { result ≡ is_linked m self.now }
@@ -476,7 +474,7 @@ impl<S: ListSpace> Ports<S> {
         self.is_queued(m) || self.is_held(m)
     }
 
-    /// Answers whether a port has the message. Own choice: Exec cannot tell.
+    /// Answers whether a port has the message. Project rule: Exec cannot say.
     pub fn is_queued(&self, m: MsgId) -> bool
         requires { IsTrue (is_message m self.now) }
         ensures { result ≡ is_queued m self.now }
@@ -484,7 +482,7 @@ impl<S: ListSpace> Ports<S> {
         self.queues.home(m).is_some()
     }
 
-    /// Answers whether the message is held. Own choice: Exec cannot tell.
+    /// Answers whether the message is held. Project rule: Exec cannot say.
     pub fn is_held(&self, m: MsgId) -> bool
         requires { IsTrue (is_message m self.now) }
         ensures { result ≡ is_held m self.now }
@@ -492,7 +490,7 @@ impl<S: ListSpace> Ports<S> {
         self.held.home(m).is_some()
     }
 
-    /// Answers whether a port is public. Own choice: Exec cannot tell.
+    /// Answers whether a port is public. Project rule: Exec cannot say.
     pub fn is_public(&self, p: PortId) -> bool
         requires { IsTrue (is_port p self.now) }
         ensures { result ≡ is_public p self.now }
@@ -501,8 +499,6 @@ impl<S: ListSpace> Ports<S> {
     }
 
     /// Does nothing: its clauses are what always holds of the ports and the messages, and of the numbers that are next.
-    ///
-    /// Source: own choice.
     pub fn facts(&self)
         ensures sound { IsSound self.now }
         ensures ports { IsStocked self.now.ports }

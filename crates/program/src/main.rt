@@ -1,10 +1,14 @@
-//! The command `execsim`: it simulates the machine of one file under the events of another, and prints the trace.
+//! The program of all commands: it does the command by whose name it is called.
 #![tactic(auto)]
 
-use execrun::run_on_arguments;
+mod calling;
+mod command;
+mod version;
+
+use crate::calling::run_as_called;
 use std::process::ExitCode;
 
 /// Runs the program on the process's own arguments and streams, and ends with its status.
 fn main(rt: HostRuntime) -> ExitCode {
-    ExitCode::from(run_on_arguments(&rt, rt.stdout(), &mut rt.stderr()))
+    ExitCode::from(run_as_called(&rt, rt.stdout(), &mut rt.stderr()))
 }

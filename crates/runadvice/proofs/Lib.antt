@@ -1,3 +1,4 @@
+-- The lemma files of `runadvice`.
 pub mod TraceLemmas
 pub mod StandingLemmas
 pub mod TextLemmas

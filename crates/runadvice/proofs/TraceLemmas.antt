@@ -24,7 +24,7 @@ last_line-append begun (b ∷ bs) ys =
     ≡ last_line (if t then last_line [] bs else last_line (begun ++ b ∷ []) bs) ys)
     [ true ↦ last_line-append [] bs ys | false ↦ last_line-append (begun ++ b ∷ []) bs ys ]
 
--- what is known behind more bytes
+-- what is known after more bytes
 pub fold-more : (s : Standing) (begun xs ys : List ℕ)
     → fold after_line s (whole_lines begun (xs ++ ys)) ≡ fold after_line (fold after_line s (whole_lines begun xs)) (whole_lines (last_line begun xs) ys)
 fold-more s begun xs ys =

@@ -19,7 +19,7 @@ use Rattle.runadvice.specs.declared.wait.Wait.{Wait}
 abbrev pub warning_text : List ℕ → Standing → ℕ → List ℕ → List ℕ
 warning_text path s number reason = path ++ (codes ": in " ++ (task_text s number ++ (codes ": warning\n    it " ++ (reason ++ codes "\n"))))
 
--- of the task of a number: nothing where it does not wait, and where its wait is not known to last
+-- of the task of a number: nothing if it does not wait, and if its wait is not known to last
 abbrev pub task_warning : List ℕ → Bool → Standing → ℕ → Option Wait → List ℕ
 task_warning path is_alone s number None = []
 task_warning path is_alone s number (Some wait) = option_map_or (warning_text path s number) (reason_of s is_alone wait) []
@@ -29,7 +29,7 @@ abbrev pub warnings_from : List ℕ → Bool → Standing → ℕ → List (Opti
 warnings_from path is_alone s number [] = []
 warnings_from path is_alone s number (wait ∷ rest) = task_warning path is_alone s number wait ++ warnings_from path is_alone s (number + 1) rest
 
--- the warning that names the events, where they end while a task runs and none has ended
+-- the warning that names the events, if they end while a task runs and none has ended
 abbrev pub end_warning : List ℕ → Standing → List ℕ
 end_warning path s =
     if s.is_idle || list_any is_end s.stages
@@ -54,7 +54,7 @@ abbrev pub is_alone_in : Result MachineData FileFault → Bool
 is_alone_in (Ok file) = is_alone file
 is_alone_in (Err fault) = false
 
--- All that is said of the run of two texts: nothing where one of them is refused, or an alert ends their run.
+-- All that is said of the run of two texts: nothing if one of them is refused, or an alert ends their run.
 abbrev pub advice_of : List ℕ → List ℕ → List ℕ → List ℕ → List ℕ
 advice_of machine_path machine events_path events =
     option_map_or (run_text machine_path events_path (is_alone_in (file_of machine))) (standing_at_end (file_of machine) (script_of events)) []

@@ -5,11 +5,11 @@ use Rattle.runadvice.specs.Parts.{part_of, value_of}
 use Rattle.runadvice.specs.declared.effect.Effect.{Effect}
 use Rattle.runadvice.specs.declared.effect.Effect.TheVariants.{Nothing, Ends, Adds, Obtains, Releases, Requests}
 
--- `RemTask VALUE` ends the task of that number from 1, and the caller itself where it is 0
+-- `RemTask VALUE` ends the task of that number from 1, and the caller itself if it is 0
 abbrev pub end_effect : ℕ → ℕ → Effect
 end_effect value caller = if value == 0 then Ends caller else Ends (value - 1)
 
--- `AddTask VALUE -> VALUE` adds the task of the number from 1 that is answered, and none where that is 0
+-- `AddTask VALUE -> VALUE` adds the task of the number from 1 that is answered, and none if that is 0
 abbrev pub add_effect : ℕ → Effect
 add_effect value = if value == 0 then Nothing else Adds (value - 1)
 
@@ -18,7 +18,7 @@ abbrev pub obtain_effect : List ℕ → ℕ → Bool → Effect
 obtain_effect line caller was_waiting =
     if (length (fields line) == 3) && not was_waiting then Obtains (value_of line 2) caller else Nothing
 
--- `AttemptSemaphore VALUE -> VALUE` gives the caller the semaphore where it answers 1
+-- `AttemptSemaphore VALUE -> VALUE` gives the caller the semaphore if it answers 1
 abbrev pub attempt_effect : List ℕ → ℕ → Effect
 attempt_effect line caller = if value_of line 4 == 1 then Obtains (value_of line 2) caller else Nothing
 

@@ -9,6 +9,6 @@ use Rattle.runadvice.specs.declared.owners.Owners.{Owners}
 abbrev pub owner_of : Owners → ℕ → Option ℕ
 owner_of owners semaphore = option_map (λ one. one.owner) (get nat_cmp owners.all semaphore)
 
--- the releases that its owner owes; none where nobody owns it
+-- the releases that its owner owes; none if nobody owns it
 abbrev pub owed_of : Owners → ℕ → ℕ
 owed_of owners semaphore = option_map_or (λ one. one.times) (get nat_cmp owners.all semaphore) 0

@@ -54,6 +54,6 @@ reason_by_kind Signals s is_alone wait =
 reason_by_kind Semaphore s is_alone wait = semaphore_reason s wait.of (awaited_text wait)
 reason_by_kind kind s is_alone wait = idle_reason s is_alone wait
 
--- Why a wait lasts when the events end, where that is known. `is_alone` says that no interrupt of the machine does anything.
+-- Why a wait lasts when the events end, if that is known. `is_alone` says that no interrupt of the machine does anything.
 abbrev pub reason_of : Standing → Bool → Wait → Option (List ℕ)
 reason_of s is_alone wait = reason_by_kind wait.kind s is_alone wait

@@ -1,4 +1,4 @@
--- What a reader of a trace knows of the tasks of a run behind some of its lines, and how each line changes that.
+-- What a reader of a trace knows of the tasks of a run after some of its lines, and how each line changes that.
 use Rattle.std.specs.Prelude.{ℕ, ◌+◌, ◌-◌, ◌^◌, ◌==◌, min, Bool, true, false, List, Option, None, Some, option_map, unwrap_or, map, slice_set, bytes_eq, codes, length, if◌then◌else◌}
 use Rattle.std.specs.List.{position_from}
 use Rattle.std.specs.Option.{option_map_or}
@@ -72,14 +72,14 @@ after_obtain semaphore task s = record s {
   owed = with_value semaphore (once_more (s.owed semaphore)) s.owed;
 }
 
--- a semaphore is released once; behind the last release nobody owns it
+-- a semaphore is released once; after the last release nobody owns it
 abbrev pub after_release : ℕ → Standing → Standing
 after_release semaphore s = record s {
   owner = with_value semaphore (if s.owed semaphore == 1 then None else s.owner semaphore) s.owner;
   owed = with_value semaphore (s.owed semaphore - 1) s.owed;
 }
 
--- behind its last release a semaphore goes to the task that has waited for it longest
+-- after its last release a semaphore goes to the task that has waited for it longest
 abbrev pub after_handover : ℕ → Standing → Standing
 after_handover semaphore s =
     if s.owed semaphore == 1
@@ -94,11 +94,11 @@ after_effect (Obtains semaphore task) s = after_obtain semaphore task s
 after_effect (Releases semaphore) s = after_handover semaphore s
 after_effect Requests s = record s { has_requests = true }
 
--- the wait that a line tells of, begun behind so many lines of calls
+-- the wait that a line reports of, begun after that many lines of calls
 abbrev pub wait_in : List ℕ → ℕ → Option Wait
 wait_in line since = option_map (λ kind. record { kind = kind; of = value_of line 2; since = since }) (awaited_by line)
 
--- the last line of a task tells whether it waits
+-- the last line of a task says whether it waits
 abbrev pub after_wait : ℕ → Option Wait → Standing → Standing
 after_wait caller wait s = record s { waits = slice_set s.waits caller wait; calls = one_more s.calls }
 

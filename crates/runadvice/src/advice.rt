@@ -35,7 +35,7 @@ fn push_warning(
     out.push_str(text.as_str())
 }
 
-/// Adds a warning for a task that waits, where it is known that nothing that is left ends its wait.
+/// Adds a warning for a task that waits, if it is known that nothing that is left ends its wait.
 fn push_wait(
     alloc: Global,
     out: &mut String,
@@ -54,7 +54,7 @@ fn push_wait(
     }
 }
 
-/// Adds a warning for each task that waits when the events end, where it is known that nothing that is left ends its wait.
+/// Adds a warning for each task that waits when the events end, if it is known that nothing that is left ends its wait.
 fn push_waits(
     alloc: Global,
     out: &mut String,
@@ -77,7 +77,7 @@ fn any_ended(stages: &[Stage]) -> bool
     stages.iter().any(|stage| matches!(stage, Stage::Ended))
 }
 
-/// Adds a warning where the events end while a task runs and none has ended.
+/// Adds a warning if the events end while a task runs and none has ended.
 fn push_end(alloc: Global, out: &mut String, path: &str, run: &Run<'_>) -> Result<(), AllocError>
     ensures { OnOk result (string_bytes out.new ≡ string_bytes out.old ++ end_warning path.now (standing_of run.now)) }
 {
@@ -90,7 +90,7 @@ fn push_end(alloc: Global, out: &mut String, path: &str, run: &Run<'_>) -> Resul
     out.push_str(text.as_str())
 }
 
-/// The run of two texts to its end, where both are accepted and no alert ends it.
+/// The run of two texts to its end, if both are accepted and no alert ends it.
 fn run_of<'a>(
     alloc: Global,
     file: &'a MachineFile,
@@ -119,18 +119,16 @@ fn is_alone(file: &MachineFile) -> bool
     file.servers().is_empty() && file.softints().is_empty()
 }
 
-/// What the run of a machine file and an event text comes to that is most likely not meant, a line or more for each; nothing where that is
-/// nothing, where a text is refused, and where an alert ends the run, of which `execsim` says more. Before each place stands the path of
+/// What the run of a machine file and an event text comes to that is most likely not meant, a line or more for each; nothing if that is
+/// nothing, if a text is refused, and if an alert ends the run, of which `execsim` says more. Before each place is the path of
 /// the text that it belongs to.
 ///
 /// A task is named that waits when the events end and that no task can wake any more: because none is left that runs, or because the owner
-/// of its semaphore has ended. And the events are named where they end while a task runs and none has ended.
+/// of its semaphore has ended. And the events are named if they end while a task runs and none has ended.
 ///
 /// # Errors
 ///
-/// Where memory is refused.
-///
-/// Source: own choice.
+/// If memory is refused.
 pub fn check_run(
     alloc: Global,
     machine_path: &str,

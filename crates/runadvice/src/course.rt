@@ -1,4 +1,4 @@
-//! How a run goes, as its trace tells line by line: which tasks there are, what each waits for, and whether any task runs.
+//! How a run goes, as its trace reports line by line: which tasks there are, what each waits for, and whether any task runs.
 ghost use Rattle.std.specs.Prelude.{◌≡◌, IfOk, OnOk, bytes_eq, false};
 ghost use Rattle.std.specs.List.{position_from};
 ghost use Rattle.runadvice.specs.Standing.{after_add, after_call, after_effect, after_end, after_handover, after_obtain, after_text, after_wait, first_standing};
@@ -24,7 +24,7 @@ pub enum Stage {
     Ended,
 }
 
-/// A run, up to the last line that was told. Tasks go by their numbers from 0, in the order of the file.
+/// A run, up to the last line that was reported. Tasks go by their numbers from 0, in the order of the file.
 #[derive(Drop)]
 pub struct Run<'a> {
     pub file: &'a MachineFile,
@@ -37,14 +37,12 @@ pub struct Run<'a> {
     pub is_idle: bool,
     /// Whether a request of the timer was begun.
     pub has_requests: bool,
-    /// How many lines of calls were told.
+    /// How many lines of calls were reported.
     calls: u64,
 }
 
 impl<'a> Run<'a> {
     /// The run of a machine at its start.
-    ///
-    /// Source: own choice.
     pub fn new(alloc: Global, file: &'a MachineFile) -> Result<Run<'a>, AllocError>
         ensures starts { IfOk result (λ run. standing_of run ≡ first_standing file.now.tasks) }
         ensures begins { IfOk result (λ run. (run.is_idle ≡ false) × (run.has_requests ≡ false)) }
@@ -85,7 +83,7 @@ impl<'a> Run<'a> {
         set_stage(&mut self.stages, task, Stage::Live);
     }
 
-    /// A task waits in a call, or in none, as its last line tells.
+    /// A task waits in a call, or in none, as its last line reports.
     fn begin(&mut self, task: usize, wait: Option<Wait>)
         ensures { standing_of self.new ≡ after_wait task wait (standing_of self.old) }
     {
@@ -139,8 +137,6 @@ impl<'a> Run<'a> {
     }
 
     /// The next line of the trace. From a line of one part, `idle`, to the next `switch` no task runs.
-    ///
-    /// Source: own choice.
     pub fn tell(&mut self, line: &str) -> Result<(), AllocError>
         ensures { OnOk result (standing_of self.new ≡ after_text line.now (standing_of self.old)) }
     {

@@ -1,4 +1,4 @@
-//! What a call changes of a run, as its line tells it.
+//! What a call changes of a run, as its line reports it.
 ghost use Rattle.std.specs.Prelude.{◌≡◌, ◌-◌};
 ghost use Rattle.runadvice.specs.Effects.{add_effect, attempt_effect, effect_of, end_effect, obtain_effect};
 
@@ -13,7 +13,7 @@ pub enum Effect {
     Ends(usize),
     /// The task of this number from 0 is added.
     Adds(usize),
-    /// The semaphore at this address goes to the task of this number from 0, where nobody owns it; an owner owns it once more.
+    /// The semaphore at this address goes to the task of this number from 0, if nobody owns it; an owner owns it once more.
     Obtains(u32, usize),
     /// The semaphore at this address is released once.
     Releases(u32),
@@ -28,7 +28,7 @@ fn from_zero(number: u32) -> usize
     (number as usize).saturating_sub(1)
 }
 
-/// What RemTask of a number from 1 changes; 0 stands for the caller.
+/// What RemTask of a number from 1 changes; 0 represents the caller.
 fn end_effect(value: u32, caller: usize) -> Effect
     ensures { result ≡ end_effect value caller }
 {
@@ -73,8 +73,6 @@ fn attempt_effect(line: &Fields<'_>, caller: usize) -> Effect
 }
 
 /// What the line of a call changes, whose caller waited in a call before it or not.
-///
-/// Source: own choice.
 pub fn effect_of(line: &Fields<'_>, caller: usize, was_waiting: bool) -> Effect
     ensures { result ≡ effect_of line.now.line.now caller was_waiting }
 {

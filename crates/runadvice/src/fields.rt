@@ -3,9 +3,9 @@ ghost use Rattle.std.specs.Prelude.{◌≡◌, length};
 ghost use Rattle.taskscript.specs.Lines.{fields};
 ghost use Rattle.runadvice.specs.Parts.{part_of, value_of};
 
-use execcheck::number_of;
+use taskscript::number_of;
 
-/// A line, whose parts stand between its spaces.
+/// A line, whose parts are between its spaces.
 #[derive(Clone, Copy)]
 pub struct Fields<'a> {
     line: &'a str,
@@ -15,8 +15,6 @@ pub struct Fields<'a> {
 }
 
 /// The parts of a line.
-///
-/// Source: own choice.
 pub fn fields_of(line: &str) -> Fields<'_>
     ensures { result.line.now ≡ line.now }
 {
@@ -27,9 +25,7 @@ pub fn fields_of(line: &str) -> Fields<'_>
 }
 
 impl<'a> Fields<'a> {
-    /// The part of a number from 0; the empty one behind the last.
-    ///
-    /// Source: own choice.
+    /// The part of a number from 0; the empty one after the last.
     pub fn part(&self, number: usize) -> &'a str
         ensures { result.now ≡ part_of self.now.line.now number }
     {
@@ -39,9 +35,7 @@ impl<'a> Fields<'a> {
         }
     }
 
-    /// The word of 32 bits that the part of a number is; 0 where it is none.
-    ///
-    /// Source: own choice.
+    /// The word of 32 bits that the part of a number is; 0 if it is none.
     pub fn value(&self, number: usize) -> u32
         ensures { result ≡ value_of self.now.line.now number }
     {

@@ -1,4 +1,4 @@
-//! Says what a run comes to that is most likely not meant, as its trace tells it: tasks that still wait when the events end, and events
+//! Says what a run comes to that is most likely not meant, as its trace reports it: tasks that still wait when the events end, and events
 //! that end before any task has.
 #![tactic(auto)]
 

@@ -23,8 +23,6 @@ impl Owners {
     ghost use Rattle.runadvice.specs.Owning.{owed_of, owner_of};
 
     /// No semaphore is owned.
-    ///
-    /// Source: own choice.
     pub fn new(alloc: Global) -> Owners
         ensures owner { (semaphore : ℕ) → owner_of result semaphore ≡ None }
         ensures owed { (semaphore : ℕ) → owed_of result semaphore ≡ 0 }
@@ -35,8 +33,6 @@ impl Owners {
     }
 
     /// The number of the task that owns a semaphore.
-    ///
-    /// Source: own choice.
     pub fn owner(&self, semaphore: u32) -> Option<usize>
         ensures { result ≡ owner_of self.now semaphore }
     {
@@ -47,8 +43,6 @@ impl Owners {
     }
 
     /// A task owns a semaphore, or its owner owns it once more.
-    ///
-    /// Source: own choice.
     pub fn obtain(&mut self, semaphore: u32, owner: usize) -> Result<(), AllocError>
         ensures owner { OnOk result (owner_of self.new semaphore ≡ Some (unwrap_or (owner_of self.old semaphore) owner)) }
         ensures owed { OnOk result (owed_of self.new semaphore ≡ once_more (owed_of self.old semaphore)) }
@@ -67,8 +61,6 @@ impl Owners {
     }
 
     /// A semaphore is released once. The answer is whether that was the last release, after which nobody owns it.
-    ///
-    /// Source: own choice.
     pub fn release(&mut self, semaphore: u32) -> Result<bool, AllocError>
         ensures last { IfOk result (λ last. last ≡ (owed_of self.old semaphore == 1)) }
         ensures owner { IfOk result (λ last. owner_of self.new semaphore ≡ (if last then None else owner_of self.old semaphore)) }

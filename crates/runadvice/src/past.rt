@@ -16,8 +16,6 @@ impl Model for Past {
 
 impl Past {
     /// No byte was taken.
-    ///
-    /// Source: own choice.
     pub fn new() -> Past
         ensures { result.bytes ≡ [] }
     {
@@ -25,8 +23,6 @@ impl Past {
     }
 
     /// One more byte was taken.
-    ///
-    /// Source: own choice.
     pub fn with(_before: &Past, _byte: &u8) -> Past
         ensures { result.bytes ≡ _before.now.bytes ++ _byte.now ∷ [] }
     {

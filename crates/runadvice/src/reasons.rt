@@ -53,8 +53,6 @@ fn name_of<'a>(run: &Run<'a>, number: usize) -> &'a str
 }
 
 /// A task by its number from 1 and its name.
-///
-/// Source: own choice.
 pub fn task_text(alloc: Global, run: &Run<'_>, number: usize) -> Result<String, AllocError>
     ensures { IfOk result (λ text. string_bytes text ≡ task_text (standing_of run.now) number) }
 {
@@ -95,7 +93,7 @@ fn has_ended(run: &Run<'_>, number: usize) -> bool
     }
 }
 
-/// Why nothing ends a wait for a semaphore that a task owns, where that is so.
+/// Why nothing ends a wait for a semaphore that a task owns, if that is so.
 fn owner_reason(
     alloc: Global,
     run: &Run<'_>,
@@ -118,7 +116,7 @@ fn owner_reason(
     Ok(None)
 }
 
-/// Why nothing ends a wait for a semaphore, where that is so.
+/// Why nothing ends a wait for a semaphore, if that is so.
 fn semaphore_reason(
     alloc: Global,
     run: &Run<'_>,
@@ -164,11 +162,9 @@ fn idle_reason(
     Ok(Some(format!(in alloc; "waits for {awaited} {rest}")?))
 }
 
-/// Why a task that waits in a call is not ready when the events end, where that is known: it waits for no signal at all, for a semaphore whose
+/// Why a task that waits in a call is not ready when the events end, if that is known: it waits for no signal at all, for a semaphore whose
 /// owner has ended or waits too, or for something else while no task runs. `is_alone` says that no interrupt of the machine
 /// does anything.
-///
-/// Source: own choice.
 pub fn wait_reason(
     alloc: Global,
     run: &Run<'_>,

@@ -17,8 +17,6 @@ fn first_stage(start: bool) -> Stage
 }
 
 /// How far each task has come at the start.
-///
-/// Source: own choice.
 pub fn first_stages(alloc: Global, tasks: &[TaskRecord]) -> Result<Vec<Stage>, AllocError>
     ensures { IfOk result (λ stages. stages.items ≡ map (λ task. first_stage task.start) tasks.now) }
 {
@@ -30,8 +28,6 @@ pub fn first_stages(alloc: Global, tasks: &[TaskRecord]) -> Result<Vec<Stage>, A
 }
 
 /// The calls that the tasks wait in at the start: none.
-///
-/// Source: own choice.
 pub fn first_waits(alloc: Global, tasks: &[TaskRecord]) -> Result<Vec<Option<Wait>>, AllocError>
     ensures { IfOk result (λ waits. waits.items ≡ map (λ task. None) tasks.now) }
 {
@@ -43,8 +39,6 @@ pub fn first_waits(alloc: Global, tasks: &[TaskRecord]) -> Result<Vec<Option<Wai
 }
 
 /// The number from 0 of the task of a name.
-///
-/// Source: own choice.
 pub fn number_of(tasks: &[TaskRecord], name: &str) -> Option<usize>
     ensures { result ≡ position_from (λ task. bytes_eq name.now task.name.bytes) 0 tasks.now }
 {
@@ -52,8 +46,6 @@ pub fn number_of(tasks: &[TaskRecord], name: &str) -> Option<usize>
 }
 
 /// The name of the task of a number from 0, or the empty text.
-///
-/// Source: own choice.
 pub fn name_at(tasks: &[TaskRecord], number: usize) -> &str
     ensures { result.now ≡ option_map_or (λ task. task.name.bytes) (slice_get tasks.now number) [] }
 {
@@ -64,8 +56,6 @@ pub fn name_at(tasks: &[TaskRecord], number: usize) -> &str
 }
 
 /// A task has come so far.
-///
-/// Source: own choice.
 pub fn set_stage(stages: &mut Vec<Stage>, task: usize, stage: Stage)
     ensures { stages.new.items ≡ slice_set stages.old.items task stage }
 {

@@ -1,4 +1,4 @@
-//! What a task waits for, as the line of its call tells it.
+//! What a task waits for, as the line of its call reports it.
 ghost use Rattle.std.specs.Prelude.{◌≡◌};
 ghost use Rattle.runadvice.specs.Awaiting.{awaited_by, awaited_by_word};
 
@@ -42,8 +42,6 @@ fn awaited_by_word(word: &str) -> Option<Awaited>
 }
 
 /// What a line `NAME WORD VALUE waits` waits for.
-///
-/// Source: own choice.
 pub fn awaited_by(line: &Fields<'_>) -> Option<Awaited>
     ensures { result ≡ awaited_by line.now.line.now }
 {

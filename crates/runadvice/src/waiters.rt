@@ -7,9 +7,7 @@ ghost use Rattle.runadvice.specs.Waiters.{first_waiter, has_waited_longest, is_n
 use crate::fields::Fields;
 use crate::wait::{Awaited, Wait, awaited_by};
 
-/// The wait that a line tells of, which begins behind so many lines of calls.
-///
-/// Source: own choice.
+/// The wait that a line reports of, which begins after that many lines of calls.
 pub fn wait_in(line: &Fields<'_>, since: u64) -> Option<Wait>
     ensures { result ≡ wait_in line.now.line.now since }
 {
@@ -60,8 +58,6 @@ fn has_waited_longest(semaphore: u32, waits: &[Option<Wait>], wait: &Option<Wait
 }
 
 /// The task that has waited for a semaphore longest.
-///
-/// Source: own choice.
 pub fn first_waiter(semaphore: u32, waits: &[Option<Wait>]) -> Option<usize>
     ensures { result ≡ first_waiter semaphore waits.now }
 {
@@ -71,8 +67,6 @@ pub fn first_waiter(semaphore: u32, waits: &[Option<Wait>]) -> Option<usize>
 }
 
 /// Whether a task waits in a call.
-///
-/// Source: own choice.
 pub fn is_waiting(waits: &[Option<Wait>], task: usize) -> bool
     ensures { result ≡ is_waiting waits.now task }
 {
@@ -83,8 +77,6 @@ pub fn is_waiting(waits: &[Option<Wait>], task: usize) -> bool
 }
 
 /// A task waits in a call, or in none.
-///
-/// Source: own choice.
 pub fn set_wait(waits: &mut Vec<Option<Wait>>, task: usize, wait: Option<Wait>)
     ensures { waits.new.items ≡ slice_set waits.old.items task wait }
 {

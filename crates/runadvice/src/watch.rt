@@ -1,4 +1,4 @@
-//! A writer that takes a trace and tells its lines to a run.
+//! A writer that takes a trace and reports its lines to a run.
 ghost use Rattle.std.specs.Prelude.{◌≡◌, [], ◌++◌, Ok, true, IfOk, OnOk};
 ghost use Rattle.std.specs.List.{fold};
 ghost use Rattle.taskscript.specs.File.{file_of};
@@ -15,7 +15,7 @@ use std::io::Write;
 use std::str::from_utf8;
 use taskscript::MachineFile;
 
-/// Tells a run the bytes of a line. What is no text is passed over.
+/// Reports a run the bytes of a line. What is no text is passed over.
 fn tell_line(run: &mut Run<'_>, line: &[u8]) -> Result<(), AllocError>
     ensures { OnOk result (standing_of run.new ≡ after_line (standing_of run.old) line.now) }
 {
@@ -28,7 +28,7 @@ fn tell_line(run: &mut Run<'_>, line: &[u8]) -> Result<(), AllocError>
     }
 }
 
-/// Tells a run each line that these bytes end, of which the first was begun before, and keeps what is behind the last.
+/// Reports a run each line that these bytes end, of which the first was begun before, and keeps what is after the last.
 fn tell_bytes(run: &mut Run<'_>, line: &mut Vec<u8>, bytes: &[u8]) -> Result<(), AllocError>
     ensures run { OnOk result (standing_of run.new ≡ fold after_line (standing_of run.old) (whole_lines line.old.items bytes.now)) }
     ensures line { OnOk result (line.new.items ≡ last_line line.old.items bytes.now) }
@@ -53,7 +53,7 @@ fn take(past: &mut Past, bytes: &[u8])
     }
 }
 
-/// Takes the bytes of a trace and tells each whole line.
+/// Takes the bytes of a trace and reports each whole line.
 #[derive(Drop)]
 pub struct Watch<'a> {
     /// The machine file whose trace it is.
@@ -61,7 +61,7 @@ pub struct Watch<'a> {
     run: Run<'a>,
     /// What was taken of a line that is not whole.
     line: Vec<u8>,
-    /// Whether no line was lost for want of memory.
+    /// Whether no line was lost when out of memory.
     is_whole: bool,
     past: Past,
     ghost follows: { ∥ (is_whole ≡ true → Follows machine.now past.bytes (standing_of run) line.items) ∥₁ },
@@ -69,8 +69,6 @@ pub struct Watch<'a> {
 
 impl<'a> Watch<'a> {
     /// Watches the run of a machine file from its first line on.
-    ///
-    /// Source: own choice.
     pub fn new(
         alloc: Global,
         machine: &'a [u8],
@@ -93,9 +91,7 @@ impl<'a> Watch<'a> {
     ///
     /// # Errors
     ///
-    /// Where memory was refused for one of its lines.
-    ///
-    /// Source: own choice.
+    /// If memory was refused for one of its lines.
     pub fn into_run(self) -> Result<Run<'a>, AllocError>
         ensures { IfOk result (λ run. ∥ standing_of run ≡ standing_after (tasks_in self.entry.machine.now) self.entry.past.bytes ∥₁) }
     {

@@ -9,16 +9,16 @@
 //! the answer
 //! ```
 //!
-//! The texts of a run stand one after the other, with the line `-- events` between them.
+//! The texts of a run are one after the other, with the line `-- events` between them.
 use crate::tally::Tally;
 use execadvice::{check_events, check_machine};
 use runadvice::check_run;
 use std::io;
 
-/// The path that stands before the places of each text.
+/// The path that is before the places of each text.
 const PATH: &str = "text";
 
-/// The path that stands before the places of the event text of a run.
+/// The path that is before the places of the event text of a run.
 const EVENTS_PATH: &str = "events";
 
 /// A text and the answer that is wanted.
@@ -30,7 +30,7 @@ struct Case<'a> {
     answer: &'a str,
 }
 
-/// The case of a text that begins after `== `, or none where it does not have its form.
+/// The case of a text that begins after `== `, or none if it does not have its form.
 fn case_of(text: &str) -> Option<Case<'_>> {
     let (name, rest) = text.split_once("\n")?;
     let (text, rest) = rest.split_once("-- status ")?;
@@ -70,7 +70,7 @@ fn found_in(rt: &HostRuntime, table: &str, text: &str) -> io::Result<(bool, Stri
     Ok((finding.fault.is_some(), finding.text))
 }
 
-/// Whether the answer to a text is as it is wanted. Where it is not, it is printed.
+/// Whether the answer to a text is as it is wanted. If it is not, it is printed.
 fn is_as_wanted(rt: &HostRuntime, table: &str, case: &Case<'_>) -> io::Result<bool> {
     let (is_refused, answer) = found_in(rt, table, case.text)?;
     let answer = answer.as_str();

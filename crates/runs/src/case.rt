@@ -1,10 +1,11 @@
-//! One run and what it has to come to.
+//! One run, and what it has to come to.
 ghost use Rattle.std.specs.Prelude.{◌≡◌, IfOk, true};
 ghost use Rattle.taskscript.specs.File.{file_of};
 ghost use Rattle.taskscript.specs.Events.{script_of};
 ghost use Rattle.runs.specs.Outcomes.{IsOutcome};
 
 use crate::outcome::{Outcome, outcome_of};
+use crate::tally::Tally;
 use execlist::link::LinkSpace;
 use execlist::plain::PlainSpace;
 use execlist::space::ListSpace;
@@ -47,7 +48,7 @@ fn print_difference(
     Ok(())
 }
 
-/// Whether the program comes to what is wanted of it on list spaces of the type S. Where it does not, the first difference is printed.
+/// Whether the program comes to what is wanted of it on list spaces of the type S. If it does not, the first difference is printed.
 fn is_met<S: ListSpace>(rt: &HostRuntime, table: &str, case: &Case<'_>) -> io::Result<bool>
     ensures { IfOk result (λ same. same ≡ true
         → IsOutcome (file_of case.now.machine.now) (script_of case.now.events.now) case.now.status case.now.written.now) }
@@ -60,15 +61,13 @@ fn is_met<S: ListSpace>(rt: &HostRuntime, table: &str, case: &Case<'_>) -> io::R
     Ok(false)
 }
 
-/// Whether the program comes to what is wanted of it, on lists in vectors and on linked cells: then both write the same bytes. Where it
+/// Whether the program comes to what is wanted of it, on lists in vectors and on linked cells: then both write the same bytes. If it
 /// does not, the first difference is printed.
 ///
 /// # Errors
 ///
-/// Where memory is lacking, or standard output does not take what is printed.
-///
-/// Source: own choice.
-pub fn is_as_wanted(rt: &HostRuntime, table: &str, case: &Case<'_>) -> io::Result<bool>
+/// If memory is refused, or standard output does not take what is printed.
+fn is_as_wanted(rt: &HostRuntime, table: &str, case: &Case<'_>) -> io::Result<bool>
     ensures { IfOk result (λ same. same ≡ true
         → IsOutcome (file_of case.now.machine.now) (script_of case.now.events.now) case.now.status case.now.written.now) }
 {
@@ -76,4 +75,45 @@ pub fn is_as_wanted(rt: &HostRuntime, table: &str, case: &Case<'_>) -> io::Resul
         return Ok(false);
     }
     is_met::<LinkSpace>(rt, table, case)
+}
+
+/// Whether a machine file names the version of its rules, by a key before its first table of a line of its own.
+fn names_version(machine: &str) -> bool {
+    for line in machine.lines() {
+        if line.starts_with("[") {
+            return false;
+        }
+        if let Some((key, _)) = line.split_once("=")
+            && key.contains("version")
+        {
+            return true;
+        }
+    }
+    false
+}
+
+/// Compares a run, and once more with `version = 1` before the machine file if it names no version: that is the version of such a file. The
+/// second time it is made on linked cells alone, as the program makes it.
+///
+/// # Errors
+///
+/// If no memory is left, or standard output does not take what is printed.
+pub fn compare_run(rt: &HostRuntime, table: &str, case: &Case<'_>) -> io::Result<Tally> {
+    let as_it_is = Tally::of_one(is_as_wanted(rt, table, case)?);
+    if names_version(case.machine) {
+        return Ok(as_it_is);
+    }
+    let machine = format!(in rt.alloc(); "version = 1\n{}", case.machine)?;
+    let again = Case {
+        name: case.name,
+        machine: machine.as_str(),
+        events: case.events,
+        status: case.status,
+        written: case.written,
+    };
+    let same = is_met::<LinkSpace>(rt, table, &again)?;
+    if !same {
+        println!(rt; "  with version = 1 before the machine file")?;
+    }
+    Ok(as_it_is.with(Tally::of_one(same)))
 }

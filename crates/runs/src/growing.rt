@@ -1,8 +1,8 @@
-//! Asks for memory in one way. Behind the word `grow` an argument names a part of a machine, which is made once and let go, or says `boot` or
-//! `run`, with a machine file and an event text behind it. `boot` makes the machine, and `run` makes it and runs it over the events.
-//! `.ci/growth` refuses each growth of each way in turn; `parts` prints the names for it.
+//! Asks for memory in one way. After the word `grow` an argument names a part of a machine, which is made once and let go, or says `boot` or
+//! `run`, with a machine file and an event text after it. `boot` makes the machine, and `run` makes it and runs it over the events.
+//! `.ci/growth` refuses each allocation of each way in turn; `parts` prints the names for it.
 //!
-//! Nothing is taken for the arguments: a growth is one of the part, of the texts, of the machine or of the run.
+//! Nothing is taken for the arguments: an allocation is one of the part, of the texts, of the machine or of the run.
 use crate::part::{PARTS, Part, make};
 use crate::unmade::Unmade;
 use execlist::link::LinkSpace;
@@ -20,7 +20,7 @@ const LONGEST: usize = 256;
 /// The word before what is asked for.
 const WORD: &str = "grow";
 
-/// An argument of the process, which stands in `room` then.
+/// An argument of the process, which is in `room` then.
 fn argument<'a>(rt: &HostRuntime, i: usize, room: &'a mut [u8; LONGEST]) -> Option<&'a str> {
     let Ok(length) = rt.arg(i, room.as_mut_slice()) else {
         return None;
@@ -67,7 +67,7 @@ fn list_parts(rt: &HostRuntime) -> Result<(), Unmade> {
     Ok(())
 }
 
-/// Does what the argument behind the word says.
+/// Does what the argument after the word says.
 fn asked(rt: &HostRuntime) -> Result<(), Unmade> {
     let mut room = [0; LONGEST];
     match argument(rt, 2, &mut room) {
@@ -82,13 +82,13 @@ fn asked(rt: &HostRuntime) -> Result<(), Unmade> {
     }
 }
 
-/// Whether the first argument asks for growths.
+/// Whether the first argument asks for allocations.
 pub(crate) fn is_asked(rt: &HostRuntime) -> bool {
     let mut room = [0; LONGEST];
     argument(rt, 1, &mut room) == Some(WORD)
 }
 
-/// Makes what the arguments ask for. The status is 0 where it was made, 4 where memory was refused, and 1 where another fault came or the
+/// Makes what the arguments ask for. The status is 0 if it was made, 4 if memory was refused, and 1 if another fault came or the
 /// words are none of these.
 pub(crate) fn grow(rt: &HostRuntime) -> ExitCode {
     match asked(rt) {

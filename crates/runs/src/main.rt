@@ -1,9 +1,10 @@
-//! Makes whole runs of the simulator and whole answers of the checker, and compares each with what stands in its data.
+//! Makes whole runs of the simulator and whole answers of the checker, and compares each with what is in its data.
 //!
 //! Each argument is a table of runs, `NAME.runs`, a table of mistakes, `NAME.machines`, `NAME.events` or `NAME.endings`, or an example, of
-//! which `NAME.toml`, `NAME.events` and `NAME.trace` stand beside each other.
+//! which `NAME.toml`, `NAME.events` and `NAME.trace` are beside each other.
 //!
-//! Where the first argument is `grow`, it makes a part of a machine instead, or a machine, whose growths are to be refused.
+//! Where the first argument is `grow`, it makes a part of a machine instead, or a machine, whose allocations are to be refused. If it is
+//! `words`, it prints what a line may have beside each word that the other arguments name.
 #![tactic(auto)]
 
 mod advice;
@@ -15,9 +16,10 @@ mod run;
 mod table;
 mod tally;
 mod unmade;
+mod words;
 
 use crate::advice::compare_answers;
-use crate::case::{Case, is_as_wanted};
+use crate::case::{Case, compare_run};
 use crate::table::compare_table;
 use crate::tally::Tally;
 use std::process::ExitCode;
@@ -46,7 +48,7 @@ fn compare_example(rt: &HostRuntime, name: &str) -> io::Result<Tally> {
         },
         written: trace.as_str(),
     };
-    Ok(Tally::of_one(is_as_wanted(rt, name, &case)?))
+    compare_run(rt, name, &case)
 }
 
 /// Compares what an argument names.
@@ -62,10 +64,13 @@ fn compare(rt: &HostRuntime, name: &str) -> io::Result<Tally> {
     compare_example(rt, name)
 }
 
-/// Prints a line for each argument, with how many it compares, and a last line with how many there are. The status is 1 where one differs.
+/// Prints a line for each argument, with how many it compares, and a last line with how many there are. The status is 1 if one differs.
 fn main(rt: HostRuntime) -> io::Result<ExitCode> {
     if growing::is_asked(&rt) {
         return Ok(growing::grow(&rt));
+    }
+    if words::is_requested(&rt)? {
+        return words::print_rows(&rt);
     }
     let mut all = Tally::none();
     for name in env::args(&rt)?.skip(1) {

@@ -20,9 +20,7 @@ pub struct Outcome {
 ///
 /// # Errors
 ///
-/// Where memory is lacking for the line of a fault.
-///
-/// Source: own choice.
+/// If memory is refused for the line of a fault.
 pub fn outcome_of<S: ListSpace>(
     alloc: Global,
     machine: &[u8],

@@ -21,9 +21,7 @@ pub struct Run {
 ///
 /// # Errors
 ///
-/// The fault of `simulate`. `Write` comes where memory is lacking for the trace.
-///
-/// Source: own choice.
+/// The fault of `simulate`. `Write` comes if memory is refused for the trace.
 pub fn run_of<S: ListSpace>(alloc: Global, machine: &[u8], events: &[u8]) -> Result<Run, SimFault>
     ensures { MatchResult result (λ run. IsRun (file_of machine.now) (script_of events.now) run.trace.items run.end) (λ fault. IsFault (file_of machine.now) (script_of events.now) fault) }
 {

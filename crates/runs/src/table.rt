@@ -11,9 +11,9 @@
 //! a part of the texts => a part of what is written
 //! ```
 //!
-//! The last section may lack. Where it stands, the run is made once with each of its lines: the machine file or the event text has
+//! The last section may lack. Where it is, the run is made once with each of its lines: the machine file or the event text has
 //! `{}` at the place of the line's first part, and what is written has it at that of the second, or has no place.
-use crate::case::{Case, is_as_wanted};
+use crate::case::{Case, compare_run};
 use crate::tally::Tally;
 use std::alloc::{AllocError, Global};
 use std::io;
@@ -35,7 +35,7 @@ fn status_of(text: &str) -> Option<u8> {
     }
 }
 
-/// The entry of a text that begins after `== `, or none where it does not have its form.
+/// The entry of a text that begins after `== `, or none if it does not have its form.
 fn entry_of<'a>(text: &'a str) -> Option<Entry<'a>> {
     let (name, rest) = text.split_once("\n")?;
     let (machine, rest) = rest.split_once("-- events\n")?;
@@ -55,7 +55,7 @@ fn entry_of<'a>(text: &'a str) -> Option<Entry<'a>> {
     Some(Entry { case, cases })
 }
 
-/// The text with a part at its place `{}`, or none where it has no place.
+/// The text with a part at its place `{}`, or none if it has no place.
 fn filled(alloc: Global, text: &str, part: &str) -> Result<Option<String>, AllocError> {
     match text.split_once("{}") {
         Some((before, after)) => Ok(Some(format!(in alloc; "{before}{part}{after}")?)),
@@ -89,17 +89,17 @@ fn compare_case(rt: &HostRuntime, table: &str, case: &Case<'_>, line: &str) -> i
         status: case.status,
         written: either(&written, case.written),
     };
-    let same = is_as_wanted(rt, table, &case)?;
-    if !same {
+    let compared = compare_run(rt, table, &case)?;
+    if compared.differing != 0 {
         println!(rt; "  in the case: {line}")?;
     }
-    Ok(Tally::of_one(same))
+    Ok(compared)
 }
 
 /// Compares the runs of an entry.
 fn compare_entry(rt: &HostRuntime, table: &str, entry: &Entry<'_>) -> io::Result<Tally> {
     let Some(cases) = entry.cases else {
-        return Ok(Tally::of_one(is_as_wanted(rt, table, &entry.case)?));
+        return compare_run(rt, table, &entry.case);
     };
     let mut tally = Tally::none();
     for line in cases.lines() {
@@ -108,13 +108,11 @@ fn compare_entry(rt: &HostRuntime, table: &str, entry: &Entry<'_>) -> io::Result
     Ok(tally)
 }
 
-/// Compares each run of a table's text. An entry without the form of one is told, and counts as a run that differs.
+/// Compares each run of a table's text. An entry without the form of one is reported, and counts as a run that differs.
 ///
 /// # Errors
 ///
-/// Where memory is lacking, or standard output does not take what is printed.
-///
-/// Source: own choice.
+/// If memory is refused, or standard output does not take what is printed.
 pub fn compare_table(rt: &HostRuntime, table: &str, text: &str) -> io::Result<Tally> {
     let mut tally = Tally::none();
     for text in text.split("\n== ").skip(1) {

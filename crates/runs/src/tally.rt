@@ -10,8 +10,6 @@ pub struct Tally {
 
 impl Tally {
     /// None.
-    ///
-    /// Source: own choice.
     pub fn none() -> Tally
         ensures compared { result.compared ≡ 0 }
         ensures differing { result.differing ≡ 0 }
@@ -23,8 +21,6 @@ impl Tally {
     }
 
     /// One, which is as it is wanted or differs.
-    ///
-    /// Source: own choice.
     pub fn of_one(is_as_wanted: bool) -> Tally
         ensures compared { result.compared ≡ 1 }
         ensures differing { result.differing ≡ (if is_as_wanted then 0 else 1) }
@@ -36,8 +32,6 @@ impl Tally {
     }
 
     /// Both counts together, each 4,294,967,295 at most.
-    ///
-    /// Source: own choice.
     pub fn with(self, more: Tally) -> Tally
         ensures compared { result.compared ≡ min (self.compared + more.compared) (2 ^ 32 - 1) }
         ensures differing { result.differing ≡ min (self.differing + more.differing) (2 ^ 32 - 1) }

@@ -1,2 +1,3 @@
+-- The lemma files of `scheduler`.
 pub mod ScheduleLemmas
 pub mod Settling

@@ -66,7 +66,7 @@ ready_still (x ∷ xs) zero (suc t) e = e
 ready_still (x ∷ xs) (suc r) zero e = e
 ready_still (x ∷ xs) (suc r) (suc t) e = ready_still xs r t e
 
--- a ready task is ready where the running one, if any, is put back
+-- a ready task is ready if the running one, if any, is put back
 pub displaced_ready : (s : Schedule) (running : Option ℕ) (t : ℕ) → status_of s t ≡ Ready → status_of (displaced by_priority running s) t ≡ Ready
 unfolding arrives
 displaced_ready s None t e = e
@@ -105,7 +105,7 @@ pub rescheduled-is : (s : Schedule) (w : Option Switch) → w ≡ switch_of by_p
 unfolding rescheduled
 rescheduled-is s w e = ap (λ o. after_switch by_priority o s) e
 
--- the switch that is due where this task runs
+-- the switch that is due if this task runs
 pub switch_for-is : (s : Schedule) (r t : ℕ) (over : Bool) → s.running ≡ Some r
     → over ≡ (may_switch (nesting_of s r) && takes_over t r s) → switch_for s.running (Some t) s ≡ cond over (Some (To t)) None
 switch_for-is s r t over e o =
@@ -162,7 +162,7 @@ pub displaced_is : (s : Schedule) (q : Tasks) (r : ℕ) → s.running ≡ Some r
 displaced_is s q r e a b c d =
     ap (λ (x : Schedule). record x { running = None }) (arrived s q r a b c d ∙ ap (λ o. displaced by_priority o s) (sym e))
 
--- a task that does not stand among the ready ones leaves them as they are
+-- a task that is not among the ready ones leaves them as they are
 without_absent : (t : ℕ) (xs : List ℕ) → times t xs ≡ 0 → without t xs ≡ xs
 without_absent t [] e = refl
 without_absent t (x ∷ xs) e = by_case (eqb x t) e (without_absent t xs) where
@@ -170,7 +170,7 @@ without_absent t (x ∷ xs) e = by_case (eqb x t) e (without_absent t xs) where
   by_case true z ih = absurd (omega arith)
   by_case false z ih = ap (λ l. x ∷ l) (ih z)
 
--- the tasks with the running one removed: it did not stand among the ready ones
+-- the tasks with the running one removed: it was not among the ready ones
 pub retired : (s : Schedule) (q : Tasks) (t : ℕ) → state_at s.queue.states t ≡ Running
     → times t s.queue.ready ≡ cond (is_ready (state_at s.queue.states t)) 1 0
     → q.ready ≡ without t s.queue.ready → q.states ≡ slice_set s.queue.states t Removed

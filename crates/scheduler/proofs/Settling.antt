@@ -8,7 +8,7 @@ use Rattle.scheduler.specs.Dispatch.{switch_of, after_switch, rescheduled}
 use Rattle.scheduler.specs.Settled.{begins_anew, stays, is_settled}
 use Rattle.scheduler.specs.declared.Switch.{Switch}
 
--- where no quantum begins anew nothing is renewed
+-- if no quantum begins anew nothing is renewed
 renewed_none : (o : Option ℕ) (s : Schedule) → begins_anew o s ≡ false → renewed o s ≡ s
 renewed_none None s e = refl
 renewed_none (Some r) s e = ap (λ b. cond b (record s { left = s.quantum }) s) e
@@ -31,7 +31,7 @@ pub settled_known : (settled : Bool) (s now : Schedule) → settled ≡ true →
 settled_known settled s now e kept v =
     settled_stays now (ap is_settled (sym v) ∙ sym (ap (λ b. cond b (is_settled s) true) e) ∙ kept)
 
--- a schedule is settled where the switch that is due stays
+-- a schedule is settled if the switch that is due stays
 pub settled_found : (w : Option Switch) (s now : Schedule) → w ≡ switch_of by_priority now → stays w now ≡ true → s ≡ now → is_settled s ≡ true
 unfolding is_settled
 settled_found w s now e t v = ap is_settled v ∙ ap (λ o. stays o now) (sym e) ∙ t

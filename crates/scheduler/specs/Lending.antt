@@ -1,4 +1,4 @@
--- What a schedule ends as, where a `&mut` into it is returned.
+-- What a schedule ends as, if a `&mut` into it is returned.
 use Rattle.std.specs.Prelude.{ℕ, Option, None, Some}
 use Rattle.std.specs.Borrow.{Lends, Fml, RattleType, MutBor}
 use Rattle.execlist.specs.declared.space.ListSpace.{Ghosts}

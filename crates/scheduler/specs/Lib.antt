@@ -3,3 +3,4 @@ pub mod Dispatch
 pub mod Sound
 pub mod Lending
 pub mod Settled
+pub mod Status

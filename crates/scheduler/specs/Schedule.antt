@@ -15,7 +15,7 @@ use Rattle.forbid.specs.declared.NestFault.{NestFault}
 use Rattle.scheduler.specs.declared.Switch.{Switch}
 use Rattle.scheduler.specs.declared.Switch.TheVariants.{To, Idle}
 
--- the tasks, which of them runs and for how long
+-- the tasks, which of them runs and for how long (RKM Libraries, Exec Tasks)
 pub record Schedule : Type 0 where
   -- names, priorities and states by task number, and the ready sequence
   pub queue : Tasks
@@ -27,7 +27,7 @@ pub record Schedule : Type 0 where
   -- the servings of VERTB in a full quantum, and those left to the running task
   pub quantum : ℕ
   pub left : ℕ
-  -- that the machine was told to be idle, and no task has run since
+  -- that the machine was reported as idle, and no task has run since
   pub idle : Bool
 
 -- ---- parts of a schedule
@@ -72,7 +72,7 @@ with_signals t sets s = record s { signals = slice_set s.signals t sets }
 abbrev pub with_nesting : ℕ → Nesting → Schedule → Schedule
 with_nesting t nesting s = record s { nestings = slice_set s.nestings t nesting }
 
--- so many tasks of these priorities and names before any is added: nothing runs, and the machine was not yet told to be idle
+-- that many tasks of these priorities and names before any is added: nothing runs, and the machine was not yet reported as idle
 abbrev pub unstarted : (tasks : ℕ) (pris : List ℤ) (names : List (List ℕ)) (quantum : ℕ) → Schedule
 unstarted tasks pris names quantum = record {
   queue = record { ready = []; states = replicate tasks Absent; pris = pris; names = names };
@@ -86,7 +86,7 @@ unstarted tasks pris names quantum = record {
 
 -- ---- which task is to run
 
--- Forbid and Disable of the running task keep it running; where none runs, nothing stands in the way
+-- Forbid and Disable of the running task keep it running; if none runs, nothing is in the way
 -- (RKM Libraries, Exec Tasks: forbidding task switching).
 abbrev pub is_switching_allowed : Option ℕ → Schedule → Bool
 is_switching_allowed None s = true
@@ -96,29 +96,30 @@ is_switching_allowed (Some r) s = may_switch (nesting_of s r)
 abbrev pub is_quantum_over : Schedule → Bool
 is_quantum_over s = nat_eq s.left 0
 
--- Ready task t takes the place of running task r: it has a higher priority, or an equal one and the quantum of r has ended.
+-- Ready task t takes the place of running task r: it has a higher priority, or an equal one and the quantum of r has ended. (RKM Libraries,
+-- Exec Tasks: scheduling)
 abbrev pub takes_over : ℕ → ℕ → Schedule → Bool
 takes_over t r s = int_lt (priority_of s r) (priority_of s t) || (int_le (priority_of s r) (priority_of s t) && is_quantum_over s)
 
--- the switch to be made where this task runs, if any, and that ready one is chosen, if any
+-- the switch to be made if this task runs, if any, and that ready one is chosen, if any (RKM Libraries, Exec Tasks: scheduling)
 abbrev pub switch_for : Option ℕ → Option ℕ → Schedule → Option Switch
 switch_for None None s = if s.idle then None else Some Idle
 switch_for None (Some t) s = Some (To t)
 switch_for (Some r) None s = None
 switch_for (Some r) (Some t) s = if is_switching_allowed (Some r) s && takes_over t r s then Some (To t) else None
 
--- where a switch is to a task, it is to one of so many
+-- if a switch is to a task, it is to one of that many
 abbrev pub IsToOneOf : Option Switch → (tasks : ℕ) → Type 0
 IsToOneOf None tasks = Unit {0}
 IsToOneOf (Some Idle) tasks = Unit {0}
 IsToOneOf (Some (To t)) tasks = t < tasks
 
--- a quantum that has ended with no other task to run begins anew, once switching is allowed (own choice)
+-- a quantum that has ended with no other task to run begins anew, once switching is allowed (project rule)
 abbrev pub renewed : Option ℕ → Schedule → Schedule
 renewed None s = s
 renewed (Some r) s = if is_switching_allowed (Some r) s && is_quantum_over s then record s { left = s.quantum } else s
 
--- task t leaves the ready sequence and runs, with a full quantum (own choice); the machine is not idle any more
+-- task t leaves the ready sequence and runs, with a full quantum (project rule); the machine is not idle any more
 unfoldable pub begins : ℕ → Schedule → Schedule
 begins t s = record s {
   queue = record s.queue { states = (with_status t Running s).queue.states; ready = without t s.queue.ready };
@@ -129,6 +130,7 @@ begins t s = record s {
 
 -- ---- the quantum
 
+-- the quantum of the running task, if any, loses one serving
 abbrev pub ticked_for : Option ℕ → Schedule → Schedule
 ticked_for None s = s
 ticked_for (Some r) s = record s { left = s.left - 1 }
@@ -139,6 +141,7 @@ ticked s = ticked_for s.running s
 
 -- ---- beginning and ending
 
+-- the task was never added
 abbrev pub is_absent : TaskState → Bool
 is_absent Absent = true
 is_absent Ready = false
@@ -164,12 +167,13 @@ found name s = find (is_live_named s.queue name) (range_with_len 0 (length s.que
 
 -- ---- signals
 
--- something that is waited for has come: a signal of the mask; no signal makes a task ready that waits for a semaphore
+-- something that is waited for has come: a signal of the mask; no signal makes a task ready that waits for a semaphore (autodocs Wait and
+-- ObtainSemaphore)
 abbrev pub has_come : Why → ℕ → Bool
 has_come (Signals mask) received = not (nat_eq (bit_and received mask) 0)
 has_come Sem received = false
 
--- the task waits for one of these signals
+-- the task waits for one of these signals (autodoc Wait)
 abbrev pub awaits : TaskState → ℕ → Bool
 awaits Absent received = false
 awaits Ready received = false
@@ -189,11 +193,11 @@ takes t mask s = with_signals t (after_take mask (signals_of s t)) s
 abbrev pub come_for : ℕ → SignalSets → Option ℕ
 come_for mask sets = if nat_eq (taken_signals mask sets) 0 then None else Some (taken_signals mask sets)
 
--- the running task takes the signals of the mask that it has received, or waits for them where there are none
+-- the running task takes the signals of the mask that it has received, or waits for them if there are none
 abbrev pub after_wait : ℕ → ℕ → Schedule → Schedule
 after_wait t mask s = if nat_eq (taken_signals mask (signals_of s t)) 0 then waits_for t mask s else takes t mask s
 
--- the running task clears the signals of the mask that it has received, and waits for new ones (own choice)
+-- the running task clears the signals of the mask that it has received, and waits for new ones (autodoc WaitPort; project rule)
 abbrev pub clears_and_waits : ℕ → ℕ → Schedule → Schedule
 clears_and_waits t mask s = waits_for t mask (takes t mask s)
 
@@ -205,7 +209,7 @@ allocates t n s = with_signals t (after_grant (grant n (signals_of s t)) (signal
 unfoldable pub sets_signals : ℕ → (new mask : ℕ) → Schedule → Schedule
 sets_signals t new mask s = with_signals t (after_set new mask (signals_of s t)) s
 
--- Signal n of a live task is not allocated any more. A task that is not live has none to give back (own choice).
+-- Signal n of a live task is not allocated any more. A task that is not live has none to give back (project rule).
 unfoldable pub frees : ℕ → ℕ → Schedule → Schedule
 frees t n s = if is_live (status_of s t) then with_signals t (after_free n (signals_of s t)) s else s
 
@@ -230,12 +234,12 @@ is_at_semaphore Removed = false
 
 -- ---- nesting
 
--- interrupts are allowed where no task runs, and else where the running task has not disabled them
+-- interrupts are allowed if no task runs, and else if the running task has not disabled them (autodoc Disable)
 abbrev pub is_interrupting_allowed : Option ℕ → Schedule → Bool
 is_interrupting_allowed None s = true
 is_interrupting_allowed (Some r) s = may_interrupt (nesting_of s r)
 
--- task t with the nesting that a call gives it, or as before where the call is a fault
+-- task t with the nesting that a call gives it, or as before if the call is a fault
 abbrev pub nested : ℕ → Option Nesting → Schedule → Schedule
 nested t None s = s
 nested t (Some nesting) s = with_nesting t nesting s

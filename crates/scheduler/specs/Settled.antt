@@ -5,7 +5,7 @@ use Rattle.scheduler.specs.Schedule.{Schedule, is_switching_allowed, is_quantum_
 use Rattle.scheduler.specs.Dispatch.{switch_of}
 use Rattle.scheduler.specs.declared.Switch.{Switch}
 
--- the quantum of the running task, if any, begins anew where no switch is made
+-- the quantum of the running task, if any, begins anew if no switch is made
 abbrev pub begins_anew : Option ℕ → Schedule → Bool
 begins_anew None s = false
 begins_anew (Some r) s = is_switching_allowed (Some r) s && is_quantum_over s
@@ -15,7 +15,7 @@ abbrev pub is_none : Option Switch → Bool
 is_none None = true
 is_none (Some w) = false
 
--- a reschedule changes nothing, where this switch is due
+-- a reschedule changes nothing, if this switch is due
 abbrev pub stays : Option Switch → Schedule → Bool
 stays w s = is_none w && not (begins_anew s.running s)
 

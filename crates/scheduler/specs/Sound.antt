@@ -24,7 +24,7 @@ is_stopped Running = false
 is_stopped (Waiting why) = true
 is_stopped Removed = false
 
--- where a switch is to a task, it is to a ready one
+-- if a switch is to a task, it is to a ready one
 abbrev pub IsToReady : Option Switch → List TaskState → Type 0
 IsToReady None states = Unit {0}
 IsToReady (Some Idle) states = Unit {0}
@@ -35,7 +35,7 @@ abbrev pub is_task : Option ℕ → ℕ → Bool
 is_task None t = false
 is_task (Some r) t = r == t
 
--- each task has signals and a nesting, and just the running task is in the state of running
+-- each task has signals and a nesting, and exactly the running task is in the state of running
 pub record IsSound (states : List TaskState) (running : Option ℕ) (signals : List SignalSets) (nestings : List Nesting) : Type 0 where
   pub signals_of_each : length signals ≡ length states
   pub nestings_of_each : length nestings ≡ length states

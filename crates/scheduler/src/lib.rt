@@ -1,5 +1,5 @@
 //! The running task, its quantum, and the signals and the nesting of each task.
-//! A `Sched` decides which task runs; what a task does while it runs is not kept here. Its calls on signals stand in `task_signals`, and
+//! A `Sched` decides which task runs; what a task does while it runs is not kept here. Its calls on signals are in `task_signals`, and
 //! those of Forbid and Disable in `nesting`.
 #![tactic(auto)]
 
@@ -15,12 +15,14 @@ ghost use Rattle.scheduler.specs.Sound.{is_stopped, IsToReady};
 ghost use Rattle.scheduler.specs.Settled.{begins_anew, stays};
 
 mod nesting;
+mod status;
 mod task_signals;
 
 use execlist::key::Name;
 use execlist::space::ListSpace;
 use forbid::Nest;
 use signals::SigState;
+pub use status::TaskStatus;
 use std::alloc::{AllocError, Global};
 use std::marker::Model;
 use taskq::{TaskId, TaskInit, TaskQ, TaskState, Why};
@@ -84,10 +86,10 @@ impl<S: ListSpace> Sched<S> {
     /// Makes the schedule of tasks of these names and first priorities, at most 4,096, numbered in the order
     /// given. `quantum` is the length of a full quantum, in servings of VERTB.
     ///
-    /// No task was added, none runs, and the machine was not yet told to be idle. Each task has the signals and
-    /// the nesting of one that begins. An error means that memory is lacking.
+    /// No task was added, none runs, and the machine was not yet reported as idle. Each task has the signals and
+    /// the nesting of one that begins. An error means that memory is refused.
     ///
-    /// Source: RKM Libraries, Exec Tasks. Own choice: the quantum in servings.
+    /// Source: RKM Libraries, Exec Tasks. Project rule: the quantum in servings.
     pub fn new(alloc: Global, tasks: &[TaskInit], quantum: u8) -> Result<Self, AllocError>
         requires { length tasks.now ≤ 4096 }
         ensures { IfOk result (λ s. s ≡ unstarted (length tasks.now) (map (λ t. t.pri) tasks.now)
@@ -116,7 +118,7 @@ impl<S: ListSpace> Sched<S> {
         ensures known { IfSome result (λ t. t < task_count self.now) }
         ensures runs { IfSome result (λ t. status_of self.now t ≡ TaskState.Running) }
     {
-        // While it runs it does not stand among the ready ones.
+        // While it runs it is not among the ready ones.
         self.running
     }
 
@@ -143,10 +145,18 @@ impl<S: ListSpace> Sched<S> {
         self.queue.is_live(t)
     }
 
-    /// Does nothing: its clause is what always holds of the ready sequence. A ready task stands once in it, and
-    /// any other not at all.
+    /// Answers the state of a task.
     ///
-    /// Source: own choice.
+    /// Source: RKM Libraries, Exec Tasks: task states.
+    pub fn state(&self, t: TaskId) -> TaskState
+        requires { t < task_count self.now }
+        ensures { result ≡ status_of self.now t }
+    {
+        self.queue.state(t)
+    }
+
+    /// Does nothing: its clause is what always holds of the ready sequence. A ready task is once in it, and
+    /// any other not at all.
     pub fn facts(&self)
         ensures { (t : ℕ) → times t self.now.queue.ready ≡ (if is_ready (status_of self.now t) then 1 else 0) }
     {
@@ -163,7 +173,7 @@ impl<S: ListSpace> Sched<S> {
         self.queue.name(t)
     }
 
-    /// Answers the live task of that name, or none. Names compare byte for byte; where several live tasks have
+    /// Answers the live task of that name, or none. Names compare byte for byte; if several live tasks have
     /// the name, the first in the order of their numbers is answered.
     ///
     /// Source: autodoc exec.library/FindTask.
@@ -182,7 +192,7 @@ impl<S: ListSpace> Sched<S> {
     /// Adds a task that never was added, which then is ready, and answers true; for any other it changes
     /// nothing and answers false.
     ///
-    /// Source: autodoc exec.library/AddTask. Own choice: a task that was removed is not added again.
+    /// Source: autodoc exec.library/AddTask. Project rule: a task that was removed is not added again.
     #[tactic(auto, unfolding(crate::specs::Dispatch::added))]
     pub fn add(&mut self, t: TaskId) -> bool
         requires { t < task_count self.old }
@@ -221,7 +231,7 @@ impl<S: ListSpace> Sched<S> {
         self.retire(t);
     }
 
-    // Ends the running task, which does not stand among the ready ones.
+    // Ends the running task, which is not among the ready ones.
     fn retire(&mut self, r: TaskId)
         requires { self.old.running ≡ Some r }
         ensures next { self.new ≡ leaves r self.old }
@@ -247,9 +257,9 @@ impl<S: ListSpace> Sched<S> {
     }
 
     /// Gives a task another priority (-128 to 127) and answers the old one. A ready task arrives anew, also
-    /// where the priority stays; no switch is made.
+    /// if the priority stays; no switch is made.
     ///
-    /// Source: autodoc exec.library/SetTaskPri. Own choice: that a ready task arrives anew.
+    /// Source: autodoc exec.library/SetTaskPri. Project rule: that a ready task arrives anew.
     pub fn set_pri(&mut self, t: TaskId, pri: i8) -> i8
         requires { t < task_count self.old }
         ensures answer { result ≡ priority_of self.old t }
@@ -263,15 +273,15 @@ impl<S: ListSpace> Sched<S> {
 
 /// Which task runs, and for how long.
 impl<S: ListSpace> Sched<S> {
-    /// Lets another task run, or the machine be idle, where that is due, and answers what the machine turned
+    /// Lets another task run, or the machine be idle, if that is due, and answers what the machine turned
     /// to.
     ///
-    /// Where no task runs, the first ready task does, and where there is none the machine is idle, which is
-    /// answered once. A running task that allows switching gives way to a ready one of higher priority, and to
-    /// one of equal priority where its quantum has ended; it then is ready, behind those of its priority. A
+    /// If no task runs, the first ready task does, and if there is none the machine is idle, which is
+    /// answered once. A running task that allows switching is expunged under low memory to a ready one of higher priority, and to
+    /// one of equal priority if its quantum has ended; it then is ready, after those of its priority. A
     /// quantum that has ended otherwise begins anew. A task that begins to run has a full quantum.
     ///
-    /// Source: RKM Libraries, Exec Tasks: task scheduling. Own choice: when a quantum begins.
+    /// Source: RKM Libraries, Exec Tasks: task scheduling. Project rule: when a quantum begins.
     pub fn reschedule(&mut self) -> Option<Switch>
         ensures answer { result ≡ switch_of by_priority self.old }
         ensures next { self.new ≡ rescheduled by_priority self.old }
@@ -281,7 +291,7 @@ impl<S: ListSpace> Sched<S> {
         if self.settled { None } else { self.decide() }
     }
 
-    // Does what `reschedule` does where something may have changed, and finds out whether that was nothing.
+    // Does what `reschedule` does if something may have changed, and finds out whether that was nothing.
     #[inline(never)]
     fn decide(&mut self) -> Option<Switch>
         ensures answer { result ≡ switch_of by_priority self.old }
@@ -298,7 +308,7 @@ impl<S: ListSpace> Sched<S> {
         switch
     }
 
-    // Whether that switch, where it is due, is none, and no quantum begins anew.
+    // Whether that switch, if it is due, is none, and no quantum begins anew.
     fn stays(&self, switch: Option<Switch>) -> bool
         ensures { result ≡ stays switch self.now }
     {
@@ -344,7 +354,7 @@ impl<S: ListSpace> Sched<S> {
         }
     }
 
-    // Being idle, where no task is ready and none runs, and the machine is not idle yet.
+    // Being idle, if no task is ready and none runs, and the machine is not idle yet.
     fn due_idling(&self) -> Option<Switch>
         ensures value { result ≡ switch_for self.now.running None self.now }
         ensures ready { IsToReady result self.now.queue.states }
@@ -367,7 +377,7 @@ impl<S: ListSpace> Sched<S> {
         own < other || (own <= other && self.left == 0)
     }
 
-    // Makes a switch, or where there is none lets a quantum that has ended begin anew.
+    // Makes a switch, or if there is none lets a quantum that has ended begin anew.
     fn turn(&mut self, switch: Option<Switch>)
         requires { IsToReady switch self.old.queue.states }
         ensures next { self.new ≡ after_switch by_priority switch self.old }
@@ -409,7 +419,7 @@ impl<S: ListSpace> Sched<S> {
         }
     }
 
-    // Lets a ready task run where no task runs.
+    // Lets a ready task run if no task runs.
     fn begin(&mut self, t: TaskId)
         requires ready { status_of self.old t ≡ TaskState.Ready }
         requires vacant { self.old.running ≡ None }
@@ -423,7 +433,7 @@ impl<S: ListSpace> Sched<S> {
         self.idle = false;
     }
 
-    // Lets the running task's quantum begin anew where it has ended and switching is allowed.
+    // Lets the running task's quantum begin anew if it has ended and switching is allowed.
     fn renew(&mut self)
         ensures next { self.new ≡ renewed self.old.running self.old }
         ensures tasks { task_count self.new ≡ task_count self.old }
@@ -434,10 +444,10 @@ impl<S: ListSpace> Sched<S> {
         }
     }
 
-    /// Counts one serving of VERTB against the quantum of the running task, which does not go below zero. Where
+    /// Counts one serving of VERTB against the quantum of the running task, which does not go below zero. If
     /// no task runs nothing changes.
     ///
-    /// Source: RKM Libraries, Exec Tasks: task scheduling. Own choice: the quantum in servings.
+    /// Source: RKM Libraries, Exec Tasks: task scheduling. Project rule: the quantum in servings.
     #[tactic(auto, unfolding(crate::specs::Schedule::ticked))]
     pub fn quantum_tick(&mut self)
         ensures next { self.new ≡ ticked self.old }
@@ -476,7 +486,7 @@ impl<S: ListSpace> Sched<S> {
         self.running = None;
     }
 
-    /// Makes a task ready that waits for a semaphore, behind the ready ones of its priority. Its signals stay.
+    /// Makes a task ready that waits for a semaphore, after the ready ones of its priority. Its signals stay.
     ///
     /// Source: autodoc exec.library/ReleaseSemaphore.
     pub fn wake_sem(&mut self, t: TaskId)

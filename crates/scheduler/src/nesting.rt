@@ -14,7 +14,7 @@ use taskq::TaskId;
 impl<S: ListSpace> Sched<S> {
     /// Counts one more Forbid of the running task: no other task runs until as many calls of `permit`.
     ///
-    /// It is `TooDeep` and changes nothing where the count is 127 (own choice).
+    /// It is `TooDeep` and changes nothing if the count is 127 (project rule).
     /// Source: autodoc exec.library/Forbid.
     pub fn forbid(&mut self) -> Result<(), NestFault>
         requires { IsSome self.old.running }
@@ -31,7 +31,7 @@ impl<S: ListSpace> Sched<S> {
 
     /// Takes back one Forbid of the running task; no switch is made.
     ///
-    /// It is `NotNested` and changes nothing where the count is -1 (own choice).
+    /// It is `NotNested` and changes nothing if the count is -1 (project rule).
     /// Source: autodoc exec.library/Permit.
     pub fn permit(&mut self) -> Result<(), NestFault>
         requires { IsSome self.old.running }
@@ -49,7 +49,7 @@ impl<S: ListSpace> Sched<S> {
     /// Counts one more Disable of the running task: until as many calls of `enable` no other task runs and no
     /// interrupt is served.
     ///
-    /// It is `TooDeep` and changes nothing where the count is 127 (own choice).
+    /// It is `TooDeep` and changes nothing if the count is 127 (project rule).
     /// Source: autodoc exec.library/Disable.
     pub fn disable(&mut self) -> Result<(), NestFault>
         requires { IsSome self.old.running }
@@ -66,7 +66,7 @@ impl<S: ListSpace> Sched<S> {
 
     /// Takes back one Disable of the running task; no switch is made.
     ///
-    /// It is `NotNested` and changes nothing where the count is -1 (own choice).
+    /// It is `NotNested` and changes nothing if the count is -1 (project rule).
     /// Source: autodoc exec.library/Enable.
     pub fn enable(&mut self) -> Result<(), NestFault>
         requires { IsSome self.old.running }

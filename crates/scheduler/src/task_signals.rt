@@ -14,9 +14,9 @@ use signals::SigState;
 use taskq::{TaskId, TaskState, Why};
 
 impl<S: ListSpace> Sched<S> {
-    /// Takes the signals of the mask that the running task has received, and answers them; where there are none
+    /// Takes the signals of the mask that the running task has received, and answers them; if there are none
     /// it answers none, and the task waits for them: no task runs then. The next `reschedule` chooses another
-    /// one, also where the waiting task has called Forbid or Disable: these hold again when it runs again.
+    /// one, also if the waiting task has called Forbid or Disable: these hold again when it runs again.
     ///
     /// Source: autodoc exec.library/Wait.
     pub fn wait(&mut self, mask: u32) -> Option<u32>
@@ -38,7 +38,7 @@ impl<S: ListSpace> Sched<S> {
     /// runs then, and a signal that came before is lost. As after `wait`, Forbid and Disable of the waiting task
     /// hold again when it runs again.
     ///
-    /// Source: autodoc exec.library/WaitPort. Own choice: a call that has to wait at a port clears the port's signal
+    /// Source: autodoc exec.library/WaitPort. Project rule: a call that has to wait at a port clears the port's signal
     /// first.
     #[tactic(auto, unfolding(crate::specs::Schedule::takes))]
     pub fn wait_clear(&mut self, mask: u32)
@@ -85,7 +85,7 @@ impl<S: ListSpace> Sched<S> {
     /// Adds the signals of the mask to those that a live task has received; a task that waits for any of them
     /// is ready then. A task that is not live takes none.
     ///
-    /// Source: autodoc exec.library/Signal. Own choice: that a task which is not live takes none.
+    /// Source: autodoc exec.library/Signal. Project rule: that a task which is not live takes none.
     #[tactic(auto, unfolding(crate::specs::Dispatch::signalled))]
     pub fn signal(&mut self, t: TaskId, mask: u32)
         requires { t < task_count self.old }
@@ -125,8 +125,8 @@ impl<S: ListSpace> Sched<S> {
     /// Allocates signal `n` of the running task, or for -1 the highest free one of 16 to 31, and answers its
     /// number.
     ///
-    /// Answers -1 and changes nothing where `n` is allocated, where `n` is neither -1 nor from 16 to 31, and
-    /// for -1 where all of 16 to 31 are allocated. A signal that was allocated just now is not received.
+    /// Answers -1 and changes nothing if `n` is allocated, if `n` is neither -1 nor from 16 to 31, and
+    /// for -1 if all of 16 to 31 are allocated. A signal that was allocated just now is not received.
     ///
     /// Source: autodoc exec.library/AllocSignal. Own choices: the highest one, and the answer to other numbers.
     #[tactic(auto, unfolding(crate::specs::Schedule::allocates))]
@@ -142,10 +142,10 @@ impl<S: ListSpace> Sched<S> {
         self.signals[t].alloc_signal(n)
     }
 
-    /// Answers the signal, from 16 to 31, that `alloc_signal(-1)` would give the running task, or none where all of 16
+    /// Answers the signal, from 16 to 31, that `alloc_signal(-1)` would give the running task, or none if all of 16
     /// to 31 are allocated.
     ///
-    /// Own choice: a caller can ask before it allocates.
+    /// Project rule: a caller can ask before it allocates.
     pub fn next_signal(&self) -> Option<u32>
         requires { IsSome self.now.running }
         ensures value { IfSome self.now.running
@@ -160,7 +160,7 @@ impl<S: ListSpace> Sched<S> {
     /// Leaves signal `n`, from 16 to 31, of a live task unallocated, whether it was allocated or not. It stays
     /// received if it was. For a task that is not live nothing changes.
     ///
-    /// Source: autodoc exec.library/FreeSignal. Own choice: that nothing changes for a task which is not live.
+    /// Source: autodoc exec.library/FreeSignal. Project rule: that nothing changes for a task which is not live.
     #[tactic(auto, unfolding(crate::specs::Schedule::frees))]
     pub fn free_signal(&mut self, t: TaskId, n: u32)
         requires task { t < task_count self.old }

@@ -1,2 +1,3 @@
+-- The lemma files of `signals`.
 pub mod Highest
 pub mod Sets

@@ -1,9 +1,9 @@
 -- The signals of a task as two sets, and what each call makes of them.
--- A set of signals is a word of 32 bits: bit n stands for signal n.
+-- A set of signals is a word of 32 bits: bit n represents signal n.
 use Rattle.std.specs.Prelude.{ℕ, ◌^◌, Bool, not, ◌&&◌, if◌then◌else◌, IsTrue, IsFalse, ◌≤◌, ◌<◌, MatchOption, nat_eq, nat_le, nat_lt, ℤ, pos, negsuc, zero, suc, List, [], ◌∷◌, find, Option, Some, None, bit_and, bit_or}
 use Rattle.std.specs.Int.{bit_not, w32}
 
--- the signals that a task has received, and those that it has allocated
+-- the signals that a task has received, and those that it has allocated (RKM Libraries, Exec Signals)
 pub record SignalSets : Type 0 where
   pub received : ℕ
   pub allocated : ℕ
@@ -20,15 +20,15 @@ without set mask = bit_and set (bit_not w32 mask)
 
 -- ---- the sets of a task
 
--- the sets of a task that begins: nothing is received, and signals 0 to 15, the system's, are allocated
+-- the sets of a task that begins: nothing is received, and signals 0 to 15, the system's, are allocated (RKM Libraries, Exec Signals)
 abbrev pub initial_sets : SignalSets
 initial_sets = record { received = 0; allocated = 0xffff }
 
--- Signal: the mask joins what is received
+-- Signal: the mask joins what is received (autodoc Signal)
 abbrev pub after_post : ℕ → SignalSets → SignalSets
 after_post mask sets = record { received = bit_or sets.received mask; allocated = sets.allocated }
 
--- Wait, its answer: what is received and asked for
+-- Wait, its answer: what is received and asked for (autodoc Wait)
 abbrev pub taken_signals : ℕ → SignalSets → ℕ
 taken_signals mask sets = bit_and sets.received mask
 
@@ -36,7 +36,7 @@ taken_signals mask sets = bit_and sets.received mask
 abbrev pub after_take : ℕ → SignalSets → SignalSets
 after_take mask sets = record { received = without sets.received mask; allocated = sets.allocated }
 
--- SetSignal: inside the mask the received signals become those of `new`, and outside it they stay
+-- SetSignal: inside the mask the received signals become those of `new`, and outside it they stay (autodoc SetSignal)
 abbrev pub after_set : ℕ → ℕ → SignalSets → SignalSets
 after_set new mask sets = record {
   received = bit_or (without sets.received mask) (bit_and new mask);
@@ -53,7 +53,7 @@ own_signals = 31 ∷ 30 ∷ 29 ∷ 28 ∷ 27 ∷ 26 ∷ 25 ∷ 24 ∷ 23 ∷ 22 
 unfoldable pub highest_free : ℕ → Option ℕ
 highest_free allocated = find (λ n. not (has_signal allocated n)) own_signals
 
--- the signal is free, it is one of 16 to 31, and those above it are allocated; where there is none, all of 16 to 31 are
+-- the signal is free, it is one of 16 to 31, and those above it are allocated; if there is none, all of 16 to 31 are
 abbrev pub IsHighestFree : ℕ → Option ℕ → Type 0
 IsHighestFree allocated signal = MatchOption signal
     ((k : ℕ) → 16 ≤ k → k < 32 → IsTrue (has_signal allocated k))
@@ -64,7 +64,8 @@ IsHighestFree allocated signal = MatchOption signal
 abbrev pub is_own_signal : ℕ → Bool
 is_own_signal n = nat_le 16 n && nat_lt n 32
 
--- the signal that AllocSignal gives: for -1 the highest free one, and for a number from 16 to 31 that one if it is free
+-- the signal that AllocSignal gives: for -1 the highest free one, and for a number from 16 to 31 that one if it is free (autodoc
+-- AllocSignal)
 abbrev pub grant : ℤ → SignalSets → Option ℕ
 grant (pos n) sets = if is_own_signal n && not (has_signal sets.allocated n) then Some n else None
 grant (negsuc zero) sets = highest_free sets.allocated
@@ -80,6 +81,6 @@ abbrev pub after_grant : Option ℕ → SignalSets → SignalSets
 after_grant None sets = sets
 after_grant (Some n) sets = record { received = without sets.received (2 ^ n); allocated = bit_or sets.allocated (2 ^ n) }
 
--- FreeSignal: the signal is not allocated any more, and what is received stays
+-- FreeSignal: the signal is not allocated any more, and what is received stays (autodoc FreeSignal)
 abbrev pub after_free : ℕ → SignalSets → SignalSets
 after_free n sets = record { received = sets.received; allocated = without sets.allocated (2 ^ n) }

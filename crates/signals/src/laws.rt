@@ -3,10 +3,10 @@
 ghost use Rattle.std.specs.Prelude.{◌≡◌, ℕ, ◌^◌, ◌<◌, ◌≤◌, ◌&&◌, ◌||◌, not};
 ghost use Rattle.signals.specs.Signals.{SignalSets, after_post, after_take, has_signal, highest_free, IsHighestFree};
 
-/// Where AllocSignal may choose, it gives the free signal of 16 to 31 above which all are allocated, and none only
-/// where all of them are.
+/// If AllocSignal may choose, it gives the free signal of 16 to 31 above which all are allocated, and none only
+/// if all of them are.
 ///
-/// Source: autodoc exec.library/AllocSignal; that it is the highest is own choice.
+/// Source: autodoc exec.library/AllocSignal; that it is the highest is a project rule.
 pub fn the_highest_free_signal_is_given()
     ensures { (allocated : ℕ) → IsHighestFree allocated (highest_free allocated) }
 {}

@@ -12,12 +12,12 @@ pub mod laws;
 /// Signals 0 to 15 are the system's: every task has them allocated from the start.
 const SYSTEM_SIGNALS: u32 = 0x0000_ffff;
 
-/// The answer of `alloc_signal` where it gives no signal.
+/// The answer of `alloc_signal` if it gives no signal.
 const NO_SIGNAL: i32 = -1;
 
 /// The signals of one task: those received and those allocated, 0 to 31.
 ///
-/// A set of signals is a word of 32 bits, whose bit `n` stands for signal `n`. The value holds no memory, and may be
+/// A set of signals is a word of 32 bits, whose bit `n` represents signal `n`. The value holds no memory, and may be
 /// copied to keep an earlier state. Source: RKM Libraries, Exec Signals.
 #[derive(Clone, Copy, Debug, PartialEq, Eq)]
 pub struct SigState {
@@ -50,8 +50,8 @@ impl SigState {
 
     /// Allocates signal `n`, or for -1 the highest free one of 16 to 31, and answers its number.
     ///
-    /// Answers -1 and changes nothing where `n` is allocated, where `n` is neither -1 nor from 16 to 31, and
-    /// for -1 where all of 16 to 31 are allocated. A signal that was allocated just now is not received.
+    /// Answers -1 and changes nothing if `n` is allocated, if `n` is neither -1 nor from 16 to 31, and
+    /// for -1 if all of 16 to 31 are allocated. A signal that was allocated just now is not received.
     ///
     /// Source: autodoc exec.library/AllocSignal. Own choices: the highest one, and the answer to other numbers.
     pub fn alloc_signal(&mut self, n: i32) -> i32
@@ -89,9 +89,9 @@ impl SigState {
         self.allocated |= 1 << signal;
     }
 
-    /// Answers the signal, from 16 to 31, that `alloc_signal(-1)` would give, or none where all of 16 to 31 are allocated.
+    /// Answers the signal, from 16 to 31, that `alloc_signal(-1)` would give, or none if all of 16 to 31 are allocated.
     ///
-    /// Own choice: a caller can ask before it allocates.
+    /// Project rule: a caller can ask before it allocates.
     pub fn next_signal(&self) -> Option<u32>
         ensures value { result ≡ grant (negsuc 0) self.now }
         ensures at_least_16 { IfSome result (λ n. 16 ≤ n) }
@@ -134,7 +134,7 @@ impl SigState {
 
     /// Answers the received signals of `mask`, which then are not received any more. The others stay.
     ///
-    /// Answers 0 and changes nothing where none of them is received: the task then has to wait.
+    /// Answers 0 and changes nothing if none of them is received: the task then has to wait.
     /// Source: autodoc exec.library/Wait.
     pub fn take(&mut self, mask: u32) -> u32
         ensures answer { result ≡ taken_signals mask self.old }
@@ -152,6 +152,15 @@ impl SigState {
         ensures { result ≡ self.now.received }
     {
         self.received
+    }
+
+    /// The set of the signals that the task has allocated.
+    ///
+    /// Source: RKM Libraries, Exec Signals: `tc_SigAlloc`.
+    pub fn allocated(&self) -> u32
+        ensures { result ≡ self.now.allocated }
+    {
+        self.allocated
     }
 }
 

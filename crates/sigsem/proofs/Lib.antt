@@ -1,1 +1,2 @@
+-- The lemma files of `sigsem`.
 pub mod Waiting

@@ -10,7 +10,7 @@ use Rattle.execlist.proofs.Pools.{slot_same, slot_other, slot_known, item_of}
 use Rattle.sigsem.specs.declared.semaphore.Sem.{Sem}
 use Rattle.sigsem.specs.Semaphores.{Semaphores, IsHeld, IsSound, IsCounted, free_sem, is_sem, waits_at, waiters_of}
 
--- how often a task that waits there stands in the queue of semaphore s
+-- how often a task that waits there is in the queue of semaphore s
 abbrev standing : Option ℕ → ℕ → ℕ
 standing place s = cond (is_at place s) 1 0
 
@@ -21,7 +21,7 @@ first_none : (xs : List ℕ) → first xs ≡ None → xs ≡ []
 first_none [] none = refl
 first_none (x ∷ xs) none = let bad : true ≡ false = ap is_some none in cc
 
--- where a semaphore has no waiters, no task waits there
+-- if a semaphore has no waiters, no task waits there
 pub nobody_at : (xs : List ℕ) (t s : ℕ) (place : Option ℕ) → times t xs ≡ standing place s → first xs ≡ None → place ≡ Some s → ⊥
 nobody_at xs t s place stands none e =
     omega (arith, ap (times t) (first_none xs none), stands, ap (λ p. standing p s) e, stands_at s)
@@ -45,7 +45,7 @@ owned_lives None owned = owned
 owned_lives (Some sem) owned = refl
 
 module _ {m : Semaphores} (held : IsHeld m) where
-  -- where nobody waits at a semaphore, what the code keeps stays when the semaphore becomes free
+  -- if nobody waits at a semaphore, what the code keeps stays when the semaphore becomes free
   pub free_held : (s : ℕ) (queues : List (List ℕ)) → IsTrue (is_sem s m) → length queues ≡ length m.queues
       → ((t : ℕ) → waits_at t m ≡ Some s → ⊥) → IsHeld (record { sems = written s free_sem m.sems; queues = queues; places = m.places })
   free_held s queues live same nobody = record {
@@ -60,7 +60,7 @@ module _ {m : Semaphores} (held : IsHeld m) where
     counted k (inl e) = rw (e, slot_same m.sems.slots s (Some free_sem) (known m.sems.slots s live)) refl
     counted k (inr ne) = subst (λ o. IsCounted (unwrap_or o free_sem)) (sym (other k ne)) (held.counted k)
 
-  -- what always holds, where the tasks stand as a list space has them
+  -- what always holds, if the tasks are as a list space has them
   pub sound : ((s t : ℕ) → times t (waiters_of s m) ≡ standing (waits_at t m) s) → IsSound m
   sound stands = record {
     stands = stands;

@@ -3,7 +3,7 @@ use Rattle.std.specs.Prelude.{ℕ}
 use Rattle.sigsem.specs.declared.fault.SemFault.{SemFault}
 use Rattle.sigsem.specs.declared.fault.SemFault.TheVariants.{NotOwner, TooDeep, Busy, PoolFull}
 
--- the number of a fault (own choice)
+-- the number of a fault (project rule)
 abbrev pub fault_number : SemFault → ℕ
 fault_number NotOwner = 1
 fault_number TooDeep = 2

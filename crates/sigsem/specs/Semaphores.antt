@@ -1,4 +1,4 @@
--- What calls on signal semaphores see: the semaphores by number, the tasks that wait at each, and where each task waits
+-- What calls on signal semaphores see: the semaphores by number, the tasks that wait at each, and if each task waits
 -- (RKM Libraries, Exec Semaphores).
 use Rattle.std.specs.Prelude.{◌≡◌, ℕ, ◌+◌, ◌-◌, ◌≤◌, ◌==◌, ◌&&◌, ◌||◌, nat_lt, Bool, not, is_some, IsTrue, MatchOption, if◌then◌else◌, List, [], ◌∷◌, ◌++◌, length, drop, replicate, slice_set, Option, Some, None, unwrap_or}
 use Rattle.execlist.specs.Order.{first, without}
@@ -21,7 +21,7 @@ pub record Semaphores : Type 0 where
 
 -- ---- one semaphore
 
--- the greatest count (own choice: that of a signed word, as ss_NestCount is in exec/semaphores.h)
+-- the greatest count (project rule: that of a signed word, as ss_NestCount is in exec/semaphores.h)
 abbrev pub deepest : ℕ
 deepest = 32767
 
@@ -33,7 +33,7 @@ free_sem = record { owner = None; count = 0 }
 abbrev pub owned_by : ℕ → Sem
 owned_by t = record { owner = Some t; count = 1 }
 
--- some task owns a semaphore
+-- some task owns a semaphore (RKM Libraries, Exec Semaphores)
 abbrev pub is_owned : Sem → Bool
 is_owned sem = is_some sem.owner
 
@@ -45,7 +45,7 @@ is_owner t sem = is_at sem.owner t
 abbrev pub is_open : ℕ → Sem → Bool
 is_open t sem = not (is_owned sem) || is_owner t sem
 
--- a task that asks for a semaphore owns it, or waits for it
+-- a task that asks for a semaphore owns it, or waits for it (autodoc ObtainSemaphore)
 abbrev pub outcome_for : ℕ → Sem → Obtained
 outcome_for t sem = if is_open t sem then Owner else Waits
 
@@ -53,7 +53,7 @@ outcome_for t sem = if is_open t sem then Owner else Waits
 abbrev pub is_too_deep : ℕ → Sem → Bool
 is_too_deep t sem = is_owner t sem && nat_lt deepest (sem.count + 1)
 
--- task t owns the semaphore, and has to release it once more than before
+-- task t owns the semaphore, and has to release it once more than before (autodocs ObtainSemaphore and ReleaseSemaphore)
 abbrev pub once_more : ℕ → Sem → Sem
 once_more t sem = record { owner = Some t; count = sem.count + 1 }
 
@@ -65,7 +65,7 @@ is_last sem = sem.count == 1
 abbrev pub once_less : Sem → Sem
 once_less sem = record sem { count = sem.count - 1 }
 
--- a semaphore whose owner is that task, which has to release it once, or which no task owns
+-- a semaphore whose owner is that task, which has to release it once, or which no task owns (autodoc ReleaseSemaphore)
 abbrev pub owned_next : Option ℕ → Sem
 owned_next None = free_sem
 owned_next (Some t) = owned_by t
@@ -94,15 +94,15 @@ waits_at t m = home m.places t
 
 -- ---- refusals
 
--- semaphore s is to be owned by no task (own choice: Exec leaves the memory of semaphores to the program)
+-- semaphore s is to be owned by no task (project rule: Exec leaves the memory of semaphores to the program)
 abbrev pub free_fault : ℕ → Semaphores → Option SemFault
 free_fault s m = if is_owned (sem_at s m) then Some Busy else None
 
--- where task t owns semaphore s, one more is not to take the count past the greatest (own choice)
+-- if task t owns semaphore s, one more is not to take the count past the greatest (project rule)
 abbrev pub deep_fault : (s t : ℕ) → Semaphores → Option SemFault
 deep_fault s t m = if is_too_deep t (sem_at s m) then Some TooDeep else None
 
--- task t is to own semaphore s (own choice)
+-- task t is to own semaphore s (project rule)
 abbrev pub release_fault : (s t : ℕ) → Semaphores → Option SemFault
 release_fault s t m = if is_owner t (sem_at s m) then None else Some NotOwner
 
@@ -114,7 +114,7 @@ heir s m = if is_last (sem_at s m) then first (waiters_of s m) else None
 
 -- ---- changes
 
--- room for so many semaphores, of which there is none, and so many tasks, none of which waits
+-- room for that many semaphores, of which there is none, and that many tasks, none of which waits
 abbrev pub no_sems : (sems tasks : ℕ) → Semaphores
 no_sems sems tasks = record { sems = all_free sems; queues = replicate sems []; places = replicate tasks None }
 
@@ -134,7 +134,7 @@ with_sem s sem m = record m { sems = written s sem m.sems }
 abbrev pub entered : (s t : ℕ) → Semaphores → Semaphores
 entered s t m = with_sem s (once_more t (sem_at s m)) m
 
--- task t waits at semaphore s, behind those that wait there
+-- task t waits at semaphore s, after those that wait there
 abbrev pub queued : (s t : ℕ) → Semaphores → Semaphores
 queued s t m = record m { queues = slice_set m.queues s (waiters_of s m ++ t ∷ []); places = slice_set m.places t (Some s) }
 
@@ -146,7 +146,7 @@ obtained s t m = if is_open t (sem_at s m) then entered s t m else queued s t m
 abbrev pub attempted : (s t : ℕ) → Semaphores → Semaphores
 attempted s t m = if is_open t (sem_at s m) then entered s t m else m
 
--- semaphore s is the first waiter's, who waits no more and has to release it once, or free where none waits
+-- semaphore s is the first waiter's, who waits no more and has to release it once, or free if none waits
 abbrev pub handed_on : ℕ → Option ℕ → Semaphores → Semaphores
 handed_on s None m = with_sem s free_sem m
 handed_on s (Some t) m = with_sem s (owned_by t)
@@ -157,7 +157,7 @@ abbrev pub let_go : ℕ → Semaphores → Semaphores
 let_go s m =
     if is_last (sem_at s m) then handed_on s (first (waiters_of s m)) m else with_sem s (once_less (sem_at s m)) m
 
--- task t waits at the semaphore no more, if it waits at one; the others keep their order (own choice)
+-- task t waits at the semaphore no more, if it waits at one; the others keep their order (project rule)
 abbrev pub dropped_from : Option ℕ → ℕ → Semaphores → Semaphores
 dropped_from None t m = m
 dropped_from (Some s) t m = record m { queues = slice_set m.queues s (without t (waiters_of s m)); places = slice_set m.places t None }
@@ -173,7 +173,7 @@ pub record IsHeld (m : Semaphores) : Type 0 where
   pub counted : (s : ℕ) → IsCounted (sem_at s m)
   pub owned : (t s : ℕ) → waits_at t m ≡ Some s → IsTrue (is_owned (sem_at s m))
 
--- A task that waits stands once in the queue of the semaphore where it waits and in no other, and that semaphore lives and is owned: at a
+-- A task that waits is once in the queue of the semaphore if it waits and in no other, and that semaphore lives and is owned: at a
 -- free one nobody waits. A free semaphore has the count 0, an owned one a count from 1 to 32767.
 pub record IsSound (m : Semaphores) : Type 0 where
   pub stands : (s t : ℕ) → times t (waiters_of s m) ≡ (if is_at (waits_at t m) s then 1 else 0)

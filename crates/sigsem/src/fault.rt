@@ -22,7 +22,7 @@ pub enum SemFault {
 }
 
 impl SemFault {
-    /// The number of the fault, 1 to 4 (own choice).
+    /// The number of the fault, 1 to 4 (project rule).
     pub fn number(self) -> u8
         ensures { result ≡ fault_number self }
     {

@@ -8,6 +8,8 @@ ghost use Rattle.sigsem.specs.Semaphores.{IsSound, is_sem, is_owned, is_open, se
 ghost use Rattle.sigsem.specs.Semaphores.{free_fault, deep_fault, release_fault, outcome_for, heir};
 ghost use Rattle.sigsem.specs.Semaphores.{no_sems, sem_made, sem_freed, with_sem, queued, obtained, attempted, handed_on, let_go, dropped};
 
+mod readers;
+
 use crate::fault::SemFault;
 use crate::semaphore::{Obtained, Sem, TaskId};
 use execlist::pool::Pool;
@@ -48,11 +50,9 @@ impl<S: ListSpace> Model for Sems<S> {
 }
 
 impl<S: ListSpace> Sems<S> {
-    /// Room for so many semaphores and for tasks of so many numbers, at most 4,096 of each. There is no semaphore yet.
+    /// Room for that many semaphores and for tasks of that many numbers, at most 4,096 of each. There is no semaphore yet.
     ///
-    /// An error means that memory is lacking.
-    ///
-    /// Source: own choice.
+    /// An error means that memory is refused.
     pub fn new(alloc: Global, sems: usize, tasks: usize) -> Result<Self, AllocError>
         requires few_sems { sems ≤ 4096 }
         requires few_tasks { tasks ≤ 4096 }
@@ -70,7 +70,7 @@ impl<S: ListSpace> Sems<S> {
 
     /// Makes a semaphore, which is free.
     ///
-    /// Answers its number, or PoolFull where every semaphore is in use. Autodoc exec.library/InitSemaphore; the refusal: own choice.
+    /// Answers its number, or PoolFull if every semaphore is in use. Autodoc exec.library/InitSemaphore; the refusal: project rule.
     pub fn make(&mut self) -> Result<SemId, SemFault>
         ensures answer { result ≡ ok_or (next_number self.old.sems) SemFault.PoolFull }
         ensures next { self.new ≡ sem_made self.old }
@@ -88,7 +88,7 @@ impl<S: ListSpace> Sems<S> {
 
     /// Frees a semaphore: its number may be given again. No task waits at a semaphore that may be freed.
     ///
-    /// It is Busy where a task owns the semaphore. Own choice: Exec leaves the memory of semaphores to the program.
+    /// It is Busy if a task owns the semaphore. Project rule: Exec leaves the memory of semaphores to the program.
     pub fn free(&mut self, s: SemId) -> Result<(), SemFault>
         requires { IsTrue (is_sem s self.old) }
         ensures answer { result ≡ fault_or (free_fault s self.old) tt }
@@ -104,9 +104,9 @@ impl<S: ListSpace> Sems<S> {
     // ---- obtaining and releasing
 
     /// Asks for a semaphore for a task that waits at none. A free one is the task's, with the count 1; the owner's count is one more; any
-    /// other task waits, behind those that asked before. Answers which of these came of it.
+    /// other task waits, after those that asked before. Answers which of these came of it.
     ///
-    /// It is TooDeep where the task owns the semaphore and its count would go past 32767 (own choice).
+    /// It is TooDeep if the task owns the semaphore and its count would go past 32767 (project rule).
     /// Autodoc exec.library/ObtainSemaphore.
     pub fn obtain(&mut self, s: SemId, t: TaskId) -> Result<Obtained, SemFault>
         requires live { IsTrue (is_sem s self.old) }
@@ -122,10 +122,10 @@ impl<S: ListSpace> Sems<S> {
         Ok(Obtained::Waits)
     }
 
-    /// Asks for a semaphore for a task that is not to wait. Where `obtain` would make the task the owner this does the same and answers
-    /// true; where the task would have to wait, nothing changes and the answer is false.
+    /// Asks for a semaphore for a task that is not to wait. If `obtain` would make the task the owner this does the same and answers
+    /// true; if the task would have to wait, nothing changes and the answer is false.
     ///
-    /// It is TooDeep where the task owns the semaphore and its count would go past 32767 (own choice).
+    /// It is TooDeep if the task owns the semaphore and its count would go past 32767 (project rule).
     /// Autodoc exec.library/AttemptSemaphore.
     pub fn attempt(&mut self, s: SemId, t: TaskId) -> Result<bool, SemFault>
         requires { IsTrue (is_sem s self.old) }
@@ -152,10 +152,10 @@ impl<S: ListSpace> Sems<S> {
     }
 
     /// Releases a semaphore once, for its owner. The last release hands it on: the first of the tasks that wait there waits no more and is
-    /// the owner with the count 1, and where none waits the semaphore is free.
+    /// the owner with the count 1, and if none waits the semaphore is free.
     ///
-    /// Answers the new owner, or none where the owner stays or no task is the owner any more. It is NotOwner where the task does not own
-    /// the semaphore (own choice). Autodoc exec.library/ReleaseSemaphore.
+    /// Answers the new owner, or none if the owner stays or no task is the owner any more. It is NotOwner if the task does not own
+    /// the semaphore (project rule). Autodoc exec.library/ReleaseSemaphore.
     pub fn release(&mut self, s: SemId, t: TaskId) -> Result<Option<TaskId>, SemFault>
         requires { IsTrue (is_sem s self.old) }
         ensures answer { result ≡ fault_or (release_fault s t self.old) (heir s self.old) }
@@ -174,7 +174,7 @@ impl<S: ListSpace> Sems<S> {
     }
 
     /// Takes a task out of the queue of the semaphore where it waits, if it waits at one. The others there keep their order.
-    /// Own choice: a task that waits may be removed.
+    /// Project rule: a task that waits may be removed.
     pub fn drop_waiter(&mut self, t: TaskId)
         requires { t < length self.old.places }
         ensures { self.new ≡ dropped t self.old }
@@ -186,7 +186,7 @@ impl<S: ListSpace> Sems<S> {
 
     // ---- reading
 
-    /// Answers the number that `make` would give, or none where every semaphore is in use. Own choice.
+    /// Answers the number that `make` would give, or none if every semaphore is in use. Project rule.
     pub fn next_sem(&self) -> Option<SemId>
         ensures value { result ≡ next_number self.now.sems }
         ensures known { IfSome result (λ s. s < length self.now.sems.slots) }
@@ -195,7 +195,7 @@ impl<S: ListSpace> Sems<S> {
         self.sems.next()
     }
 
-    /// Answers whether there is a semaphore of that number: whether the calls that ask for one may be made. Own choice.
+    /// Answers whether there is a semaphore of that number: whether the calls that ask for one may be made. Project rule.
     pub fn is_sem(&self, s: SemId) -> bool
         ensures { result ≡ is_sem s self.now }
     {
@@ -210,7 +210,7 @@ impl<S: ListSpace> Sems<S> {
         self.sem(s).owner.is_some()
     }
 
-    /// Answers the semaphore at which a task waits, or none: whether the task may ask for one. Own choice: Exec cannot tell.
+    /// Answers the semaphore at which a task waits, or none: whether the task may ask for one. Project rule: Exec cannot say.
     pub fn waits_at(&self, t: TaskId) -> Option<SemId>
         requires { t < length self.now.places }
         ensures value { result ≡ waits_at t self.now }
@@ -220,8 +220,6 @@ impl<S: ListSpace> Sems<S> {
     }
 
     /// Does nothing: its clauses are what always holds of the semaphores, and of the number that is next.
-    ///
-    /// Source: own choice.
     pub fn facts(&self)
         ensures sound { IsSound self.now }
         ensures sems { IsStocked self.now.sems }
@@ -270,7 +268,7 @@ impl<S: ListSpace> Sems<S> {
         self.waiters.add_tail(s, t);
     }
 
-    // Makes the first task that waits at a semaphore its owner, or the semaphore free where none waits. Answers the new owner.
+    // Makes the first task that waits at a semaphore its owner, or the semaphore free if none waits. Answers the new owner.
     fn hand_on(&mut self, s: SemId) -> Option<TaskId>
         requires { IsTrue (is_sem s self.old) }
         ensures value { result ≡ first (waiters_of s self.old) }

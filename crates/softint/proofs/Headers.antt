@@ -1,18 +1,19 @@
 -- The caused interrupts, kept in a header for each priority, are one sequence by priority.
 use Rattle.std.proofs.Common.{◌≡◌, ◌≢◌, ℕ, zero, suc, ◌+◌, ◌<◌, ◌≤◌, Bool, true, false, cond, not, eqb, List, [], ◌∷◌, ◌++◌, length, replicate, slice_set, refl, sym, ap, ◌∙◌, subst, arith, inl, inr, Option, Some, None, IfSome, map, append_assoc}
-use Rattle.std.specs.Prelude.{◌⊎◌, ℤ, int_lt, is_none, is_some, IsSome}
+use Rattle.std.specs.Prelude.{◌⊎◌, ℤ, drop, int_lt, is_none, is_some, IsSome}
 use Rattle.std.proofs.lemmas.Bool.{cond-true, cond-false, eq-eqb, ne_eqb, cases_eq}
 use Rattle.std.proofs.lemmas.Int.{ints}
 use Rattle.std.proofs.lemmas.List.{get_or-set_other, get_or-set_same, length-set}
 use Rattle.execlist.specs.Order.{enqueue, first, without, is_lower}
-use Rattle.execlist.specs.Lists.{sequence, home, times, is_at}
+use Rattle.execlist.specs.Lists.{sequence, home, part_after, times, is_at}
 use Rattle.softint.specs.declared.interrupt.Soft.{Soft}
 use Rattle.softint.specs.Interrupts.{Interrupts, IsHeld, joined, header_pri, causes, taken_off}
 use Rattle.execlist.specs.Disciplines.{pri_at}
+use Rattle.execlist.proofs.Walks.{absent_after}
 
--- ---- how often a number stands
+-- ---- how often a number is
 
--- where a number stands, it is there at least once
+-- where a number is, it is there at least once
 stands_here : (x : ℕ) (xs : List ℕ) → 1 ≤ times x (x ∷ xs)
 stands_here x xs = omega (arith, cond-true (eqb x x) (suc (times x xs)) (times x xs) (eq-eqb x x refl))
 
@@ -30,7 +31,7 @@ times-joins t (x ∷ xs) ys = by_case (eqb x t) (times-joins t xs ys) where
   by_case true ih = omega (arith, ih)
   by_case false ih = ih
 
--- what stands in no header stands nowhere
+-- what is in no header is nowhere
 pub nowhere : (t : ℕ) (all : List (List ℕ)) → ((k : ℕ) → times t (sequence all k) ≡ 0) → times t (joined all) ≡ 0
 nowhere t [] none = refl
 nowhere t (xs ∷ rest) none = omega (arith, times-joins t xs (joined rest), none 0, nowhere t rest (λ k. none (suc k)))
@@ -56,7 +57,7 @@ module _ (key : ℕ → ℤ) (x : ℕ) where
   goes_first ([] ∷ rest) low = goes_first rest (λ k. low (suc k))
   goes_first ((y ∷ ys) ∷ rest) low = cond-true _ _ _ (low 0 y (stands_here y ys))
 
-  -- what stands last in the header of its key, below those of higher key and above those of lower key, is in its place
+  -- what is last in the header of its key, below those of higher key and above those of lower key, is in its place
   pub arrives : (all : List (List ℕ)) (h : ℕ) → h < length all
       → ((k t : ℕ) → k ≤ h → 1 ≤ times t (sequence all k) → is_lower key t x ≡ false)
       → ((k t : ℕ) → h < k → 1 ≤ times t (sequence all k) → is_lower key t x ≡ true)
@@ -70,7 +71,7 @@ module _ (key : ℕ → ℤ) (x : ℕ) where
       ap (λ l. xs ++ l) (arrives rest h (omega (arith, within)) (λ k t at here. high (suc k) t (omega (arith, at)) here) (λ k t at here. low (suc k) t (omega (arith, at)) here))
       ∙ sym (passed xs (joined rest) (λ t here. high 0 t (omega arith) here))
 
--- where one arrives, there is a first
+-- if one arrives, there is a first
 pub first_arrived : (key : ℕ → ℤ) (xs : List ℕ) (x : ℕ) → is_some (first (enqueue key xs x)) ≡ true
 first_arrived key [] x = refl
 first_arrived key (y ∷ ys) x = by_case (is_lower key y x) where
@@ -129,6 +130,57 @@ pub empty_joined : (n : ℕ) → joined (replicate n []) ≡ []
 empty_joined zero = refl
 empty_joined (suc n) = empty_joined n
 
+-- ---- what comes after one
+
+after_here : (i : ℕ) (xs ys : List ℕ) → 1 ≤ times i xs → part_after i (xs ++ ys) ≡ part_after i xs ++ ys
+after_here i [] ys here = absurd (omega (arith, here))
+after_here i (x ∷ xs) ys here = by_case (eqb x i) here (after_here i xs ys) where
+  by_case : (b : Bool) → 1 ≤ cond b (suc (times i xs)) (times i xs) → (1 ≤ times i xs → part_after i (xs ++ ys) ≡ part_after i xs ++ ys)
+      → cond b (xs ++ ys) (part_after i (xs ++ ys)) ≡ cond b xs (part_after i xs) ++ ys
+  by_case true l ih = refl
+  by_case false l ih = ih l
+
+after_there : (i : ℕ) (xs ys : List ℕ) → times i xs ≡ 0 → part_after i (xs ++ ys) ≡ part_after i ys
+after_there i [] ys none = refl
+after_there i (x ∷ xs) ys none = by_case (eqb x i) none (after_there i xs ys) where
+  by_case : (b : Bool) → cond b (suc (times i xs)) (times i xs) ≡ 0 → (times i xs ≡ 0 → part_after i (xs ++ ys) ≡ part_after i ys)
+      → cond b (xs ++ ys) (part_after i (xs ++ ys)) ≡ part_after i ys
+  by_case true z ih = absurd (omega (arith, z))
+  by_case false z ih = ih z
+
+-- the first of two parts
+abbrev pub first_or_below : Option ℕ → Option ℕ → Option ℕ
+first_or_below None below = below
+first_or_below (Some n) below = Some n
+
+first_joins : (xs ys : List ℕ) → first (xs ++ ys) ≡ first_or_below (first xs) (first ys)
+first_joins [] ys = refl
+first_joins (x ∷ xs) ys = refl
+
+-- after one come the rest of its header and the headers below
+behind_in : (i : ℕ) (all : List (List ℕ)) (h : ℕ) → 1 ≤ times i (sequence all h) → ((k : ℕ) → k ≢ h → times i (sequence all k) ≡ 0)
+    → part_after i (joined all) ≡ part_after i (sequence all h) ++ joined (drop (suc h) all)
+behind_in i [] h here other = absurd (omega (arith, here))
+behind_in i (xs ∷ rest) zero here other = after_here i xs (joined rest) here
+behind_in i (xs ∷ rest) (suc h) here other =
+    after_there i xs (joined rest) (other 0 (λ e. omega (arith, e)))
+    ∙ behind_in i rest h here (λ k ne. other (suc k) (λ e. ne (omega (arith, e))))
+
+-- the first of the first header below that has one
+pub below_found : (all : List (List ℕ)) (h k : ℕ) (o : Option ℕ) → h < k → ((j : ℕ) → h + 1 ≤ j → j < k → first (sequence all j) ≡ None)
+    → o ≡ first (sequence all k) → is_some o ≡ true → o ≡ first (joined (drop (suc h) all))
+below_found [] h k None l none e some = cc
+below_found [] h k (Some i) l none e some = cc
+below_found (xs ∷ rest) zero zero o l none e some = absurd (omega (arith, l))
+below_found (xs ∷ rest) zero (suc k) o l none e some = first_of_some rest k o (λ j before. none (suc j) (omega arith) (omega (arith, before))) e some
+below_found (xs ∷ rest) (suc h) zero o l none e some = absurd (omega (arith, l))
+below_found (xs ∷ rest) (suc h) (suc k) o l none e some = below_found rest h k o (omega (arith, l)) (λ j a b. none (suc j) (omega (arith, a)) (omega (arith, b))) e some
+
+pub below_none : (all : List (List ℕ)) (h : ℕ) → ((j : ℕ) → h + 1 ≤ j → j < length all → first (sequence all j) ≡ None) → None ≡ first (joined (drop (suc h) all))
+below_none [] h none = refl
+below_none (xs ∷ rest) zero none = sym (none_found rest (λ j b. none (suc j) (omega arith) (omega (arith, b))))
+below_none (xs ∷ rest) (suc h) none = below_none rest h (λ j a b. none (suc j) (omega (arith, a)) (omega (arith, b)))
+
 -- ---- homes
 
 pub homeless : (n i : ℕ) → home (replicate n None) i ≡ None
@@ -144,7 +196,7 @@ home_known (x ∷ homes) (suc i) h e = omega (arith, home_known homes i h e)
 some_is : {h k : ℕ} → Some h ≡ Some k → h ≡ k
 some_is e = cc
 
--- what stands in a header has it for its home
+-- what is in a header has it for its home
 pub at_home : (o : Option ℕ) (h n : ℕ) → n ≡ cond (is_at o h) 1 0 → 1 ≤ n → o ≡ Some h
 at_home None h n e here = absurd (omega (arith, e, here))
 at_home (Some k) h n e here = by_case (cases_eq k h) where
@@ -181,11 +233,11 @@ lower k h lt = grind (arith, ints)
 abbrev Stands : List (List ℕ) → List (Option ℕ) → Type 0
 Stands all homes = (k t : ℕ) → times t (sequence all k) ≡ cond (is_at (home homes t) k) 1 0
 
--- what stands in no header is not caused
+-- what is in no header is not caused
 pub loose : (all : List (List ℕ)) (homes : List (Option ℕ)) (i : ℕ) → Stands all homes → home homes i ≡ None → times i (joined all) ≡ 0
 loose all homes i stands none = nowhere i all (λ k. not_there (home homes i) k _ (stands k i) (λ e. let bad = sym none ∙ e in cc))
 
--- what stands in a header is caused
+-- what is in a header is caused
 pub present : (all : List (List ℕ)) (homes : List (Option ℕ)) (i : ℕ) → Stands all homes → is_none (home homes i) ≡ false → 1 ≤ times i (joined all)
 present all homes i stands some = by_case (home homes i) refl some where
   by_case : (o : Option ℕ) → home homes i ≡ o → is_none o ≡ false → 1 ≤ times i (joined all)
@@ -206,7 +258,7 @@ arrival all homes softs i h held stands few same =
     pri_of : (k t : ℕ) → 1 ≤ times t (sequence all k) → pri_at pris t ≡ header_pri k
     pri_of k t here = held.stands t k (at_home (home homes t) k _ (stands k t) here)
 
--- what is said of the headers holds of those in which one more stands
+-- what is said of the headers holds of those in which one more is
 pub arrival_held : (all new : List (List ℕ)) (homes placed : List (Option ℕ)) (softs : List Soft) (i h : ℕ) → IsHeld (length all) homes softs
     → i < length homes → pri_at (map (λ (s : Soft). s.pri) softs) i ≡ header_pri h
     → new ≡ slice_set all h (sequence all h ++ i ∷ []) → placed ≡ slice_set homes i (Some h) → IsHeld (length new) placed softs
@@ -247,3 +299,22 @@ module _ {m now : Interrupts} (is : m ≡ now) (i : ℕ) (l : List ℕ) where
 pub caused_still : {m now : Interrupts} → m ≡ now → (i : ℕ) → 1 ≤ times i m.caused → now ≡ causes i now
 caused_still {m} {now} is i here =
     sym (sym (ap (causes i) is) ∙ cond-true _ _ _ (ap not (ne_eqb (times i m.caused) 0 (λ e. omega (arith, e, here)))) ∙ is)
+
+-- ---- what comes after one, by its header
+
+-- nothing comes after one that is not caused
+pub none_behind : (all : List (List ℕ)) (homes : List (Option ℕ)) (i : ℕ) → Stands all homes → home homes i ≡ None → None ≡ first (part_after i (joined all))
+none_behind all homes i stands none = sym (ap first (absent_after i (joined all) (loose all homes i stands none)))
+
+-- after one comes what its header has next, or else the first of those below
+pub next_behind : (all : List (List ℕ)) (homes : List (Option ℕ)) (i h : ℕ) (next : Option ℕ) → Stands all homes → home homes i ≡ Some h
+    → next ≡ first (part_after i (sequence all h)) → first (part_after i (joined all)) ≡ first_or_below next (first (joined (drop (suc h) all)))
+next_behind all homes i h next stands own e =
+    let here = there (home homes i) h _ (stands h i) own in
+    let rest = behind_in i all h here (λ k ne. not_there (home homes i) k _ (stands k i) (λ at. let same : h ≡ k = some_is (sym own ∙ at) in ne (sym same))) in
+    ap first rest ∙ first_joins (part_after i (sequence all h)) (joined (drop (suc h) all)) ∙ ap (λ o. first_or_below o (first (joined (drop (suc h) all)))) (sym e)
+
+pub home_beyond : (homes : List (Option ℕ)) (i : ℕ) → length homes ≤ i → home homes i ≡ None
+home_beyond [] i far = refl
+home_beyond (x ∷ homes) zero far = absurd (omega (arith, far))
+home_beyond (x ∷ homes) (suc i) far = home_beyond homes i (omega (arith, far))

@@ -1,2 +1,3 @@
+-- The lemma files of `softint`.
 pub mod Headers
 pub mod Chains

@@ -32,7 +32,7 @@ IsPriority pri = (pri ≡ pos 32) ⊎ (pri ≡ pos 16) ⊎ (pri ≡ pos 0) ⊎ (
 abbrev pub is_caused : ℕ → Interrupts → Bool
 is_caused i m = not (times i m.caused == 0)
 
--- software interrupt i is among the caused ones, behind those of its priority; one that is caused already stays where it is
+-- software interrupt i is among the caused ones, after those of its priority; one that is caused already stays where it is
 -- (autodoc exec.library/Cause)
 abbrev pub causes : ℕ → Interrupts → Interrupts
 causes i m = if is_caused i m then m else record m { caused = enqueue (pri_at m.priorities) m.caused i }
@@ -81,11 +81,11 @@ abbrev pub joined : List (List ℕ) → List ℕ
 joined [] = []
 joined (xs ∷ rest) = xs ++ joined rest
 
--- the priority of what stands in header h: 32, 16, 0, -16 and -32
+-- the priority of what is in header h: 32, 16, 0, -16 and -32
 abbrev pub header_pri : ℕ → ℤ
 header_pri h = pos 32 -ℤ pos (16 * h)
 
--- each caused interrupt stands in the header of its priority, and each source has its chain
+-- each caused interrupt is in the header of its priority, and each source has its chain
 pub record IsHeld (headers : ℕ) (homes : List (Option ℕ)) (softs : List Soft) : Type 0 where
   pub five : headers ≡ 5
   pub each_soft : length homes ≡ length softs

@@ -22,7 +22,7 @@ pub struct Chains {
 impl Chains {
     /// The chains of all sources.
     ///
-    /// An error means that memory is lacking. Autodoc exec.library/AddIntServer.
+    /// An error means that memory is refused. Autodoc exec.library/AddIntServer.
     pub fn new(alloc: Global, servers: &[Server]) -> Result<Self, AllocError>
         ensures ports { IfOk result (λ chains. chains.ports.items ≡ chain variant.Ports servers.now) }
         ensures vertb { IfOk result (λ chains. chains.vertb.items ≡ chain variant.Vertb servers.now) }
@@ -41,7 +41,7 @@ impl Chains {
 
 /// The servers of a source, by priority, and those of one priority in the order of their numbers.
 ///
-/// An error means that memory is lacking. Autodoc exec.library/AddIntServer.
+/// An error means that memory is refused. Autodoc exec.library/AddIntServer.
 fn chain_of(alloc: Global, servers: &[Server], source: Source) -> Result<Vec<ServerId>, AllocError>
     ensures { IfOk result (λ v. v.items ≡ chain source servers.now) }
 {
@@ -78,7 +78,7 @@ fn place_for(chain: &[ServerId], servers: &[Server], s: ServerId) -> usize
     chain.len()
 }
 
-/// The server at a place of a chain, from 0, or none where the chain is shorter.
+/// The server at a place of a chain, from 0, or none if the chain is shorter.
 ///
 /// Source: RKM Libraries, Exec Interrupts: interrupt servers.
 pub fn server_at(chain: &[ServerId], k: usize) -> Option<ServerId>

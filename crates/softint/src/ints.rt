@@ -1,11 +1,12 @@
 //! The interrupts of a machine.
 ghost use Rattle.std.specs.Prelude.{◌≡◌, ◌<◌, ◌≤◌, length, slice_get, All, Some, is_some, IfOk, IfSome};
 ghost use Rattle.execlist.specs.Order.{first};
+ghost use Rattle.execlist.specs.Lists.{part_from};
 ghost use Rattle.softint.specs.Sources.{highest};
 ghost use Rattle.softint.specs.Interrupts.{IsPriority, quiet, causes, taken_off, raised, served, chain, header_pri};
 ghost use Rattle.execlist.specs.Disciplines.{pri_at};
 
-use crate::caused::{IntId, PRIORITIES, first_caused, header_of};
+use crate::caused::{IntId, PRIORITIES, caused_behind, first_caused, header_of};
 use crate::chain::{Chains, ServerId, server_at};
 use crate::interrupt::{Server, Soft};
 use crate::latches::Latches;
@@ -51,9 +52,7 @@ impl<S: ListSpace> Ints<S> {
     /// Software interrupts of these priorities and these servers, at most 32 of each, numbered in the order given. No software interrupt
     /// is caused and no source asks to be served.
     ///
-    /// The priority of a software interrupt is -32, -16, 0, 16 or 32. An error means that memory is lacking.
-    ///
-    /// Source: own choice.
+    /// The priority of a software interrupt is -32, -16, 0, 16 or 32. An error means that memory is refused.
     pub fn new(alloc: Global, softs: &[Soft], servers: &[Server]) -> Result<Self, AllocError>
         requires few_softs { length softs.now ≤ 32 }
         requires few_servers { length servers.now ≤ 32 }
@@ -76,7 +75,7 @@ impl<S: ListSpace> Ints<S> {
 
     // ---- software interrupts
 
-    /// Causes a software interrupt: it is to run behind the caused ones of its priority. One that is caused already stays where it is.
+    /// Causes a software interrupt: it is to run after the caused ones of its priority. One that is caused already stays where it is.
     /// Autodoc exec.library/Cause.
     pub fn cause(&mut self, i: IntId)
         requires { i < length self.old.priorities }
@@ -89,14 +88,31 @@ impl<S: ListSpace> Ints<S> {
         }
     }
 
-    /// Answers whether a software interrupt is caused. It looks at none of them. Own choice: Exec tells it by the interrupt that it asks for.
+    /// Answers whether a software interrupt is caused. It looks at none of them. Project rule: Exec reports it by the interrupt that it asks for.
     pub fn any_caused(&self) -> bool
         ensures { result ≡ is_some (first self.now.caused) }
     {
         self.some_caused
     }
 
-    /// Takes off the caused software interrupt that is to run next and answers it, or answers none where none is caused: the one that
+    /// Answers the caused software interrupt that is to run after `after`, or the one that is to run next for none; none at the end, and if
+    /// `after` is not caused. RKM Libraries, Exec Interrupts: software interrupts.
+    pub fn caused_after(&self, after: Option<IntId>) -> Option<IntId>
+        ensures { result ≡ first (part_from after self.now.caused) }
+    {
+        match after {
+            None => first_caused(&self.caused),
+            Some(i) => {
+                if i < self.softs.len() {
+                    caused_behind(&self.caused, i)
+                } else {
+                    None
+                }
+            }
+        }
+    }
+
+    /// Takes off the caused software interrupt that is to run next and answers it, or answers none if none is caused: the one that
     /// was caused first among those of greatest priority. RKM Libraries, Exec Interrupts: software interrupts.
     pub fn next(&mut self) -> Option<IntId>
         ensures value { result ≡ first self.old.caused }
@@ -114,7 +130,7 @@ impl<S: ListSpace> Ints<S> {
 
     // ---- sources
 
-    /// Sets the latch of a source: it asks to be served. Where it does so already, nothing changes.
+    /// Sets the latch of a source: it asks to be served. If it does so already, nothing changes.
     /// RKM Libraries, Exec Interrupts: interrupt requests.
     pub fn raise(&mut self, source: Source)
         ensures { self.new ≡ raised source self.old }
@@ -122,7 +138,14 @@ impl<S: ListSpace> Ints<S> {
         self.latches = self.latches.with(source, true);
     }
 
-    /// Answers whether any source asks to be served. Own choice: Exec tells it by the interrupt that it asks for.
+    /// Answers which sources ask to be served. RKM Libraries, Exec Interrupts: interrupt requests.
+    pub fn latches(&self) -> Latches
+        ensures { result ≡ self.now.latches }
+    {
+        self.latches
+    }
+
+    /// Answers whether any source asks to be served. Project rule: Exec reports it by the interrupt that it asks for.
     pub fn any_raised(&self) -> bool
         ensures { result ≡ is_some (highest self.now.latches) }
     {
@@ -140,7 +163,7 @@ impl<S: ListSpace> Ints<S> {
         Some(source)
     }
 
-    /// Answers the server that runs at place `k`, from 0, when a source is served, or none where the source has no more servers.
+    /// Answers the server that runs at place `k`, from 0, when a source is served, or none if the source has no more servers.
     ///
     /// The servers of a source run by priority, and those of one priority in the order of their numbers.
     /// Autodoc exec.library/AddIntServer.

@@ -14,8 +14,6 @@ pub struct Latches {
 
 impl Latches {
     /// No source asks to be served.
-    ///
-    /// Source: own choice.
     pub fn new() -> Latches
         ensures { result ≡ no_latches }
     {
@@ -44,8 +42,6 @@ impl Latches {
     }
 
     /// Answers whether any source asks to be served.
-    ///
-    /// Source: own choice.
     pub fn any(self) -> bool
         ensures { result ≡ is_some (highest self) }
     {
@@ -53,8 +49,6 @@ impl Latches {
     }
 
     /// Answers the latches with that of one source set or cleared.
-    ///
-    /// Source: own choice.
     pub fn with(self, source: Source, set: bool) -> Latches
         ensures { result ≡ with_latch source set self }
     {

@@ -15,8 +15,6 @@ pub enum Source {
 
 impl Source {
     /// Answers whether the two are the same source.
-    ///
-    /// Source: own choice.
     pub fn is(self, other: Source) -> bool
         ensures { result ≡ is_source self other }
     {

@@ -1,5 +1,5 @@
--- Where tasks stand, and what their priorities are, after one of them has changed.
-use Rattle.std.proofs.Common.{◌≡◌, ℕ, ◌<◌, ◌+◌, zero, suc, Bool, true, false, cond, not, eqb, List, [], ◌∷◌, ◌++◌, Option, Some, None, IfSome, map, take, length, replicate, slice_set, slice_index_or, refl, sym, ap, ◌∙◌, arith}
+-- Where tasks are, and what their priorities are, after one of them has changed.
+use Rattle.std.proofs.Common.{◌≡◌, ℕ, ◌<◌, ◌≤◌, ◌+◌, zero, suc, Bool, true, false, cond, not, eqb, List, [], ◌∷◌, ◌++◌, Option, Some, None, IfSome, map, take, length, replicate, slice_set, slice_index_or, refl, sym, ap, ◌∙◌, arith}
 use Rattle.std.specs.Prelude.{ℤ, pos, find}
 use Rattle.std.specs.List.{range_with_len}
 use Rattle.std.proofs.lemmas.Bool.{cond-true, cond-false}
@@ -17,11 +17,11 @@ use Rattle.std.proofs.Math.Path.{fun_ext}
 pub homes_written : (states : List TaskState) (t : ℕ) (v : TaskState) → map home_for (slice_set states t v) ≡ slice_set (map home_for states) t (home_for v)
 homes_written states t v = map-set home_for states t v
 
--- writing what stands there changes nothing
+-- writing what is there changes nothing
 pub written_same : (homes : List (Option ℕ)) (t : ℕ) (h : Option ℕ) → slice_index_or homes t None ≡ h → slice_set homes t h ≡ homes
 written_same homes t h e = ap (slice_set homes t) (sym e) ∙ set-get_or homes t None
 
--- the last writing stands
+-- the last writing is
 pub written_twice : (homes : List (Option ℕ)) (t : ℕ) (g h : Option ℕ) → slice_index_or homes t None ≡ h → slice_set (slice_set homes t g) t h ≡ homes
 written_twice homes t g h e = set-set homes t g h ∙ written_same homes t h e
 
@@ -32,6 +32,12 @@ home_of_state (x ∷ xs) (suc t) = home_of_state xs t
 
 pub home_from_state : (states : List TaskState) (t : ℕ) (v : TaskState) → state_at states t ≡ v → slice_index_or (map home_for states) t None ≡ home_for v
 home_from_state states t v e = home_of_state states t ∙ ap home_for e
+
+-- there is no task past the last
+pub home_beyond : (states : List TaskState) (t : ℕ) → length states ≤ t → slice_index_or (map home_for states) t None ≡ None
+home_beyond [] t far = refl
+home_beyond (x ∷ xs) zero far = absurd (omega (arith, far))
+home_beyond (x ∷ xs) (suc t) far = home_beyond xs t (omega (arith, far))
 
 pub homes_absent : (n : ℕ) → map home_for (replicate n Absent) ≡ replicate n None
 homes_absent zero = refl
@@ -106,7 +112,7 @@ departed all new (Some h) t one own e =
     ap (λ l. sequence l 0) (e ∙ ap (λ k. slice_set all k (without t (sequence all k))) here)
     ∙ only_written all (without t (sequence all 0)) one
 
--- a task that doesn't stand in the sequence leaves it as it is
+-- a task that doesn't are in the sequence leaves it as it is
 without_absent : (t : ℕ) (xs : List ℕ) → times t xs ≡ 0 → without t xs ≡ xs
 without_absent t [] e = refl
 without_absent t (x ∷ xs) e = by_case (eqb x t) e (without_absent t xs) where

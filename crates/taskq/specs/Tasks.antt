@@ -7,7 +7,7 @@ use Rattle.execlist.specs.Lists.{Key}
 use Rattle.taskq.specs.declared.TaskState.{TaskState}
 use Rattle.taskq.specs.declared.TaskState.TheVariants.{Absent, Ready, Running, Waiting, Removed}
 
--- the ready tasks, and what is known of each task
+-- the ready tasks, and what is known of each task (RKM Libraries, Exec Tasks)
 pub record Tasks : Type 0 where
   pub ready : List ℕ
   pub states : List TaskState
@@ -30,7 +30,7 @@ is_ready Running = false
 is_ready (Waiting why) = false
 is_ready Removed = false
 
--- a task of that state was added and not removed
+-- a task of that state was added and not removed (RKM Libraries, Exec Tasks: task states)
 abbrev pub is_live : TaskState → Bool
 is_live Absent = false
 is_live Ready = true
@@ -38,7 +38,7 @@ is_live Running = true
 is_live (Waiting why) = true
 is_live Removed = false
 
--- task t is live and has that name, byte for byte
+-- task t is live and has that name, byte for byte (autodoc FindTask)
 abbrev pub is_live_named : Tasks → List ℕ → ℕ → Bool
 is_live_named s name t = is_live (state_at s.states t) && pointwise ◌==◌ (name_at s.names t) name
 
@@ -54,7 +54,7 @@ home_for Removed = None
 abbrev pub pris_of : List Key → List ℤ
 pris_of keys = map (λ k. k.pri) keys
 
--- a list space with these homes stands for tasks of these states: it has one header, which holds the
+-- a list space with these homes represents tasks of these states: it has one header, which holds the
 -- ready ones, and each task has a name
 pub record IsSound (headers : ℕ) (homes : List (Option ℕ)) (states : List TaskState) (named : ℕ) : Type 0 where
   pub one_header : headers ≡ 1

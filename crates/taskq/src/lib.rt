@@ -5,12 +5,13 @@
 ghost use Rattle.std.specs.Prelude.{◌≡◌, ◌≢◌, ℕ, ◌<◌, ◌≤◌, List, [], Option, Some, None, length, replicate, slice_set, map, find, true, IfOk, IfSome, IsTrue, if◌then◌else◌};
 ghost use Rattle.std.specs.List.{range_with_len};
 ghost use Rattle.execlist.specs.Order.{enqueue, first, without};
-ghost use Rattle.execlist.specs.Lists.{times};
+ghost use Rattle.execlist.specs.Lists.{part_after, part_from, times};
 ghost use Rattle.taskq.specs.Tasks.{state_at, name_at, is_ready, is_live, is_live_named};
 ghost use Rattle.execlist.specs.Disciplines.{pri_at};
 
 use execlist::key::Name;
 use execlist::space::ListSpace;
+use execlist::walk::next_node;
 use std::alloc::{AllocError, Global};
 use std::marker::Model;
 
@@ -33,7 +34,7 @@ pub enum Why {
     Sem,
 }
 
-/// Where a task stands in its life. RKM Libraries, Exec Tasks: task states.
+/// Where a task is in its life. RKM Libraries, Exec Tasks: task states.
 #[derive(Clone, Copy, Debug, PartialEq, Eq)]
 pub enum TaskState {
     /// It never was added.
@@ -79,9 +80,7 @@ impl<S: ListSpace> Model for TaskQ<S> {
 #[tactic(auto, using(crate::proofs::TaskLemmas::changes))]
 impl<S: ListSpace> TaskQ<S> {
     /// Makes absent tasks of these names and priorities, at most 4,096, numbered in the order given.
-    /// An error means that memory is lacking.
-    ///
-    /// Source: own choice.
+    /// An error means that memory is refused.
     pub fn new(alloc: Global, tasks: &[TaskInit]) -> Result<Self, AllocError>
         requires { length tasks.now ≤ 4096 }
         ensures ready { IfOk result (λ q. q.ready ≡ []) }
@@ -102,7 +101,7 @@ impl<S: ListSpace> TaskQ<S> {
         })
     }
 
-    /// Answers the task that is to run next, which stays ready, or none where no task is ready.
+    /// Answers the task that is to run next, which stays ready, or none if no task is ready.
     /// RKM Libraries, Exec Tasks: scheduling.
     pub fn pick(&self) -> Option<TaskId>
         ensures value { result ≡ first self.now.ready }
@@ -111,7 +110,31 @@ impl<S: ListSpace> TaskQ<S> {
         self.space.first(0)
     }
 
-    /// Makes an absent, running or waiting task ready, behind the ready ones of its priority.
+    /// Answers the ready task that is to run after `after`, or the one that is to run next for none; none at the end, and if `after` is not
+    /// ready. RKM Libraries, Exec Tasks: scheduling.
+    pub fn ready_after(&self, after: Option<TaskId>) -> Option<TaskId>
+        ensures value { result ≡ first (part_from after self.now.ready) }
+        ensures ready { IfSome result (λ t. state_at self.now.states t ≡ TaskState.Ready) }
+    {
+        match after {
+            None => self.pick(),
+            Some(t) => self.ready_behind(t),
+        }
+    }
+
+    // The ready task after this one, if it is ready and not the last.
+    fn ready_behind(&self, t: TaskId) -> Option<TaskId>
+        ensures value { result ≡ first (part_after t self.now.ready) }
+        ensures ready { IfSome result (λ t. state_at self.now.states t ≡ TaskState.Ready) }
+    {
+        if t < self.states.len() {
+            next_node(&self.space, 0, Some(t))
+        } else {
+            None
+        }
+    }
+
+    /// Makes an absent, running or waiting task ready, after the ready ones of its priority.
     /// RKM Libraries, Exec Tasks: scheduling.
     pub fn make_ready(&mut self, t: TaskId)
         requires known { t < length self.old.states }
@@ -151,7 +174,7 @@ impl<S: ListSpace> TaskQ<S> {
     }
 
     /// Gives a task another priority (-128 to 127) and answers the old one. A ready task arrives anew,
-    /// also where the priority stays; for any other the number alone changes.
+    /// also if the priority stays; for any other the number alone changes.
     /// Autodoc exec.library/SetTaskPri.
     pub fn set_pri(&mut self, t: TaskId, pri: i8) -> i8
         requires { t < length self.old.states }
@@ -189,7 +212,7 @@ impl<S: ListSpace> TaskQ<S> {
         self.states[t] = TaskState::Removed;
     }
 
-    /// Answers the live task of that name, or none. Names compare byte for byte; where several live tasks
+    /// Answers the live task of that name, or none. Names compare byte for byte; if several live tasks
     /// have the name, the first in the order of their numbers is answered.
     /// Autodoc exec.library/FindTask.
     pub fn find(&self, name: &str) -> Option<TaskId>
@@ -219,10 +242,8 @@ impl<S: ListSpace> TaskQ<S> {
         }
     }
 
-    /// Does nothing: its clauses are what always holds of the tasks. A ready task stands once among the
+    /// Does nothing: its clauses are what always holds of the tasks. A ready task is once among the
     /// ready ones and any other not at all; each task has one state, one priority and one name.
-    ///
-    /// Source: own choice.
     pub fn facts(&self)
         ensures ready { (t : ℕ) → times t self.now.ready
             ≡ (if is_ready (state_at self.now.states t) then 1 else 0) }

@@ -1,3 +1,4 @@
+-- Lemmas on arguments.
 use Rattle.std.proofs.Common.{◌≡◌, ℕ, suc, ◌+◌, ◌<◌, ◌≤◌, List, [], ◌∷◌, ◌++◌, length, get_or, drop, map, Option, Some, None, refl, sym, ap, ◌∙◌, arith, append_assoc, Bor}
 use Rattle.std.proofs.lemmas.List.{drop_more, append-nil, length-map}
 use Rattle.std.proofs.Math.ListN.{get_or-map as default_map, drop_of_length-le}

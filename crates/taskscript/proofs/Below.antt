@@ -1,3 +1,4 @@
+-- Lemmas on below.
 use Rattle.std.proofs.Common.{◌≡◌, ℕ, ◌<◌, ◌≤◌, None, arith}
 use Rattle.std.proofs.lemmas.Bool.Decides.{nat_tests}
 use Rattle.taskscript.specs.Numbers.{below_word}

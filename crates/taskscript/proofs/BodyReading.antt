@@ -75,7 +75,7 @@ faults_whole s r whole (line ∷ others) h = faults_step s r whole others (says 
 
 -- ---- what was read
 
--- the labels of some lines, after so many commands
+-- the labels of some lines, after that many commands
 abbrev pub marks_said : ℕ → Option LineData → List Mark → List Mark
 marks_said k None rest = rest
 marks_said k (Some (label_line n)) rest = mark n k ∷ rest

@@ -55,7 +55,7 @@ no_fault false f h = absurd cc
 
 -- ---- the commands of a body without a fault
 
--- a command without a fault: the software interrupts that it names are there, it may stand in its body, and its variables are within their limits
+-- a command without a fault: the software interrupts that it names are there, it may be in its body, and its variables are within their limits
 pub record Stands (s : Setting) (names : Names) (c : NamedCommandData) : Type 0 where
   pub named : names_softints s c ≡ true
   pub stands : may_stand s c ≡ true
@@ -118,7 +118,7 @@ commands_within s names (c ∷ cs) h =
     let here : Stands s names c = All-head (Stands s names) c cs h in
     within-append names (variables_of c) (flat_map variables_of cs) here.within (commands_within s names cs (All-tail (Stands s names) c cs h))
 
--- a new name stands behind the others
+-- a new name is after the others
 or_false : (a b : Bool) → (a || b) ≡ false → (a ≡ false) × (b ≡ false)
 or_false true b h = absurd cc
 or_false false b h = (refl, h)

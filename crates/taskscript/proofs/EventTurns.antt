@@ -83,7 +83,7 @@ goes_on ls i e es lt h some so_far within = ap first (here ls i lt) ∙ first_no
 pub limits : (s t n : ℕ) → are_within s t n ≡ true → (s ≤ 1000000) × (t ≤ 1000000) × (n ≤ 100000)
 limits s t n h = (grind (arith, nat_tests), grind (arith, nat_tests), grind (arith, nat_tests))
 
--- the events are within the limits where the counters are
+-- the events are within the limits if the counters are
 pub all_within : (es : List Event) (lines : List (List ℕ)) (s t : ℕ) → es ≡ events_of lines → s ≡ sum_by steps es → t ≡ sum_by ticks es → s ≤ 1000000 → t ≤ 1000000 → length es ≤ 100000 → AreWithin es
 all_within es lines s t found p q few short count = record { some = rw found (events_some lines); steps = omega arith; ticks = omega arith; count = count }
 

@@ -1,4 +1,4 @@
--- A number, once given, stays: later names stand behind the earlier ones.
+-- A number, once given, stays: later names are after the earlier ones.
 use Rattle.std.proofs.Common.{◌≡◌, ℕ, ◌+◌, Bool, true, false, not, ◌&&◌, ◌||◌, cond, List, [], ◌∷◌, ◌++◌, bytes_eq, inl, inr, refl, sym, ap, ◌∙◌}
 use Rattle.std.specs.List.{list_any, list_all}
 use Rattle.std.proofs.lemmas.Bool.{cases_Bool}

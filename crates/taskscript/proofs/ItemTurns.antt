@@ -1,4 +1,4 @@
--- One turn of a loop over the items of an array, where each item is judged by itself.
+-- One turn of a loop over the items of an array, if each item is judged by itself.
 use Rattle.std.proofs.Common.{◌≡◌, ℕ, ◌+◌, ◌<◌, List, [], ◌∷◌, ◌++◌, length, get_or, drop, None, sym, ap, ◌∙◌, append_assoc}
 use Rattle.memlist.specs.declared.region.Region.{Region}
 use Rattle.toml.specs.declared.value.Value.{Value}

@@ -13,7 +13,7 @@ entry_step : (b : Bool) (k : ℕ) (o : Option ℕ) → cond b (Some k) o ≡ Non
 entry_step true k o h = absurd cc
 entry_step false k o h = (refl, h)
 
--- a label that is new stands behind the others
+-- a label that is new is after the others
 pub marks_grown : (n : ArrayString) (k : ℕ) (es : List (ArrayString × ℕ)) → place_in (marks_view es) n.bytes ≡ None
     → marks_view (insert_entry (λ (i j : ArrayString). bytes_eq i.bytes j.bytes) es n k) ≡ marks_view es ++ record { name = n.bytes; place = k } ∷ []
 marks_grown n k [] h = refl

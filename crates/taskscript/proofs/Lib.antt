@@ -1,3 +1,4 @@
+-- The lemma files of `taskscript`.
 pub mod AcceptedTexts
 pub mod Arguments
 pub mod Below
@@ -15,6 +16,7 @@ pub mod ItemTurns
 pub mod Jumps
 pub mod Keys
 pub mod LabelPlaces
+pub mod Listings
 pub mod Machines
 pub mod Names
 pub mod Naming

@@ -1,4 +1,4 @@
--- Of the arguments of a command at most one is a name, so it can stand beside them.
+-- Of the arguments of a command at most one is a name, so it can be beside them.
 use Rattle.std.proofs.Common.{◌≡◌, ℕ, ◌+◌, ◌<◌, ◌≤◌, arith, if◌then◌else◌, List, [], ◌∷◌, All, length, map, get_or, refl, sym, subst, ap, ◌∙◌}
 use Rattle.std.specs.Prelude.{count_by}
 use Rattle.std.proofs.lemmas.List.{length-map}
@@ -15,7 +15,7 @@ count_more a others n h = let more : (if is_quoted a then 1 else 0) + count_by i
 count_name : (name : List ℕ) (others : List ArgumentData) (n : ℕ) → count_by is_quoted (quoted name ∷ others) ≤ n → 1 + count_by is_quoted others ≤ n
 count_name name others n h = rw (sum_by-cons (λ b. if is_quoted b then 1 else 0) (quoted name) others) at h
 
--- where none is a name, each is the name, if it is one
+-- if none is a name, each is the name, if it is one
 none_named : (name : List ℕ) (found : List ArgumentData) → count_by is_quoted found ≤ 0 → All (IsNamed name) found
 none_named name [] h = All-nil (IsNamed name)
 none_named name (number n ∷ found) h = All-cons (IsNamed name) (number n) found tt (none_named name found (count_more (number n) found 0 h))
@@ -23,7 +23,7 @@ none_named name (variable v ∷ found) h = All-cons (IsNamed name) (variable v) 
 none_named name (place k ∷ found) h = All-cons (IsNamed name) (place k) found tt (none_named name found (count_more (place k) found 0 h))
 none_named name (quoted m ∷ found) h = let more = count_name m found 0 h in absurd (omega (arith, more))
 
--- where at most one of the arguments is a name, each of them is the first name, if it is one
+-- if at most one of the arguments is a name, each of them is the first name, if it is one
 pub first_named : (found : List ArgumentData) → count_by is_quoted found ≤ 1 → All (IsNamed (first_name found)) found
 first_named [] h = All-nil (IsNamed (first_name []))
 first_named (number k ∷ found) h = All-cons (IsNamed (first_name found)) (number k) found tt (first_named found (count_more (number k) found 1 h))

@@ -23,7 +23,7 @@ use Rattle.taskscript.specs.Machines.{IsOfKind, AreOfKinds, HasItsArguments, is_
 use Rattle.taskscript.specs.Code.{code_of}
 use Rattle.taskscript.proofs.OwnArguments.{commands_have}
 
--- whether a name may stand at a place of this kind
+-- whether a name may be at a place of this kind
 abbrev may_be_name : Kind → Bool
 may_be_name Value = false
 may_be_name Label = false
@@ -123,7 +123,7 @@ of_one b = if b then 1 else 0
 count_more : {X : Type 0} (p : X → Bool) (x : X) (xs : List X) → count_by p (x ∷ xs) ≡ of_one (p x) + count_by p xs
 count_more p x xs = sum_by-cons (λ y. of_one (p y)) x xs
 
--- a place of one kind has a name only where a name may stand
+-- a place of one kind has a name only if a name may be
 kind_counts : (k : Kind) (a : ArgumentData) → IsOfKind k a → of_one (is_quoted a) ≤ of_one (may_be_name k)
 kind_counts Value (number n) h = lit≤ tt
 kind_counts Value (variable v) h = lit≤ tt

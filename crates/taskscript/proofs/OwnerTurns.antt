@@ -22,7 +22,7 @@ use Rattle.taskscript.proofs.Keys.{count_items_view}
 pub next_item : (vs : List Value) (i : ℕ) (v : Value) → i < length vs → v ≡ get_or vs i v → items_view (drop i vs) ≡ item (view v) (items_view (drop (i + 1) vs))
 next_item vs i v lt is = items_view-drop vs i v lt ∙ ap (λ (w : Value). item (view w) (items_view (drop (i + 1) vs))) (sym is)
 
--- one more that is kept stands behind those so far
+-- one more that is kept is after those so far
 pub kept_more : {H X : Type 0} (shown : H → X) (hs : List H) (h : H) (x : X) (rest : List X) → shown h ≡ x → map shown hs ++ (x ∷ rest) ≡ map shown (hs ++ h ∷ []) ++ rest
 kept_more {H} {X} shown hs h x rest same =
     ap (λ (y : X). map shown hs ++ (y ∷ rest)) (sym same) ∙ sym (append_assoc (map shown hs) (shown h ∷ []) rest) ∙ ap (λ (ys : List X). ys ++ rest) (sym (map_push shown hs h))
@@ -71,7 +71,7 @@ heads_at shown of [] (w ∷ vs) i h v e lt p q = absurd (omega (arith, ap length
 heads_at {H} {X} shown of (x ∷ hs) (w ∷ vs) zero h v e lt p q = ap shown p ∙ ap (λ (ps : List X). get_or ps 0 (shown h)) e ∙ ap (λ (z : Value). of (view z)) (sym q)
 heads_at shown of (x ∷ hs) (w ∷ vs) (suc i) h v e lt p q = heads_at shown of hs vs i h v (ap (drop 1) e) (omega arith) p q
 
--- ---- the names of the software interrupts stand before the others
+-- ---- the names of the software interrupts are before the others
 
 take-front : {X : Type 0} (xs ys : List X) → take (length xs) (xs ++ ys) ≡ xs
 take-front [] ys = refl

@@ -7,6 +7,6 @@ use Rattle.std.proofs.lemmas.List.Folds.{find-append}
 abbrev pub LookedIn : {A : Type 0} → (A → Bool) → Option A → Type 0
 LookedIn {A} p o = (xs : List A) × (o ≡ find p xs)
 
-abbrev pub looked_on : {A : Type 0} {r o q : Option A} (p : A → Bool) (ys : List A) → r ≡ option_or o q → LookedIn p o → q ≡ find p ys → LookedIn p r
-looked_on {q = q} p ys is so_far here =
-    (so_far.0 ++ ys, is ∙ ap (λ x. option_or x q) so_far.1 ∙ ap (λ y. option_or (find p so_far.0) y) here ∙ sym (find-append p so_far.0 ys))
+abbrev pub looked_on : {A : Type 0} {r o : Option A} (p : A → Bool) (ys : List A) → r ≡ option_or o (find p ys) → LookedIn p o → LookedIn p r
+looked_on p ys is so_far =
+    (so_far.0 ++ ys, is ∙ ap (λ x. option_or x (find p ys)) so_far.1 ∙ sym (find-append p so_far.0 ys))

@@ -19,14 +19,17 @@ abbrev pub line_in : Data → List ℕ
 line_in (string text) = text
 line_in _ = []
 
+-- the lines of an array of strings
 abbrev pub lines_in : Items → List (List ℕ)
 lines_in no_items = []
 lines_in (item d ds) = line_in d ∷ lines_in ds
 
+-- the command that a line is, if it is one
 abbrev pub command_said : Option LineData → Option NamedCommandData
 command_said (Some (command_line c)) = Some c
 command_said _ = None
 
+-- the label that a line is, if it is one
 abbrev pub label_said : Option LineData → Option (List ℕ)
 label_said (Some (label_line name)) = Some name
 label_said _ = None
@@ -41,10 +44,11 @@ commands_of lines = filter_map (λ line. command_said (says line)) lines
 abbrev pub labels_of : List (List ℕ) → List (List ℕ)
 labels_of lines = filter_map (λ line. label_said (says line)) lines
 
+-- a line is the label of a name
 abbrev pub is_label_of : List ℕ → List ℕ → Bool
 is_label_of name line = option_map_or (bytes_eq name) (label_said (says line)) false
 
--- the place that a label names: as many commands stand before it
+-- the place that a label names: as many commands are before it
 abbrev pub place_of : List (List ℕ) → List ℕ → ℕ
 place_of lines name = length (commands_of (before_first (is_label_of name) lines))
 
@@ -54,8 +58,8 @@ names_of shared lines = names_after (record { private = []; shared = shared }) (
 
 -- ---- faults
 
--- what a line says, after the labels before it: BadCommand where it says nothing, or names a software interrupt that the file lacks;
--- NotInInterrupt where the body is an interrupt's and may not have it; BadLabel where it is a label that stood before; TooMany where it has
+-- what a line says, after the labels before it: BadCommand if it says nothing, or names a software interrupt that the file lacks;
+-- NotInInterrupt if the body is an interrupt's and may not have it; BadLabel where it is a label that was before; TooMany if it has
 -- a variable past its limit
 abbrev pub line_faults : Setting → Names → List (List ℕ) → Option LineData → List FileFault
 line_faults setting names before None = BadCommand ∷ []
@@ -85,6 +89,7 @@ body_faults setting shared lines =
 
 -- ---- the code
 
+-- the commands of a body, with their variables by number and their labels by the place of the command after them
 unfoldable pub code_of : List (List ℕ) → List (List ℕ) → List CommandData
 code_of shared lines = map (command_in (names_of shared lines) (place_of lines)) (commands_of lines)
 

@@ -7,7 +7,7 @@ use Rattle.taskscript.specs.declared.command.Argument.{Argument}
 use Rattle.taskscript.specs.declared.command.Argument.TheVariants as argument
 use Rattle.taskscript.specs.declared.command.Command.{Command}
 
--- a number, what a variable holds, a name that stood between double quotes, or the place of a command
+-- a number, what a variable holds, a name that was between double quotes, or the place of a command
 pub data ArgumentData : Type 0 where
   number : ℕ → ArgumentData
   variable : Variable → ArgumentData
@@ -27,17 +27,19 @@ abbrev pub VariableFits : Variable → Type 0
 VariableFits (Private n) = n < 32
 VariableFits (Shared n) = n < 64
 
+-- an argument is within the limits: a variable's number is
 abbrev pub ArgumentFits : ArgumentData → Type 0
 ArgumentFits (variable v) = VariableFits v
 ArgumentFits _ = Unit {0}
 
+-- a command is within the limits: the numbers of its variables are
 pub record CommandFits (c : CommandData) : Type 0 where
   pub target : IfSome c.target VariableFits
   pub arguments : All ArgumentFits c.arguments
 
 -- ---- what the code holds
 
--- an argument, where the name of the command is this
+-- an argument, if the name of the command is this
 abbrev pub argument_view : List ℕ → Argument → ArgumentData
 argument_view name (argument.Number n) = number n
 argument_view name (argument.Variable v) = variable v

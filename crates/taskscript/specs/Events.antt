@@ -16,9 +16,11 @@ use Rattle.execlist.specs.Answers.{fault_or}
 abbrev pub in_turns : ℕ → Option ℕ
 in_turns n = if nat_le 1 n && nat_le n 1000000 then Some n else None
 
+-- the number of steps or ticks that digits are, from 1 to 1,000,000
 abbrev pub turns_of : List ℕ → Option ℕ
 turns_of digits = option_and_then in_turns (decimal_of digits)
 
+-- a line begins with some bytes
 abbrev pub begins_with : List ℕ → List ℕ → Bool
 begins_with front line = bytes_eq (take (length front) line) front
 
@@ -47,6 +49,7 @@ abbrev pub ticks : Event → ℕ
 ticks (Tick n) = n
 ticks _ = 0
 
+-- steps, ticks and events are within the limits of a text
 abbrev pub are_within : ℕ → ℕ → ℕ → Bool
 are_within run tick count = (nat_le run 1000000 && nat_le tick 1000000) && nat_le count 100000
 
@@ -56,7 +59,7 @@ is_within events = are_within (sum_by steps events) (sum_by ticks events) (lengt
 
 -- ---- a text
 
--- the event of a line, or none where the line is skipped or states none
+-- the event of a line, or none if the line is skipped or states none
 abbrev pub events_on : List ℕ → List Event
 events_on line = if is_skipped line then [] else option_to_list (event_of line)
 

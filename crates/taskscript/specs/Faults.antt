@@ -6,7 +6,7 @@ use Rattle.taskscript.specs.declared.fault.FileFault.TheVariants.{NotToml, Unkno
 use Rattle.taskscript.specs.declared.fault.EventFault.{EventFault}
 use Rattle.taskscript.specs.declared.fault.EventFault.TheVariants as event
 
--- the number of a fault of a machine file (own choice)
+-- the number of a fault of a machine file (project rule)
 abbrev pub file_fault_number : FileFault → ℕ
 file_fault_number NotToml = 1
 file_fault_number UnknownKey = 2
@@ -20,7 +20,7 @@ file_fault_number NotInInterrupt = 9
 file_fault_number TooMany = 10
 file_fault_number OutOfMemory = 11
 
--- the name of a fault of a machine file (own choice)
+-- the name of a fault of a machine file (project rule)
 abbrev pub file_fault_name : FileFault → List ℕ
 file_fault_name NotToml = codes "NotToml"
 file_fault_name UnknownKey = codes "UnknownKey"
@@ -34,7 +34,7 @@ file_fault_name NotInInterrupt = codes "NotInInterrupt"
 file_fault_name TooMany = codes "TooMany"
 file_fault_name OutOfMemory = codes "OutOfMemory"
 
--- the number of a fault of an event text (own choice)
+-- the number of a fault of an event text (project rule)
 abbrev pub event_fault_number : EventFault → ℕ
 event_fault_number (event.BadLine line) = 1
 event_fault_number event.TooMany = 2
@@ -44,11 +44,11 @@ event_fault_number event.OutOfMemory = 3
 abbrev pub check : Bool → FileFault → List FileFault
 check good fault = if good then [] else fault ∷ []
 
--- the fault is the first of these; want of memory may come at any growth
+-- the fault is the first of these; out of memory may come at any allocation
 abbrev pub IsFirst : FileFault → List FileFault → Type 0
 IsFirst fault faults = ¬ (fault ≡ OutOfMemory) → first faults ≡ Some fault
 
--- a value where there is no fault, which is then right, or else the first fault
+-- a value if there is no fault, which is then right, or else the first fault
 abbrev pub Judges : {X : Type 0} → Result X FileFault → List FileFault → (X → Type 0) → Type 0
 Judges (Ok x) faults right = (first faults ≡ None) × right x
 Judges (Err fault) faults right = IsFirst fault faults

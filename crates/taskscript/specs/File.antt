@@ -59,14 +59,17 @@ pub record MachineData : Type 0 where
 
 -- ---- the first pass: the tree
 
+-- the keys of the top table
 abbrev pub top_keys : List (List ℕ)
 top_keys =
     codes "version" ∷ codes "quantum" ∷ codes "tick_micros" ∷ codes "pool" ∷ codes "region" ∷ codes "library" ∷ codes "softint" ∷ codes "server"
     ∷ codes "task" ∷ []
 
+-- the keys of the table of a task
 abbrev pub task_keys : List (List ℕ)
 task_keys = codes "name" ∷ codes "pri" ∷ codes "start" ∷ codes "code" ∷ []
 
+-- the keys of the table of a region
 abbrev pub region_keys : List (List ℕ)
 region_keys = codes "base" ∷ codes "size" ∷ codes "attrs" ∷ codes "pri" ∷ []
 
@@ -79,6 +82,7 @@ region_faults region =
     ++ (optional (integer_faults (pos 0) (pos 7)) (get_member (codes "attrs") region)
     ++ pri_faults region)))
 
+-- the region that a table is
 abbrev pub region_of : Data → Region
 region_of region = record {
   base = number_or 0 (get_member (codes "base") (members_or_none region));
@@ -87,6 +91,7 @@ region_of region = record {
   pri = pri_in (members_or_none region);
 }
 
+-- the regions that an array is
 abbrev pub regions_of : Items → List Region
 regions_of regions = of_items region_of regions
 
@@ -94,15 +99,15 @@ regions_of regions = of_items region_of regions
 abbrev pub regions_in : Members → List Region
 regions_in tree = regions_of (items_or_none (get_member (codes "region") tree))
 
--- the version of the rules, 1 where the file does not say it (own choice)
+-- the version of the rules, 1 if the file does not say it (project rule)
 abbrev pub version_of : Members → ℕ
 version_of tree = number_or 1 (get_member (codes "version") tree)
 
--- the bytes that all regions may have together: 1,048,576 in version 1, and 4,194,304 in version 2 (own choice)
+-- the bytes that all regions may have together: 1,048,576 in version 1, and 4,194,304 in version 2 (project rule)
 abbrev pub total_of : ℕ → ℕ
 total_of version = if nat_eq version 1 then 1048576 else 4194304
 
--- the regions in their order, and after the last of them all together, which may have so many bytes in all
+-- the regions in their order, and after the last of them all together, which may have that many bytes in all
 abbrev pub regions_faults : ℕ → Members → List FileFault
 regions_faults total tree =
     optional (array_faults 8 (items_faults (table_faults region_faults))) (get_member (codes "region") tree)
@@ -110,9 +115,11 @@ regions_faults total tree =
 
 -- ---- software interrupts, servers and tasks: what has a name and a code
 
+-- the keys of the table of a software interrupt
 abbrev pub softint_keys : List (List ℕ)
 softint_keys = codes "name" ∷ codes "pri" ∷ codes "code" ∷ []
 
+-- the keys of the table of a server
 abbrev pub server_keys : List (List ℕ)
 server_keys = codes "name" ∷ codes "source" ∷ codes "pri" ∷ codes "claim" ∷ codes "code" ∷ []
 
@@ -143,18 +150,23 @@ task_faults before task =
     ++ (optional boolean_faults (get_member (codes "start") task)
     ++ required code_faults (get_member (codes "code") task))))
 
+-- the name in a table
 abbrev pub name_of : Data → List ℕ
 name_of owner = string_or_nothing (get_member (codes "name") (members_or_none owner))
 
+-- the priority in a table, 0 if it has none
 abbrev pub pri_of : Data → ℤ
 pri_of owner = pri_in (members_or_none owner)
 
+-- whether the start of the machine adds the task of a table, true if the table does not say
 abbrev pub start_of : Data → Bool
 start_of task = boolean_or true (get_member (codes "start") (members_or_none task))
 
+-- whether the server of a table ends its chain, false if the table does not say
 abbrev pub claim_of : Data → Bool
 claim_of server = boolean_or false (get_member (codes "claim") (members_or_none server))
 
+-- the interrupt source of the server of a table
 abbrev pub server_source_of : Data → Source
 server_source_of server = source_in (members_or_none server)
 
@@ -167,30 +179,33 @@ named_faults judge before (item owner rest) = table_faults (judge before) owner 
 abbrev pub item_names : Items → List (List ℕ)
 item_names owners = of_items name_of owners
 
--- the quantum, 4 where the file has none
+-- the quantum, 4 if the file has none
 abbrev pub quantum_of : Members → ℕ
 quantum_of tree = number_or 4 (get_member (codes "quantum") tree)
 
--- the microseconds of a tick, 20,000 where the file does not say it
+-- the microseconds of a tick, 20,000 if the file does not say it
 abbrev pub tick_micros_of : Members → ℕ
 tick_micros_of tree = number_or 20000 (get_member (codes "tick_micros") tree)
 
--- how many objects of each kind may live, 64 where the file does not say it
+-- how many objects of each kind may live, 64 if the file does not say it
 abbrev pub pool_of : Members → ℕ
 pool_of tree = number_or 64 (get_member (codes "pool") tree)
 
--- the items of the arrays `softint`, `server` and `task`
+-- the array of software interrupts of a tree
 abbrev pub softints_in : Members → Items
 softints_in tree = items_or_none (get_member (codes "softint") tree)
 
+-- the array of servers of a tree
 abbrev pub servers_in : Members → Items
 servers_in tree = items_or_none (get_member (codes "server") tree)
 
+-- the array of tasks of a tree
 abbrev pub tasks_in : Members → Items
 tasks_in tree = items_or_none (get_member (codes "task") tree)
 
 -- ---- libraries
 
+-- the keys of the table of a library
 abbrev pub library_keys : List (List ℕ)
 library_keys = codes "name" ∷ codes "version" ∷ codes "size" ∷ []
 
@@ -210,6 +225,7 @@ libraries_in tree = items_or_none (get_member (codes "library") tree)
 abbrev pub libraries_faults : Members → List FileFault
 libraries_faults tree = optional (array_faults 32 (named_faults library_faults [])) (get_member (codes "library") tree)
 
+-- the library that a table is
 abbrev pub library_of : Data → LibraryData
 library_of library = record {
   name = name_of library;
@@ -253,17 +269,19 @@ settings_faults tree =
     ++ (optional (integer_faults (pos 1) (pos 1000000)) (get_member (codes "tick_micros") tree)
     ++ optional (integer_faults (pos 1) (pos 1024)) (get_member (codes "pool") tree)))
 
--- the shared variables after the bodies of the software interrupts, and after those of the servers too
+-- the names of the shared variables, in order of first sight, after all software interrupts
 abbrev pub shared_after_softints : Members → List (List ℕ)
 shared_after_softints tree = shared_after_bodies [] (softints_in tree)
 
+-- the names of the shared variables, in order of first sight, after all software interrupts and servers
 abbrev pub shared_after_servers : Members → List (List ℕ)
 shared_after_servers tree = shared_after_bodies (shared_after_softints tree) (servers_in tree)
 
--- the names before the servers, and before the tasks: no two of all these are alike
+-- the names of all software interrupts
 abbrev pub names_before_servers : Members → List (List ℕ)
 names_before_servers tree = item_names (softints_in tree)
 
+-- the names of all software interrupts and servers
 abbrev pub names_before_tasks : Members → List (List ℕ)
 names_before_tasks tree = names_before_servers tree ++ item_names (servers_in tree)
 
@@ -294,14 +312,15 @@ faults tree =
     ++ (libraries_faults tree
     ++ both_passes_faults tree)))
 
--- a task, whose body stands after those shared variables
+-- a task, whose body is after those shared variables
 abbrev pub task_of : List (List ℕ) → Data → TaskData
 task_of shared task = record { name = name_of task; pri = pri_of task; start = start_of task; code = code_of shared (code_lines task) }
 
+-- the tasks that an array is
 abbrev pub tasks_of : List (List ℕ) → Items → List TaskData
 tasks_of shared tasks = with_bodies task_of shared tasks
 
--- a software interrupt, and a server, whose body stands after those shared variables
+-- the software interrupt that a table is, after the shared variables that were seen before it
 abbrev pub softint_of : List (List ℕ) → Data → SoftintData
 softint_of shared softint = record {
   name = name_of softint;
@@ -309,9 +328,11 @@ softint_of shared softint = record {
   code = code_of shared (code_lines softint);
 }
 
+-- the software interrupts that an array is
 abbrev pub softints_of : List (List ℕ) → Items → List SoftintData
 softints_of shared softints = with_bodies softint_of shared softints
 
+-- the server that a table is
 abbrev pub server_of : List (List ℕ) → Data → ServerData
 server_of shared server = record {
   name = name_of server;
@@ -321,9 +342,11 @@ server_of shared server = record {
   code = code_of shared (code_lines server);
 }
 
+-- the servers that an array is
 abbrev pub servers_of : List (List ℕ) → Items → List ServerData
 servers_of shared servers = with_bodies server_of shared servers
 
+-- the machine that a tree is: each key that is absent has its default
 abbrev pub machine_of : Members → MachineData
 machine_of tree = record {
   version = version_of tree;
@@ -337,6 +360,7 @@ machine_of tree = record {
   tasks = tasks_of (shared_after_servers tree) (tasks_in tree);
 }
 
+-- what the tree of a document comes to: its first fault, or its machine; no tree is the fault NotToml
 abbrev pub file_of_document : Option Members → Result MachineData FileFault
 file_of_document None = Err NotToml
 file_of_document (Some tree) = fault_or (first (faults tree)) (machine_of tree)

@@ -21,18 +21,21 @@ pub record Setting : Type 0 where
   pub of_interrupt : Bool
   pub softints : List (List ℕ)
 
--- ---- the words of an interrupt (own choice)
+-- ---- the words of an interrupt (project rule)
 
+-- a body of an interrupt may have the plain word: all but the jumps
 abbrev pub is_plain_of_interrupt : PlainWord → Bool
 is_plain_of_interrupt Jump = false
 is_plain_of_interrupt JumpZ = false
 is_plain_of_interrupt JumpNZ = false
 is_plain_of_interrupt _ = true
 
+-- a body of an interrupt may have the word on signals: Signal alone
 abbrev pub is_signal_of_interrupt : SignalWord → Bool
 is_signal_of_interrupt Signal = true
 is_signal_of_interrupt _ = false
 
+-- a body of an interrupt may have the word on ports: PutMsg, GetMsg and ReplyMsg
 abbrev pub is_port_of_interrupt : PortWord → Bool
 is_port_of_interrupt PutMsg = true
 is_port_of_interrupt GetMsg = true
@@ -51,7 +54,7 @@ is_word_of_interrupt _ = false
 abbrev pub is_of_interrupt : NamedCommandData → Bool
 is_of_interrupt c = is_word_of_interrupt c.word && list_all (λ (v : NamedVariableData). v.is_shared) (variables_of c)
 
--- a command may stand in a body
+-- a command may be in a body
 abbrev pub may_stand : Setting → NamedCommandData → Bool
 may_stand setting c = not setting.of_interrupt || is_of_interrupt c
 
@@ -62,10 +65,12 @@ abbrev pub softint_named : Kind → NamedArgumentData → Option (List ℕ)
 softint_named Softint (quoted name) = Some name
 softint_named _ _ = None
 
+-- the names of software interrupts among the arguments, by the kinds that the word asks for
 abbrev pub softints_among : List Kind → List NamedArgumentData → List (List ℕ)
 softints_among (kind ∷ kinds) (a ∷ others) = cons_option (softint_named kind a) (softints_among kinds others)
 softints_among _ _ = []
 
+-- the names of software interrupts that a command has
 abbrev pub softints_named_by : NamedCommandData → List (List ℕ)
 softints_named_by c = softints_among (kinds c.word) c.arguments
 

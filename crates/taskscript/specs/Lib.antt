@@ -10,6 +10,7 @@ pub mod Interrupting
 pub mod Labels
 pub mod Lines
 pub mod LibraryWords
+pub mod Listings
 pub mod ListWords
 pub mod Machines
 pub mod Meaning

@@ -24,6 +24,7 @@ pub record NamedVariableData : Type 0 where
 
 -- ---- arguments
 
+-- an argument of a line: a number, a variable, a label or a name, as it is written
 pub data NamedArgumentData : Type 0 where
   number : ℕ → NamedArgumentData
   variable : NamedVariableData → NamedArgumentData
@@ -63,7 +64,7 @@ abbrev pub line_view : Line → LineData
 line_view (said.Label n) = label_line n.bytes
 line_view (said.Command c) = command_line (named_command_view c)
 
--- what is read is the answer, or there is none and the line is refused; want of memory may come at any growth
+-- what is read is the answer, or there is none and the line is refused; out of memory may come at any allocation
 abbrev pub Reads : {X Y : Type 0} → Result X FileFault → (X → Y) → Option Y → Type 0
 Reads (Ok x) view answer = answer ≡ Some (view x)
 Reads (Err fault) view answer = ¬ (fault ≡ OutOfMemory) → (fault ≡ BadCommand) × (answer ≡ None)

@@ -12,7 +12,7 @@ use Rattle.taskscript.specs.Interrupting.{is_word_of_interrupt}
 use Rattle.taskscript.specs.Names.{is_name}
 use Rattle.taskscript.specs.Words.{kinds}
 
--- a jump among so many commands goes to one of them, or to the end behind the last one
+-- a jump among that many commands goes to one of them, or to the end after the last one
 abbrev pub JumpFits : ℕ → ArgumentData → Type 0
 JumpFits count (place k) = k ≤ count
 JumpFits count _ = Unit {0}
@@ -20,7 +20,7 @@ JumpFits count _ = Unit {0}
 abbrev pub JumpsFit : ℕ → CommandData → Type 0
 JumpsFit count c = All (JumpFits count) c.arguments
 
--- a value is a number or what a variable holds, a label is a place, a name is a name, and 0 may stand for none
+-- a value is a number or what a variable holds, a label is a place, a name is a name, and 0 may be for none
 abbrev pub IsOfKind : Kind → ArgumentData → Type 0
 IsOfKind Value (number n) = Unit {0}
 IsOfKind Value (variable v) = Unit {0}
@@ -36,7 +36,7 @@ AreOfKinds [] [] = Unit {0}
 AreOfKinds (kind ∷ kinds) (a ∷ others) = IsOfKind kind a × AreOfKinds kinds others
 AreOfKinds _ _ = ⊥
 
--- a command has the arguments of its word, one of each kind: where a word asks for a number or a name, one is there
+-- a command has the arguments of its word, one of each kind: if a word asks for a number or a name, one is there
 abbrev pub HasItsArguments : CommandData → Type 0
 HasItsArguments c = AreOfKinds (kinds c.word) c.arguments
 
@@ -71,7 +71,7 @@ abbrev pub softint_asked : Kind → ArgumentData → Option (List ℕ)
 softint_asked Softint (quoted name) = Some name
 softint_asked _ _ = None
 
--- the names that stand where a word asks for a software interrupt
+-- the names that are if a word asks for a software interrupt
 abbrev pub softints_named : List Kind → List ArgumentData → List (List ℕ)
 softints_named (kind ∷ kinds) (a ∷ others) = cons_option (softint_asked kind a) (softints_named kinds others)
 softints_named _ _ = []
@@ -81,7 +81,7 @@ abbrev pub NamesSoftints : List (List ℕ) → CommandData → Type 0
 NamesSoftints softints c = All (λ name. list_any (bytes_eq name) softints ≡ true) (softints_named (kinds c.word) c.arguments)
 
 -- the commands of a body, in a file with software interrupts of those names: at most 1,024, each with its word's arguments, of which at
--- most one is a name, with variables within the limits, and with a software interrupt of the file where its word asks for one
+-- most one is a name, with variables within the limits, and with a software interrupt of the file if its word asks for one
 pub record IsCode (softints : List (List ℕ)) (code : List CommandData) : Type 0 where
   pub few : length code ≤ 1024
   pub commands : All CommandFits code

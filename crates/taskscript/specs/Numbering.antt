@@ -16,7 +16,7 @@ use Rattle.taskscript.specs.Lines.{NamedVariableData, NamedArgumentData, number,
 abbrev pub seen_after : List (List ℕ) → List ℕ → List (List ℕ)
 seen_after seen name = if list_any (bytes_eq name) seen then seen else seen ++ name ∷ []
 
--- the place of a name among those seen; behind them, if it is new
+-- the place of a name among those seen; after them, if it is new
 abbrev pub number_in : List (List ℕ) → List ℕ → ℕ
 number_in seen name = position_or_len (bytes_eq name) seen
 
@@ -25,16 +25,19 @@ pub record Names : Type 0 where
   pub private : List (List ℕ)
   pub shared : List (List ℕ)
 
+-- the names of the variables, with one more if it is new
 abbrev pub names_with : Names → NamedVariableData → Names
 names_with names v =
     if v.is_shared then record { private = names.private; shared = seen_after names.shared v.name }
     else record { private = seen_after names.private v.name; shared = names.shared }
 
+-- the names of the variables after some more of them
 abbrev pub names_after : Names → List NamedVariableData → Names
 names_after names variables = fold names_with names variables
 
 -- ---- numbers for names
 
+-- a variable by its number: its place among the names in order of first sight
 abbrev pub variable_in : Names → NamedVariableData → Variable
 variable_in names v = if v.is_shared then Shared (number_in names.shared v.name) else Private (number_in names.private v.name)
 
@@ -57,10 +60,12 @@ is_within (Shared n) = nat_lt n 64
 
 -- ---- the names of a command, in the order in which they are seen
 
+-- the variable of a target, if there is one
 abbrev pub variables_of_target : Option NamedVariableData → List NamedVariableData
 variables_of_target None = []
 variables_of_target (Some v) = v ∷ []
 
+-- the variables among some arguments
 abbrev pub variables_of_arguments : List NamedArgumentData → List NamedVariableData
 variables_of_arguments [] = []
 variables_of_arguments (number n ∷ others) = variables_of_arguments others

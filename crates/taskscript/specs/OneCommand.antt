@@ -139,7 +139,7 @@ with_word_from : (t : Option (List ℕ)) (fs : List (List ℕ)) (c : NamedComman
 unfolding with_word
 with_word_from t fs c target args = rw (word_known c.word, target, args_from (kinds c.word) fs c.arguments args)
 
--- no target is cut off where the arguments follow the word
+-- no target is cut off if the arguments follow the word
 uncut : (w : List ℕ) (ks : List Kind) (fs : List (List ℕ)) (found : List NamedArgumentData) → AreArguments ks fs found → cut_target (w ∷ fs) ≡ (None, w ∷ fs)
 uncut w ks [] found h = refl
 uncut w [] (f ∷ fs) found h = absurd h

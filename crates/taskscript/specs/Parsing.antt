@@ -1,5 +1,5 @@
 -- How the code reads the fields of a line, step by step: the vocabulary of its inner contracts. What a line says is `Says`, and that
--- this reads just that is proved.
+-- this reads exactly that is proved.
 use Rattle.std.specs.Prelude.{ℕ, ◌-◌, Bool, true, false, ◌&&◌, nat_le, ◌==◌, bytes_eq, codes, List, [], ◌∷◌, length, take, drop, slice_index, Option, Some, None, option_map, if◌then◌else◌}
 use Rattle.std.specs.Option.{option_or}
 use Rattle.taskscript.specs.declared.word.row.Kind.{Kind}
@@ -22,7 +22,7 @@ variable_of (b ∷ bs) = if b == 64 then named true bs else named false (b ∷ b
 
 -- ---- arguments
 
--- what stands between the first and the last byte
+-- what is between the first and the last byte
 abbrev pub inside : List ℕ → List ℕ
 inside field = take (length field - 2) (drop 1 field)
 
@@ -55,7 +55,7 @@ arguments_of (kind ∷ kinds) (field ∷ after) = argument_of kind field >>= λ 
 
 -- ---- commands
 
--- the target, which may stand only before a word that answers
+-- the target, which may be only before a word that answers
 abbrev pub target_of : Bool → Option (List ℕ) → Option (Option NamedVariableData)
 target_of may None = Some None
 target_of false (Some field) = None
@@ -69,7 +69,7 @@ with_word target (text ∷ after) =
     arguments_of (kinds word) after >>= λ arguments.
     Some (record { word = word; target = variable; arguments = arguments })
 
--- the target before `=`, where there is one, and what follows
+-- the target before `=`, if there is one, and what follows
 abbrev pub cut_target : List (List ℕ) → Option (List ℕ) × List (List ℕ)
 cut_target (target ∷ equals ∷ after) = if bytes_eq equals (codes "=") then (Some target, after) else (None, target ∷ equals ∷ after)
 cut_target whole = (None, whole)
@@ -80,7 +80,7 @@ command_of fields = with_word (cut_target fields).0 (cut_target fields).1
 
 -- ---- labels
 
--- the name before `:`, where the field is a label's
+-- the name before `:`, if the field is a label's
 abbrev pub label_in : List ℕ → Option (List ℕ)
 label_in field =
     if nat_le 1 (length field) && (slice_index field (length field - 1) == 58) then identifier_in (take (length field - 1) field)

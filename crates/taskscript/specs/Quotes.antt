@@ -11,7 +11,7 @@ use Rattle.taskscript.specs.Names.{is_name}
 use Rattle.taskscript.specs.Parsing.{inside, quoted_in}
 use Rattle.taskscript.specs.Says.{quote}
 
--- a quoted field of so many bytes, by its parts
+-- a quoted field of that many bytes, by its parts
 quoted_field : (n : List ℕ) (k : ℕ) → k ≡ length n → is_name n ≡ true → let f : List ℕ = 34 ∷ (n ++ 34 ∷ []) in
     cond (nat_le 2 (k + 2) && ((slice_index f 0 == 34) && (slice_index f (suc k) == 34))) (cond (is_name (take k (drop 1 f))) (Some (take k (drop 1 f))) None) None ≡ Some n
 quoted_field n k same h =
@@ -38,7 +38,7 @@ named_back : (x : List ℕ) (b : Bool) (n : List ℕ) → is_name x ≡ b → co
 named_back x true n e h = (same_Some _ _ h, ap is_name (sym (same_Some _ _ h)) ∙ e)
 named_back x false n e h = absurd cc
 
--- what stands before the last byte, and that byte
+-- what is before the last byte, and that byte
 cut_last : (g : List ℕ) (k : ℕ) → length g ≡ k + 1 → (slice_index g k == 34) ≡ true → g ≡ take k g ++ quote
 cut_last g k count last =
     let place : k < length g = omega arith in
@@ -46,7 +46,7 @@ cut_last g k count last =
     let tail : drop k g ≡ quote = drop_more g k 0 place ∙ ap (λ (b : ℕ). b ∷ drop (k + 1) g) (one_quote _ last) ∙ ap (λ (bs : List ℕ). 34 ∷ bs) (drop_of_length-le g none) in
     sym (take-append-drop k g) ∙ ap (λ (bs : List ℕ). take k g ++ bs) tail
 
--- a field, by its first and its last byte and what stands between them
+-- a field, by its first and its last byte and what is between them
 field_back : (b : ℕ) (g : List ℕ) → nat_le 2 (suc (length g)) ≡ true → (b == 34) ≡ true → (slice_index (b ∷ g) (suc (length g) - 1) == 34) ≡ true → b ∷ g ≡ quote ++ take (suc (length g) - 2) g ++ quote
 field_back b g long first last =
     let some : 1 ≤ length g = grind (arith, nat_tests) in

@@ -42,7 +42,7 @@ named_back : (x : List ℕ) (b : Bool) (n : List ℕ) → is_identifier x ≡ b 
 named_back x true n e h = (same_Some _ _ h, ap is_identifier (sym (same_Some _ _ h)) ∙ e)
 named_back x false n e h = absurd cc
 
--- a field, by its last byte and what stands before it
+-- a field, by its last byte and what is before it
 field_back : (f : List ℕ) → 1 ≤ length f → (slice_index f (length f - 1) == 58) ≡ true → f ≡ take (length f - 1) f ++ codes ":"
 field_back f long last =
     let place : length f - 1 < length f = omega arith in
@@ -135,6 +135,7 @@ meaning_of : (fs : List (List ℕ)) (o : Option LineData) → line_of fs ≡ o �
 meaning_of fs (Some x) is = read_line_is_said fs x is
 meaning_of fs None is = λ x. refused_line_says_nothing fs x is
 
+-- the reading of a line, and that it is right
 pub reader : Meaning
 reader = record { answer = line_of; right = λ fs. meaning_of fs (line_of fs) refl }
 

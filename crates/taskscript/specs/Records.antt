@@ -1,4 +1,4 @@
--- What the readers of a file hold, as the data that it stands for.
+-- What the readers of a file hold, as the data that it represents.
 use Rattle.std.specs.Prelude.{◌≡◌, ℕ, List, [], ◌++◌, map, None}
 use Rattle.toml.specs.Data.{Data, Members}
 use Rattle.taskscript.specs.declared.fault.FileFault.{FileFault}
@@ -17,6 +17,7 @@ use Rattle.taskscript.specs.Code.{code_of}
 use Rattle.taskscript.specs.Commands.{CommandData, command_view}
 use Rattle.taskscript.specs.File.{LibraryData, SoftintData, ServerData, TaskData, name_of, pri_of, server_source_of, start_of, claim_of, code_lines, softints_in, servers_in, tasks_in, item_names, names_before_tasks, shared_after_softints, shared_after_servers, softints_of, servers_of, tasks_of}
 use Rattle.taskscript.specs.Interrupting.{Setting}
+use Rattle.taskscript.specs.Listings.{listing_of}
 use Rattle.taskscript.specs.Numbering.{texts}
 use Rattle.taskscript.specs.Tree.{document_of, of_items}
 
@@ -74,7 +75,7 @@ server_head_of server = server_with server []
 abbrev pub task_head_of : Data → TaskData
 task_head_of task = task_with task []
 
--- what an item is, whose body stands after those shared variables
+-- what an item is, whose body is after those shared variables
 abbrev pub made_of : {X : Type 0} → (Data → List CommandData → X) → List (List ℕ) → Data → X
 made_of with shared owner = with owner (code_of shared (code_lines owner))
 
@@ -97,3 +98,4 @@ pub record AreOwners (owners : Owners) (tree : Members) : Type 0 where
   pub softints : map softint_view owners.softints.items ≡ softints_of [] (softints_in tree)
   pub servers : map server_view owners.servers.items ≡ servers_of (shared_after_softints tree) (servers_in tree)
   pub tasks : map task_view owners.tasks.items ≡ tasks_of (shared_after_servers tree) (tasks_in tree)
+  pub listing : owners.listing ≡ listing_of tree

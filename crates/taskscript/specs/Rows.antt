@@ -3,7 +3,7 @@ use Rattle.std.specs.Prelude.{ℕ, Bool, true, false, List}
 use Rattle.taskscript.specs.declared.word.row.Kind.{Kind}
 use Rattle.taskscript.specs.declared.word.row.Row.{Row}
 
--- the text of a word, in a line and in the trace; whether it answers, since a target may stand only before a word that does; and the
+-- the text of a word, in a line and in the trace; whether it answers, since a target may be only before a word that does; and the
 -- kinds of its arguments, from left to right
 pub record RowData : Type 0 where
   pub text : List ℕ

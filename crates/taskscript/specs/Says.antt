@@ -12,15 +12,16 @@ use Rattle.taskscript.specs.Lines.{NamedVariableData, NamedArgumentData, variabl
 abbrev pub quote : List ℕ
 quote = 34 ∷ []
 
--- a name stands for a private variable, and with `@` before it for a shared one
+-- a name represents a private variable, and with `@` before it for a shared one
 abbrev pub variable_text : NamedVariableData → List ℕ
 variable_text v = if v.is_shared then 64 ∷ v.name else v.name
 
+-- a field is the name of a private variable, or that of a shared one after @
 pub record IsVariable (field : List ℕ) (v : NamedVariableData) : Type 0 where
   pub text : field ≡ variable_text v
   pub named : is_identifier v.name ≡ true
 
--- a value is a variable or a number, a label stands as it is, a name between double quotes, and `0` alone may stand
+-- a value is a variable or a number, a label is as it is, a name between double quotes, and `0` alone may be
 -- for no name
 abbrev pub IsArgument : Kind → List ℕ → NamedArgumentData → Type 0
 IsArgument Value field (variable v) = IsVariable field v
@@ -38,7 +39,7 @@ AreArguments [] [] [] = Unit {0}
 AreArguments (kind ∷ kinds) (field ∷ fields) (a ∷ others) = IsArgument kind field a × AreArguments kinds fields others
 AreArguments _ _ _ = ⊥
 
--- nothing, or where the word answers a variable and `=`
+-- nothing, or if the word answers a variable and `=`
 abbrev pub IsTarget : Bool → List (List ℕ) → Option NamedVariableData → Type 0
 IsTarget may [] None = Unit {0}
 IsTarget true (target ∷ equals ∷ []) (Some v) = (equals ≡ codes "=") × IsVariable target v
@@ -64,7 +65,7 @@ Says fields (command_line c) = IsLine fields c
 
 -- ---- the function that the relation determines
 
--- what the fields say, or none where they say nothing
+-- what the fields say, or none if they say nothing
 abbrev pub IsMeaning : List (List ℕ) → Option LineData → Type 0
 IsMeaning fields (Some x) = Says fields x
 IsMeaning fields None = (x : LineData) → ¬ Says fields x

@@ -55,6 +55,7 @@ abbrev pub is_softint_pri : ℤ → Bool
 is_softint_pri pri =
     int_eq pri (negsuc 31) || (int_eq pri (negsuc 15) || (int_eq pri (pos 0) || (int_eq pri (pos 16) || int_eq pri (pos 32))))
 
+-- the faults of the priority of a software interrupt, which is -32, -16, 0, 16 or 32
 abbrev pub softint_pri_faults : Data → List FileFault
 softint_pri_faults (integer z) = check (is_softint_pri z) BadValue
 softint_pri_faults _ = BadValue ∷ []
@@ -64,6 +65,7 @@ abbrev pub source_faults : Data → List FileFault
 source_faults (string s) = check (is_some (source_of s)) BadValue
 source_faults _ = BadValue ∷ []
 
+-- the faults of a boolean
 abbrev pub boolean_faults : Data → List FileFault
 boolean_faults (boolean b) = []
 boolean_faults _ = BadValue ∷ []
@@ -73,11 +75,12 @@ abbrev pub name_faults : List (List ℕ) → Data → List FileFault
 name_faults before (string s) = if is_name s then check (not (list_any (bytes_eq s) before)) NameTwice else BadValue ∷ []
 name_faults before _ = BadValue ∷ []
 
+-- the number of the items of an array
 abbrev pub count_items : Items → ℕ
 count_items no_items = 0
 count_items (item value rest) = count_items rest + 1
 
--- an array of at most so many items, which are then judged in their order
+-- an array of at most that many items, which are then judged in their order
 abbrev pub array_faults : ℕ → (Items → List FileFault) → Data → List FileFault
 array_faults limit judge (array items) = check (nat_le (count_items items) limit) TooMany ++ judge items
 array_faults limit judge _ = BadValue ∷ []
@@ -87,6 +90,7 @@ abbrev pub items_faults : (Data → List FileFault) → Items → List FileFault
 items_faults judge no_items = []
 items_faults judge (item value rest) = judge value ++ items_faults judge rest
 
+-- each item of an array is a string
 abbrev pub are_strings : Items → Bool
 are_strings no_items = true
 are_strings (item (string s) rest) = are_strings rest
@@ -97,23 +101,27 @@ abbrev pub code_faults : Data → List FileFault
 code_faults (array items) = check (are_strings items) BadValue ++ check (nat_le (count_items items) 1024) TooMany
 code_faults _ = BadValue ∷ []
 
--- ---- what stands at a place, or a plain value where it is of another kind
+-- ---- what is at a place, or a plain value if it is of another kind
 
+-- the integer that a value is, or another one if it is none
 abbrev pub integer_or : ℤ → Option Data → ℤ
 integer_or otherwise (Some (integer z)) = z
 integer_or otherwise _ = otherwise
 
--- the priority, 0 where there is none
+-- the priority, 0 if there is none
 abbrev pub pri_in : Members → ℤ
 pri_in owner = integer_or (pos 0) (get_member (codes "pri") owner)
 
+-- the number that a value is, or another one if it is none
 abbrev pub number_or : ℕ → Option Data → ℕ
 number_or otherwise value = unsigned_abs (integer_or (pos otherwise) value)
 
+-- the boolean that a value is, or another one if it is none
 abbrev pub boolean_or : Bool → Option Data → Bool
 boolean_or otherwise (Some (boolean b)) = b
 boolean_or otherwise _ = otherwise
 
+-- the bytes of a string, none of another value
 abbrev pub string_or_nothing : Option Data → List ℕ
 string_or_nothing (Some (string s)) = s
 string_or_nothing _ = []
@@ -122,10 +130,12 @@ string_or_nothing _ = []
 abbrev pub source_in : Members → Source
 source_in owner = unwrap_or (source_of (string_or_nothing (get_member (codes "source") owner))) Ports
 
+-- the items of an array, none of another value
 abbrev pub items_or_none : Option Data → Items
 items_or_none (Some (array items)) = items
 items_or_none _ = no_items
 
+-- the members of a table, none of another value
 abbrev pub members_or_none : Data → Members
 members_or_none (table members) = members
 members_or_none _ = no_members

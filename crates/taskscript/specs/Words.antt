@@ -1,5 +1,5 @@
 -- The words of a body. The scripts of this simulator are our own; a word that is named as a call of
--- exec.library stands for that call.
+-- exec.library represents that call.
 use Rattle.std.specs.Prelude.{ℕ, Bool, bytes_eq, find, map, List, ◌++◌, Option}
 use Rattle.taskscript.specs.declared.word.Word.{Word}
 use Rattle.taskscript.specs.declared.word.Word.TheVariants.{Plain, Signals, Nesting, Tasks, Lists, Memory, Ports, Semaphores, Interrupts, Libraries, Requests}
@@ -35,7 +35,7 @@ row (Requests word) = request_row word
 abbrev pub word_text : Word → List ℕ
 word_text word = (row word).text
 
--- whether a word answers: only before such a word a target may stand
+-- whether a word answers: only before such a word a target may be
 abbrev pub answers : Word → Bool
 answers word = (row word).answers
 

@@ -1,12 +1,14 @@
 //! The code of one body: its lines are read one after another, and then its jumps and variables get
 //! their numbers.
-ghost use Rattle.std.specs.Prelude.{◌≡◌, ◌<◌, ◌≤◌, ◌^◌, ◌+◌, map, length, OnOk, Some};
+ghost use Rattle.std.specs.List.{cons_option};
+ghost use Rattle.std.specs.Prelude.{◌≡◌, ◌<◌, ◌≤◌, ◌^◌, ◌+◌, ◌++◌, ◌∷◌, [], map, length, IfOk, OnOk, Some};
 ghost use Rattle.toml.specs.View.{view, items_view};
 ghost use Rattle.taskscript.specs.Bodies.{nothing_read, reading_view, reading_after, faults_after, ReadsOn};
 ghost use Rattle.taskscript.specs.Meaning.{says};
 ghost use Rattle.taskscript.specs.Code.{line_in, lines_in, body_faults, code_of, shared_after};
 ghost use Rattle.taskscript.specs.Commands.{command_view};
 ghost use Rattle.taskscript.specs.Faults.{Judges};
+ghost use Rattle.taskscript.specs.Listings.{body_listing, command_lines, number_said};
 ghost use Rattle.taskscript.specs.Lines.{label_line, command_line, named_command_view};
 ghost use Rattle.taskscript.specs.Numbering.{texts};
 ghost use Rattle.taskscript.specs.Records.{setting_view};
@@ -17,6 +19,7 @@ use crate::fault::FileFault;
 use crate::interrupting::{Setting, judge_command};
 use crate::label::LabelName;
 use crate::line::read_line;
+use crate::listing::BodyListing;
 use crate::named::{Line, NamedCommand};
 use crate::numbering::see_command;
 use crate::resolving::commands_in;
@@ -28,8 +31,10 @@ use toml::Value;
 /// The greatest number of lines of a body.
 pub const LINE_LIMIT: usize = 1024;
 
-// The text of an item; one that is no string is read as the empty text, which says nothing.
-fn line_in(item: &Value) -> &str
+/// The text of an item of a `code`; one that is no string is read as the empty text, which says nothing.
+///
+/// Source: project rule.
+pub fn line_in(item: &Value) -> &str
     ensures { result.now ≡ line_in (view item.now) }
 {
     match item.as_str() {
@@ -38,7 +43,7 @@ fn line_in(item: &Value) -> &str
     }
 }
 
-// A label is read; NotInInterrupt in the body of an interrupt, and BadLabel where it stood before.
+// A label is read; NotInInterrupt in the body of an interrupt, and BadLabel where it was before.
 fn add_label(
     setting: Setting<'_>,
     body: &mut Body,
@@ -51,6 +56,7 @@ fn add_label(
         (reading_view body.new shared.now.keys)
         (Some (label_line name.bytes)) }
     ensures commands { OnOk result (body.new.commands.items ≡ body.old.commands.items) }
+    ensures lines { OnOk result (body.new.lines.items ≡ body.old.lines.items) }
 {
     if setting.of_interrupt {
         return Err(FileFault::NotInInterrupt);
@@ -62,10 +68,11 @@ fn add_label(
     }
 }
 
-// A command is read; TooMany where it has a variable past its limit, after the faults that it has by its body.
+// A command is read, which is in the line of that number; TooMany if it has a variable past its limit, after the faults that it has by its body.
 fn add_command(
     setting: Setting<'_>,
     body: &mut Body,
+    number: u16,
     command: NamedCommand,
     shared: &mut IndexSet<VariableName>,
 ) -> Result<(), FileFault>
@@ -74,18 +81,21 @@ fn add_command(
         (reading_view body.new shared.new.keys)
         (Some (command_line (named_command_view command))) }
     ensures commands { OnOk result (length body.new.commands.items ≡ length body.old.commands.items + 1) }
+    ensures lines { OnOk result (body.new.lines.items ≡ body.old.lines.items ++ number ∷ []) }
 {
     judge_command(setting, &command)?;
     see_command(&command, &mut body.private, shared)?;
     body.commands.push(command)?;
+    body.lines.push(number)?;
     Ok(())
 }
 
-// One more line of the body is read.
+// One more line of the body is read, which has that number.
 fn add_line(
     alloc: Global,
     setting: Setting<'_>,
     body: &mut Body,
+    number: u16,
     line: &str,
     shared: &mut IndexSet<VariableName>,
 ) -> Result<(), FileFault>
@@ -95,10 +105,11 @@ fn add_line(
         (reading_view body.new shared.new.keys)
         (says line.now) }
     ensures commands { OnOk result (length body.new.commands.items ≤ length body.old.commands.items + 1) }
+    ensures lines { OnOk result (body.new.lines.items ≡ body.old.lines.items ++ cons_option (number_said number (says line.now)) []) }
 {
     match read_line(alloc, line)? {
         Line::Label(name) => add_label(setting, body, name, shared),
-        Line::Command(command) => add_command(setting, body, command, shared),
+        Line::Command(command) => add_command(setting, body, number, command, shared),
     }
 }
 
@@ -109,47 +120,62 @@ fn body_of(
     shared: &mut IndexSet<VariableName>,
 ) -> Result<Body, FileFault>
     requires { length lines.now ≤ 1024 }
-    ensures { let start = nothing_read (texts shared.old.keys) in
+    ensures judged { let start = nothing_read (texts shared.old.keys) in
         let all = lines_in (items_view lines.now) in
         Judges result (faults_after (setting_view setting.entry) start all) (λ body. reading_view body shared.new.keys ≡ reading_after start all) }
+    ensures lines { IfOk result (λ body. body.lines.items ≡ command_lines (lines_in (items_view lines.now))) }
 {
     let mut body = Body {
         commands: Vec::new(alloc),
+        lines: Vec::new(alloc),
         private: IndexSet::new(alloc),
         labels: IndexMap::new(alloc),
     };
-    for item in lines {
-        add_line(alloc, setting, &mut body, line_in(item), shared)?;
+    for (i, item) in lines.iter().enumerate() {
+        add_line(alloc, setting, &mut body, i as u16, line_in(item), shared)?;
     }
     Ok(body)
 }
 
-/// The commands of a body, whose lines are these items.
+/// The commands of a body with its listing.
+#[derive(Drop)]
+pub struct Code {
+    pub commands: Vec<Command>,
+    pub listing: BodyListing,
+}
+
+/// The commands of a body, whose lines are these items, and its listing.
 ///
 /// `setting` says whether it is the body of an interrupt, and has the names of the software interrupts of
 /// the file. `shared` has the names of shared variables that the bodies before it named, in the order of
 /// first sight, and gets those of this one. A body of more than 1,024 lines is TooMany. Then the first
-/// faulty line decides: BadCommand where it says nothing, or names a software interrupt that the file
-/// lacks; NotInInterrupt where it may not stand in the body of an interrupt; BadLabel where it is a label
-/// that stood before; TooMany where it has the 33rd private variable of the body or the 65th shared one of
+/// faulty line decides: BadCommand if it says nothing, or names a software interrupt that the file
+/// lacks; NotInInterrupt where it may not be in the body of an interrupt; BadLabel if it is a label
+/// that was before; TooMany if it has the 33rd private variable of the body or the 65th shared one of
 /// the file. If no line is faulty, a jump to a label that is not in the body is BadLabel. After an `Err`
 /// nothing is said of `shared`. The lines are our own.
-///
-/// Source: own choice.
 pub fn read_code(
     alloc: Global,
     setting: Setting<'_>,
     lines: &[Value],
     shared: &mut IndexSet<VariableName>,
-) -> Result<Vec<Command>, FileFault>
+) -> Result<Code, FileFault>
     ensures judged { let before = texts shared.old.keys in
         let all = lines_in (items_view lines.now) in
-        Judges result (body_faults (setting_view setting.entry) before all) (λ code. map command_view code.items ≡ code_of before all) }
+        Judges result (body_faults (setting_view setting.entry) before all) (λ code. map command_view code.commands.items ≡ code_of before all) }
+    ensures listing { IfOk result (λ code. code.listing ≡ body_listing (texts shared.old.keys) (lines_in (items_view lines.now))) }
     ensures shared { OnOk result (texts shared.new.keys ≡ shared_after (texts shared.old.keys) (lines_in (items_view lines.now))) }
 {
     if lines.len() > LINE_LIMIT {
         return Err(FileFault::TooMany);
     }
     let body = body_of(alloc, setting, lines, shared)?;
-    commands_in(alloc, &body.commands, &body.private, shared, &body.labels)
+    let commands = commands_in(alloc, &body.commands, &body.private, shared, &body.labels)?;
+    Ok(Code {
+        commands,
+        listing: BodyListing {
+            lines: body.lines,
+            private: body.private,
+        },
+    })
 }

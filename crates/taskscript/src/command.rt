@@ -1,5 +1,5 @@
 //! Commands: what the lines of a body say, with numbers for the names of variables. Since at most one argument of a command is a name, the name
-//! stands beside the arguments.
+//! is beside the arguments.
 ghost use Rattle.std.specs.Prelude.{◌≤◌};
 
 use crate::name::Name;
@@ -13,7 +13,7 @@ pub enum Argument {
     Number(u32),
     /// What a variable holds when the command runs.
     Variable(Variable),
-    /// The name of the command, which stood between double quotes.
+    /// The name of the command, which was between double quotes.
     Quoted,
     /// The place (from 0) of a command of the body, or the number of its commands.
     Place(u32),
@@ -30,7 +30,7 @@ pub struct Command {
     pub arguments: [Argument; 4],
     /// How many arguments there are: 0 to 4.
     pub count: u8,
-    /// The name among the arguments; where none is a name, it means nothing.
+    /// The name among the arguments; if none is a name, it means nothing.
     pub name: Name,
     ghost few: { count ≤ 4 },
 }

@@ -8,9 +8,9 @@ use std::marker::Model;
 /// One event.
 #[derive(Clone, Copy, Debug, PartialEq, Eq)]
 pub enum Event {
-    /// So many steps, each followed by a settle: 1 to 1,000,000.
+    /// That many steps, each followed by a settle: 1 to 1,000,000.
     Run(u32),
-    /// So many ticks of the vertical blank, each followed by a settle: 1 to 1,000,000.
+    /// That many ticks of the vertical blank, each followed by a settle: 1 to 1,000,000.
     Tick(u32),
     /// One request of an interrupt by that source, PORTS or EXTER, followed by a settle.
     Irq(Source),
@@ -69,8 +69,6 @@ impl Events {
     }
 
     /// The events, in their order.
-    ///
-    /// Source: own choice.
     pub fn list(&self) -> &[Event]
         ensures events { result.now ≡ self.now }
         ensures within { AreWithin self.now }

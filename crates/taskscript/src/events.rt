@@ -115,10 +115,10 @@ fn events_of(alloc: Global, lines: &[&[u8]]) -> Result<Events, EventFault>
 ///
 /// # Errors
 ///
-/// The first faulty line decides: `BadLine` where it is no event, `TooMany` where it takes the sum of the steps or that of the
+/// The first faulty line decides: `BadLine` if it is no event, `TooMany` if it takes the sum of the steps or that of the
 /// ticks past 1,000,000 or the events past 100,000. `OutOfMemory` may come wherever memory is refused.
 ///
-/// The format is this project's own choice.
+/// The format is a project rule.
 pub fn read_events(alloc: Global, text: &[u8]) -> Result<Events, EventFault>
     ensures { MatchResult result (λ events. script_of text.now ≡ Ok events) (λ f. ¬ (f ≡ OutOfMemory) → script_of text.now ≡ Err f) }
 {

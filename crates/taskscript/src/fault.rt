@@ -7,55 +7,55 @@ ghost use Rattle.taskscript.specs.Faults.{file_fault_name, file_fault_number, ev
 use std::alloc::{AllocError, AllocFailed};
 use thiserror::Error;
 
-/// The fault of a machine file.
+/// The fault of a machine file. It is shown by its name, as the program shows it.
 ///
-/// The first faulty place of the file decides. Each fault has a number, from 1 in the order in which they stand here (own choice).
+/// The first faulty place of the file decides. Each fault has a number, from 1 in the order in which they are here (project rule).
 #[derive(Clone, Copy, Debug, PartialEq, Eq, Error)]
 pub enum FileFault {
     /// The bytes are no text in UTF-8, or the text is no TOML document.
-    #[error("the text is no TOML document")]
+    #[error("NotToml")]
     NotToml = 1,
     /// A table has a key that is not listed for it.
-    #[error("a table has an unknown key")]
+    #[error("UnknownKey")]
     UnknownKey = 2,
     /// A table lacks a key that it must have.
-    #[error("a table lacks a key")]
+    #[error("MissingKey")]
     MissingKey = 3,
     /// A value is of another kind than its key asks for, or out of its range.
-    #[error("a value is of the wrong kind or out of range")]
+    #[error("BadValue")]
     BadValue = 4,
     /// A name was used before.
-    #[error("a name stands twice")]
+    #[error("NameTwice")]
     NameTwice = 5,
     /// The regions of memory overlap, are misaligned or too large.
-    #[error("the regions of memory are refused")]
+    #[error("BadRegions")]
     BadRegions = 6,
     /// A line of a body has not the form of a label or of a command, or it names a software interrupt that the file lacks.
-    #[error("a line is no command")]
+    #[error("BadCommand")]
     BadCommand = 7,
-    /// A label stands twice in a body, or a jump names a label that is not in its body.
-    #[error("a label stands twice or is lacking")]
+    /// A label is twice in a body, or a jump names a label that is not in its body.
+    #[error("BadLabel")]
     BadLabel = 8,
-    /// A line that is right in a task stands in the body of a software interrupt or of a server, where it is not allowed.
-    #[error("a line is not allowed in an interrupt")]
+    /// A line that is right in a task is in the body of a software interrupt or of a server, where it is not allowed.
+    #[error("NotInInterrupt")]
     NotInInterrupt = 9,
     /// There are more regions, libraries, software interrupts, servers, tasks, lines or variables than the limits allow.
-    #[error("there are too many regions, libraries, software interrupts, servers, tasks, lines or variables")]
+    #[error("TooMany")]
     TooMany = 10,
     /// Memory was refused while the file was read.
-    #[error("out of memory")]
+    #[error("OutOfMemory")]
     OutOfMemory = 11,
 }
 
 impl FileFault {
-    /// The number of the fault, 1 to 11 (own choice).
+    /// The number of the fault, 1 to 11 (project rule).
     pub fn number(self) -> u8
         ensures { result ≡ file_fault_number self }
     {
         self as u8
     }
 
-    /// The name of the fault, as it stands here (own choice).
+    /// The name of the fault, as it is here (project rule).
     pub fn name(self) -> &'static str
         ensures { result.now ≡ file_fault_name self }
     {
@@ -91,24 +91,24 @@ impl<T: Drop> From<AllocFailed<T>> for FileFault {
     }
 }
 
-/// The fault of an event text.
+/// The fault of an event text. It is shown by its name, and the number of the line that is no event, as the program shows it.
 ///
-/// The first faulty line decides. The numbers are 1, 2 and 3 in the order in which they stand here (own choice).
+/// The first faulty line decides. The numbers are 1, 2 and 3 in the order in which they are here (project rule).
 #[derive(Clone, Copy, Debug, PartialEq, Eq, Error)]
 pub enum EventFault {
     /// The line of this number, counted from 1 with the lines that are skipped, is no event.
-    #[error("line {0} is no event")]
+    #[error("BadLine {0}")]
     BadLine(usize),
     /// A line takes the sum of the steps or that of the ticks past 1,000,000, or the number of the events past 100,000.
-    #[error("there are too many events, steps or ticks")]
+    #[error("TooMany")]
     TooMany,
     /// Memory was refused while the text was read.
-    #[error("out of memory")]
+    #[error("OutOfMemory")]
     OutOfMemory,
 }
 
 impl EventFault {
-    /// The number of the fault, 1 to 3, whatever its line (own choice).
+    /// The number of the fault, 1 to 3, whatever its line (project rule).
     pub fn number(self) -> u8
         ensures { result ≡ event_fault_number self }
     {

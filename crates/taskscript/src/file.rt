@@ -109,8 +109,8 @@ impl Model for MachineFile {
 }
 
 impl MachineFile {
-    /// The version of the rules that the machine goes by: 1, or 2, in which libraries give way where memory is lacking and regions may have
-    /// 4,194,304 bytes in all; 1 where `version` does not stand in the file (own choice).
+    /// The version of the rules that the machine goes by: 1, or 2, in which libraries are expunged under low memory if memory is refused and regions may have
+    /// 4,194,304 bytes in all; 1 if `version` is not in the file (project rule).
     pub fn version(&self) -> u8
         ensures version { result ≡ self.now.version }
         ensures machine { IsMachine self.now }
@@ -126,8 +126,8 @@ impl MachineFile {
         self.quantum
     }
 
-    /// The microseconds that the clock of timer.device gains at each tick: 1 to 1,000,000, or 20,000 where `tick_micros` does not stand in the
-    /// file (own choice: the vertical blank comes 50 times a second).
+    /// The microseconds that the clock of timer.device gains at each tick: 1 to 1,000,000, or 20,000 if `tick_micros` is not in the
+    /// file (project rule: the vertical blank comes 50 times a second).
     pub fn tick_micros(&self) -> u32
         ensures tick_micros { result ≡ self.now.tick_micros }
         ensures machine { IsMachine self.now }
@@ -135,8 +135,8 @@ impl MachineFile {
         self.tick_micros
     }
 
-    /// The number that stands at `pool`: 1 to 1,024, or 64 where none stands. So many objects of each kind may
-    /// live at once (own choice).
+    /// The number that is at `pool`: 1 to 1,024, or 64 if none is. That many objects of each kind may
+    /// live at once (project rule).
     pub fn pool(&self) -> u32
         ensures pool { result ≡ self.now.pool }
         ensures machine { IsMachine self.now }
@@ -177,8 +177,6 @@ impl MachineFile {
     }
 
     /// The tasks, in the order of the file: at most 64. The first one is task 1.
-    ///
-    /// Source: own choice.
     pub fn tasks(&self) -> &[TaskRecord]
         ensures tasks { map task_view result.now ≡ self.now.tasks }
         ensures machine { IsMachine self.now }

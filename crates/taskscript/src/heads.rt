@@ -25,13 +25,13 @@ use toml::{Table, Value};
 
 /// What the first pass keeps of an item that has a name.
 pub trait Named: Copy {
-    /// The data that it stands for.
+    /// The data that it represents.
     ghost Shown: { Type 0 };
 
     /// The faults of an item's table after the names before it.
     ghost faults: { List (List ℕ) → Members → List FileFault };
 
-    /// What it stands for.
+    /// What it represents.
     ghost head_view: { Self → Shown };
 
     /// The one of an item.
@@ -48,10 +48,10 @@ pub trait Head: Named {
     /// What it is with its code.
     type Record: Drop;
 
-    /// The data that it stands for with its code.
+    /// The data that it represents with its code.
     ghost Whole: { Type 0 };
 
-    /// What a record stands for.
+    /// What a record represents.
     ghost record_view: { Self.Record → Whole };
 
     /// The one of an item, with those commands.
@@ -99,7 +99,7 @@ fn name_at(table: &Table, names: &mut Vec<Name>) -> Result<Name, FileFault>
         None => return Err(FileFault::BadValue),
         Some(text) => text,
     };
-    if !is_name(text) {
+    if !is_name(text.as_bytes()) {
         return Err(FileFault::BadValue);
     }
     if is_among(names, text) {
@@ -312,8 +312,6 @@ fn heads_of<H: Named>(
 }
 
 /// The heads of the items of the array that the key holds, at most `limit`, or none; their names are added to those before them.
-///
-/// Source: own choice.
 #[tactic(auto, using(crate::proofs::Keys::count_items_view))]
 pub fn heads_at<H: Named>(
     alloc: Global,

@@ -16,7 +16,10 @@ fn has_identifier_bytes(bytes: &[u8]) -> bool
     })
 }
 
-fn is_identifier(bytes: &[u8]) -> bool
+/// Whether the bytes are the name of a variable or of a label: a letter `a` to `z`, then letters, digits and `_`, 1 to 16 characters together.
+///
+/// Source: project rule.
+pub fn is_identifier(bytes: &[u8]) -> bool
     ensures { result ≡ is_identifier bytes.now }
 {
     if bytes.len() < 1 || bytes.len() > 16 {
@@ -29,7 +32,7 @@ fn is_identifier(bytes: &[u8]) -> bool
 }
 
 /// The text as a name, if it is one: a letter `a` to `z`, then letters, digits and `_`, 1 to 16
-/// characters together (own choice).
+/// characters together (project rule).
 pub fn identifier_of(text: &str) -> Option<Identifier>
     ensures { option_map (λ n. n.bytes) result ≡ identifier_in text.now }
 {

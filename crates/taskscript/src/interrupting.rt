@@ -23,7 +23,10 @@ pub struct Setting<'a> {
     pub softints: &'a [Name],
 }
 
-fn is_word_of_interrupt(word: Word) -> bool
+/// Whether the body of a software interrupt or of a server may have the word.
+///
+/// Source: project rule.
+pub fn is_word_of_interrupt(word: Word) -> bool
     ensures { result ≡ is_word_of_interrupt word }
 {
     match word {
@@ -107,8 +110,8 @@ fn are_known(softints: &[Name], kinds: &[Kind], arguments: &[NamedArgument]) -> 
     true
 }
 
-/// Judges a command by its body: BadCommand where it names a software interrupt that the file lacks, and NotInInterrupt where it may not stand
-/// in the body of an interrupt. The words of interrupts are our own choice.
+/// Judges a command by its body: BadCommand if it names a software interrupt that the file lacks, and NotInInterrupt where it may not be
+/// in the body of an interrupt. The words of interrupts are a project rule.
 pub fn judge_command(setting: Setting<'_>, command: &NamedCommand) -> Result<(), FileFault>
     ensures { let s = setting_view setting.entry in
         let said = named_command_view command.now in

@@ -8,8 +8,6 @@ use crate::identifier::{Identifier, identifier_of};
 pub type LabelName = Identifier;
 
 /// The label of a label line, which is its name and `:`.
-///
-/// Source: own choice.
 pub fn label_in(field: &str) -> Option<LabelName>
     ensures { option_map (λ n. n.bytes) result ≡ label_in field.now }
 {

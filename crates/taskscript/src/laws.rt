@@ -1,4 +1,4 @@
-//! Laws of lines: what a line says is one thing, by the relation `Says`, and the machine of a file is made of just that. The functions
+//! Laws of lines: what a line says is one thing, by the relation `Says`, and the machine of a file is made of exactly that. The functions
 //! do nothing; their contracts are the laws.
 ghost use Rattle.std.specs.Prelude.{◌≡◌, ℕ, List, Some, None};
 ghost use Rattle.taskscript.specs.Lines.{LineData, NamedCommandData, fields};
@@ -6,43 +6,31 @@ ghost use Rattle.taskscript.specs.Meaning.{says};
 ghost use Rattle.taskscript.specs.Says.{IsLine, Says, Meaning};
 
 /// A line has at most one command.
-///
-/// Source: own choice.
 pub fn one_command()
     ensures { (fields : List (List ℕ)) (c d : NamedCommandData) → IsLine fields c → IsLine fields d → c ≡ d }
 {}
 
 /// A line is one label or one command, and not both.
-///
-/// Source: own choice.
 pub fn one_meaning()
     ensures { (fields : List (List ℕ)) (x y : LineData) → Says fields x → Says fields y → x ≡ y }
 {}
 
 /// Any two functions that the relation determines answer the same of all fields.
-///
-/// Source: own choice.
 pub fn one_reading()
     ensures { (m n : Meaning) (fields : List (List ℕ)) → m.answer fields ≡ n.answer fields }
 {}
 
 /// What a line says is read from it.
-///
-/// Source: own choice.
 pub fn said_line_is_read()
     ensures { (line : List ℕ) (x : LineData) → Says (fields line) x → says line ≡ Some x }
 {}
 
 /// What is read from a line is what it says.
-///
-/// Source: own choice.
 pub fn read_line_is_said()
     ensures { (line : List ℕ) (x : LineData) → says line ≡ Some x → Says (fields line) x }
 {}
 
 /// A line that is refused says nothing.
-///
-/// Source: own choice.
 pub fn refused_line_says_nothing()
     ensures { (line : List ℕ) (x : LineData) → says line ≡ None → ¬ Says (fields line) x }
 {}

@@ -15,6 +15,7 @@ mod interrupting;
 mod label;
 mod laws;
 mod line;
+mod listing;
 mod name;
 mod named;
 mod number;
@@ -30,21 +31,29 @@ mod variable;
 mod word;
 
 pub use accepted::{accepted_events_are_within, accepted_file_is_machine};
+pub use code::{LINE_LIMIT, line_in};
 pub use command::{Argument, Command};
 pub use event::{Event, Events};
 pub use events::read_events;
 pub use fault::{EventFault, FileFault};
 pub use file::{LibraryRecord, MachineFile, ServerRecord, SoftintRecord, TaskRecord};
+pub use identifier::is_identifier;
+pub use interrupting::is_word_of_interrupt;
 pub use laws::{
     one_command, one_meaning, one_reading, read_line_is_said, refused_line_says_nothing,
     said_line_is_read,
 };
-pub use name::Name;
-pub use reading::read_machine;
+pub use listing::{BodyListing, Listed, Listing};
+pub use name::{Name, is_name};
+pub use number::number_of;
+pub use numbering::{PRIVATE_LIMIT, SHARED_LIMIT};
+pub use owners::lines_of;
+pub use reading::{read_listed, read_machine};
 pub use regions::{regions_at, total_of};
 pub use source::Source;
+pub use tree::{are_strings, is_softint_pri, items_at, member};
 pub use variable::{Variable, VariableName};
 pub use word::{
     InterruptWord, Kind, LibraryWord, ListWord, MemoryWord, NestingWord, PlainWord, PortWord,
-    RequestWord, SemaphoreWord, SignalWord, TaskWord, Word, word_of,
+    RequestWord, SemaphoreWord, SignalWord, TaskWord, Word, word_of, words,
 };

@@ -56,7 +56,7 @@ fn argument_of(kind: Kind, field: &str) -> Option<NamedArgument>
     }
 }
 
-// One argument of each kind. An `Err` is BadCommand, or want of memory.
+// One argument of each kind. An `Err` is BadCommand, or out of memory.
 fn arguments_of(
     alloc: Global,
     kinds: &[Kind],
@@ -148,9 +148,9 @@ fn label_of(fields: &[&str]) -> Option<LabelName>
     }
 }
 
-/// What a line says, or BadCommand where it says nothing.
+/// What a line says, or BadCommand if it says nothing.
 ///
-/// `LABEL:` or `[TARGET = ]WORD{ ARGUMENT}` with single spaces (own choice).
+/// `LABEL:` or `[TARGET = ]WORD{ ARGUMENT}` with single spaces (project rule).
 #[tactic(auto, using(crate::proofs::Readings::says_is_read))]
 pub fn read_line(alloc: Global, line: &str) -> Result<Line, FileFault>
     ensures { Reads result line_view (says line.now) }

@@ -23,16 +23,14 @@ fn has_name_bytes(bytes: &[u8]) -> bool
     bytes.iter().all(|b| is_name_byte(*b))
 }
 
-/// Whether the text is a name.
-///
-/// Source: own choice.
-pub fn is_name(text: &str) -> bool
-    ensures { result ≡ is_name text.now }
+/// Whether the bytes are a name of the machine file.
+pub fn is_name(bytes: &[u8]) -> bool
+    ensures { result ≡ is_name bytes.now }
 {
-    if text.len() < 1 || text.len() > 31 {
+    if bytes.len() < 1 || bytes.len() > 31 {
         return false;
     }
-    has_name_bytes(text.as_bytes())
+    has_name_bytes(bytes)
 }
 
 fn any_named(names: &[Name], text: &str) -> bool
@@ -42,8 +40,6 @@ fn any_named(names: &[Name], text: &str) -> bool
 }
 
 /// Whether the text is one of these names.
-///
-/// Source: own choice.
 #[tactic(auto, using(crate::proofs::Names::any_texts))]
 pub fn is_among(names: &[Name], text: &str) -> bool
     ensures { result ≡ list_any (bytes_eq text.now) (texts names.now) }

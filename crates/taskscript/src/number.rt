@@ -54,8 +54,6 @@ fn below_word(bytes: &[u8], radix: u64) -> Option<u32>
 }
 
 /// The number below 2 ^ 32 that these decimal digits write, if they are such; none has a leading zero.
-///
-/// Source: own choice.
 pub fn decimal_of(bytes: &[u8]) -> Option<u32>
     ensures { result ≡ decimal_of bytes.now }
 {
@@ -90,7 +88,7 @@ fn negated(n: u32) -> Option<u32>
 }
 
 /// The word of a number from -2147483648 to 4294967295, or of `$` and 1 to 8 digits, if the field is
-/// one (own choice).
+/// one (project rule).
 pub fn number_of(bytes: &[u8]) -> Option<u32>
     ensures { result ≡ number_of bytes.now }
 {

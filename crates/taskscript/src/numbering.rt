@@ -16,7 +16,7 @@ pub const PRIVATE_LIMIT: usize = 32;
 /// The greatest number of shared variables of a file.
 pub const SHARED_LIMIT: usize = 64;
 
-// A name is seen; TooMany where its place in the order of first sight is past the limit.
+// A name is seen; TooMany if its place in the order of first sight is past the limit.
 fn see(
     names: &mut IndexSet<VariableName>,
     name: VariableName,
@@ -101,9 +101,7 @@ fn see_arguments(
 /// The names of a command are seen, the target's first, and then those of the arguments from left to
 /// right.
 ///
-/// `private` has the names of the body, and `shared` those of the file. TooMany where a number is past its limit.
-///
-/// Source: own choice.
+/// `private` has the names of the body, and `shared` those of the file. TooMany if a number is past its limit.
 pub fn see_command(
     command: &NamedCommand,
     private: &mut IndexSet<VariableName>,
@@ -118,7 +116,7 @@ pub fn see_command(
     see_arguments(command.arguments.as_slice(), private, shared)
 }
 
-// The place of a name in the order of first sight; behind the others, if it was not seen.
+// The place of a name in the order of first sight; after the others, if it was not seen.
 fn number_in(names: &IndexSet<VariableName>, name: VariableName) -> usize
     ensures { result ≡ number_in (texts names.now.keys) name.bytes }
 {
@@ -129,8 +127,6 @@ fn number_in(names: &IndexSet<VariableName>, name: VariableName) -> usize
 }
 
 /// A variable by its number, which is within its limit.
-///
-/// Source: own choice.
 pub fn variable_in(
     variable: NamedVariable,
     private: &IndexSet<VariableName>,
@@ -147,8 +143,6 @@ pub fn variable_in(
 }
 
 /// A target by its number, if there is one; the number is within its limit.
-///
-/// Source: own choice.
 pub fn target_in(
     target: Option<NamedVariable>,
     private: &IndexSet<VariableName>,

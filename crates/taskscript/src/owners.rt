@@ -1,10 +1,11 @@
 //! The software interrupts, the servers and the tasks of a machine file. A first pass judges the tree and keeps the heads of all of them, and a
 //! second one reads their bodies, in the order of the file.
-ghost use Rattle.std.specs.Prelude.{◌≡◌, ◌≤◌, length, take, map, OnOk};
+ghost use Rattle.std.specs.Prelude.{◌≡◌, ◌≤◌, length, take, map, IfOk, OnOk};
 ghost use Rattle.toml.specs.View.{table_view, view, items_view};
 ghost use Rattle.taskscript.specs.Code.{lines_in, body_faults, shared_after};
 ghost use Rattle.taskscript.specs.Faults.{Judges};
 ghost use Rattle.taskscript.specs.File.{code_lines, bodies_faults, with_bodies, shared_after_bodies, owners_faults, lines_of_all_faults, both_passes_faults};
+ghost use Rattle.taskscript.specs.Listings.{owner_listing};
 ghost use Rattle.taskscript.specs.Numbering.{texts};
 ghost use Rattle.taskscript.specs.Records.{setting_view, made_of, AreHeads, AreOwners};
 ghost use Rattle.taskscript.specs.Tree.{of_items};
@@ -14,6 +15,7 @@ use crate::fault::FileFault;
 use crate::file::{ServerRecord, SoftintRecord, TaskRecord};
 use crate::heads::{Head, ServerHead, SoftintHead, TaskHead, heads_at};
 use crate::interrupting::Setting;
+use crate::listing::{BodyListing, Listing};
 use crate::name::Name;
 use crate::tree::items_at;
 use crate::variable::VariableName;
@@ -22,7 +24,9 @@ use std::alloc::Global;
 use toml::{Table, Value};
 
 /// The lines of what has a `code`, or none.
-fn lines_of(owner: &Value) -> &[Value]
+///
+/// Source: project rule.
+pub fn lines_of(owner: &Value) -> &[Value]
     ensures { lines_in (items_view result.now) ≡ code_lines (view owner.now) }
 {
     match owner.as_table() {
@@ -31,19 +35,21 @@ fn lines_of(owner: &Value) -> &[Value]
     }
 }
 
+// What has a body, and the listing of its body.
 fn record_of<H: Head>(
     alloc: Global,
     setting: Setting<'_>,
     head: H,
     item: &Value,
     shared: &mut IndexSet<VariableName>,
-) -> Result<H::Record, FileFault>
+) -> Result<(H::Record, BodyListing), FileFault>
     requires { H.head_view head ≡ H.head_of (view item.now) }
-    ensures judged { Judges result (body_faults (setting_view setting.entry) (texts shared.old.keys) (code_lines (view item.now))) (λ r. H.record_view r ≡ made_of H.with (texts shared.old.keys) (view item.now)) }
+    ensures judged { Judges result (body_faults (setting_view setting.entry) (texts shared.old.keys) (code_lines (view item.now))) (λ r. H.record_view r.0 ≡ made_of H.with (texts shared.old.keys) (view item.now)) }
+    ensures listing { IfOk result (λ r. r.1 ≡ owner_listing (texts shared.old.keys) (view item.now)) }
     ensures shared { OnOk result (texts shared.new.keys ≡ shared_after (texts shared.old.keys) (code_lines (view item.now))) }
 {
     let code = read_code(alloc, setting, lines_of(item), shared)?;
-    Ok(head.with_code(code))
+    Ok((head.with_code(code.commands), code.listing))
 }
 
 /// The second pass over the items of an array, whose heads the first one kept.
@@ -53,17 +59,20 @@ fn records_of<H: Head>(
     heads: &[H],
     items: &[Value],
     shared: &mut IndexSet<VariableName>,
-) -> Result<Vec<H::Record>, FileFault>
+) -> Result<(Vec<H::Record>, Vec<BodyListing>), FileFault>
     requires { map H.head_view heads.now ≡ of_items H.head_of (items_view items.now) }
-    ensures judged { Judges result (bodies_faults (setting_view setting.entry) (texts shared.old.keys) (items_view items.now)) (λ rs. map H.record_view rs.items ≡ with_bodies (made_of H.with) (texts shared.old.keys) (items_view items.now)) }
+    ensures judged { Judges result (bodies_faults (setting_view setting.entry) (texts shared.old.keys) (items_view items.now)) (λ rs. map H.record_view rs.0.items ≡ with_bodies (made_of H.with) (texts shared.old.keys) (items_view items.now)) }
+    ensures listings { IfOk result (λ rs. rs.1.items ≡ with_bodies owner_listing (texts shared.old.keys) (items_view items.now)) }
     ensures shared { OnOk result (texts shared.new.keys ≡ shared_after_bodies (texts shared.old.keys) (items_view items.now)) }
 {
     let mut records = Vec::new(alloc);
+    let mut listings = Vec::new(alloc);
     for (i, item) in items.iter().enumerate() {
         let record = record_of(alloc, setting, heads[i], item, shared)?;
-        records.push(record)?;
+        records.push(record.0)?;
+        listings.push(record.1)?;
     }
-    Ok(records)
+    Ok((records, listings))
 }
 
 /// The heads of all that has a name and a code, with their names in the order of the file.
@@ -91,12 +100,13 @@ fn heads_in(alloc: Global, table: &Table) -> Result<Heads, FileFault>
     })
 }
 
-/// All that has a name and a code.
+/// All that has a name and a code, and the listing of all bodies.
 #[derive(Drop)]
 pub struct Owners {
     pub softints: Vec<SoftintRecord>,
     pub servers: Vec<ServerRecord>,
     pub tasks: Vec<TaskRecord>,
+    pub listing: Listing,
 }
 
 fn front(names: &[Name], count: usize) -> &[Name]
@@ -143,15 +153,19 @@ fn owners_in(alloc: Global, table: &Table, heads: &Heads) -> Result<Owners, File
         &mut shared,
     )?;
     Ok(Owners {
-        softints,
-        servers,
-        tasks,
+        softints: softints.0,
+        servers: servers.0,
+        tasks: tasks.0,
+        listing: Listing {
+            softints: softints.1,
+            servers: servers.1,
+            tasks: tasks.1,
+            shared,
+        },
     })
 }
 
 /// The software interrupts, the servers and the tasks of a file, by both passes.
-///
-/// Source: own choice.
 pub fn owners_at(alloc: Global, table: &Table) -> Result<Owners, FileFault>
     ensures { Judges result (both_passes_faults (table_view table.now)) (λ o. AreOwners o (table_view table.now)) }
 {

@@ -5,8 +5,6 @@ ghost use Rattle.taskscript.specs.Parsing.{quoted_in};
 use crate::name::{Name, is_name};
 
 /// The name between double quotes, if the field is one.
-///
-/// Source: own choice.
 pub fn quoted_in(field: &str) -> Option<Name>
     ensures { option_map (λ n. n.bytes) result ≡ quoted_in field.now }
 {
@@ -19,7 +17,7 @@ pub fn quoted_in(field: &str) -> Option<Name>
         return None;
     }
     let inside = &field[1..length - 1];
-    if !is_name(inside) {
+    if !is_name(inside.as_bytes()) {
         return None;
     }
     match Name::from(inside) {

@@ -1,7 +1,8 @@
 //! Reading a machine file.
-ghost use Rattle.std.specs.Prelude.{◌≡◌, map, Ok, Err, MatchResult};
+ghost use Rattle.std.specs.Prelude.{◌≡◌, map, Ok, Err, Some, IfOk, MatchResult};
 ghost use Rattle.toml.specs.View.{table_view};
 ghost use Rattle.taskscript.specs.Faults.{Judges};
+ghost use Rattle.taskscript.specs.Listings.{listing_in, listing_of};
 ghost use Rattle.taskscript.specs.Records.{library_view};
 ghost use Rattle.taskscript.specs.Tree.{of_items};
 ghost use Rattle.taskscript.specs.File.{libraries_faults, libraries_in, library_of, settings_faults, version_of, quantum_of, tick_micros_of, pool_of, faults, machine_of, file_of};
@@ -9,6 +10,7 @@ ghost use Rattle.taskscript.specs.File.{libraries_faults, libraries_in, library_
 use crate::fault::FileFault;
 use crate::file::{LibraryRecord, MachineFile};
 use crate::heads::heads_at;
+use crate::listing::Listed;
 use crate::owners::owners_at;
 use crate::regions::{regions_at, total_of};
 use crate::tree::{document, has_only, optional_number};
@@ -47,8 +49,8 @@ fn libraries_at(alloc: Global, table: &Table) -> Result<Vec<LibraryRecord>, File
     heads_at(alloc, table, "library", 32, &mut names)
 }
 
-fn machine_of(alloc: Global, table: &Table) -> Result<MachineFile, FileFault>
-    ensures { Judges result (faults (table_view table.now)) (λ m. m ≡ machine_of (table_view table.now)) }
+fn machine_of(alloc: Global, table: &Table) -> Result<Listed, FileFault>
+    ensures { Judges result (faults (table_view table.now)) (λ l. (l.machine ≡ machine_of (table_view table.now)) × (l.listing ≡ listing_of (table_view table.now))) }
 {
     if !has_only(
         table,
@@ -70,7 +72,7 @@ fn machine_of(alloc: Global, table: &Table) -> Result<MachineFile, FileFault>
     let regions = regions_at(alloc, table, total_of(settings.version))?;
     let libraries = libraries_at(alloc, table)?;
     let owners = owners_at(alloc, table)?;
-    Ok(MachineFile {
+    let machine = MachineFile {
         version: settings.version,
         quantum: settings.quantum,
         tick_micros: settings.tick_micros,
@@ -80,15 +82,34 @@ fn machine_of(alloc: Global, table: &Table) -> Result<MachineFile, FileFault>
         softints: owners.softints,
         servers: owners.servers,
         tasks: owners.tasks,
+    };
+    Ok(Listed {
+        machine,
+        listing: owners.listing,
     })
+}
+
+/// Reads a machine file as `read_machine` does, with the lines of its commands and the names of its variables.
+///
+/// # Errors
+///
+/// As `read_machine`.
+///
+/// The format is a project rule.
+pub fn read_listed(alloc: Global, bytes: &[u8]) -> Result<Listed, FileFault>
+    ensures machine { MatchResult result (λ l. file_of bytes.now ≡ Ok l.machine) (λ f. ¬ (f ≡ FileFault.OutOfMemory) → file_of bytes.now ≡ Err f) }
+    ensures listing { IfOk result (λ l. listing_in bytes.now ≡ Some l.listing) }
+{
+    let table = document(alloc, bytes)?;
+    machine_of(alloc, &table)
 }
 
 /// Reads a machine file, a TOML document.
 ///
-/// It may have `version`, 1 or 2, which is 1 where it is absent, `quantum`, 1 to 255, which is 4 where it is absent, `tick_micros`, 1 to
-/// 1000000, which is 20000 where it is absent, `pool`, 1 to 1024, which is 64 where it is absent, `region`, an array of at most 8 tables,
+/// It may have `version`, 1 or 2, which is 1 if it is absent, `quantum`, 1 to 255, which is 4 if it is absent, `tick_micros`, 1 to
+/// 1000000, which is 20000 if it is absent, `pool`, 1 to 1024, which is 64 if it is absent, `region`, an array of at most 8 tables,
 /// `library`, `softint` and `server`, arrays of at most 32 tables each, and `task`, an array of at most 64 tables. A region has `base` and
-/// `size`, 0 to 4294967295, and may have `attrs`, 0 to 7, which is 1 where it is absent, and a `pri` as a task.
+/// `size`, 0 to 4294967295, and may have `attrs`, 0 to 7, which is 1 if it is absent, and a `pri` as a task.
 ///
 /// A library has a `name` as below, which no other library has, a `version` from 0 to 65535, and a `size` in bytes, 8 to 65536. What is no
 /// library may have a library's name.
@@ -96,29 +117,31 @@ fn machine_of(alloc: Global, table: &Table) -> Result<MachineFile, FileFault>
 /// A software interrupt, a server and a task have a `name` of 1 to 31 of the characters `A`-`Z`, `a`-`z`, `0`-`9`, `.`, `_` and `-`, which no
 /// other of them all has, and a `code`, an array of at most 1,024 strings, which are its lines. A software interrupt has a `pri` of -32, -16,
 /// 0, 16 or 32. A server has a `source`, `PORTS`, `VERTB` or `EXTER`, and may have a `pri` as a task and a boolean `claim`, which is false
-/// where it is absent. A task may have a `pri` from -128 to 127, which is 0 where it is absent, and a boolean `start`, which is true where it
+/// if it is absent. A task may have a `pri` from -128 to 127, which is 0 if it is absent, and a boolean `start`, which is true if it
 /// is absent.
 ///
 /// The body of a software interrupt or of a server may have `Set`, `Add`, `Sub`, `And`, `Or`, `Print`, `Signal`, `Cause`, `PutMsg`, `GetMsg`
-/// and `ReplyMsg`, shared variables and no labels. A name that stands where a word asks for a software interrupt is that of one of the file.
+/// and `ReplyMsg`, shared variables and no labels. A name that is where a word asks for a software interrupt is that of one of the file.
 ///
 /// # Errors
 ///
 /// The first faulty place decides. First the whole tree is judged: the keys of the file, then `version`, `quantum`, `tick_micros` and
-/// `pool`, then `region`, `library`, `softint`, `server` and `task` (`BadValue` where it is no array, `TooMany` where it is too long), then
-/// item by item: `BadValue` where it is no table, `UnknownKey`, then its keys in the order `base`, `size`, `attrs`, `pri`, or `name`,
+/// `pool`, then `region`, `library`, `softint`, `server` and `task` (`BadValue` if it is no array, `TooMany` if it is too long), then
+/// item by item: `BadValue` if it is no table, `UnknownKey`, then its keys in the order `base`, `size`, `attrs`, `pri`, or `name`,
 /// `version`, `size`, or `name`, `pri`, `code`, or `name`, `source`, `pri`, `claim`, `code`, or `name`, `pri`, `start`, `code`, each
 /// `MissingKey` or `BadValue`, with `NameTwice` right after the name and `TooMany` after a `code` of strings. `BadRegions` comes after the
-/// last region, where `memlist::check_regions` refuses them, which in version 1 may have 1,048,576 bytes in all, and in version 2 may have
+/// last region, if `memlist::check_regions` refuses them, which in version 1 may have 1,048,576 bytes in all, and in version 2 may have
 /// 4,194,304. Then the bodies of all software interrupts, of all servers and of all tasks are judged: in each, line by line, `BadCommand`,
-/// `NotInInterrupt` for what is right in a task and may not stand in the body of an interrupt, `BadLabel` for a label that stands twice and
+/// `NotInInterrupt` for what is right in a task and may not be in the body of an interrupt, `BadLabel` for a label that is twice and
 /// `TooMany` for a variable past its limit, and after its last line `BadLabel` for a jump whose label the body lacks. `NotToml` comes
 /// before all else, and `OutOfMemory` may come wherever memory is refused.
 ///
-/// The format is this project's own choice.
+/// The format is a project rule.
 pub fn read_machine(alloc: Global, bytes: &[u8]) -> Result<MachineFile, FileFault>
     ensures { MatchResult result (λ m. file_of bytes.now ≡ Ok m) (λ f. ¬ (f ≡ FileFault.OutOfMemory) → file_of bytes.now ≡ Err f) }
 {
-    let table = document(alloc, bytes)?;
-    machine_of(alloc, &table)
+    match read_listed(alloc, bytes) {
+        Err(fault) => Err(fault),
+        Ok(listed) => Ok(listed.machine),
+    }
 }

@@ -45,7 +45,7 @@ fn argument_in(
     }
 }
 
-// The arguments from left to right; what stands past them is unused.
+// The arguments from left to right; what is past them is unused.
 fn arguments_in(
     named: &[NamedArgument],
     private: &IndexSet<VariableName>,
@@ -79,7 +79,7 @@ fn name_among(named: &[NamedArgument]) -> Name
     Name::new()
 }
 
-// A command with numbers and places for its names, or BadLabel where it jumps to a label that is not among these.
+// A command with numbers and places for its names, or BadLabel if it jumps to a label that is not among these.
 fn command_in(
     named: &NamedCommand,
     private: &IndexSet<VariableName>,
@@ -104,10 +104,8 @@ fn command_in(
     })
 }
 
-/// The commands with numbers and places for their names, or BadLabel where one jumps to a label that is
+/// The commands with numbers and places for their names, or BadLabel if one jumps to a label that is
 /// not among these. Their variables are within the limits, and at most one argument of each is a name.
-///
-/// Source: own choice.
 pub fn commands_in(
     alloc: Global,
     commands: &[NamedCommand],

@@ -15,8 +15,6 @@ pub enum Source {
 
 impl Source {
     /// The source of this name, if there is one.
-    ///
-    /// Source: own choice.
     pub fn named(name: &str) -> Option<Source>
         ensures { result ≡ source_of name.now }
     {
@@ -31,9 +29,7 @@ impl Source {
         }
     }
 
-    /// The name of the source, as it stands in the texts and in the trace.
-    ///
-    /// Source: own choice.
+    /// The name of the source, as it is in the texts and in the trace.
     pub fn text(self) -> &'static str
         ensures { result.now ≡ source_text self }
     {

@@ -13,8 +13,6 @@ use std::alloc::Global;
 use toml::{Table, Value};
 
 /// The tree that the bytes state. Bytes that are no UTF-8 state none.
-///
-/// Source: own choice.
 pub fn document(alloc: Global, bytes: &[u8]) -> Result<Table, FileFault>
     ensures ok { IfOk result (λ t. document_of bytes.now ≡ Some (table_view t)) }
     ensures err { IfErr result (λ f. DocumentFault f bytes.now) }
@@ -32,8 +30,6 @@ pub fn document(alloc: Global, bytes: &[u8]) -> Result<Table, FileFault>
 }
 
 /// What the key holds.
-///
-/// Source: own choice.
 pub fn member<'a>(table: &'a Table, key: &str) -> Option<&'a Value>
     ensures { option_map (λ v. view v.now) result ≡ get_member key.now (table_view table.now) }
 {
@@ -47,8 +43,6 @@ fn is_among(listed: &[&str], key: &str) -> bool
 }
 
 /// Whether each key of the table is one of those listed.
-///
-/// Source: own choice.
 pub fn has_only(table: &Table, listed: &[&str]) -> bool
     ensures { result ≡ keys_are_among (map (λ k. k.now) listed.now) (table_view table.now) }
 {
@@ -60,7 +54,7 @@ pub fn has_only(table: &Table, listed: &[&str]) -> bool
     true
 }
 
-/// The integer from `low` to `high` that the key holds, or `otherwise` where the key is absent.
+/// The integer from `low` to `high` that the key holds, or `otherwise` if the key is absent.
 fn optional_integer(
     table: &Table,
     key: &str,
@@ -89,9 +83,7 @@ fn optional_integer(
     }
 }
 
-/// The priority that the key `pri` holds, or 0 where it is absent.
-///
-/// Source: own choice.
+/// The priority that the key `pri` holds, or 0 if it is absent.
 pub fn optional_pri(table: &Table) -> Result<i8, FileFault>
     ensures { Judges result (pri_faults (table_view table.now)) (λ p. p ≡ pri_in (table_view table.now)) }
 {
@@ -99,9 +91,7 @@ pub fn optional_pri(table: &Table) -> Result<i8, FileFault>
     Ok(pri as i8)
 }
 
-/// The number from `low` to `high` that the key holds, or `otherwise` where the key is absent.
-///
-/// Source: own choice.
+/// The number from `low` to `high` that the key holds, or `otherwise` if the key is absent.
 pub fn optional_number(
     table: &Table,
     key: &str,
@@ -126,8 +116,6 @@ pub fn optional_number(
 }
 
 /// The number from `low` to `high` that the key holds.
-///
-/// Source: own choice.
 pub fn required_number(table: &Table, key: &str, low: u32, high: u32) -> Result<u32, FileFault>
     ensures exact { Judges result (required (integer_faults (pos low) (pos high)) (get_member key.now (table_view table.now))) (λ n. n ≡ number_or 0 (get_member key.now (table_view table.now))) }
     ensures low_out { IfOk result (λ n. low ≤ n) }
@@ -149,7 +137,8 @@ pub fn required_number(table: &Table, key: &str, low: u32, high: u32) -> Result<
     }
 }
 
-fn is_softint_pri(pri: i64) -> bool
+/// Whether a software interrupt may have that priority: -32, -16, 0, 16 or 32 (RKM Libraries, Exec Interrupts).
+pub fn is_softint_pri(pri: i64) -> bool
     ensures { result ≡ is_softint_pri pri }
 {
     pri == -32 || (pri == -16 || (pri == 0 || (pri == 16 || pri == 32)))
@@ -176,8 +165,6 @@ pub fn softint_pri(table: &Table) -> Result<i8, FileFault>
 }
 
 /// The source whose name the key `source` holds.
-///
-/// Source: own choice.
 pub fn required_source(table: &Table) -> Result<Source, FileFault>
     ensures { Judges result (required source_faults (get_member (codes "source") (table_view table.now))) (λ s. s ≡ source_in (table_view table.now)) }
 {
@@ -195,9 +182,7 @@ pub fn required_source(table: &Table) -> Result<Source, FileFault>
     }
 }
 
-/// The boolean that the key holds, or `otherwise` where the key is absent.
-///
-/// Source: own choice.
+/// The boolean that the key holds, or `otherwise` if the key is absent.
 pub fn optional_boolean(table: &Table, key: &str, otherwise: bool) -> Result<bool, FileFault>
     ensures { Judges result (optional boolean_faults (get_member key.now (table_view table.now))) (λ b. b ≡ boolean_or otherwise (get_member key.now (table_view table.now))) }
 {
@@ -211,8 +196,6 @@ pub fn optional_boolean(table: &Table, key: &str, otherwise: bool) -> Result<boo
 }
 
 /// The items of the array that the key holds, or none.
-///
-/// Source: own choice.
 pub fn items_at<'a>(table: &'a Table, key: &str) -> &'a [Value]
     ensures { items_view result.now ≡ items_or_none (get_member key.now (table_view table.now)) }
 {
@@ -227,8 +210,6 @@ pub fn items_at<'a>(table: &'a Table, key: &str) -> &'a [Value]
 }
 
 /// Whether the items are strings.
-///
-/// Source: own choice.
 pub fn are_strings(items: &[Value]) -> bool
     ensures { result ≡ are_strings (items_view items.now) }
 {

@@ -33,7 +33,7 @@ fn named(is_shared: bool, text: &str) -> Option<NamedVariable>
     }
 }
 
-/// The variable that a field names, if it names one: `name`, or `@name` for a shared one (own choice).
+/// The variable that a field names, if it names one: `name`, or `@name` for a shared one (project rule).
 pub fn variable_of(text: &str) -> Option<NamedVariable>
     ensures { option_map named_variable_view result ≡ variable_of text.now }
 {

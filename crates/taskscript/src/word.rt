@@ -1,9 +1,10 @@
 //! The words of a body, by group; each group has a file of its own.
 //! A word more is a variant, a place in `ALL` and a row in its group's file. A group more is a variant here, an arm of `row`, and a line
 //! of `word_of`.
-ghost use Rattle.std.specs.Prelude.{◌≡◌, bytes_eq, find};
+ghost use Rattle.std.specs.Prelude.{◌≡◌, IfOk, bytes_eq, find};
+ghost use Rattle.std.specs.Option.{option_or};
 ghost use Rattle.taskscript.specs.Rows.{row_view};
-ghost use Rattle.taskscript.specs.Words.{answers, kinds, row, word_of, word_text};
+ghost use Rattle.taskscript.specs.Words.{all_words, answers, kinds, row, word_of, word_text};
 
 mod interrupts;
 mod libraries;
@@ -29,10 +30,11 @@ pub use requests::RequestWord;
 pub use row::Kind;
 use row::Row;
 pub use semaphores::SemaphoreWord;
+use std::alloc::{AllocError, Global};
 pub use task_signals::SignalWord;
 pub use tasks::TaskWord;
 
-/// A word of a body. It begins a line, or stands after its target.
+/// A word of a body. It begins a line, or is after its target.
 #[derive(Clone, Copy, Debug, PartialEq, Eq)]
 pub enum Word {
     /// A word that sets a variable, calculates, jumps or prints.
@@ -79,18 +81,14 @@ impl Word {
         }
     }
 
-    /// The text of the word, as it stands in a line and in the trace.
-    ///
-    /// Source: own choice.
+    /// The text of the word, as it is in a line and in the trace.
     pub fn text(self) -> &'static str
         ensures { result.now ≡ word_text self }
     {
         self.row().text
     }
 
-    /// Whether the word answers, so that a target may stand before it.
-    ///
-    /// Source: own choice.
+    /// Whether the word answers, so that a target may be before it.
     pub fn answers(self) -> bool
         ensures { result ≡ answers self }
     {
@@ -98,8 +96,6 @@ impl Word {
     }
 
     /// The kinds of its arguments, from left to right.
-    ///
-    /// Source: own choice.
     pub fn kinds(self) -> &'static [Kind]
         ensures { result.now ≡ kinds self }
     {
@@ -114,21 +110,54 @@ fn found(words: &[Word], text: &str) -> Option<Word>
     words.iter().copied().find(|word| word.text() == text)
 }
 
+// What was found in earlier groups, or else the word of a text among these.
+fn found_or(earlier: Option<Word>, words: &[Word], text: &str) -> Option<Word>
+    ensures { result ≡ option_or earlier (find (λ word. bytes_eq (word_text word) text.now) words.now) }
+{
+    match earlier {
+        Some(word) => Some(word),
+        None => found(words, text),
+    }
+}
+
 /// The word of a text, if there is one. Upper and lower case count.
-///
-/// Source: own choice.
 pub fn word_of(text: &str) -> Option<Word>
     ensures { result ≡ word_of text.now }
 {
-    found(&plain::ALL, text)
-        .or(found(&task_signals::ALL, text))
-        .or(found(&nesting::ALL, text))
-        .or(found(&tasks::ALL, text))
-        .or(found(&lists::ALL, text))
-        .or(found(&memory::ALL, text))
-        .or(found(&ports::ALL, text))
-        .or(found(&semaphores::ALL, text))
-        .or(found(&interrupts::ALL, text))
-        .or(found(&libraries::ALL, text))
-        .or(found(&requests::ALL, text))
+    let plain = found(&plain::ALL, text);
+    let signals = found_or(plain, &task_signals::ALL, text);
+    let nesting = found_or(signals, &nesting::ALL, text);
+    let tasks = found_or(nesting, &tasks::ALL, text);
+    let lists = found_or(tasks, &lists::ALL, text);
+    let memory = found_or(lists, &memory::ALL, text);
+    let ports = found_or(memory, &ports::ALL, text);
+    let semaphores = found_or(ports, &semaphores::ALL, text);
+    let interrupts = found_or(semaphores, &interrupts::ALL, text);
+    let libraries = found_or(interrupts, &libraries::ALL, text);
+    found_or(libraries, &requests::ALL, text)
+}
+
+/// All words, group by group.
+///
+/// # Errors
+///
+/// When memory is refused.
+///
+/// Source: project rule.
+pub fn words(alloc: Global) -> Result<Vec<Word>, AllocError>
+    ensures { IfOk result (λ all. all.items ≡ all_words) }
+{
+    let mut all = Vec::new(alloc);
+    all.extend_from_slice(&plain::ALL)?;
+    all.extend_from_slice(&task_signals::ALL)?;
+    all.extend_from_slice(&nesting::ALL)?;
+    all.extend_from_slice(&tasks::ALL)?;
+    all.extend_from_slice(&lists::ALL)?;
+    all.extend_from_slice(&memory::ALL)?;
+    all.extend_from_slice(&ports::ALL)?;
+    all.extend_from_slice(&semaphores::ALL)?;
+    all.extend_from_slice(&interrupts::ALL)?;
+    all.extend_from_slice(&libraries::ALL)?;
+    all.extend_from_slice(&requests::ALL)?;
+    Ok(all)
 }

@@ -1,4 +1,4 @@
--- Of requests of two kinds the chosen one is the better of the chosen of each kind, and where these are equal the one that stands first.
+-- Of requests of two kinds the chosen one is the better of the chosen of each kind, and if these are equal the one that is first.
 use Rattle.std.proofs.Common.{◌≡◌, ℕ, suc, Bool, true, false, cond, not, eqb, List, [], ◌∷◌, refl, sym, ap, ◌∙◌, arith, inl, inr, Option, Some, None}
 use Rattle.std.specs.Prelude.{◌⊎◌, ◌||◌, ◌&&◌, ℤ, int_lt, filter}
 use Rattle.std.proofs.lemmas.Bool.{cond-true, cond-false, eq-eqb, ne_eqb, cases_eq, both_ways, false≢true, true≢false}
@@ -86,7 +86,7 @@ chosen_by_other key other p same (x ∷ xs) = by_case (p x) refl (chosen_by_othe
 -- ---- two kinds
 
 module _ (key : ℕ → ℤ) where
-  -- request a rather than b: it is of greater key, or of the same one and stands before
+  -- request a rather than b: it is of greater key, or of the same one and is before
   abbrev pub is_better : (a b : ℕ) → List ℕ → Bool
   is_better a b xs = is_lower key b a || (not (is_lower key a b) && is_before a b xs)
 

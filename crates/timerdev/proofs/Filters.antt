@@ -1,4 +1,4 @@
--- The requests that pass a test, and the records of those that wait, where one more comes or one goes.
+-- The requests that pass a test, and the records of those that wait, if one more comes or one goes.
 use Rattle.std.proofs.Common.{◌≡◌, ℕ, zero, suc, ◌≤◌, Bool, true, false, cond, not, eqb, List, [], ◌∷◌, ◌++◌, refl, sym, ap, ◌∙◌, arith, inl, inr}
 use Rattle.std.specs.Prelude.{◌⊎◌, ◌||◌, IsTrue, filter}
 use Rattle.std.specs.List.{All, list_any}
@@ -9,14 +9,14 @@ use Rattle.timerdev.specs.Timing.{Due, Waiting}
 use Rattle.timerdev.specs.Held.{waiting_for}
 use Rattle.timerdev.proofs.Times.{not_front, not_behind, stands_here, stands_later}
 
--- what holds of each request that stands in a list holds at each place of it
+-- what holds of each request that is in a list holds at each place of it
 pub all_that_stand : (P : ℕ → Type 0) (xs : List ℕ) → ((t : ℕ) → 1 ≤ times t xs → P t) → All P xs
 all_that_stand P [] each k d l = absurd (omega (arith, l))
 all_that_stand P (x ∷ xs) each zero d l = each x (stands_here x xs)
 all_that_stand P (x ∷ xs) each (suc k) d l =
     all_that_stand P xs (λ t here. each t (omega (arith, here, stands_later t x xs))) k d (omega (arith, l))
 
--- two tests that agree on all that stand there
+-- two tests that agree on all that are there
 pub filter_agrees : (p q : ℕ → Bool) (xs : List ℕ) → ((t : ℕ) → 1 ≤ times t xs → q t ≡ p t) → filter q xs ≡ filter p xs
 filter_agrees p q [] each = refl
 filter_agrees p q (x ∷ xs) each =
@@ -91,7 +91,7 @@ waiting_left d e r (x ∷ xs) same = by_case (cases_eq x r) (waiting_left d e r 
       ∙ ap (λ (l : List Waiting). record { request = x; due = d x } ∷ l) ih
       ∙ sym (cond-true _ _ _ stays)
 
--- a request is among those that wait just where it stands in their order
+-- a request is among those that wait exactly if it is in their order
 pub waits_where_it_stands : (d : ℕ → Due) (r : ℕ) (xs : List ℕ) → list_any (λ (w : Waiting). eqb w.request r) (waiting_for d xs)
     ≡ not (eqb (times r xs) 0)
 waits_where_it_stands d r [] = refl

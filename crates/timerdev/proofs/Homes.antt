@@ -1,10 +1,10 @@
--- Where a request stands, told by its home.
+-- Where a request is, reported by its home.
 use Rattle.std.proofs.Common.{◌≡◌, ℕ, zero, suc, ◌<◌, ◌≤◌, cond, not, eqb, List, [], ◌∷◌, length, refl, sym, ap, ◌∙◌, arith, inl, inr, Option, Some, None, is_some, slice_index_or}
 use Rattle.std.specs.Prelude.{◌⊎◌, IsSome}
 use Rattle.std.proofs.lemmas.Bool.{cond-true, eq-eqb, cases_lt}
 use Rattle.execlist.specs.Lists.{home, sequence, times, is_at}
 
--- each request stands in the header that is its home, once, and in no other
+-- each request is in the header that is its home, once, and in no other
 abbrev pub Stands : List (List ℕ) → List (Option ℕ) → Type 0
 Stands all homes = (h r : ℕ) → times r (sequence all h) ≡ cond (is_at (home homes r) h) 1 0
 
@@ -34,7 +34,7 @@ home_there all homes r h stands e = by_case (cases_lt h (length all)) where
       ∙ cond-true {A = ℕ} (eqb h h) 1 0 (eq-eqb h h refl) in
       absurd (omega (arith, here, ap (times r) (beyond all h [] outside)))
 
--- with one header, a request stands in it where it has a home
+-- with one header, a request is in it if it has a home
 pub only_header : (all : List (List ℕ)) (homes : List (Option ℕ)) (r : ℕ) → length all ≡ 1 → Stands all homes
     → times r (sequence all 0) ≡ cond (is_some (home homes r)) 1 0
 only_header all homes r one stands = stands 0 r ∙ at (home homes r) refl where

@@ -1,4 +1,4 @@
--- What the code keeps of the requests that wait, where one more comes or one goes.
+-- What the code keeps of the requests that wait, if one more comes or one goes.
 use Rattle.std.proofs.Common.{◌≡◌, ℕ, ◌+◌, ◌<◌, ◌≤◌, cond, not, eqb, List, [], ◌∷◌, ◌++◌, length, refl, sym, ap, ◌∙◌, subst, arith, inl, inr, Option, Some, None, IfSome, is_some, slice_set, slice_index_or}
 use Rattle.std.specs.Prelude.{◌⊎◌, ℤ, IsSome, filter, replicate}
 use Rattle.std.proofs.lemmas.Bool.{cond-true, cond-false, eq-eqb, ne_eqb, cases_eq, cases_lt}

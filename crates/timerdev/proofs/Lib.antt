@@ -1,3 +1,4 @@
+-- The lemma files of `timerdev`.
 pub mod Times
 pub mod Filters
 pub mod Choice
@@ -6,3 +7,4 @@ pub mod Queue
 pub mod Walk
 pub mod Keeping
 pub mod Next
+pub mod DueTimes

@@ -1,4 +1,4 @@
--- The request that finishes next is told by the first of each header whose time has come.
+-- The request that finishes next is reported by the first of each header whose time has come.
 use Rattle.std.proofs.Common.{◌≡◌, ℕ, zero, suc, ◌-◌, ◌<◌, ◌≤◌, Bool, true, false, cond, not, eqb, List, [], ◌∷◌, length, refl, sym, ap, ◌∙◌, arith, inl, inr, Option, Some, None, is_some}
 use Rattle.std.specs.Prelude.{◌⊎◌, ◌||◌, ◌&&◌, ℤ, pos, neg_ℤ, ◌-ℤ◌, int_lt, nat_le, nat_lt, nat_eq, IsSome, filter, find, map}
 use Rattle.std.specs.List.{list_any}
@@ -63,7 +63,7 @@ shifted a b by = by_case (int_lt (neg_ℤ (pos a)) (neg_ℤ (pos b))) refl where
   by_case true e = grind (arith, ints)
   by_case false e = grind (arith, ints)
 
--- the later of two that are due by now is the one of the sooner moment
+-- the later of two that are due by now is the one of the sooner due time
 of_system_sooner : (a b clock system : ℕ) → a ≤ clock → b ≤ system
     → int_lt (neg_ℤ (pos b -ℤ (pos system -ℤ pos clock))) (neg_ℤ (pos a)) ≡ nat_lt (system - b) (clock - a)
 of_system_sooner a b clock system l m = by_case (nat_lt (system - b) (clock - a)) refl where
@@ -229,7 +229,7 @@ module _ (queues all : List (List ℕ)) (homes begun : List (Option ℕ)) (dues 
           of_firsts ∙ ap (λ o. better soon (sequence all 0) o second) one ∙ ap (better soon (sequence all 0) (Some a)) other
           ∙ ap (λ k. cond k (Some a) (Some b)) (later_is_better a b own_a own_b come_a come_b ∙ sym tells)
 
-  -- what stands in a header waits
+  -- what is in a header waits
   pub home_waits : (r h : ℕ) → home homes r ≡ Some h → list_any (λ (w : Waiting). eqb w.request r)
       (waiting_for (due_in homes dues) (sequence all 0)) ≡ true
   home_waits r h e =

@@ -1,4 +1,4 @@
--- The requests of a header stand by their times, and the first of them is due if any is.
+-- The requests of a header are by their times, and the first of them is due if any is.
 use Rattle.std.proofs.Common.{◌≡◌, ℕ, suc, ◌<◌, ◌≤◌, Bool, true, false, cond, eqb, List, [], ◌∷◌, slice_set, refl, sym, ap, ◌∙◌, arith, inl, inr, Some, None}
 use Rattle.std.specs.Prelude.{◌⊎◌, ℤ, pos, neg_ℤ, int_lt, nat_le, find, fold, filter}
 use Rattle.std.proofs.lemmas.Bool.{cond-true, cond-false}
@@ -71,7 +71,7 @@ pub rises_order : (dues xs : List ℕ) → Rises (due_at dues) (order (sooner_of
 unfolding order
 rises_order dues xs = rises_all dues [] xs tt
 
--- a request that does not stand there may have another time
+-- a request that is not there may have another time
 pub order_redue : (dues : List ℕ) (r time : ℕ) (p : ℕ → Bool) (xs : List ℕ) → times r xs ≡ 0
     → order (sooner_of (slice_set dues r time)) (filter p xs) ≡ order (sooner_of dues) (filter p xs)
 order_redue dues r time p xs none =
@@ -83,7 +83,7 @@ order_redue dues r time p xs none =
 
 -- ---- the first that is due
 
--- where none is due, none is found
+-- if none is due, none is found
 late : (dues : List ℕ) (time least : ℕ) (xs : List ℕ) → time < least → NoneBefore (due_at dues) least xs
     → find (λ r. nat_le (due_at dues r) time) xs ≡ None
 late dues time least [] past none = refl

@@ -1,4 +1,4 @@
--- How often a request stands in a sequence.
+-- How often a request is in a sequence.
 use Rattle.std.proofs.Common.{◌≡◌, ℕ, suc, ◌+◌, ◌≤◌, Bool, true, false, cond, not, eqb, List, [], ◌∷◌, ◌++◌, refl, sym, ap, ◌∙◌, arith, inl, inr}
 use Rattle.std.specs.Prelude.{◌⊎◌, filter}
 use Rattle.std.proofs.lemmas.Bool.{cond-true, cond-false, eq-eqb, ne_eqb, cases_eq}
@@ -14,14 +14,14 @@ stands_later t x xs = by_case (eqb x t) where
   by_case true = omega arith
   by_case false = omega arith
 
--- a request that stands in no place of a list is not in front of it
+-- a request that is in no place of a list is not in front of it
 pub not_front : (t x : ℕ) (xs : List ℕ) → times t (x ∷ xs) ≡ 0 → x ≡ t → ⊥
 not_front t x xs none same = omega (arith, none, stands_here x xs, ap (λ k. times k (x ∷ xs)) same)
 
 pub not_behind : (t x : ℕ) (xs : List ℕ) → times t (x ∷ xs) ≡ 0 → times t xs ≡ 0
 not_behind t x xs none = omega (arith, none, stands_later t x xs)
 
--- what stands in a list with one more in front stands in the list, or is that one
+-- what is in a list with one more in front is in the list, or is that one
 pub is_front : (t x : ℕ) (xs : List ℕ) → 1 ≤ times t (x ∷ xs) → (x ≡ t) ⊎ (1 ≤ times t xs)
 is_front t x xs here = by_case (cases_eq x t) where
   by_case : (x ≡ t) ⊎ (x ≡ t → ⊥) → (x ≡ t) ⊎ (1 ≤ times t xs)

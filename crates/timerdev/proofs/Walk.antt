@@ -8,7 +8,7 @@ use Rattle.timerdev.specs.Held.{Rises, due_at, is_before, sooner_of}
 use Rattle.timerdev.proofs.Queue.{is_later, is_not_later}
 use Rattle.timerdev.proofs.Times.{stands_here, stands_later, times-joins}
 
--- no request stands twice
+-- no request is twice
 abbrev pub Once : List ℕ → Type 0
 Once seq = (n : ℕ) → times n seq ≤ 1
 
@@ -21,7 +21,7 @@ once_from seq homes h law = λ n. by_case (is_at (homes n) h) (law n) where
 less_once : (x : ℕ) (xs : List ℕ) → Once (x ∷ xs) → Once xs
 less_once x xs once = λ n. omega (arith, once n, stands_later n x xs)
 
--- a request that stands in the rest is not the one in front
+-- a request that is in the rest is not the one in front
 apart : (x y : ℕ) (xs : List ℕ) → Once (x ∷ xs) → 1 ≤ times y xs → eqb x y ≡ false
 apart x y xs once here = by_case (eqb x y) (once y) where
   by_case : (b : Bool) → cond b (suc (times y xs)) (times y xs) ≤ 1 → b ≡ false
@@ -44,7 +44,7 @@ upto (Some n) seq = part_before n seq ++ n ∷ []
 
 -- ---- two parts
 
--- where the first part ends, the second begins
+-- if the first part ends, the second begins
 after_last : (front back : List ℕ) (o : Option ℕ) → Once (front ++ back) → last front ≡ o → part_from o (front ++ back) ≡ back
 after_last [] back None once e = refl
 after_last [] back (Some m) once e = cc
@@ -86,7 +86,7 @@ parts m (x ∷ xs) here = by_case (cases_eq x m) (parts m xs) where
 
 -- ---- the walk
 
--- what stands behind the place of the walk is due later
+-- what is after the place of the walk is due later
 abbrev pub Passed : List ℕ → ℕ → Option ℕ → List ℕ → Type 0
 Passed dues due after seq = (t : ℕ) → 1 ≤ times t (part_from after seq) → due < due_at dues t
 
@@ -142,7 +142,7 @@ module _ (seq : List ℕ) (m : ℕ) (once : Once seq) (here : 1 ≤ times m seq)
 
 -- ---- the walk back from one request to another
 
--- what the walk has still to see tells whether the other one stands before
+-- what the walk has still to see says whether the other one is before
 abbrev pub Tells : (a b : ℕ) → Option ℕ → List ℕ → Type 0
 Tells a b next seq = times a (part_before b seq) ≡ times a (upto next seq)
 
@@ -182,7 +182,7 @@ module _ (dues : List ℕ) (r : ℕ) where
   goes_first [] late = refl
   goes_first (x ∷ xs) late = cond-true _ _ _ (is_later (due_at dues r) (due_at dues x) (late x (stands_here x xs)))
 
-  -- where the due times rise, none before an item is due after it
+  -- if the due times rise, none before an item is due after it
   rises_to : (front : List ℕ) (m : ℕ) (back : List ℕ) → Rises (due_at dues) (front ++ m ∷ back) → (t : ℕ) → 1 ≤ times t front
       → due_at dues t ≤ due_at dues m
   rises_to [] m back rises t here = absurd (omega (arith, here))
@@ -200,7 +200,7 @@ module _ (dues : List ℕ) (r : ℕ) where
       → put_after None r seq ≡ enqueue (sooner_of dues) seq r
   place_first due seq e passed = sym (goes_first seq (λ t here. omega (arith, e, passed t here)))
 
-  -- behind one that is due by then, and before all that are due later
+  -- after one that is due by then, and before all that are due later
   pub place_behind : (due : ℕ) (seq : List ℕ) (m : ℕ) → 1 ≤ times m seq → Rises (due_at dues) seq → due_at dues r ≡ due
       → due_at dues m ≤ due → Passed dues due (Some m) seq
       → put_after (Some m) r seq ≡ enqueue (sooner_of dues) seq r

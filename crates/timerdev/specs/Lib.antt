@@ -1,2 +1,3 @@
 pub mod Timing
 pub mod Held
+pub mod DueTimes

@@ -1,6 +1,6 @@
 -- What timer.device keeps: its clock, system time, and the requests that wait, each for a time of the clock or for a system time (Devices,
--- timer device). A request is a number of whoever keeps it. The requests that wait stand in the order in which they were begun, which is
--- never sorted: of those whose time has come, the one that finishes next is the earliest among those of the first moment.
+-- timer device). A request is a number of whoever keeps it. The requests that wait are in the order in which they were begun, which is
+-- never sorted: of those whose time has come, the one that finishes next is the earliest among those of the first due time.
 use Rattle.std.specs.Prelude.{ℕ, ℤ, pos, neg_ℤ, ◌+◌, ◌-ℤ◌, ◌==◌, nat_le, Bool, true, false, not, ◌&&◌, List, [], ◌∷◌, ◌++◌, filter, Option}
 use Rattle.std.specs.List.{list_any}
 use Rattle.std.specs.Option.{option_map}
@@ -19,7 +19,7 @@ pub record Waiting : Type 0 where
   pub due : Due
 
 -- The clock, system time, and what both gain at each tick, in microseconds; whether system time was set, and those that wait for it were
--- not looked at since; and the requests that wait, in the order in which they were begun.
+-- not looked at since; and the requests that wait, in the order in which they were begun. (RKM Devices, Timer Device)
 pub record Timer : Type 0 where
   pub clock : ℕ
   pub system : ℕ
@@ -27,13 +27,13 @@ pub record Timer : Type 0 where
   pub is_set : Bool
   pub waiting : List Waiting
 
--- no request waits; clock and system time begin at 0 (own choice)
+-- no request waits; clock and system time begin at 0 (project rule)
 abbrev pub new_timer : ℕ → Timer
 new_timer tick_micros = record { clock = 0; system = 0; tick_micros = tick_micros; is_set = false; waiting = [] }
 
 -- ---- the clock, and system time
 
--- what system time is ahead of the clock, or behind it
+-- what system time is ahead of the clock, or after it
 abbrev pub offset : Timer → ℤ
 offset timer = pos timer.system -ℤ pos timer.clock
 
@@ -41,7 +41,7 @@ offset timer = pos timer.system -ℤ pos timer.clock
 abbrev pub ticked : Timer → Timer
 ticked timer = record timer { clock = timer.clock + timer.tick_micros; system = timer.system + timer.tick_micros }
 
--- system time becomes that; the clock stays
+-- system time becomes that; the clock stays (autodoc timer.device TR_SETSYSTIME)
 abbrev pub system_set : ℕ → Timer → Timer
 system_set time timer = record timer { system = time; is_set = true }
 
@@ -51,27 +51,28 @@ looked_at timer = record timer { is_set = false }
 
 -- ---- one request that waits
 
--- the moment of the clock at which a time comes: that of a system time moves with the offset
+-- the due time of the clock at which a time comes: that of a system time moves with the offset
 abbrev pub moment : Timer → Due → ℤ
 moment timer (AtClock time) = pos time
 moment timer (AtSystem time) = pos time -ℤ offset timer
 
--- a time has come
+-- a time has come (RKM Devices, Timer Device)
 abbrev pub has_come : Timer → Due → Bool
 has_come timer (AtClock time) = nat_le time timer.clock
 has_come timer (AtSystem time) = nat_le time timer.system
 
+-- the time for which a request waits is a system time
 abbrev pub is_system : Due → Bool
 is_system (AtClock time) = false
 is_system (AtSystem time) = true
 
--- the sooner the moment of a request, the greater its priority
+-- the sooner the due time of a request, the greater its priority
 abbrev pub sooner : Timer → Waiting → ℤ
 sooner timer waiting = neg_ℤ (moment timer waiting.due)
 
 -- ---- those that wait
 
--- a request waits, behind those that were begun before
+-- a request waits, after those that were begun before
 abbrev pub begins_to_wait : ℕ → Due → Timer → Timer
 begins_to_wait request due timer = record timer { waiting = timer.waiting ++ record { request = request; due = due } ∷ [] }
 
@@ -83,11 +84,11 @@ waits_no_more request timer = record timer { waiting = filter (λ (w : Waiting).
 abbrev pub is_waiting : ℕ → Timer → Bool
 is_waiting request timer = list_any (λ (w : Waiting). w.request == request) timer.waiting
 
--- the request that finishes next of those that pass a test, if there is one: by the moment, then by the order in which they were begun
+-- the request that finishes next of those that pass a test, if there is one: by the due time, then by the order in which they were begun
 unfoldable pub next_of : (Waiting → Bool) → Timer → Option ℕ
 next_of passes timer = option_map (λ (w : Waiting). w.request) (chosen (sooner timer) (filter passes timer.waiting))
 
--- the request that finishes next, if the time of one has come
+-- the request that finishes next, if the time of one has come (RKM Devices, Timer Device)
 unfoldable pub due_next : Timer → Option ℕ
 due_next timer = next_of (λ (w : Waiting). has_come timer w.due) timer
 

@@ -6,9 +6,9 @@ ghost use Rattle.timerdev.specs.Held.{Rises, due_at, is_before};
 use crate::place::ALL;
 use execlist::space::{HeaderId, ListSpace, NodeId};
 
-/// The first request of a header that is due by that time, or none where none is.
+/// The first request of a header that is due by that time, or none if none is.
 ///
-/// The requests of the header stand by their times.
+/// The requests of the header are by their times.
 ///
 /// Source: RKM Devices, timer device: TR_ADDREQUEST.
 pub fn first_come<S: ListSpace>(space: &S, h: HeaderId, dues: &[u64], time: u64) -> Option<NodeId>
@@ -27,8 +27,6 @@ pub fn first_come<S: ListSpace>(space: &S, h: HeaderId, dues: &[u64], time: u64)
 }
 
 /// Whether request `a` comes before request `b`, which waits too: it is later by now than the other, or as late and was begun before.
-///
-/// Source: own choice.
 pub fn is_first<S: ListSpace>(space: &S, a: NodeId, late_a: u64, b: NodeId, late_b: u64) -> bool
     requires { home (S.homes space.now) b ≡ Some ALL }
     ensures { result ≡ (nat_lt late_b late_a || nat_eq late_b late_a && is_before a b (sequence (S.sequences space.now) ALL)) }
@@ -37,8 +35,6 @@ pub fn is_first<S: ListSpace>(space: &S, a: NodeId, late_a: u64, b: NodeId, late
 }
 
 /// Whether request `a` was begun before request `b`, which waits: a walk from the second back to the first of all.
-///
-/// Source: own choice.
 pub fn is_before<S: ListSpace>(space: &S, a: NodeId, b: NodeId) -> bool
     requires { home (S.homes space.now) b ≡ Some ALL }
     ensures { result ≡ is_before a b (sequence (S.sequences space.now) ALL) }

@@ -3,9 +3,12 @@ ghost use Rattle.std.specs.Prelude.{◌≡◌, ◌<◌, ◌≤◌, ◌+◌, ◌^
 ghost use Rattle.timerdev.specs.Timing.{AtClock, AtSystem, begins_to_wait, due_next, is_waiting, looked_at, new_timer, system_set, ticked, until_next, waits_no_more};
 ghost use Rattle.timerdev.specs.Held.{due_for, on_timer, taken_off};
 
+mod readers;
+
 use crate::first::{first_come, is_first};
 use crate::place::{ALL, CLOCK, SYSTEM, place_after};
 use execlist::space::{HeaderId, ListSpace};
+pub use readers::DueTime;
 use std::alloc::{AllocError, Global};
 use std::marker::Model;
 
@@ -16,7 +19,7 @@ pub type ReqId = usize;
 /// which they were begun.
 ///
 /// All room is made by `new`; no other call takes memory. `add` and `add_until` look at those requests alone that are due after the new
-/// one, and `due` at more than two only where one of the clock and one of system time are due at one moment. Devices, timer device.
+/// one, and `due` at more than two only if one of the clock and one of system time are due at one due time. Devices, timer device.
 #[derive(Drop)]
 pub struct Timer<S: ListSpace> {
     queues: S,
@@ -50,12 +53,10 @@ impl<S: ListSpace> Model for Timer<S> {
 }
 
 impl<S: ListSpace> Timer<S> {
-    /// A clock and a system time that stand at 0 and gain so many microseconds at each tick, and room for requests of so many numbers, at
+    /// A clock and a system time that are at 0 and gain that many microseconds at each tick, and room for requests of that many numbers, at
     /// most 4,096. None waits.
     ///
-    /// An error means that memory is lacking.
-    ///
-    /// Source: own choice.
+    /// An error means that memory is refused.
     pub fn new(alloc: Global, requests: usize, tick_micros: u32) -> Result<Self, AllocError>
         requires { requests ≤ 4096 }
         ensures { IfOk result (λ q. q ≡ record { room = requests; timer = new_timer tick_micros }) }
@@ -76,14 +77,14 @@ impl<S: ListSpace> Timer<S> {
 
     // ---- the clock, and system time
 
-    /// Answers the microseconds that the clock has counted. Own choice: the clock begins at 0.
+    /// Answers the microseconds that the clock has counted. Project rule: the clock begins at 0.
     pub fn now(&self) -> u64
         ensures { result ≡ self.now.timer.clock }
     {
         self.clock
     }
 
-    /// Answers system time, in microseconds. Own choice: it begins at 0. Autodoc timer.device: TR_GETSYSTIME.
+    /// Answers system time, in microseconds. Project rule: it begins at 0. Autodoc timer.device: TR_GETSYSTIME.
     pub fn sys_now(&self) -> u64
         ensures { result ≡ self.now.timer.system }
     {
@@ -92,7 +93,7 @@ impl<S: ListSpace> Timer<S> {
 
     /// Clock and system time gain the microseconds of a tick. Both sums are to stay below 2 to the power 64.
     ///
-    /// Source: RKM Devices, timer device: UNIT_VBLANK; that ticks alone move the clock is own choice.
+    /// Source: RKM Devices, timer device: UNIT_VBLANK; that ticks alone move the clock is a project rule.
     pub fn tick(&mut self)
         requires clock { self.old.timer.clock + self.old.timer.tick_micros < 2 ^ 64 }
         requires system { self.old.timer.system + self.old.timer.tick_micros < 2 ^ 64 }
@@ -111,7 +112,7 @@ impl<S: ListSpace> Timer<S> {
         self.is_set = true;
     }
 
-    /// Answers whether system time was set since this was asked last. Own choice.
+    /// Answers whether system time was set since this was asked last. Project rule.
     pub fn take_setting(&mut self) -> bool
         ensures value { result ≡ self.old.timer.is_set }
         ensures next { self.new ≡ on_timer looked_at self.old }
@@ -143,8 +144,8 @@ impl<S: ListSpace> Timer<S> {
         self.put(SYSTEM, r, at);
     }
 
-    /// Takes off the first request whose time has come and answers it, or answers none where there is none. First is the one of the first
-    /// moment, and of those of one moment the one that was begun first; the moment of a request that waits for system time is that time
+    /// Takes off the first request whose time has come and answers it, or answers none if there is none. First is the one of the first
+    /// due time, and of those of one due time the one that was begun first; the due time of a request that waits for system time is that time
     /// less what system time is ahead of the clock now. Devices, timer device: TR_ADDREQUEST.
     pub fn due(&mut self) -> Option<ReqId>
         ensures value { result ≡ due_next self.old.timer }
@@ -156,7 +157,7 @@ impl<S: ListSpace> Timer<S> {
         Some(r)
     }
 
-    /// Takes off the first request that waits for system time and whose time has come, and answers it, or answers none where there is none.
+    /// Takes off the first request that waits for system time and whose time has come, and answers it, or answers none if there is none.
     /// Autodoc timer.device: TR_SETSYSTIME; Devices, timer device: UNIT_WAITUNTIL.
     pub fn due_until(&mut self) -> Option<ReqId>
         ensures value { result ≡ until_next self.old.timer }
@@ -176,7 +177,7 @@ impl<S: ListSpace> Timer<S> {
         self.take_off(r);
     }
 
-    /// Answers whether a request waits: whether it may be cancelled, and may not be added. Own choice.
+    /// Answers whether a request waits: whether it may be cancelled, and may not be added. Project rule.
     pub fn is_queued(&self, r: ReqId) -> bool
         requires { r < self.now.room }
         ensures { result ≡ is_waiting r self.now.timer }

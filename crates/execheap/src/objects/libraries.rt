@@ -15,8 +15,6 @@ use execlist::space::ListSpace;
 impl<S: ListSpace> Objects<S> {
     /// The number of the loaded library that begins at an address, if one does. A call on libraries begins here, and learns here what
     /// always holds of the objects.
-    ///
-    /// Source: own choice.
     pub fn library_number(&self, address: u32) -> Option<LibId>
         ensures value { result ≡ library_at address self.now.table }
         ensures live { IfSome result (λ i. base_at i self.now.table.libs ≡ Some address) }
@@ -36,7 +34,7 @@ impl<S: ListSpace> Objects<S> {
         self.table.library_count(i)
     }
 
-    /// Opens the library of a name that has at least a version, loading it first where it is absent: its base, if it was opened.
+    /// Opens the library of a name that has at least a version, loading it first if it is absent: its base, if it was opened.
     ///
     /// Source: autodoc exec.library/OpenLibrary.
     pub fn open_library(&mut self, name: &str, version: u32) -> Option<u32>
@@ -72,8 +70,6 @@ impl<S: ListSpace> Objects<S> {
     // ---- found by address; or why the call is refused
 
     /// The loaded library that begins at an address.
-    ///
-    /// Source: own choice.
     pub fn library_at(&self, base: u32) -> Result<LibId, Refusal>
         ensures alert { alert_of result ≡ model.library_alert base (shown_heap self.now) }
         ensures found { IfOk result (λ i. base_at i self.now.table.libs ≡ Some base) }
@@ -86,8 +82,6 @@ impl<S: ListSpace> Objects<S> {
     }
 
     /// The loaded library that begins at an address, which is open.
-    ///
-    /// Source: own choice.
     pub fn open_library_at(&self, base: u32) -> Result<LibId, Refusal>
         ensures alert { alert_of result ≡ model.close_alert base (shown_heap self.now) }
         ensures found { IfOk result (λ i. base_at i self.now.table.libs ≡ Some base) }
@@ -109,10 +103,10 @@ impl<S: ListSpace> Objects<S> {
 
 impl<S: ListSpace> Heap<S> {
     /// Opens the library of a name that has at least a version, and answers its base. One that is absent is loaded first: it takes a block
-    /// of its size, of public memory, and others are asked to give way to it as in `alloc_mem`. It is open once more, and is not to be
-    /// expunged any more. None where there is none of the name, its version is lower, it is open 65,535 times, or its block fits nowhere;
-    /// then nothing changes but what gave way. Autodoc exec.library/OpenLibrary; the count, and that a library takes public memory: own
-    /// choice.
+    /// of its size, of public memory, and others are expunged under low memory for it as in `alloc_mem`. It is open once more, and is not to be
+    /// expunged any more. None if there is none of the name, its version is lower, it is open 65,535 times, or its block fits nowhere;
+    /// then nothing changes but what were expunged under low memory. Autodoc exec.library/OpenLibrary; the count, and that a library takes public memory: project
+    /// rule.
     pub fn open_library(&mut self, name: &str, version: u32) -> Option<u32>
         ensures answer { result ≡ model.opening name.now version self.old }
         ensures next { self.new ≡ model.opened name.now version self.old }
@@ -120,9 +114,9 @@ impl<S: ListSpace> Heap<S> {
         self.objects.open_library(name, version)
     }
 
-    /// Closes once the library that begins at an address. One that is to be expunged, and is open no more, is freed. It is refused where no
-    /// loaded library begins at the address (Handle), and where it is not open (Lib). Autodoc exec.library/CloseLibrary; the refusals: own
-    /// choice.
+    /// Closes once the library that begins at an address. One that is to be expunged, and is open no more, is freed. It is refused if no
+    /// loaded library begins at the address (Handle), and if it is not open (Lib). Autodoc exec.library/CloseLibrary; the refusals: project
+    /// rule.
     pub fn close_library(&mut self, base: u32) -> Result<(), Refusal>
         ensures alert { alert_of result ≡ model.close_alert base self.old.heap }
         ensures next { OnOk result (self.new ≡ model.closed base self.old) }
@@ -134,8 +128,8 @@ impl<S: ListSpace> Heap<S> {
     }
 
     /// Removes the library that begins at an address: one that is not open is freed, an open one is to be expunged when it is closed for the
-    /// last time. It is refused where no loaded library begins at the address (Handle). Autodoc exec.library/RemLibrary; the refusal: own
-    /// choice.
+    /// last time. It is refused if no loaded library begins at the address (Handle). Autodoc exec.library/RemLibrary; the refusal: project
+    /// rule.
     pub fn remove_library(&mut self, base: u32) -> Result<(), Refusal>
         ensures alert { alert_of result ≡ model.library_alert base self.old.heap }
         ensures next { OnOk result (self.new ≡ model.removed base self.old) }
@@ -146,8 +140,8 @@ impl<S: ListSpace> Heap<S> {
         Ok(())
     }
 
-    /// Answers how often the library that begins at an address is open. It is refused where no loaded library begins there (Handle). RKM
-    /// Libraries, Exec Libraries: `lib_OpenCnt`; the refusal: own choice.
+    /// Answers how often the library that begins at an address is open. It is refused if no loaded library begins there (Handle). RKM
+    /// Libraries, Exec Libraries: `lib_OpenCnt`; the refusal: project rule.
     pub fn library_count(&self, base: u32) -> Result<u32, Refusal>
         ensures alert { alert_of result ≡ model.library_alert base self.now.heap }
         ensures answer { IfOk result (λ answer. answer ≡ model.count_of base self.now.heap) }

@@ -24,9 +24,9 @@ use execlist::space::{HeaderId, ListSpace, NodeId};
 impl<S: ListSpace> Objects<S> {
     // ---- lists and nodes made and freed
 
-    /// A new empty list, if the pool has one left and its block fits once libraries gave way: its address.
+    /// A new empty list, if the pool has one left and its block fits once libraries were expunged under low memory: its address.
     ///
-    /// Source: autodoc amiga.lib/NewList; that it takes the memory is own choice.
+    /// Source: autodoc amiga.lib/NewList; that it takes the memory is a project rule.
     pub fn make_list(&mut self) -> Option<u32>
         ensures address { result ≡ place_for_object model.is_list model.list_size (after_asking_for_object model.is_list model.list_size (shown_memory self.old)) }
         ensures next { shown_memory self.new ≡ placed model.list_size (ListHead []) result (after_asking_for_object model.is_list model.list_size (shown_memory self.old)) }
@@ -35,9 +35,9 @@ impl<S: ListSpace> Objects<S> {
         Some(list)
     }
 
-    /// A new node with that key, if the pool has one left and its block fits once libraries gave way: its address.
+    /// A new node with that key, if the pool has one left and its block fits once libraries were expunged under low memory: its address.
     ///
-    /// Source: RKM Libraries, Exec Lists and Queues: node initialization; that it takes the memory is own choice.
+    /// Source: RKM Libraries, Exec Lists and Queues: node initialization; that it takes the memory is a project rule.
     pub fn make_node(&mut self, pri: i8, name: Option<Name>) -> Option<u32>
         ensures address { result ≡ place_for_object model.is_node model.node_size (after_asking_for_object model.is_node model.node_size (shown_memory self.old)) }
         ensures next { shown_memory self.new ≡ placed model.node_size (Node (key_with pri (option_map (λ text. text.bytes) name))) result (after_asking_for_object model.is_node model.node_size (shown_memory self.old)) }
@@ -48,8 +48,6 @@ impl<S: ListSpace> Objects<S> {
     }
 
     /// Frees an empty list.
-    ///
-    /// Source: own choice.
     pub fn free_list(&mut self, h: HeaderId, address: u32)
         requires live { slot (places variant.List self.old) h ≡ Some address }
         requires empty { sequence self.old.sequences h ≡ [] }
@@ -59,8 +57,6 @@ impl<S: ListSpace> Objects<S> {
     }
 
     /// Frees a node that is not linked.
-    ///
-    /// Source: own choice.
     pub fn free_node(&mut self, n: NodeId, address: u32)
         requires live { slot (places variant.Node self.old) n ≡ Some address }
         requires unlinked { home self.old.homes n ≡ None }
@@ -72,8 +68,6 @@ impl<S: ListSpace> Objects<S> {
     // ---- linking
 
     /// The list that has a live node, if one has.
-    ///
-    /// Source: own choice.
     pub fn home(&self, n: NodeId) -> Option<HeaderId>
         requires { IsSome (slot (places variant.Node self.now) n) }
         ensures { result ≡ home self.now.homes n }
@@ -225,8 +219,6 @@ impl<S: ListSpace> Objects<S> {
     // ---- found by address; or why the call is refused
 
     /// The list that begins at an address.
-    ///
-    /// Source: own choice.
     pub fn list_at(&self, list: u32) -> Result<HeaderId, Refusal>
         ensures alert { alert_of result ≡ model.list_alert list (shown_heap self.now) }
         ensures found { IfOk result (λ h. slot (places variant.List self.now) h ≡ Some list) }
@@ -239,8 +231,6 @@ impl<S: ListSpace> Objects<S> {
     }
 
     /// The list that begins at an address, which has no node.
-    ///
-    /// Source: own choice.
     pub fn empty_list_at(&self, list: u32) -> Result<HeaderId, Refusal>
         ensures alert { alert_of result ≡ model.free_list_alert list (shown_heap self.now) }
         ensures found { IfOk result (λ h. slot (places variant.List self.now) h ≡ Some list) }
@@ -257,8 +247,6 @@ impl<S: ListSpace> Objects<S> {
     }
 
     /// The node that begins at an address, which is not linked.
-    ///
-    /// Source: own choice.
     pub fn unlinked_node_at(&self, node: u32) -> Result<NodeId, Refusal>
         ensures alert { alert_of result ≡ model.free_node_alert node (shown_heap self.now) }
         ensures found { IfOk result (λ n. slot (places variant.Node self.now) n ≡ Some node) }
@@ -275,8 +263,6 @@ impl<S: ListSpace> Objects<S> {
     }
 
     /// The node that begins at an address, which is linked, after the list that has it.
-    ///
-    /// Source: own choice.
     pub fn linked_node_at(&self, node: u32) -> Result<(HeaderId, NodeId), Refusal>
         ensures alert { alert_of result ≡ model.linked_alert node (shown_heap self.now) }
         ensures found { IfOk result (λ pair. slot (places variant.Node self.now) pair.1 ≡ Some node) }
@@ -293,8 +279,6 @@ impl<S: ListSpace> Objects<S> {
     }
 
     /// The list that begins at an address, and the node that begins at another and is not linked.
-    ///
-    /// Source: own choice.
     pub fn to_link(&self, list: u32, node: u32) -> Result<(HeaderId, NodeId), Refusal>
         ensures alert { alert_of result ≡ model.link_alert list node (shown_heap self.now) }
         ensures list { IfOk result (λ pair. slot (places variant.List self.now) pair.0 ≡ Some list) }
@@ -307,7 +291,7 @@ impl<S: ListSpace> Objects<S> {
         Ok((h, n))
     }
 
-    /// Whether a node, if there is one, stands in a list.
+    /// Whether a node, if there is one, is in a list.
     fn is_in(&self, pred: Option<NodeId>, h: HeaderId) -> bool
         requires { ForSome pred (λ p. IsSome (slot (places variant.Node self.now) p)) }
         ensures { result ≡ is_none_or_in pred h self.now.homes }
@@ -335,8 +319,6 @@ impl<S: ListSpace> Objects<S> {
 
     /// The list and the node that begin at addresses, the node not linked, and the node of the list that begins at a third one, or none
     /// for 0.
-    ///
-    /// Source: own choice.
     pub fn to_insert(
         &self,
         list: u32,
@@ -372,7 +354,7 @@ impl<S: ListSpace> Objects<S> {
 
     /// Where FindName begins: at the first node of the list that begins at an address, or after the linked node that does.
     ///
-    /// Source: autodoc exec.library/FindName: it starts at a list header or behind a node.
+    /// Source: autodoc exec.library/FindName: it starts at a list header or after a node.
     pub fn to_search(&self, start: u32) -> Result<(HeaderId, Option<NodeId>), Refusal>
         ensures alert { alert_of result ≡ model.find_alert start (shown_heap self.now) }
         ensures live { IfOk result (λ pair. IsSome (slot (places variant.List self.now) pair.0)) }
@@ -391,8 +373,6 @@ impl<S: ListSpace> Objects<S> {
     }
 
     /// The address of a live node, or 0 for none.
-    ///
-    /// Source: own choice.
     pub fn address_or_0(&self, n: Option<NodeId>) -> u32
         requires { IfSome n (λ m. IsSome (slot (places variant.Node self.now) m)) }
         ensures { result ≡ model.or_none (option_map (address_in (places variant.Node self.now)) n) }
@@ -407,8 +387,8 @@ impl<S: ListSpace> Objects<S> {
 impl<S: ListSpace> Heap<S> {
     // ---- lists and nodes made and freed
 
-    /// Makes an empty list and answers its address; none where the pool has no list left, which asks nothing, or its block fits nowhere once
-    /// libraries were asked to give way (autodoc amiga.lib/NewList; that it takes the memory: own choice).
+    /// Makes an empty list and answers its address; none if the pool has no list left, which asks nothing, or its block fits nowhere once
+    /// libraries were expunged under low memory (autodoc amiga.lib/NewList; that it takes the memory: project rule).
     pub fn new_list(&mut self) -> Option<u32>
         ensures address { result ≡ place_for_object model.is_list model.list_size (after_asking_for_object model.is_list model.list_size self.old) }
         ensures next { self.new ≡ placed model.list_size (ListHead []) result (after_asking_for_object model.is_list model.list_size self.old) }
@@ -416,8 +396,8 @@ impl<S: ListSpace> Heap<S> {
         self.objects.make_list()
     }
 
-    /// Makes a node with that priority and that name or none, which is not linked, and answers its address; none where the pool has no
-    /// node left, which asks nothing, or its block fits nowhere once libraries were asked to give way (own choice).
+    /// Makes a node with that priority and that name or none, which is not linked, and answers its address; none if the pool has no
+    /// node left, which asks nothing, or its block fits nowhere once libraries were expunged under low memory (project rule).
     pub fn new_node(&mut self, pri: i8, name: Option<Name>) -> Option<u32>
         ensures address { result ≡ place_for_object model.is_node model.node_size (after_asking_for_object model.is_node model.node_size self.old) }
         ensures next { self.new ≡ placed model.node_size (Node (key_with pri (option_map (λ text. text.bytes) name))) result (after_asking_for_object model.is_node model.node_size self.old) }
@@ -425,7 +405,7 @@ impl<S: ListSpace> Heap<S> {
         self.objects.make_node(pri, name)
     }
 
-    /// Frees a list. It is refused where no list begins at the address (Handle), and where the list has nodes (Link); own choice.
+    /// Frees a list. It is refused if no list begins at the address (Handle), and if the list has nodes (Link); project rule.
     pub fn free_list(&mut self, list: u32) -> Result<(), Refusal>
         ensures alert { alert_of result ≡ model.free_list_alert list self.old.heap }
         ensures next { OnOk result (self.new ≡ freed list self.old) }
@@ -436,7 +416,7 @@ impl<S: ListSpace> Heap<S> {
         Ok(())
     }
 
-    /// Frees a node. It is refused where no node begins at the address (Handle), and where the node is linked (Link); own choice.
+    /// Frees a node. It is refused if no node begins at the address (Handle), and if the node is linked (Link); project rule.
     pub fn free_node(&mut self, node: u32) -> Result<(), Refusal>
         ensures alert { alert_of result ≡ model.free_node_alert node self.old.heap }
         ensures next { OnOk result (self.new ≡ freed node self.old) }
@@ -449,8 +429,8 @@ impl<S: ListSpace> Heap<S> {
 
     // ---- linking
 
-    /// Puts a node first in a list. It is refused where no list or no node begins at its address (Handle), and where the
-    /// node is linked (Link). Autodoc exec.library/AddHead; the refusals: own choice.
+    /// Puts a node first in a list. It is refused if no list or no node begins at its address (Handle), and if the
+    /// node is linked (Link). Autodoc exec.library/AddHead; the refusals: project rule.
     pub fn add_head(&mut self, list: u32, node: u32) -> Result<(), Refusal>
         ensures alert { alert_of result ≡ model.link_alert list node self.old.heap }
         ensures next { OnOk result (self.new ≡ on_heap (model.added_head list node) self.old) }
@@ -461,8 +441,8 @@ impl<S: ListSpace> Heap<S> {
         Ok(())
     }
 
-    /// Puts a node last in a list. It is refused where no list or no node begins at its address (Handle), and where the
-    /// node is linked (Link). Autodoc exec.library/AddTail; the refusals: own choice.
+    /// Puts a node last in a list. It is refused if no list or no node begins at its address (Handle), and if the
+    /// node is linked (Link). Autodoc exec.library/AddTail; the refusals: project rule.
     pub fn add_tail(&mut self, list: u32, node: u32) -> Result<(), Refusal>
         ensures alert { alert_of result ≡ model.link_alert list node self.old.heap }
         ensures next { OnOk result (self.new ≡ on_heap (model.added_tail list node) self.old) }
@@ -473,8 +453,8 @@ impl<S: ListSpace> Heap<S> {
         Ok(())
     }
 
-    /// Puts a node before the first node of lower priority in a list, or last where there is none. It is refused where no list or no node
-    /// begins at its address (Handle), and where the node is linked (Link). Autodoc exec.library/Enqueue; the refusals: own choice.
+    /// Puts a node before the first node of lower priority in a list, or last if there is none. It is refused if no list or no node
+    /// begins at its address (Handle), and if the node is linked (Link). Autodoc exec.library/Enqueue; the refusals: project rule.
     pub fn enqueue(&mut self, list: u32, node: u32) -> Result<(), Refusal>
         ensures alert { alert_of result ≡ model.link_alert list node self.old.heap }
         ensures next { OnOk result (self.new ≡ on_heap (model.enqueued list node) self.old) }
@@ -485,9 +465,9 @@ impl<S: ListSpace> Heap<S> {
         Ok(())
     }
 
-    /// Puts a node after a node of a list, or first for address 0. It is refused where no list or no node begins at its address
-    /// (Handle), and where the node is linked or its predecessor does not stand in the list (Link). Autodoc exec.library/Insert; the
-    /// refusals: own choice.
+    /// Puts a node after a node of a list, or first for address 0. It is refused if no list or no node begins at its address
+    /// (Handle), and if the node is linked or its predecessor is not in the list (Link). Autodoc exec.library/Insert; the
+    /// refusals: project rule.
     pub fn insert(&mut self, list: u32, node: u32, pred: u32) -> Result<(), Refusal>
         ensures alert { alert_of result ≡ model.insert_alert list node pred self.old.heap }
         ensures next { OnOk result (self.new ≡ on_heap (model.inserted list node pred) self.old) }
@@ -498,8 +478,8 @@ impl<S: ListSpace> Heap<S> {
         Ok(())
     }
 
-    /// Takes a node out of the list that has it. It is refused where no node begins at the address (Handle), and where the node is not
-    /// linked (Link). Autodoc exec.library/Remove; the refusals: own choice.
+    /// Takes a node out of the list that has it. It is refused if no node begins at the address (Handle), and if the node is not
+    /// linked (Link). Autodoc exec.library/Remove; the refusals: project rule.
     pub fn remove(&mut self, node: u32) -> Result<(), Refusal>
         ensures alert { alert_of result ≡ model.linked_alert node self.old.heap }
         ensures next { OnOk result (self.new ≡ on_heap (model.unlinked node) self.old) }
@@ -510,8 +490,8 @@ impl<S: ListSpace> Heap<S> {
         Ok(())
     }
 
-    /// Takes the first node out of a list and answers its address, or 0 for an empty list. It is refused where no list begins at the
-    /// address (Handle). Autodoc exec.library/RemHead; the refusal: own choice.
+    /// Takes the first node out of a list and answers its address, or 0 for an empty list. It is refused if no list begins at the
+    /// address (Handle). Autodoc exec.library/RemHead; the refusal: project rule.
     pub fn rem_head(&mut self, list: u32) -> Result<u32, Refusal>
         ensures alert { alert_of result ≡ model.list_alert list self.old.heap }
         ensures answer { IfOk result (λ answer. answer ≡ model.first_of list self.old.heap) }
@@ -523,8 +503,8 @@ impl<S: ListSpace> Heap<S> {
         Ok(self.objects.address_or_0(n))
     }
 
-    /// Takes the last node out of a list and answers its address, or 0 for an empty list. It is refused where no list begins at the
-    /// address (Handle). Autodoc exec.library/RemTail; the refusal: own choice.
+    /// Takes the last node out of a list and answers its address, or 0 for an empty list. It is refused if no list begins at the
+    /// address (Handle). Autodoc exec.library/RemTail; the refusal: project rule.
     pub fn rem_tail(&mut self, list: u32) -> Result<u32, Refusal>
         ensures alert { alert_of result ≡ model.list_alert list self.old.heap }
         ensures answer { IfOk result (λ answer. answer ≡ model.last_of list self.old.heap) }
@@ -538,8 +518,8 @@ impl<S: ListSpace> Heap<S> {
 
     // ---- scanning
 
-    /// Answers the address of the first node of a list, or 0 for an empty list. It is refused where no list begins at the address
-    /// (Handle). RKM Libraries, Exec Lists and Queues: scanning a list; the refusal: own choice.
+    /// Answers the address of the first node of a list, or 0 for an empty list. It is refused if no list begins at the address
+    /// (Handle). RKM Libraries, Exec Lists and Queues: scanning a list; the refusal: project rule.
     pub fn first(&self, list: u32) -> Result<u32, Refusal>
         ensures alert { alert_of result ≡ model.list_alert list self.now.heap }
         ensures answer { IfOk result (λ answer. answer ≡ model.first_of list self.now.heap) }
@@ -548,8 +528,8 @@ impl<S: ListSpace> Heap<S> {
         Ok(self.objects.address_or_0(self.objects.first(h)))
     }
 
-    /// Answers the address of the last node of a list, or 0 for an empty list. It is refused where no list begins at the address
-    /// (Handle). RKM Libraries, Exec Lists and Queues: scanning a list; the refusal: own choice.
+    /// Answers the address of the last node of a list, or 0 for an empty list. It is refused if no list begins at the address
+    /// (Handle). RKM Libraries, Exec Lists and Queues: scanning a list; the refusal: project rule.
     pub fn last(&self, list: u32) -> Result<u32, Refusal>
         ensures alert { alert_of result ≡ model.list_alert list self.now.heap }
         ensures answer { IfOk result (λ answer. answer ≡ model.last_of list self.now.heap) }
@@ -558,8 +538,8 @@ impl<S: ListSpace> Heap<S> {
         Ok(self.objects.address_or_0(self.objects.last(h)))
     }
 
-    /// Answers the address of the node after a linked one, or 0 where that is the last. It is refused where no node begins at the address
-    /// (Handle), and where the node is not linked (Link). RKM Libraries, Exec Lists and Queues: `ln_Succ`; the refusals: own choice.
+    /// Answers the address of the node after a linked one, or 0 if that is the last. It is refused if no node begins at the address
+    /// (Handle), and if the node is not linked (Link). RKM Libraries, Exec Lists and Queues: `ln_Succ`; the refusals: project rule.
     pub fn succ(&self, node: u32) -> Result<u32, Refusal>
         ensures alert { alert_of result ≡ model.linked_alert node self.now.heap }
         ensures answer { IfOk result (λ answer. answer ≡ model.succ_of node self.now.heap) }
@@ -568,8 +548,8 @@ impl<S: ListSpace> Heap<S> {
         Ok(self.objects.address_or_0(self.objects.succ(n)))
     }
 
-    /// Answers the address of the node before a linked one, or 0 where that is the first. It is refused where no node begins at the address
-    /// (Handle), and where the node is not linked (Link). RKM Libraries, Exec Lists and Queues: `ln_Pred`; the refusals: own choice.
+    /// Answers the address of the node before a linked one, or 0 if that is the first. It is refused if no node begins at the address
+    /// (Handle), and if the node is not linked (Link). RKM Libraries, Exec Lists and Queues: `ln_Pred`; the refusals: project rule.
     pub fn pred(&self, node: u32) -> Result<u32, Refusal>
         ensures alert { alert_of result ≡ model.linked_alert node self.now.heap }
         ensures answer { IfOk result (λ answer. answer ≡ model.pred_of node self.now.heap) }
@@ -579,8 +559,8 @@ impl<S: ListSpace> Heap<S> {
     }
 
     /// Answers the address of the first node of a name in a list, or after a linked node, or 0; names compare byte for byte. It is refused
-    /// where neither a list nor a node begins at the start (Handle), and where the node is not linked (Link). Autodoc
-    /// exec.library/FindName; the refusals: own choice.
+    /// if neither a list nor a node begins at the start (Handle), and if the node is not linked (Link). Autodoc
+    /// exec.library/FindName; the refusals: project rule.
     pub fn find_name(&self, start: u32, name: &str) -> Result<u32, Refusal>
         ensures alert { alert_of result ≡ model.find_alert start self.now.heap }
         ensures answer { IfOk result (λ answer. answer ≡ model.found_node start name.now self.now.heap) }

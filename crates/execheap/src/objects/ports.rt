@@ -29,8 +29,6 @@ use msgport::ports::{MsgId, PortId, Ports};
 
 impl<S: ListSpace> Objects<S> {
     /// The ports and the messages.
-    ///
-    /// Source: own choice.
     pub fn ports(&self) -> &Ports<S>
         ensures { result.now ≡ self.now.ports }
     {
@@ -39,9 +37,7 @@ impl<S: ListSpace> Objects<S> {
 
     // ---- numbers and addresses
 
-    /// The address of what may stand in a port: of a live message, or of a live request, whose numbers as messages stand behind.
-    ///
-    /// Source: own choice.
+    /// The address of what may be in a port: of a live message, or of a live request, whose numbers as messages are after.
     pub fn address_of_message(&self, m: MsgId) -> u32
         requires { IsSome (slot (message_places self.now) m) }
         ensures { slot (message_places self.now) m ≡ Some result }
@@ -56,8 +52,6 @@ impl<S: ListSpace> Objects<S> {
     }
 
     /// The address of a live port.
-    ///
-    /// Source: own choice.
     pub fn address_of_port(&self, p: PortId) -> u32
         requires { IsTrue (is_port p self.now.ports) }
         ensures { slot (places variant.Port self.now) p ≡ Some result }
@@ -68,7 +62,7 @@ impl<S: ListSpace> Objects<S> {
 
     // ---- made and freed
 
-    /// A new port of a task, which signals it by the signal of that number, if the pool has one left and its block fits once libraries gave way: its address.
+    /// A new port of a task, which signals it by the signal of that number, if the pool has one left and its block fits once libraries were expunged under low memory: its address.
     ///
     /// Source: autodoc exec.library/CreateMsgPort.
     pub fn make_port(&mut self, task: TaskId, bit: u32) -> Option<u32>
@@ -83,9 +77,9 @@ impl<S: ListSpace> Objects<S> {
         Some(port)
     }
 
-    /// A new message with a reply port, or 0, and a word, if the pool has one left and its block fits once libraries gave way: its address.
+    /// A new message with a reply port, or 0, and a word, if the pool has one left and its block fits once libraries were expunged under low memory: its address.
     ///
-    /// Source: RKM Libraries, Exec Messages and Ports: messages; that it takes the memory is own choice.
+    /// Source: RKM Libraries, Exec Messages and Ports: messages; that it takes the memory is a project rule.
     pub fn make_message(&mut self, reply: u32, word: u32) -> Option<u32>
         ensures address { result ≡ place_for_object model.is_message model.message_size (after_asking_for_object model.is_message model.message_size (shown_memory self.old)) }
         ensures next { shown_memory self.new ≡ placed model.message_size (Message (new_message reply word)) result (after_asking_for_object model.is_message model.message_size (shown_memory self.old)) }
@@ -114,8 +108,6 @@ impl<S: ListSpace> Objects<S> {
     }
 
     /// Frees a message that is in no port.
-    ///
-    /// Source: own choice.
     pub fn free_message(&mut self, m: MsgId, address: u32)
         requires live { slot (places variant.Message self.old) m ≡ Some address }
         requires loose { home self.old.ports.places m ≡ None }
@@ -218,8 +210,6 @@ impl<S: ListSpace> Objects<S> {
     }
 
     /// Gives a message another word.
-    ///
-    /// Source: own choice.
     pub fn set_word(&mut self, m: MsgId, word: u32)
         requires { IsTrue (is_message m self.old.ports) }
         ensures { self.new ≡ on_ports (with_message m (record (message_at m self.old.ports) { word = word })) self.old }
@@ -230,8 +220,6 @@ impl<S: ListSpace> Objects<S> {
     // ---- found by address; or why the call is refused
 
     /// The port that begins at an address.
-    ///
-    /// Source: own choice.
     pub fn port_at(&self, port: u32) -> Result<PortId, Refusal>
         ensures alert { alert_of result ≡ model.port_alert port (shown_heap self.now) }
         ensures found { IfOk result (λ p. slot (places variant.Port self.now) p ≡ Some port) }
@@ -245,8 +233,6 @@ impl<S: ListSpace> Objects<S> {
     }
 
     /// The port that begins at an address, which has no message, is not public, and is the reply port of no request that is under way.
-    ///
-    /// Source: own choice.
     pub fn port_to_delete(&self, port: u32) -> Result<PortId, Refusal>
         ensures alert { alert_of result ≡ model.delete_alert port (shown_memory self.now) }
         ensures found { IfOk result (λ p. slot (places variant.Port self.now) p ≡ Some port) }
@@ -268,8 +254,6 @@ impl<S: ListSpace> Objects<S> {
     }
 
     /// The port that begins at an address, which is not public and is to be so with that priority.
-    ///
-    /// Source: own choice.
     pub fn private_port_at(&self, port: u32, pri: i8) -> Result<PortId, Refusal>
         ensures alert { alert_of result ≡ model.add_port_alert port pri (shown_memory self.now) }
         ensures found { IfOk result (λ p. slot (places variant.Port self.now) p ≡ Some port) }
@@ -283,8 +267,6 @@ impl<S: ListSpace> Objects<S> {
     }
 
     /// The port that begins at an address, which is public.
-    ///
-    /// Source: own choice.
     pub fn public_port_at(&self, port: u32) -> Result<PortId, Refusal>
         ensures alert { alert_of result ≡ model.rem_port_alert port (shown_memory self.now) }
         ensures found { IfOk result (λ p. slot (places variant.Port self.now) p ≡ Some port) }
@@ -298,8 +280,6 @@ impl<S: ListSpace> Objects<S> {
     }
 
     /// The port that begins at an address and signals a task, and the number of its signal.
-    ///
-    /// Source: own choice.
     pub fn port_to_wait_at(&self, task: TaskId, port: u32) -> Result<(PortId, u32), Refusal>
         ensures alert { alert_of result ≡ model.wait_alert task port (shown_heap self.now) }
         ensures found { IfOk result (λ pair. slot (places variant.Port self.now) pair.0 ≡ Some port) }
@@ -316,8 +296,6 @@ impl<S: ListSpace> Objects<S> {
     }
 
     /// The reply port at an address: none for 0, or else the port that begins there.
-    ///
-    /// Source: own choice.
     pub fn reply_port_at(&self, reply: u32) -> Result<Option<PortId>, Refusal>
         ensures alert { alert_of result ≡ model.reply_port_alert reply (shown_heap self.now) }
         ensures none { IfOk result (λ p. p ≡ None → reply ≡ 0) }
@@ -332,8 +310,6 @@ impl<S: ListSpace> Objects<S> {
     }
 
     /// The message that begins at an address.
-    ///
-    /// Source: own choice.
     pub fn message_at(&self, message: u32) -> Result<MsgId, Refusal>
         ensures alert { alert_of result ≡ model.message_alert message (shown_heap self.now) }
         ensures found { IfOk result (λ m. slot (places variant.Message self.now) m ≡ Some message) }
@@ -347,8 +323,6 @@ impl<S: ListSpace> Objects<S> {
     }
 
     /// The message that begins at an address, which is in no port.
-    ///
-    /// Source: own choice.
     pub fn loose_message_at(&self, message: u32) -> Result<MsgId, Refusal>
         ensures alert { alert_of result ≡ model.loose_alert message (shown_heap self.now) }
         ensures found { IfOk result (λ m. slot (places variant.Message self.now) m ≡ Some message) }
@@ -362,8 +336,6 @@ impl<S: ListSpace> Objects<S> {
     }
 
     /// The port that begins at an address, and the message that begins at another and is in no port.
-    ///
-    /// Source: own choice.
     pub fn to_put(&self, port: u32, message: u32) -> Result<(PortId, MsgId), Refusal>
         ensures alert { alert_of result ≡ model.put_alert port message (shown_heap self.now) }
         ensures port { IfOk result (λ pair. slot (places variant.Port self.now) pair.0 ≡ Some port) }
@@ -379,8 +351,6 @@ impl<S: ListSpace> Objects<S> {
     }
 
     /// The message that begins at an address and is in no port, and its reply port, or none.
-    ///
-    /// Source: own choice.
     pub fn to_reply(&self, message: u32) -> Result<(MsgId, Option<PortId>), Refusal>
         ensures alert { alert_of result ≡ model.reply_alert message (shown_heap self.now) }
         ensures message { IfOk result (λ pair. slot (places variant.Message self.now) pair.0 ≡ Some message) }
@@ -397,9 +367,7 @@ impl<S: ListSpace> Objects<S> {
         Ok((m, p))
     }
 
-    /// The address of what stands in a port, a live message or a request, or 0 for none.
-    ///
-    /// Source: own choice.
+    /// The address of what is in a port, a live message or a request, or 0 for none.
     pub fn message_or_0(&self, m: Option<MsgId>) -> u32
         requires { ForSome m (λ n. IsSome (slot (message_places self.now) n)) }
         ensures { result ≡ or_none (option_map (address_in (message_places self.now)) m) }
@@ -411,8 +379,6 @@ impl<S: ListSpace> Objects<S> {
     }
 
     /// The address of a live port, or 0 for none.
-    ///
-    /// Source: own choice.
     pub fn port_or_0(&self, p: Option<PortId>) -> u32
         requires { IfSome p (λ q. IsTrue (is_port q self.now.ports)) }
         ensures { result ≡ or_none (option_map (address_in (places variant.Port self.now)) p) }
@@ -427,8 +393,8 @@ impl<S: ListSpace> Objects<S> {
 impl<S: ListSpace> Heap<S> {
     // ---- ports made and freed
 
-    /// Makes a port of a task, which signals it by the signal of that number (16 to 31), and answers its address; none where the pool has
-    /// no port left, which asks nothing, or its block fits nowhere once libraries were asked to give way. It has no message and is not public
+    /// Makes a port of a task, which signals it by the signal of that number (16 to 31), and answers its address; none if the pool has
+    /// no port left, which asks nothing, or its block fits nowhere once libraries were expunged under low memory. It has no message and is not public
     /// (autodoc exec.library/CreateMsgPort).
     pub fn new_port(&mut self, task: TaskId, bit: u32) -> Option<u32>
         requires own { 16 ≤ bit }
@@ -439,16 +405,16 @@ impl<S: ListSpace> Heap<S> {
         self.objects.make_port(task, bit)
     }
 
-    /// Answers whether a port begins at an address. Own choice.
+    /// Answers whether a port begins at an address. Project rule.
     pub fn is_port(&self, port: u32) -> bool
         ensures { result ≡ model.is_port_at port self.now.heap }
     {
         self.objects.number_at(Kind::Port, port).is_some()
     }
 
-    /// Frees a port, and answers its task and the number of its signal. It is refused where no port begins at the address (Handle), and
-    /// where the port has messages, is public, or is the reply port of a request that is under way (Port). Autodoc exec.library/DeleteMsgPort;
-    /// the refusals: own choice.
+    /// Frees a port, and answers its task and the number of its signal. It is refused if no port begins at the address (Handle), and
+    /// if the port has messages, is public, or is the reply port of a request that is under way (Port). Autodoc exec.library/DeleteMsgPort;
+    /// the refusals: project rule.
     pub fn delete_port(&mut self, port: u32) -> Result<(TaskId, u32), Refusal>
         ensures alert { alert_of result ≡ model.delete_alert port self.old }
         ensures task { IfOk result (λ owner. owner.0 ≡ (model.port_of port self.old.heap).task) }
@@ -464,8 +430,8 @@ impl<S: ListSpace> Heap<S> {
 
     // ---- public ports
 
-    /// Makes a port public under a name, before the first public port of lower priority. It is refused where no port begins at the
-    /// address (Handle), and where the port is public already (Link). Autodoc exec.library/AddPort; the refusals: own choice.
+    /// Makes a port public under a name, before the first public port of lower priority. It is refused if no port begins at the
+    /// address (Handle), and if the port is public already (Link). Autodoc exec.library/AddPort; the refusals: project rule.
     pub fn add_port(&mut self, port: u32, name: Name, pri: i8) -> Result<(), Refusal>
         ensures alert { alert_of result ≡ model.add_port_alert port pri self.old }
         ensures next { OnOk result (self.new ≡ listed port name.bytes pri self.old) }
@@ -476,8 +442,8 @@ impl<S: ListSpace> Heap<S> {
         Ok(())
     }
 
-    /// Makes a port public no more. It is refused where no port begins at the address (Handle), and where the port is not public (Link).
-    /// Autodoc exec.library/RemPort; the refusals: own choice.
+    /// Makes a port public no more. It is refused if no port begins at the address (Handle), and if the port is not public (Link).
+    /// Autodoc exec.library/RemPort; the refusals: project rule.
     pub fn rem_port(&mut self, port: u32) -> Result<(), Refusal>
         ensures alert { alert_of result ≡ model.rem_port_alert port self.old }
         ensures next { OnOk result (self.new ≡ model.made_private port self.old) }
@@ -488,7 +454,7 @@ impl<S: ListSpace> Heap<S> {
         Ok(())
     }
 
-    /// Answers the address of the first public port of a name, or 0; names compare byte for byte. The public ports stand by priority, and
+    /// Answers the address of the first public port of a name, or 0; names compare byte for byte. The public ports are by priority, and
     /// those of one priority in the order in which they were made public. Autodoc exec.library/FindPort.
     pub fn find_port(&self, name: &str) -> u32
         ensures { result ≡ model.port_or_none (find (model.is_called name.now) self.now.public) }
@@ -496,8 +462,8 @@ impl<S: ListSpace> Heap<S> {
         self.objects.port_or_0(self.objects.ports().find_port(name))
     }
 
-    /// Gives a port another action. It is refused where no port begins at the address (Handle).
-    /// RKM Libraries, Exec Messages and Ports: `mp_Flags`; the refusal: own choice.
+    /// Gives a port another action. It is refused if no port begins at the address (Handle).
+    /// RKM Libraries, Exec Messages and Ports: `mp_Flags`; the refusal: project rule.
     pub fn set_action(&mut self, port: u32, action: PortAction) -> Result<(), Refusal>
         ensures alert { alert_of result ≡ model.port_alert port self.old.heap }
         ensures next { OnOk result (self.new ≡ on_heap (model.with_action action port) self.old) }
@@ -510,9 +476,9 @@ impl<S: ListSpace> Heap<S> {
 
     // ---- messages made and freed
 
-    /// Makes a message of type 0 with a reply port, 0 for none, and a word, which is in no port, and answers its address; none where the
-    /// pool has no message left, which asks nothing, or its block fits nowhere once libraries were asked to give way. It is refused where the
-    /// reply port is not 0 and no port begins there (Handle). Own choice.
+    /// Makes a message of type 0 with a reply port, 0 for none, and a word, which is in no port, and answers its address; none if the
+    /// pool has no message left, which asks nothing, or its block fits nowhere once libraries were expunged under low memory. It is refused if the
+    /// reply port is not 0 and no port begins there (Handle). Project rule.
     pub fn new_message(&mut self, reply: u32, word: u32) -> Result<Option<u32>, Refusal>
         ensures alert { alert_of result ≡ model.reply_port_alert reply self.old.heap }
         ensures address { IfOk result (λ place. place ≡ place_for_object model.is_message model.message_size (after_asking_for_object model.is_message model.message_size self.old)) }
@@ -523,7 +489,7 @@ impl<S: ListSpace> Heap<S> {
         Ok(self.objects.make_message(reply, word))
     }
 
-    /// Frees a message. It is refused where no message begins at the address (Handle), and where a port has it (Link). Own choice.
+    /// Frees a message. It is refused if no message begins at the address (Handle), and if a port has it (Link). Project rule.
     pub fn free_message(&mut self, message: u32) -> Result<(), Refusal>
         ensures alert { alert_of result ≡ model.loose_alert message self.old.heap }
         ensures next { OnOk result (self.new ≡ freed message self.old) }
@@ -536,7 +502,7 @@ impl<S: ListSpace> Heap<S> {
 
     // ---- what a message holds
 
-    /// Answers the word of a message. It is refused where no message begins at the address (Handle). Own choice.
+    /// Answers the word of a message. It is refused if no message begins at the address (Handle). Project rule.
     pub fn word(&self, message: u32) -> Result<u32, Refusal>
         ensures alert { alert_of result ≡ model.message_alert message self.now.heap }
         ensures answer { IfOk result (λ word. word ≡ (model.content_of message self.now.heap).word) }
@@ -545,7 +511,7 @@ impl<S: ListSpace> Heap<S> {
         Ok(self.objects.ports().word(m))
     }
 
-    /// Gives a message another word. It is refused where no message begins at the address (Handle). Own choice.
+    /// Gives a message another word. It is refused if no message begins at the address (Handle). Project rule.
     pub fn set_word(&mut self, message: u32, word: u32) -> Result<(), Refusal>
         ensures alert { alert_of result ≡ model.message_alert message self.old.heap }
         ensures next { OnOk result (self.new ≡ on_heap (model.with_word message word) self.old) }
@@ -556,8 +522,8 @@ impl<S: ListSpace> Heap<S> {
         Ok(())
     }
 
-    /// Answers the type of a message: 0 for a new one, NT_MESSAGE, NT_REPLYMSG or NT_FREEMSG. It is refused where no message begins at
-    /// the address (Handle). RKM Libraries, Exec Messages and Ports: `ln_Type`; the refusal: own choice.
+    /// Answers the type of a message: 0 for a new one, NT_MESSAGE, NT_REPLYMSG or NT_FREEMSG. It is refused if no message begins at
+    /// the address (Handle). RKM Libraries, Exec Messages and Ports: `ln_Type`; the refusal: project rule.
     pub fn kind(&self, message: u32) -> Result<u8, Refusal>
         ensures alert { alert_of result ≡ model.message_alert message self.now.heap }
         ensures answer { IfOk result (λ kind. kind ≡ (model.content_of message self.now.heap).kind) }
@@ -568,9 +534,9 @@ impl<S: ListSpace> Heap<S> {
 
     // ---- putting and replying
 
-    /// Puts a message at a port, behind those that it has, as one of type NT_MESSAGE, and answers what is to be done for it. It is refused
-    /// where no port or no message begins at its address (Handle), and where a port has the message already (Link).
-    /// Autodoc exec.library/PutMsg; the refusals: own choice.
+    /// Puts a message at a port, after those that it has, as one of type NT_MESSAGE, and answers what is to be done for it. It is refused
+    /// if no port or no message begins at its address (Handle), and if a port has the message already (Link).
+    /// Autodoc exec.library/PutMsg; the refusals: project rule.
     pub fn put_message(&mut self, port: u32, message: u32) -> Result<Action, Refusal>
         ensures alert { alert_of result ≡ model.put_alert port message self.old.heap }
         ensures answer { IfOk result (λ action. action ≡ acting (model.port_of port self.old.heap)) }
@@ -582,9 +548,9 @@ impl<S: ListSpace> Heap<S> {
     }
 
     /// Puts a message at its reply port, the one that begins at that address now, as one of type NT_REPLYMSG, and answers what is to be
-    /// done for it; one without a reply port gets the type NT_FREEMSG. It is refused where no message begins at the address (Handle),
-    /// where a port has it already (Link), and where it has a reply port and no port begins there (Handle).
-    /// Autodoc exec.library/ReplyMsg; the refusals: own choice.
+    /// done for it; one without a reply port gets the type NT_FREEMSG. It is refused if no message begins at the address (Handle),
+    /// if a port has it already (Link), and if it has a reply port and no port begins there (Handle).
+    /// Autodoc exec.library/ReplyMsg; the refusals: project rule.
     pub fn reply_message(&mut self, message: u32) -> Result<Action, Refusal>
         ensures alert { alert_of result ≡ model.reply_alert message self.old.heap }
         ensures answer { IfOk result (λ action. action ≡ replying message self.old.heap) }
@@ -603,8 +569,8 @@ impl<S: ListSpace> Heap<S> {
 
     // ---- taking and waiting
 
-    /// Takes what stands first in a port, a message or a request that is replied, and answers its address, or 0 where there is none. It is
-    /// refused where no port begins at the address (Handle). Autodoc exec.library/GetMsg; the refusal: own choice.
+    /// Takes what is first in a port, a message or a request that is replied, and answers its address, or 0 if there is none. It is
+    /// refused if no port begins at the address (Handle). Autodoc exec.library/GetMsg; the refusal: project rule.
     pub fn take_message(&mut self, port: u32) -> Result<u32, Refusal>
         ensures alert { alert_of result ≡ model.port_alert port self.old.heap }
         ensures answer { IfOk result (λ message. message ≡ or_none (first (model.messages_of port self.old.heap))) }
@@ -617,9 +583,9 @@ impl<S: ListSpace> Heap<S> {
         Ok(self.objects.message_or_0(m))
     }
 
-    /// Answers the address of what stands first in a port at which a task may wait, a message or a request that is replied, or none, and the
-    /// number of the port's signal (0 to 31). It is refused where no port begins at the address (Handle), and where the port does not signal
-    /// the task (Port). Autodoc exec.library/WaitPort: what it answers; the refusals: own choice.
+    /// Answers the address of what is first in a port at which a task may wait, a message or a request that is replied, or none, and the
+    /// number of the port's signal (0 to 31). It is refused if no port begins at the address (Handle), and if the port does not signal
+    /// the task (Port). Autodoc exec.library/WaitPort: what it answers; the refusals: project rule.
     pub fn message_to_wait_for(
         &self,
         task: TaskId,

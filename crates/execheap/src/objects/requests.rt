@@ -50,8 +50,6 @@ pub(crate) fn with_requests<S: ListSpace>(mut ports: Ports<S>, requests: usize) 
 
 impl<S: ListSpace> Objects<S> {
     /// The requests.
-    ///
-    /// Source: own choice.
     pub fn requests(&self) -> &Requests
         ensures { result.now ≡ self.now.requests }
     {
@@ -59,8 +57,6 @@ impl<S: ListSpace> Objects<S> {
     }
 
     /// The number of a request as a message.
-    ///
-    /// Source: own choice.
     pub fn message_of(&self, r: ReqId) -> MsgId
         requires { IsTrue (is_request r self.now.requests) }
         ensures value { result ≡ message_of_request r self.now }
@@ -72,7 +68,7 @@ impl<S: ListSpace> Objects<S> {
 
     // ---- made and freed
 
-    /// A new request with that reply port, which is idle and not open, if the pool has one left and its block fits once libraries gave way: its address.
+    /// A new request with that reply port, which is idle and not open, if the pool has one left and its block fits once libraries were expunged under low memory: its address.
     ///
     /// Source: autodoc exec.library/CreateIORequest.
     pub fn make_request(&mut self, port: u32) -> Option<u32>
@@ -101,7 +97,7 @@ impl<S: ListSpace> Objects<S> {
 
     // ---- opening and writing
 
-    /// Opens a request that is not under way for a unit of the timer, none where another device is meant, and answers the error.
+    /// Opens a request that is not under way for a unit of the timer, none if another device is meant, and answers the error.
     ///
     /// Source: autodoc exec.library/OpenDevice.
     pub fn open_request(&mut self, r: ReqId, unit: Option<u32>) -> i8
@@ -187,7 +183,7 @@ impl<S: ListSpace> Objects<S> {
         }
     }
 
-    /// The time of a request is no longer than its seconds and microseconds can tell.
+    /// The time of a request is no longer than its seconds and microseconds can say.
     fn time_is_short(&self, r: ReqId)
         requires { IsTrue (is_request r self.now.requests) }
         ensures { time_of (request_at r self.now.requests) < 2 ^ 53 }
@@ -305,11 +301,12 @@ impl<S: ListSpace> Objects<S> {
 
     // ---- the clock, and system time
 
-    /// Clock and system time gain the microseconds of a tick. The clock is to stay below 2 to the power 63.
+    /// Clock and system time gain the microseconds of a tick. The clock stays so far below 2 to the power 64 that system time
+    /// and the longest time of a request can be added to it, which are less than 2 to the power 54.
     ///
-    /// Source: RKM Devices, timer device: UNIT_VBLANK; that ticks alone move the clock is own choice.
+    /// Source: RKM Devices, timer device: UNIT_VBLANK; that ticks alone move the clock is a project rule.
     pub fn tick(&mut self)
-        requires { self.old.timing.timer.clock + self.old.timing.timer.tick_micros < 2 ^ 63 }
+        requires { self.old.timing.timer.clock + self.old.timing.timer.tick_micros + 2 ^ 54 ≤ 2 ^ 64 }
         ensures { self.new ≡ on_timing ticked self.old }
     {
         self.timer.tick();
@@ -328,8 +325,6 @@ impl<S: ListSpace> Objects<S> {
     // ---- found by address; or why the call is refused
 
     /// The request that begins at an address.
-    ///
-    /// Source: own choice.
     pub fn request_at(&self, request: u32) -> Result<ReqId, Refusal>
         ensures alert { alert_of result ≡ model.request_alert request (shown_heap self.now) }
         ensures found { IfOk result (λ r. slot (places variant.Request self.now) r ≡ Some request) }
@@ -344,8 +339,6 @@ impl<S: ListSpace> Objects<S> {
     }
 
     /// The request that begins at an address, which is not under way.
-    ///
-    /// Source: own choice.
     pub fn resting_request_at(&self, request: u32) -> Result<ReqId, Refusal>
         ensures alert { alert_of result ≡ model.resting_alert request (shown_heap self.now) }
         ensures found { IfOk result (λ r. slot (places variant.Request self.now) r ≡ Some request) }
@@ -360,8 +353,6 @@ impl<S: ListSpace> Objects<S> {
     }
 
     /// The request that begins at an address, which is not under way and whose reply is in no port.
-    ///
-    /// Source: own choice.
     pub fn request_to_delete(&self, request: u32) -> Result<ReqId, Refusal>
         ensures alert { alert_of result ≡ model.delete_request_alert request (shown_heap self.now) }
         ensures found { IfOk result (λ r. slot (places variant.Request self.now) r ≡ Some request) }
@@ -398,8 +389,6 @@ impl<S: ListSpace> Objects<S> {
     }
 
     /// The request that begins at an address and may be sent: it may begin, and its reply port lives.
-    ///
-    /// Source: own choice.
     pub fn request_to_send(&self, request: u32) -> Result<ReqId, Refusal>
         ensures alert { alert_of result ≡ model.send_alert request (shown_heap self.now) }
         ensures found { IfOk result (λ r. slot (places variant.Request self.now) r ≡ Some request) }
@@ -417,8 +406,6 @@ impl<S: ListSpace> Objects<S> {
 
     /// The request that begins at an address and that a task may do: it may begin, and its reply port signals the task by the signal of the number
     /// that is answered.
-    ///
-    /// Source: own choice.
     pub fn request_to_do(&self, task: TaskId, request: u32) -> Result<(ReqId, u32), Refusal>
         ensures alert { alert_of result ≡ model.do_alert task request (shown_heap self.now) }
         ensures found { IfOk result (λ pair. slot (places variant.Request self.now) pair.0 ≡ Some request) }
@@ -436,10 +423,8 @@ impl<S: ListSpace> Objects<S> {
         Ok((r, bit))
     }
 
-    /// The request that begins at an address and that a task may wait for: it was begun; where it is under way, its reply port signals the task, by
-    /// the signal of the number that is answered; where it is replied, its reply is in a port.
-    ///
-    /// Source: own choice.
+    /// The request that begins at an address and that a task may wait for: it was begun; if it is under way, its reply port signals the task, by
+    /// the signal of the number that is answered; if it is replied, its reply is in a port.
     pub fn request_to_wait_for(&self, task: TaskId, request: u32) -> Result<(ReqId, u32), Refusal>
         ensures alert { alert_of result ≡ model.wait_io_alert task request (shown_heap self.now) }
         ensures found { IfOk result (λ pair. slot (places variant.Request self.now) pair.0 ≡ Some request) }
@@ -516,9 +501,9 @@ fn finish<S: ListSpace>(
 impl<S: ListSpace> Heap<S> {
     // ---- made and freed
 
-    /// Makes a request with a reply port, which is idle and not open, and answers its address; none where the pool has no request left, which
-    /// asks nothing, or its block fits nowhere once libraries were asked to give way. It is refused where no port begins at the reply port
-    /// (Handle). Autodoc exec.library/CreateIORequest; the refusal: own choice.
+    /// Makes a request with a reply port, which is idle and not open, and answers its address; none if the pool has no request left, which
+    /// asks nothing, or its block fits nowhere once libraries were expunged under low memory. It is refused if no port begins at the reply port
+    /// (Handle). Autodoc exec.library/CreateIORequest; the refusal: project rule.
     pub fn new_request(&mut self, port: u32) -> Result<Option<u32>, Refusal>
         ensures alert { alert_of result ≡ port_alert port self.old.heap }
         ensures address { IfOk result (λ place. place ≡ place_for_object model.is_request model.request_size (after_asking_for_object model.is_request model.request_size self.old)) }
@@ -529,15 +514,15 @@ impl<S: ListSpace> Heap<S> {
         Ok(self.objects.make_request(port))
     }
 
-    /// Answers whether a request begins at an address. Own choice.
+    /// Answers whether a request begins at an address. Project rule.
     pub fn is_request(&self, request: u32) -> bool
         ensures { result ≡ model.is_request_at request self.now.heap }
     {
         self.objects.number_at(Kind::Request, request).is_some()
     }
 
-    /// Frees a request. It is refused where no request begins at the address (Handle), where it is under way (Io), and where its reply is
-    /// queued (Link). Autodoc exec.library/DeleteIORequest; the refusals: own choice.
+    /// Frees a request. It is refused if no request begins at the address (Handle), if it is under way (Io), and if its reply is
+    /// queued (Link). Autodoc exec.library/DeleteIORequest; the refusals: project rule.
     pub fn delete_request(&mut self, request: u32) -> Result<(), Refusal>
         ensures alert { alert_of result ≡ model.delete_request_alert request self.old.heap }
         ensures next { OnOk result (self.new ≡ freed request self.old) }
@@ -550,9 +535,9 @@ impl<S: ListSpace> Heap<S> {
 
     // ---- opening and writing
 
-    /// Opens a request for a unit of timer.device, none where another device is meant, and answers the error, which the request has then: 0, or
-    /// IOERR_OPENFAIL (-1), and it is then not open. It is refused where no request begins at the address (Handle), and where it is under way
-    /// (Io). Autodoc exec.library/OpenDevice; the refusals: own choice.
+    /// Opens a request for a unit of timer.device, none if another device is meant, and answers the error, which the request has then: 0, or
+    /// IOERR_OPENFAIL (-1), and it is then not open. It is refused if no request begins at the address (Handle), and if it is under way
+    /// (Io). Autodoc exec.library/OpenDevice; the refusals: project rule.
     pub fn open_device(&mut self, request: u32, unit: Option<u32>) -> Result<i8, Refusal>
         ensures alert { alert_of result ≡ model.resting_alert request self.old.heap }
         ensures answer { IfOk result (λ error. error ≡ unit_error unit) }
@@ -563,8 +548,8 @@ impl<S: ListSpace> Heap<S> {
         Ok(self.objects.open_request(r, unit))
     }
 
-    /// Leaves a request not open. It is refused where no request begins at the address (Handle), and where it is under way (Io). Autodoc
-    /// exec.library/CloseDevice; the refusals: own choice.
+    /// Leaves a request not open. It is refused if no request begins at the address (Handle), and if it is under way (Io). Autodoc
+    /// exec.library/CloseDevice; the refusals: project rule.
     pub fn close_device(&mut self, request: u32) -> Result<(), Refusal>
         ensures alert { alert_of result ≡ model.resting_alert request self.old.heap }
         ensures next { OnOk result (self.new ≡ on_heap (model.closed_device request) self.old) }
@@ -575,9 +560,9 @@ impl<S: ListSpace> Heap<S> {
         Ok(())
     }
 
-    /// Gives a request a command and a time in seconds and microseconds. It is refused where no request begins at the address (Handle), and
-    /// where it is under way (Io). RKM Devices, Introduction to Amiga System Devices: `io_Command`; Devices, timer device: `tr_time`; the
-    /// refusals: own choice.
+    /// Gives a request a command and a time in seconds and microseconds. It is refused if no request begins at the address (Handle), and
+    /// if it is under way (Io). RKM Devices, Introduction to Amiga System Devices: `io_Command`; Devices, timer device: `tr_time`; the
+    /// refusals: project rule.
     pub fn set_request(
         &mut self,
         request: u32,
@@ -597,9 +582,9 @@ impl<S: ListSpace> Heap<S> {
     // ---- beginning
 
     /// Begins a request with IOF_QUICK cleared, and answers what is to be done for its reply, if it is done at once; else it waits for its
-    /// time. TR_SETSYSTIME is done at once, and system time is then the time of the request. It is refused where no request begins at the
-    /// address (Handle), where it is under way or not open (Io), where its reply is queued (Link), and where its reply port does not live
-    /// (Handle). Autodocs exec.library/SendIO and timer.device: TR_SETSYSTIME; the refusals: own choice.
+    /// time. TR_SETSYSTIME is done at once, and system time is then the time of the request. It is refused if no request begins at the
+    /// address (Handle), if it is under way or not open (Io), if its reply is queued (Link), and if its reply port does not live
+    /// (Handle). Autodocs exec.library/SendIO and timer.device: TR_SETSYSTIME; the refusals: project rule.
     pub fn send_request(&mut self, request: u32) -> Result<Action, Refusal>
         ensures alert { alert_of result ≡ model.send_alert request self.old.heap }
         ensures answer { IfOk result (λ action. action ≡ acting_begun false request self.old) }
@@ -611,8 +596,8 @@ impl<S: ListSpace> Heap<S> {
     }
 
     /// Begins a request with IOF_QUICK set, and answers its error, if it is done at once; else it waits for its time, and the answer is the
-    /// number of the signal by which its reply port tells the task (0 to 31). It is refused as by `send_request`, and where the reply port does
-    /// not signal the task (Port). Autodoc exec.library/DoIO; the refusals: own choice.
+    /// number of the signal by which its reply port notifies the task (0 to 31). It is refused as by `send_request`, and if the reply port does
+    /// not signal the task (Port). Autodoc exec.library/DoIO; the refusals: project rule.
     pub fn do_request(&mut self, task: TaskId, request: u32) -> Result<Awaited, Refusal>
         ensures alert { alert_of result ≡ model.do_alert task request self.old.heap }
         ensures answer { IfOk result (λ answer. answer ≡ awaited_for request self.new.heap) }
@@ -627,8 +612,8 @@ impl<S: ListSpace> Heap<S> {
 
     // ---- waiting and aborting
 
-    /// Answers whether a request is under way. It is refused where no request begins at the address (Handle). Autodoc exec.library/CheckIO; the
-    /// refusal: own choice.
+    /// Answers whether a request is under way. It is refused if no request begins at the address (Handle). Autodoc exec.library/CheckIO; the
+    /// refusal: project rule.
     pub fn is_under_way(&self, request: u32) -> Result<bool, Refusal>
         ensures alert { alert_of result ≡ model.request_alert request self.now.heap }
         ensures answer { IfOk result (λ answer. answer ≡ is_under_way (model.request_of request self.now.heap)) }
@@ -638,9 +623,9 @@ impl<S: ListSpace> Heap<S> {
     }
 
     /// Answers the error of a request that is done, and takes its reply, if it has one, out of its reply port; for one that is under way the
-    /// number of the signal by which its reply port tells the task (0 to 31). It is refused where no request begins at the address (Handle),
-    /// where it never was begun (Io), where it is replied and its reply is not queued (Link), and where it is under way and its reply port does
-    /// not signal the task (Port). Autodoc exec.library/WaitIO; the refusals: own choice.
+    /// number of the signal by which its reply port notifies the task (0 to 31). It is refused if no request begins at the address (Handle),
+    /// if it never was begun (Io), if it is replied and its reply is not queued (Link), and if it is under way and its reply port does
+    /// not signal the task (Port). Autodoc exec.library/WaitIO; the refusals: project rule.
     pub fn wait_for_request(&mut self, task: TaskId, request: u32) -> Result<Awaited, Refusal>
         ensures alert { alert_of result ≡ model.wait_io_alert task request self.old.heap }
         ensures answer { IfOk result (λ answer. answer ≡ awaited_for request self.old.heap) }
@@ -653,8 +638,8 @@ impl<S: ListSpace> Heap<S> {
         Ok(self.objects.looked_for(r, bit))
     }
 
-    /// Ends a request that is under way with IOERR_ABORTED (-2), and answers what is to be done for its reply; none, and nothing changes, where
-    /// it is not under way. It is refused where no request begins at the address (Handle). Autodoc exec.library/AbortIO; the refusal: own choice.
+    /// Ends a request that is under way with IOERR_ABORTED (-2), and answers what is to be done for its reply; none, and nothing changes, if
+    /// it is not under way. It is refused if no request begins at the address (Handle). Autodoc exec.library/AbortIO; the refusal: project rule.
     pub fn abort_request(&mut self, request: u32) -> Result<Option<Action>, Refusal>
         ensures alert { alert_of result ≡ model.request_alert request self.old.heap }
         ensures answer { IfOk result (λ answer. answer ≡ aborting request self.old.heap) }
@@ -671,8 +656,8 @@ impl<S: ListSpace> Heap<S> {
 
     // ---- what a request holds
 
-    /// Answers the seconds of the time of a request. It is refused where no request begins at the address (Handle). Devices, timer device:
-    /// `tr_time`; the refusal: own choice.
+    /// Answers the seconds of the time of a request. It is refused if no request begins at the address (Handle). Devices, timer device:
+    /// `tr_time`; the refusal: project rule.
     pub fn secs(&self, request: u32) -> Result<u32, Refusal>
         ensures alert { alert_of result ≡ model.request_alert request self.now.heap }
         ensures answer { IfOk result (λ secs. secs ≡ (model.request_of request self.now.heap).secs) }
@@ -681,7 +666,7 @@ impl<S: ListSpace> Heap<S> {
         Ok(self.objects.requests().secs(r))
     }
 
-    /// Answers the microseconds of the time of a request. It is refused as `secs`. Devices, timer device: `tr_time`; the refusal: own choice.
+    /// Answers the microseconds of the time of a request. It is refused as `secs`. Devices, timer device: `tr_time`; the refusal: project rule.
     pub fn micros(&self, request: u32) -> Result<u32, Refusal>
         ensures alert { alert_of result ≡ model.request_alert request self.now.heap }
         ensures answer { IfOk result (λ micros. micros ≡ (model.request_of request self.now.heap).micros) }
@@ -691,7 +676,7 @@ impl<S: ListSpace> Heap<S> {
     }
 
     /// Answers the error of a request: 0, IOERR_OPENFAIL (-1), IOERR_ABORTED (-2) or IOERR_NOCMD (-3). It is refused as `secs`. RKM Devices,
-    /// Introduction to Amiga System Devices: `io_Error`; the refusal: own choice.
+    /// Introduction to Amiga System Devices: `io_Error`; the refusal: project rule.
     pub fn error(&self, request: u32) -> Result<i8, Refusal>
         ensures alert { alert_of result ≡ model.request_alert request self.now.heap }
         ensures answer { IfOk result (λ error. error ≡ (model.request_of request self.now.heap).error) }
@@ -701,7 +686,7 @@ impl<S: ListSpace> Heap<S> {
     }
 
     /// Answers whether IOF_QUICK of a request is set. It is refused as `secs`. RKM Devices, Introduction to Amiga System Devices: `io_Flags`; the
-    /// refusal: own choice.
+    /// refusal: project rule.
     pub fn quick(&self, request: u32) -> Result<bool, Refusal>
         ensures alert { alert_of result ≡ model.request_alert request self.now.heap }
         ensures answer { IfOk result (λ quick. quick ≡ (model.request_of request self.now.heap).quick) }
@@ -712,16 +697,16 @@ impl<S: ListSpace> Heap<S> {
 
     // ---- the clock, and system time
 
-    /// Clock and system time gain the microseconds of a tick. The clock is to stay below 2 to the power 63, so that the longest time of a
-    /// request can be added. Devices, timer device; own choice: both count ticks alone.
+    /// Clock and system time gain the microseconds of a tick. The clock stays 2 to the power 54 below 2 to the power 64, so that system time
+    /// and the longest time of a request can be added. Devices, timer device; project rule: both count ticks alone.
     pub fn tick(&mut self)
-        requires { self.old.timer.clock + self.old.timer.tick_micros < 2 ^ 63 }
+        requires { self.old.timer.clock + self.old.timer.tick_micros + 2 ^ 54 ≤ 2 ^ 64 }
         ensures { self.new ≡ on_timer ticked self.old }
     {
         self.objects.tick();
     }
 
-    /// Answers whether system time was set since this was asked last, so that those that wait for it are to be looked at. Own choice.
+    /// Answers whether system time was set since this was asked last, so that those that wait for it are to be looked at. Project rule.
     pub fn take_setting(&mut self) -> bool
         ensures answer { result ≡ self.old.timer.is_set }
         ensures next { self.new ≡ on_timer looked_at self.old }
@@ -729,8 +714,8 @@ impl<S: ListSpace> Heap<S> {
         self.objects.take_setting()
     }
 
-    /// Finishes the first request whose time has come, with error 0, and answers its address and what is to be done for its reply; none where
-    /// no time has come. First is the one of the first moment, and of those of one moment the one that was begun first; the moment of a
+    /// Finishes the first request whose time has come, with error 0, and answers its address and what is to be done for its reply; none if
+    /// no time has come. First is the one of the first due time, and of those of one due time the one that was begun first; the due time of a
     /// request that waits for system time is that time less what system time is ahead of the clock now. Devices, timer device: TR_ADDREQUEST.
     pub fn finish_due(&mut self) -> Option<(u32, Action)>
         ensures answer { result ≡ finishing self.old.heap (due_next self.old.timer) }
@@ -742,7 +727,7 @@ impl<S: ListSpace> Heap<S> {
     }
 
     /// Finishes, with error 0, the first request that waits for system time and whose time has come, and answers its address and what is to
-    /// be done for its reply; none where there is none. Autodoc timer.device: TR_SETSYSTIME; Devices, timer device: UNIT_WAITUNTIL.
+    /// be done for its reply; none if there is none. Autodoc timer.device: TR_SETSYSTIME; Devices, timer device: UNIT_WAITUNTIL.
     pub fn finish_until(&mut self) -> Option<(u32, Action)>
         ensures answer { result ≡ finishing self.old.heap (until_next self.old.timer) }
         ensures next { self.new ≡ ended_if (until_next self.old.timer) self.old }

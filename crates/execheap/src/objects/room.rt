@@ -1,4 +1,4 @@
-//! The room for the objects of a memory beside its table, where none is made yet: for a group of kinds each a function, since each part that
+//! The room for the objects of a memory beside its table, if none is made yet: for a group of kinds each a function, since each part that
 //! can fail multiplies the proof.
 ghost use Rattle.std.specs.Prelude.{◌≡◌, ◌≤◌, ◌+◌, [], None, replicate, IfOk};
 ghost use Rattle.execlist.specs.Lists.{blank};
@@ -16,7 +16,7 @@ use sigsem::sems::Sems;
 use std::alloc::{AllocError, Global};
 use timerdev::timer::Timer;
 
-/// Lists and nodes, and semaphores at which so many tasks may wait.
+/// Lists and nodes, and semaphores at which that many tasks may wait.
 pub(crate) fn lists_and_semaphores<S: ListSpace>(
     alloc: Global,
     pool: usize,

@@ -25,8 +25,6 @@ use sigsem::sems::{SemId, Sems};
 
 impl<S: ListSpace> Objects<S> {
     /// The semaphores.
-    ///
-    /// Source: own choice.
     pub fn sems(&self) -> &Sems<S>
         ensures { result.now ≡ self.now.sems }
     {
@@ -35,9 +33,9 @@ impl<S: ListSpace> Objects<S> {
 
     // ---- made and freed
 
-    /// A new semaphore, which no task owns, if the pool has one left and its block fits once libraries gave way: its address.
+    /// A new semaphore, which no task owns, if the pool has one left and its block fits once libraries were expunged under low memory: its address.
     ///
-    /// Source: autodoc exec.library/InitSemaphore; that it takes the memory is own choice.
+    /// Source: autodoc exec.library/InitSemaphore; that it takes the memory is a project rule.
     pub fn make_semaphore(&mut self) -> Option<u32>
         ensures address { result ≡ place_for_object model.is_semaphore model.semaphore_size (after_asking_for_object model.is_semaphore model.semaphore_size (shown_memory self.old)) }
         ensures next { shown_memory self.new ≡ placed model.semaphore_size (Semaphore free_sem []) result (after_asking_for_object model.is_semaphore model.semaphore_size (shown_memory self.old)) }
@@ -49,8 +47,6 @@ impl<S: ListSpace> Objects<S> {
     }
 
     /// Frees a semaphore that no task owns.
-    ///
-    /// Source: own choice.
     pub fn free_semaphore(&mut self, n: SemId, address: u32)
         requires live { slot (places variant.Semaphore self.old) n ≡ Some address }
         requires unowned { IsTrue (not (is_owned (sem_at n self.old.sems))) }
@@ -98,8 +94,6 @@ impl<S: ListSpace> Objects<S> {
     }
 
     /// A task waits for no semaphore any more.
-    ///
-    /// Source: own choice.
     pub fn drop_waiter(&mut self, t: TaskId)
         requires { t < self.old.tasks }
         ensures { self.new ≡ on_semaphores (dropped t) self.old }
@@ -110,8 +104,6 @@ impl<S: ListSpace> Objects<S> {
     // ---- found by address; or why the call is refused
 
     /// The semaphore that begins at an address.
-    ///
-    /// Source: own choice.
     pub fn semaphore_at(&self, semaphore: u32) -> Result<SemId, Refusal>
         ensures alert { alert_of result ≡ model.semaphore_alert semaphore (shown_heap self.now) }
         ensures found { IfOk result (λ n. slot (places variant.Semaphore self.now) n ≡ Some semaphore) }
@@ -125,8 +117,6 @@ impl<S: ListSpace> Objects<S> {
     }
 
     /// The semaphore that begins at an address, which no task owns.
-    ///
-    /// Source: own choice.
     pub fn semaphore_to_free(&self, semaphore: u32) -> Result<SemId, Refusal>
         ensures alert { alert_of result ≡ model.free_sem_alert semaphore (shown_heap self.now) }
         ensures found { IfOk result (λ n. slot (places variant.Semaphore self.now) n ≡ Some semaphore) }
@@ -142,8 +132,8 @@ impl<S: ListSpace> Objects<S> {
 impl<S: ListSpace> Heap<S> {
     // ---- semaphores made and freed
 
-    /// Makes a semaphore, which no task owns, and answers its address; none where the pool has no semaphore left, which asks nothing, or its
-    /// block fits nowhere once libraries were asked to give way (autodoc exec.library/InitSemaphore; that it takes the memory: own choice).
+    /// Makes a semaphore, which no task owns, and answers its address; none if the pool has no semaphore left, which asks nothing, or its
+    /// block fits nowhere once libraries were expunged under low memory (autodoc exec.library/InitSemaphore; that it takes the memory: project rule).
     pub fn new_semaphore(&mut self) -> Option<u32>
         ensures address { result ≡ place_for_object model.is_semaphore model.semaphore_size (after_asking_for_object model.is_semaphore model.semaphore_size self.old) }
         ensures next { self.new ≡ placed model.semaphore_size (Semaphore free_sem []) result (after_asking_for_object model.is_semaphore model.semaphore_size self.old) }
@@ -151,7 +141,7 @@ impl<S: ListSpace> Heap<S> {
         self.objects.make_semaphore()
     }
 
-    /// Frees a semaphore. It is refused where no semaphore begins at the address (Handle), and where a task owns it (Sem); own choice.
+    /// Frees a semaphore. It is refused if no semaphore begins at the address (Handle), and if a task owns it (Sem); project rule.
     pub fn free_semaphore(&mut self, semaphore: u32) -> Result<(), Refusal>
         ensures alert { alert_of result ≡ model.free_sem_alert semaphore self.old.heap }
         ensures next { OnOk result (self.new ≡ freed semaphore self.old) }
@@ -165,9 +155,9 @@ impl<S: ListSpace> Heap<S> {
     // ---- obtaining and releasing
 
     /// Asks for a semaphore for one of the tasks, which waits for none. A free one is the task's, with the count 1; the owner's count is
-    /// one more; any other task waits, behind those that asked before. Answers which of these came of it. It is refused where no semaphore
-    /// begins at the address (Handle), and where the count would go past 32767 (Sem).
-    /// Autodoc exec.library/ObtainSemaphore; the refusals: own choice.
+    /// one more; any other task waits, after those that asked before. Answers which of these came of it. It is refused if no semaphore
+    /// begins at the address (Handle), and if the count would go past 32767 (Sem).
+    /// Autodoc exec.library/ObtainSemaphore; the refusals: project rule.
     pub fn obtain_semaphore(&mut self, task: TaskId, semaphore: u32) -> Result<Obtained, Refusal>
         requires task { task < self.old.tasks }
         requires stopped { WaitsForNone task self.old.heap }
@@ -180,9 +170,9 @@ impl<S: ListSpace> Heap<S> {
         told(self.objects.obtain(n, task))
     }
 
-    /// Asks for a semaphore for a task that is not to wait, and answers whether it has it: where it would have to wait, nothing changes. It
-    /// is refused where no semaphore begins at the address (Handle), and where the count would go past 32767 (Sem).
-    /// Autodoc exec.library/AttemptSemaphore; the refusals: own choice.
+    /// Asks for a semaphore for a task that is not to wait, and answers whether it has it: if it would have to wait, nothing changes. It
+    /// is refused if no semaphore begins at the address (Handle), and if the count would go past 32767 (Sem).
+    /// Autodoc exec.library/AttemptSemaphore; the refusals: project rule.
     pub fn attempt_semaphore(&mut self, task: TaskId, semaphore: u32) -> Result<bool, Refusal>
         ensures alert { alert_of result ≡ model.obtain_alert task semaphore self.old.heap }
         ensures answer { IfOk result (λ has. has ≡ is_open task (model.sem_of semaphore self.old.heap)) }
@@ -194,9 +184,9 @@ impl<S: ListSpace> Heap<S> {
     }
 
     /// Releases a semaphore once, for its owner. The last release hands it on: the first of the tasks that wait there waits no more and is
-    /// the owner with the count 1, and where none waits no task owns it. Answers the new owner, or none where the owner stays or no task is
-    /// the owner any more. It is refused where no semaphore begins at the address (Handle), and where the task does not own it (Sem).
-    /// Autodoc exec.library/ReleaseSemaphore; the refusals: own choice.
+    /// the owner with the count 1, and if none waits no task owns it. Answers the new owner, or none if the owner stays or no task is
+    /// the owner any more. It is refused if no semaphore begins at the address (Handle), and if the task does not own it (Sem).
+    /// Autodoc exec.library/ReleaseSemaphore; the refusals: project rule.
     pub fn release_semaphore(
         &mut self,
         task: TaskId,
@@ -211,7 +201,7 @@ impl<S: ListSpace> Heap<S> {
         told(self.objects.release(n, task))
     }
 
-    /// One of the tasks waits for no semaphore any more; the others keep their order. Own choice: a task that waits may be removed.
+    /// One of the tasks waits for no semaphore any more; the others keep their order. Project rule: a task that waits may be removed.
     pub fn drop_waiter(&mut self, task: TaskId)
         requires { task < self.old.tasks }
         ensures { self.new ≡ on_heap (model.dropped task) self.old }

@@ -27,9 +27,9 @@ enum Step {
     Shows(usize, u32, &'static [(usize, u32)]),
     /// The chain of the first region's chunks, of which each has its address and its size.
     HasChain(&'static [(u32, u32)]),
-    /// Blocks of 8 bytes are allocated, at most so many, until there is no room. How many there are.
+    /// Blocks of 8 bytes are allocated, at most that many, until there is no room. How many there are.
     Fills(u32, u32),
-    /// So many blocks of 8 bytes are freed, every second one from an address on.
+    /// That many blocks of 8 bytes are freed, every second one from an address on.
     FreesEachSecond(u32, u32),
 }
 
@@ -111,7 +111,7 @@ static CASES: [Case; 6] = [
             Allocs(1_048_576, Some(4096)),
         ],
     },
-    // Right below, far below, behind other blocks, or nowhere.
+    // Right below, far below, after other blocks, or nowhere.
     Case {
         name: "a block is linked behind the chunk below it, wherever that lies",
         regions: &[(4096, 112)],
@@ -143,7 +143,7 @@ static CASES: [Case; 6] = [
 ];
 
 impl Driver {
-    /// The memory of these regions, which may have so many bytes in all, with nothing allocated.
+    /// The memory of these regions, which may have that many bytes in all, with nothing allocated.
     fn new(alloc: Global, regions: &[Region], total: u32) -> Result<Self, MemFault> {
         let memory = MemList::new(alloc, regions, total)?;
         Ok(Driver {
@@ -168,7 +168,7 @@ impl Driver {
         }
     }
 
-    /// Allocates blocks of 8 bytes until there is no room, at most so many; how many there are.
+    /// Allocates blocks of 8 bytes until there is no room, at most that many; how many there are.
     fn fill(&mut self, most: u32) -> u32 {
         for count in 0..most {
             if self.allocate(8).is_none() {
@@ -178,7 +178,7 @@ impl Driver {
         most
     }
 
-    /// Frees so many blocks of 8 bytes, every second one from an address on; whether each was there.
+    /// Frees that many blocks of 8 bytes, every second one from an address on; whether each was there.
     fn free_each_second(&mut self, blocks: u32, address: u32) -> bool {
         let mut at = address;
         for _ in 0..blocks {
@@ -190,7 +190,7 @@ impl Driver {
         true
     }
 
-    /// The head of a region, 1 where there is no such region.
+    /// The head of a region, 1 if there is no such region.
     fn head(&self, k: usize) -> u32 {
         if k < self.regions {
             self.memory.head(k)
@@ -209,7 +209,7 @@ impl Driver {
     }
 }
 
-/// The words stand at these places.
+/// The words are at these places.
 fn stand(rt: &impl Abort, case: &str, number: usize, words: &[u32], wanted: &[(usize, u32)]) {
     for (i, word) in wanted {
         same(rt, case, number, words.get(*i).copied(), Some(*word));

@@ -53,7 +53,7 @@ enum Step {
     HasBlock(u32, Option<(u32, u32)>),
     /// A plain block of that size is taken, and nobody is asked.
     Takes(u32, Option<u32>),
-    /// A plain block of that size is taken of public memory, and libraries may give way.
+    /// A plain block of that size is taken of public memory, and libraries may are expunged under low memory.
     Allocs(u32, Option<u32>),
 }
 
@@ -179,7 +179,7 @@ static CASES: [Case; 8] = [
     },
 ];
 
-/// The same libraries where they are asked to give way.
+/// The same libraries if they are expunged under low memory.
 static ASKING: [Case; 5] = [
     Case {
         name: "a library that is not open gives way, and the first gap ends the asking",
@@ -285,7 +285,7 @@ impl<S: ListSpace> Driver<S> {
         }
     }
 
-    /// Takes a plain block of public memory, to which libraries may give way, and answers its address, if it answered one.
+    /// Takes a plain block of public memory, to which libraries may are expunged under low memory, and answers its address, if it answered one.
     fn alloc(&mut self, size: u32) -> Option<Option<u32>> {
         if self.are_placed() {
             Some(self.libraries.alloc_mem(size, 1, 0, &mut self.memory))
@@ -391,7 +391,7 @@ fn library(name: &str, version: u16, size: u32) -> LibInit {
     }
 }
 
-/// The libraries of each case, none of them loaded, in a memory of 4,096 bytes. They are asked to give way or are not.
+/// The libraries of each case, none of them loaded, in a memory of 4,096 bytes. They are expunged under low memory or are not.
 fn lent<S: ListSpace>(alloc: Global, asks: bool) -> Result<Driver<S>, Fail> {
     let known = [
         library("x.library", 37, 100),

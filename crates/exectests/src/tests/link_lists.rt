@@ -1,4 +1,4 @@
-//! A list space in linked cells: what stands after a place, and before it.
+//! A list space in linked cells: what is after a place, and before it.
 use execlist::link::{LinkSpace, Place};
 use execlist::space::ListSpace;
 use std::test::Fail;

@@ -71,7 +71,7 @@ struct Driver<S: ListSpace> {
 }
 
 impl<S: ListSpace> Driver<S> {
-    /// A space of so many headers and nodes.
+    /// A space of that many headers and nodes.
     fn new(alloc: Global, headers: usize, nodes: usize) -> Result<Self, AllocError>
         requires few_headers { headers ≤ 4096 }
         requires few_nodes { nodes ≤ 4096 }
@@ -197,7 +197,7 @@ fn compare(rt: &impl Abort, number: usize, linked: &Driver<LinkSpace>, plain: &D
     }
 }
 
-/// The call that a number stands for, over two headers and eight nodes and one of each that is not there.
+/// The call that a number represents, over two headers and eight nodes and one of each that is not there.
 fn call_of(x: u32) -> Change {
     let n = (x / 16 % 9) as usize;
     let p = (x / 256 % 9) as usize;
@@ -243,7 +243,7 @@ static KEYS: [(i8, Option<&str>); 6] = [
     (5, Some("y")),
 ];
 
-/// What is seen once they were enqueued in that order: a node goes behind its equals, and a search goes on after a node.
+/// What is seen once they were enqueued in that order: a node goes after its equals, and a search goes on after a node.
 static LOOKS: [(Look, Answer); 12] = [
     (Look::First(0), Node(Some(4))),
     (Succ(4), Node(Some(1))),

@@ -7,7 +7,7 @@ use std::test::Fail;
 /// A call on a pool, and what it must answer.
 #[derive(Clone, Copy)]
 enum Step {
-    /// An item is given: the number that holds it now, none where every number holds one.
+    /// An item is given: the number that holds it now, none if every number holds one.
     Gives(u32, Option<usize>),
     /// A number is made free: whether it held an item.
     Releases(usize, bool),
@@ -56,7 +56,7 @@ fn take_all(pool: &mut Pool<u32>, rt: &impl Abort, case: &str, steps: &[Step]) {
     }
 }
 
-/// What is shown on a pool of so many numbers: a number holds its item until it is free, and setting puts another item in place.
+/// What is shown on a pool of that many numbers: a number holds its item until it is free, and setting puts another item in place.
 static CASES: [(&str, usize, &[Step]); 2] = [
     (
         "a pool of two",

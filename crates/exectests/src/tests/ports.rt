@@ -65,7 +65,7 @@ enum Step {
     Sets(Setting),
     /// A port is freed. Its task and the number of its signal.
     Deletes(PortId, Result<(TaskId, u32), PortFault>),
-    /// The number of the signal by which a port tells a task.
+    /// The number of the signal by which a port notifies a task.
     WaitsFor(PortId, TaskId, Option<u32>),
     /// The type, the word and the reply port of a message, and whether a port has it or it is held.
     Holds(MsgId, Option<(u8, u32, u32, bool)>),
@@ -375,7 +375,7 @@ fn set<S: ListSpace>(ports: &mut Ports<S>, call: Setting) -> bool {
     }
 }
 
-/// The number of the signal by which a port that lives tells a task.
+/// The number of the signal by which a port that lives notifies a task.
 fn wait_bit<S: ListSpace>(ports: &Ports<S>, p: PortId, task: TaskId) -> Option<u32> {
     if ports.is_port(p) {
         ports.wait_bit(p, task)

@@ -24,7 +24,7 @@ enum Step {
     Closes(ReqId, Option<Result<(), ReqFault>>),
     /// A request gets a command, seconds and microseconds.
     Sets(ReqId, u16, u32, u32, Option<Result<(), ReqFault>>),
-    /// A request begins, with IOF_QUICK or not, at so many microseconds of the clock, and of system time.
+    /// A request begins, with IOF_QUICK or not, at that many microseconds of the clock, and of system time.
     Begins(ReqId, bool, u32, u64, Option<Result<Begun, ReqFault>>),
     /// A request is finished with an error: its reply port.
     Finishes(ReqId, i8, Option<Option<u32>>),

@@ -40,7 +40,7 @@ enum Call {
     SetSignal(u32, u32),
     /// Signals are posted to its own in the loan of them.
     Post(u32),
-    /// The signals that it has received, as the loan of them tells.
+    /// The signals that it has received, as the loan of them reports.
     Received,
     /// Forbid, in the loan of its nesting.
     Nest,
@@ -156,7 +156,7 @@ impl<S: ListSpace> Driver<S> {
                 self.schedule.leave();
                 Done
             }
-            // A task that waits gives way at once.
+            // A task that waits is expunged under low memory at once.
             Wait(mask) => Came(self.schedule.wait(mask)),
             WaitClear(mask) => {
                 self.schedule.wait_clear(mask);
@@ -228,7 +228,7 @@ const IDLE: Answer = Turned(Some(Switch::Idle));
 
 const NO_SWITCH: Answer = Turned(None);
 
-/// Who runs, and when a task gives way.
+/// Who runs, and when a task is expunged under low memory.
 static TURNS: [Case; 9] = [
     Case {
         name: "tasks run by priority and then by arrival",

@@ -611,7 +611,7 @@ static BODIES: [Bodies; 6] = [
     },
 ];
 
-/// Writes a line of a task's code, in which no single quote stands.
+/// Writes a line of a task's code, in which no single quote is.
 fn write_line(alloc: Global, file: &mut Vec<u8>, line: &str) -> Result<(), AllocError> {
     let quoted = format!(in alloc; "'{line}',")?;
     file.extend_from_slice(quoted.as_bytes())

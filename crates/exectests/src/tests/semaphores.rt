@@ -35,13 +35,13 @@ enum Step {
     Deepens(SemId, TaskId, usize),
     /// A task releases a semaphore.
     Releases(SemId, TaskId, Option<Result<Option<TaskId>, SemFault>>),
-    /// A task waits no more. The semaphore where it waited.
+    /// A task waits no more. The semaphore if it waited.
     Drops(TaskId, Option<SemId>),
     /// The number of the semaphore that is made next.
     Next(Option<SemId>),
     /// Whether a semaphore is owned.
     Owned(SemId, Option<bool>),
-    /// The semaphore where a task waits.
+    /// The semaphore if a task waits.
     WaitsAt(TaskId, Option<SemId>),
 }
 
@@ -199,7 +199,7 @@ static CASES: [Case; 9] = [
 ];
 
 impl<S: ListSpace> Driver<S> {
-    /// Room for so many semaphores and tasks.
+    /// Room for that many semaphores and tasks.
     fn new(alloc: Global, sems: usize, tasks: usize) -> Result<Self, AllocError>
         requires few_sems { sems ≤ 4096 }
         requires few_tasks { tasks ≤ 4096 }

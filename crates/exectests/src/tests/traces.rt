@@ -132,9 +132,9 @@ enum Habit {
     OneByte,
     /// Takes none 15 times, and then one byte.
     EachSixteenth,
-    /// Takes what it is given until it holds so many bytes, and then fails.
+    /// Takes what it is given until it holds that many bytes, and then fails.
     FailsAt(usize),
-    /// Takes what it is given until it holds so many bytes, and then none.
+    /// Takes what it is given until it holds that many bytes, and then none.
     StopsAt(usize),
 }
 
@@ -190,7 +190,7 @@ impl Write for Fickle {
     }
 }
 
-/// Emits a line to a good sink over a writer. What is answered, how the sink then stands, and the writer.
+/// Emits a line to a good sink over a writer. What is answered, how the sink then is, and the writer.
 fn emitted<W: Write>(
     rt: &impl Abort,
     line: &Line,

@@ -15,7 +15,7 @@ enum Ending {
     Fails(ErrorKind),
 }
 
-/// A reader of some bytes, which gives at most so many of them at once, and counts its reads.
+/// A reader of some bytes, which gives at most that many of them at once, and counts its reads.
 #[derive(Drop)]
 struct Slow<'a> {
     left: &'a [u8],

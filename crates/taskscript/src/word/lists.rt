@@ -9,13 +9,13 @@ use crate::word::row::{Kind, Row};
 /// A call on lists and nodes.
 #[derive(Clone, Copy, Debug, PartialEq, Eq)]
 pub enum ListWord {
-    /// Makes an empty list (amiga.lib/NewList; that it takes the memory for the list: own choice).
+    /// Makes an empty list (amiga.lib/NewList; that it takes the memory for the list: project rule).
     NewList,
-    /// Frees an empty list (own choice).
+    /// Frees an empty list (project rule).
     FreeList,
-    /// Makes a node with a priority and a name, or with no name (own choice).
+    /// Makes a node with a priority and a name, or with no name (project rule).
     NewNode,
-    /// Frees a node that is in no list (own choice).
+    /// Frees a node that is in no list (project rule).
     FreeNode,
     /// Puts a node first in a list (autodoc exec.library/AddHead).
     AddHead,

@@ -19,20 +19,20 @@ pub enum PortWord {
     RemPort,
     /// Finds a public port by its name (autodoc exec.library/FindPort).
     FindPort,
-    /// Sets the port's action to PA_SIGNAL (own choice; RKM Libraries, Exec Messages and Ports: mp_Flags).
+    /// Sets the port's action to PA_SIGNAL (project rule; RKM Libraries, Exec Messages and Ports: mp_Flags).
     PortSignal,
-    /// Sets the port's action to PA_SOFTINT, which causes a software interrupt (own choice; RKM Libraries, Exec Messages and Ports:
+    /// Sets the port's action to PA_SOFTINT, which causes a software interrupt (project rule; RKM Libraries, Exec Messages and Ports:
     /// mp_Flags).
     PortCause,
-    /// Sets the port's action to PA_IGNORE (own choice; RKM Libraries, Exec Messages and Ports: mp_Flags).
+    /// Sets the port's action to PA_IGNORE (project rule; RKM Libraries, Exec Messages and Ports: mp_Flags).
     PortIgnore,
-    /// Makes a message with a reply port, or with none, and with a word (own choice).
+    /// Makes a message with a reply port, or with none, and with a word (project rule).
     NewMsg,
-    /// Frees a message that is in no port (own choice).
+    /// Frees a message that is in no port (project rule).
     FreeMsg,
-    /// Asks for the word that a message carries (own choice).
+    /// Asks for the word that a message carries (project rule).
     MsgWord,
-    /// Sets the word that a message carries (own choice).
+    /// Sets the word that a message carries (project rule).
     SetMsgWord,
     /// Asks for the type of a message (exec/nodes.h, ln_Type).
     MsgType,
@@ -40,7 +40,7 @@ pub enum PortWord {
     PutMsg,
     /// Takes the first message out of a port (autodoc exec.library/GetMsg).
     GetMsg,
-    /// Asks for the first message of a port, which stays there; waits where there is none (autodoc exec.library/WaitPort).
+    /// Asks for the first message of a port, which stays there; waits if there is none (autodoc exec.library/WaitPort).
     WaitPort,
     /// Puts a message to its reply port (autodoc exec.library/ReplyMsg).
     ReplyMsg,

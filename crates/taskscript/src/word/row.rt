@@ -2,7 +2,7 @@
 ghost use Rattle.std.specs.Prelude.{◌≡◌};
 ghost use Rattle.taskscript.specs.Rows.{answering, row_view, without_answer};
 
-/// What may stand at one place after a word.
+/// What may be at one place after a word.
 #[derive(Clone, Copy, Debug, PartialEq, Eq)]
 pub enum Kind {
     /// A number or a variable.
@@ -20,9 +20,9 @@ pub enum Kind {
 /// The row of a word.
 #[derive(Clone, Copy)]
 pub(super) struct Row {
-    /// The text of the word, as it stands in a line and in the trace.
+    /// The text of the word, as it is in a line and in the trace.
     pub text: &'static str,
-    /// Whether the word answers, so that a target may stand before it.
+    /// Whether the word answers, so that a target may be before it.
     pub answers: bool,
     /// The kinds of its arguments, from left to right.
     pub kinds: &'static [Kind],

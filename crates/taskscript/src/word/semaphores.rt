@@ -9,11 +9,11 @@ use crate::word::row::{Kind, Row};
 /// A call on signal semaphores.
 #[derive(Clone, Copy, Debug, PartialEq, Eq)]
 pub enum SemaphoreWord {
-    /// Makes a semaphore that no task owns (autodoc exec.library/InitSemaphore; that it takes the memory: own choice).
+    /// Makes a semaphore that no task owns (autodoc exec.library/InitSemaphore; that it takes the memory: project rule).
     NewSem,
-    /// Frees a semaphore that no task owns (own choice).
+    /// Frees a semaphore that no task owns (project rule).
     FreeSem,
-    /// Asks for a semaphore; the task waits where another one owns it (autodoc exec.library/ObtainSemaphore).
+    /// Asks for a semaphore; the task waits if another one owns it (autodoc exec.library/ObtainSemaphore).
     ObtainSemaphore,
     /// Asks for a semaphore without waiting (autodoc exec.library/AttemptSemaphore).
     AttemptSemaphore,

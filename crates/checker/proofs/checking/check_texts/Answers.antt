@@ -1,3 +1,5 @@
+-- The proof of `check_texts`: reads the machine file, checks it, and writes what was found in it; and then does the same of the event
+-- text, if there is a path for it, and of the run.
 use Rattle.checker.proofs.JudgingLemmas.{judges_both}
 use Rattle.checker.proofs.checking.check_texts.Goals as goal
 

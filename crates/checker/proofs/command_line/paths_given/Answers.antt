@@ -1,3 +1,4 @@
+-- The proof of `paths_given`: the paths that the words of a command line give.
 use Rattle.std.proofs.Common.{◌∙◌, rules, ap, sym, codes}
 use Rattle.clap.specs.Words.{fault_of, is_simple_and_free}
 use Rattle.clap.specs.Walk.{texts}

@@ -1,3 +1,4 @@
+-- The proof of `is_right`: whether a field is an argument of that kind.
 use Rattle.std.proofs.Common.{sym, ◌∙◌}
 use Rattle.toml.specs.View.{items_view}
 use Rattle.taskscript.specs.File.{item_names}

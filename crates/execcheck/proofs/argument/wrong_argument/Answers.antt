@@ -1,3 +1,5 @@
+-- The proof of `wrong_argument`: the number of the first argument that is not right: it is of another kind, or there is none, or it is one
+-- too many.
 use Rattle.std.proofs.Common.{◌≡◌, Bool, Some, sym, ap, cond, drop, length, arith, ◌∙◌, ◌+◌}
 use Rattle.toml.specs.View.{items_view}
 use Rattle.taskscript.specs.File.{item_names}

@@ -1,3 +1,4 @@
+-- The proof of `bodies_found`.
 use Rattle.std.proofs.Common.{◌≡◌, ◌∙◌, Some, sym}
 use Rattle.toml.specs.View.{items_view}
 use Rattle.taskscript.specs.Code.{lines_in}

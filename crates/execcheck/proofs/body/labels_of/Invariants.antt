@@ -1,3 +1,4 @@
+-- What holds in the loops of `labels_of`.
 use Rattle.std.proofs.Common.{◌≡◌, ◌++◌, drop}
 use Rattle.toml.specs.View.{items_view}
 use Rattle.taskscript.specs.Code.{labels_of, lines_in}

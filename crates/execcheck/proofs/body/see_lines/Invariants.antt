@@ -1,3 +1,4 @@
+-- What holds in the loops of `see_lines`.
 use Rattle.std.proofs.Common.{◌≡◌, drop}
 use Rattle.toml.specs.View.{items_view}
 use Rattle.taskscript.specs.Code.{lines_in}

@@ -1,3 +1,4 @@
+-- The proof of `has_labels`: whether each label that these arguments have is one of those.
 use Rattle.std.proofs.Common.{◌≡◌, ◌∙◌, rules, tests}
 use Rattle.std.specs.List.{list_all}
 use Rattle.std.proofs.lemmas.Iterator.{YieldsList-from_slice}

@@ -1,3 +1,5 @@
+-- The proof of `is_of_interrupt`: whether the body of an interrupt may have a command of that word with these variables: its words are
+-- few, and its variables are shared.
 use Rattle.std.proofs.Common.{◌≡◌, ◌∙◌, ◌&&◌, Bool, true, map, rules, tests, sym, ap}
 use Rattle.std.specs.List.{list_all}
 use Rattle.std.proofs.lemmas.Iterator.{YieldsList-from_slice}

@@ -1,3 +1,4 @@
+-- What holds in the loops of `variables_of`: the variables of a command: its target, and then its arguments from left to right.
 use Rattle.std.proofs.Common.{◌≡◌, ◌++◌, drop, map}
 use Rattle.taskscript.specs.Numbering.{variables_of, variables_of_arguments}
 use Rattle.execcheck.specs.Named.{argument_view, command_view, variable_view}

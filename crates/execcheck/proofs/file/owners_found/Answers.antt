@@ -1,3 +1,4 @@
+-- The proof of `owners_found`: the first faulty place of the software interrupts, the servers and the tasks.
 use Rattle.std.proofs.Common.{◌≡◌, ◌∙◌, ◌++◌, [], sym, ap}
 use Rattle.toml.specs.Data.{Items}
 use Rattle.toml.specs.View.{table_view, items_view}

@@ -1,3 +1,4 @@
+-- The proof of `regions_found`: the first faulty place of the regions: that of one of them, or else all together.
 use Rattle.std.proofs.Common.{◌∙◌, Some, sym}
 use Rattle.toml.specs.View.{table_view}
 use Rattle.execcheck.proofs.TreeLaws.{regions_turn}

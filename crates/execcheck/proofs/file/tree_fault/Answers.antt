@@ -1,3 +1,6 @@
+-- The proof of `tree_fault`: the first faulty place of the tree of a machine file, without its lines, in the order in which it is judged:
+-- the keys of the top table and what they hold, the regions, all of them together, and the libraries, the software interrupts, the servers
+-- and the tasks.
 use Rattle.std.proofs.Common.{◌∙◌, ◌++◌, [], sym}
 use Rattle.toml.specs.View.{table_view}
 use Rattle.execcheck.specs.declared.place.TablePlace.TheVariants.{Top}

@@ -1,3 +1,4 @@
+-- The proof of `items_found`: the first faulty place of the items of an array, which may have none of the names of two other ones.
 use Rattle.std.proofs.Common.{◌+◌, ◌++◌, ◌∙◌, sym}
 use Rattle.toml.specs.View.{items_view}
 use Rattle.taskscript.specs.File.{item_names}

@@ -1,3 +1,5 @@
+-- What holds in the loops of `items_found`: the first faulty place of the items of an array, which may have none of the names of two other
+-- ones.
 use Rattle.std.proofs.Common.{◌≡◌, ◌++◌}
 use Rattle.toml.specs.View.{items_view}
 use Rattle.execlist.specs.Order.{first}

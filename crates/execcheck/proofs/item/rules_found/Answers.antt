@@ -1,3 +1,5 @@
+-- The proof of `rules_found`: the first key of a table, in the order of the rules, that is absent if it has to be there, or holds another
+-- value than is wanted.
 use Rattle.std.proofs.Common.{◌∙◌, sym, Some}
 use Rattle.toml.specs.View.{table_view}
 use Rattle.execcheck.specs.Names.{names_before}

@@ -1,3 +1,5 @@
+-- What holds in the loops of `rules_found`: the first key of a table, in the order of the rules, that is absent if it has to be there, or
+-- holds another value than is wanted.
 use Rattle.std.proofs.Common.{◌≡◌, drop}
 use Rattle.toml.specs.View.{table_view}
 use Rattle.execlist.specs.Order.{first}

@@ -1,3 +1,4 @@
+-- The proof of `table_found`: the first faulty place of a table: a key that it may not have, and then what its keys hold.
 use Rattle.std.proofs.Common.{◌∙◌, sym, ap, List}
 use Rattle.toml.specs.View.{table_view}
 use Rattle.execlist.specs.Order.{first}

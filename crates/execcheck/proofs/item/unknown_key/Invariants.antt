@@ -1,3 +1,4 @@
+-- What holds in the loops of `unknown_key`: the first key of a table, in the order of the bytes of their texts, that it may not have.
 use Rattle.std.proofs.Common.{◌≡◌}
 use Rattle.toml.specs.View.{members_view}
 use Rattle.execcheck.specs.TreePlaces.{keys_at, unknown_among}

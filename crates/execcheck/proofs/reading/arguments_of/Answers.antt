@@ -1,3 +1,4 @@
+-- The proof of `arguments_of`.
 use Rattle.std.proofs.Common.{arith, map, sym, ◌∙◌}
 use Rattle.std.proofs.lemmas.List.{length-map, map_push}
 use Rattle.taskscript.proofs.Arguments.{args_uneven, turn_goes_on, turn_stops, turns_end}

@@ -1,3 +1,4 @@
+-- What holds in the loops of `arguments_of`.
 use Rattle.std.proofs.Common.{◌≡◌, drop, map}
 use Rattle.taskscript.specs.Parsing.{arguments_of}
 use Rattle.taskscript.proofs.Arguments.{with_front}

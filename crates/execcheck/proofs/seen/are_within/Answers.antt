@@ -1,3 +1,4 @@
+-- The proof of `are_within`: whether the number of each of these variables is within its limit.
 use Rattle.std.proofs.Common.{◌≡◌, ◌∙◌, rules, tests}
 use Rattle.std.specs.List.{list_all}
 use Rattle.std.proofs.lemmas.Iterator.{YieldsList-from_slice}

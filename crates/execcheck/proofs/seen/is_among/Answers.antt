@@ -1,3 +1,4 @@
+-- The proof of `is_among`: whether a name is one of these.
 use Rattle.std.proofs.Common.{◌≡◌, ◌∙◌, ℕ, List, bytes_eq, rules, tests, Bor}
 use Rattle.std.specs.List.{list_any}
 use Rattle.std.proofs.lemmas.Iterator.{YieldsList-from_slice}

@@ -1,3 +1,4 @@
+-- The proof of `number_in`.
 use Rattle.std.proofs.Common.{ℕ, List, bytes_eq, ◌∙◌, Bor}
 use Rattle.taskscript.proofs.Names.{position_found, position_lacking}
 use Rattle.execcheck.proofs.SeenTurns.{number_texts}

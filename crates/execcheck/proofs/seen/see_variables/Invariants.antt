@@ -1,3 +1,4 @@
+-- What holds in the loops of `see_variables`: variables are seen, one after the other.
 use Rattle.std.proofs.Common.{◌≡◌, drop, map}
 use Rattle.taskscript.specs.Numbering.{names_after}
 use Rattle.execcheck.specs.Named.{variable_view}

@@ -1,3 +1,4 @@
+-- What holds in the loops of `has_named`: whether one of the items has that name.
 use Rattle.std.proofs.Common.{◌≡◌, bytes_eq, drop}
 use Rattle.std.specs.List.{list_any}
 use Rattle.toml.specs.View.{items_view}

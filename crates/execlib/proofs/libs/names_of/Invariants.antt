@@ -1,4 +1,4 @@
--- The nodes so far stand in the header, in order and with their names, and those behind them stand in none.
+-- The nodes so far are in the header, in order and with their names, and those after them are in none.
 use Rattle.std.proofs.Common.{◌≡◌, ℕ, ◌≤◌, take, length, map, [], ◌∷◌, None}
 use Rattle.execlist.specs.Lists.{home}
 use Rattle.execlib.specs.Libraries.{numbers, key_of, description_of}

@@ -1,3 +1,5 @@
+-- The proof of `an_alert_ends_all`: after an alert no event does anything: the state stays as it is, no line is printed and no mark is
+-- left.
 use Rattle.execmodel.proofs.Stopped.{event_stopped, events_stopped, stopped_between}
 use Rattle.execmodel.proofs.laws.an_alert_ends_all.Goals as goal
 

@@ -1,3 +1,6 @@
+-- The proof of `priority`: after the start and after each step, tick and request of every run, unless an alert stopped the machine: if no
+-- task runs none is ready; if switching is allowed no ready task has a higher priority than the running one; and a request is left only if
+-- interrupts are not allowed.
 use Rattle.execmodel.proofs.Saying.{only_switches_say_so}
 use Rattle.execmodel.proofs.Settled.{each_state_is_settled}
 use Rattle.execmodel.proofs.Switching.{switches_go_to_the_chosen}

@@ -1,3 +1,6 @@
+-- The proof of `version_one`: in version 1 of the rules no library is expunged under low memory: each run of a machine of version 1 is the
+-- run of the machine as it was, in which AllocMem, NewList, NewNode, CreateMsgPort, NewMsg, NewSem, CreateIORequest and OpenLibrary take
+-- memory as it is.
 use Rattle.execmodel.proofs.Versions.{version_one_is_the_machine_as_it_was, libraries_are_asked_in_version_two, unasked_words_take_memory_as_it_is, asking_changes_the_blocks}
 use Rattle.execmodel.proofs.laws.version_one.Goals as goal
 

@@ -1,3 +1,5 @@
+-- The proof of `a_port_may_cause_a_softint`: a port may cause a software interrupt if a message arrives, and its body takes the message;
+-- the marks say it.
 use Rattle.std.proofs.Common.{refl}
 use Rattle.execmodel.proofs.OnLiterals.{runs_on_literals}
 use Rattle.execmodel.proofs.runs.a_port_may_cause_a_softint.Goals as goal

@@ -1,3 +1,4 @@
+-- The proof of `a_task_prints_once_and_ends`: a task that prints once ends at its next step, and the machine is idle.
 use Rattle.std.proofs.Common.{refl}
 use Rattle.execmodel.proofs.OnLiterals.{runs_on_literals}
 use Rattle.execmodel.proofs.runs.a_task_prints_once_and_ends.Goals as goal

@@ -1,3 +1,5 @@
+-- The proof of `an_alert_in_a_body_stops_all`: an alert in the midst of a body stops the machine at once: no later command of the body,
+-- server or switch follows, nor does idle.
 use Rattle.std.proofs.Common.{refl}
 use Rattle.execmodel.proofs.OnLiterals.{runs_on_literals}
 use Rattle.execmodel.proofs.runs.an_alert_in_a_body_stops_all.Goals as goal

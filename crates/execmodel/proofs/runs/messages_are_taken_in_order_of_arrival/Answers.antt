@@ -1,3 +1,5 @@
+-- The proof of `messages_are_taken_in_order_of_arrival`: messages are taken in order of arrival; a signal that came for no message only
+-- makes the task of a port look again.
 use Rattle.std.proofs.Common.{refl}
 use Rattle.execmodel.proofs.OnLiterals.{runs_on_literals}
 use Rattle.execmodel.proofs.runs.messages_are_taken_in_order_of_arrival.Goals as goal

@@ -1,3 +1,5 @@
+-- The proof of `what_was_marked_in_vain_stays_so`: an open library that was expunged under low memory is expunged at its last close, also
+-- if the block found no place after all.
 use Rattle.std.proofs.Common.{refl}
 use Rattle.execmodel.proofs.OnLiterals.{runs_on_literals}
 use Rattle.execmodel.proofs.runs.what_was_marked_in_vain_stays_so.Goals as goal

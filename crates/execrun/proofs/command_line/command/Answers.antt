@@ -1,3 +1,4 @@
+-- The proof of `command`: the command, whose words are given without its own name.
 use Rattle.std.proofs.Common.{rules}
 use Rattle.std.proofs.lemmas.Result.{IfOk-weaker}
 use Rattle.execrun.proofs.CommandLemmas.{takes_two_paths}

@@ -1,3 +1,4 @@
+-- The proof of `ending_of`: does what the words ask for, and says how the program ends.
 use Rattle.execrun.proofs.RunLemmas.{runs_out_of_memory}
 use Rattle.execrun.proofs.running.ending_of.Goals as goal
 

@@ -1,8 +1,9 @@
+-- The proof of `write_trace`: simulates the machine of one text under the events of another, and writes the trace to its last byte.
 use Rattle.std.proofs.Common.{rules}
 use Rattle.execrun.proofs.LentLemmas.{writes_trace}
 use Rattle.execrun.proofs.running.write_trace.Goals as goal
 
--- the loan that comes back is the one that was made, so what the sink took stands in `out`
+-- the loan that comes back is the one that was made, so what the sink took is in `out`
 pub returns : goal.returns
 returns g c =
     let lent = c.into_inner-lent.result.out in

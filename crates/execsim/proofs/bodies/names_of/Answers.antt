@@ -1,4 +1,4 @@
--- A name that differs from all before it is put in behind them.
+-- A name that differs from all before it is put in after them.
 use Rattle.std.proofs.Common.{◌≡◌, ◌+◌, List, ap, refl, sym, ◌∙◌, ◌≢◌, map, take, subst, ℕ}
 use Rattle.std.specs.List.{AllPairs}
 use Rattle.arrayvec.specs.ArrayString.{ArrayString}

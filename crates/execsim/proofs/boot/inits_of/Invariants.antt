@@ -1,3 +1,4 @@
+-- What holds in the loops of `inits_of`: the names and priorities of the tasks, in the order of the file.
 use Rattle.std.proofs.Common.{◌≡◌, map, take}
 use Rattle.execsim.proofs.boot.inits_of.Given as goal
 

@@ -1,3 +1,4 @@
+-- The proof of `kernel_of`: the machine of a file before its start.
 use Rattle.std.proofs.Common.{ap, ◌∙◌}
 use Rattle.execmodel.specs.State.{booted}
 use Rattle.execsim.specs.Agreement.{Seen}

@@ -1,3 +1,4 @@
+-- What holds in the loops of `libraries_of`: the libraries, in the order of the file.
 use Rattle.std.proofs.Common.{◌≡◌, map, take}
 use Rattle.taskscript.specs.Records.{library_view}
 use Rattle.execlib.specs.Libraries.{description_of}

@@ -1,3 +1,4 @@
+-- The proof of `sched_of`: the schedule of these tasks: none was added.
 use Rattle.execsim.proofs.boot.sched_of.Goals as goal
 
 pub returns : goal.returns

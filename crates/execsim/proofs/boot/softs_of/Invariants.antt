@@ -1,3 +1,4 @@
+-- What holds in the loops of `softs_of`: the priorities of the software interrupts, in the order of the file.
 use Rattle.std.proofs.Common.{◌≡◌, map, take}
 use Rattle.execsim.proofs.boot.softs_of.Given as goal
 

@@ -1,3 +1,4 @@
+-- What holds in the loops of `sources_of`: the sources and priorities of the servers, in the order of the file.
 use Rattle.std.proofs.Common.{◌≡◌, map, take}
 use Rattle.taskscript.specs.Records.{server_view}
 use Rattle.execsim.specs.Views.{interrupting}

@@ -1,3 +1,4 @@
+-- The proof of `read_limited`: all bytes that a reader has left, if they are at most `FILE_LIMIT`.
 use Rattle.std.proofs.Common.{rules}
 use Rattle.std.proofs.lemmas.Result.{err_from_is_err_and}
 use Rattle.execsim.proofs.ReadLemmas.{fault_after}

@@ -1,3 +1,4 @@
+-- What holds in the loops of `read_limited`: all bytes that a reader has left, if they are at most `FILE_LIMIT`.
 use Rattle.std.proofs.Common.{◌-◌, ◌≤◌, vec_len}
 use Rattle.std.specs.Io.KnownBytes.{Consumes}
 use Rattle.execsim.proofs.reading.read_limited.Given as goal

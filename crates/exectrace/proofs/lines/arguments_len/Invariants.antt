@@ -1,3 +1,4 @@
+-- What holds in the loops of `arguments_len`: how many bytes these arguments take in a line: 10 each, and up to 24 more if one is quoted.
 use Rattle.std.proofs.Common.{◌≡◌, ◌≤◌, ◌+◌, ◌*◌, length, take, count_by, map}
 use Rattle.std.specs.List.{flat_map}
 use Rattle.exectrace.specs.Trace.{argument_text, is_quoted}

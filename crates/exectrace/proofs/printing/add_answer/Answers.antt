@@ -1,3 +1,4 @@
+-- The proof of `add_answer`: adds the answer and the line feed.
 use Rattle.std.proofs.Common.{◌++◌, ap, ◌∙◌}
 use Rattle.exectrace.proofs.Pieces.{adds_fitting}
 use Rattle.exectrace.proofs.printing.add_answer.Goals as goal

@@ -1,3 +1,4 @@
+-- The proof of `add_arguments`.
 use Rattle.exectrace.proofs.Pieces.{adds_none, adds_then, flat_map_mapped_next}
 use Rattle.std.proofs.Common.{sym}
 use Rattle.exectrace.specs.Trace.{argument_text}

@@ -1,3 +1,4 @@
+-- The proof of `add_quoted`: adds a space and the name between double quotes.
 use Rattle.std.proofs.Common.{refl}
 use Rattle.exectrace.proofs.Pieces.{adds_then}
 use Rattle.exectrace.proofs.printing.add_quoted.Goals as goal

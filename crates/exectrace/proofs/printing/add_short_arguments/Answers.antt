@@ -1,3 +1,4 @@
+-- The proof of `add_short_arguments`.
 use Rattle.exectrace.proofs.Pieces.{adds_none, adds_then, flat_map_mapped_more}
 use Rattle.exectrace.specs.Trace.{argument_text}
 use Rattle.exectrace.specs.Short.{short_argument}

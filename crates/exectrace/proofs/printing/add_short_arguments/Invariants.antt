@@ -1,3 +1,4 @@
+-- What holds in the loops of `add_short_arguments`.
 use Rattle.std.proofs.Common.{take, map}
 use Rattle.std.specs.List.{flat_map}
 use Rattle.exectrace.specs.Sink.{Adds}

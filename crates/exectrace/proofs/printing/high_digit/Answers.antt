@@ -1,3 +1,4 @@
+-- The proof of `high_digit`: the digit of the high half of a number below 256.
 use Rattle.exectrace.proofs.Digits.{high_of_pair}
 use Rattle.exectrace.proofs.printing.high_digit.Goals as goal
 

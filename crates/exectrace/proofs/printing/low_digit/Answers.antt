@@ -1,3 +1,4 @@
+-- The proof of `low_digit`: the digit of the low half of a number below 256.
 use Rattle.exectrace.proofs.Digits.{low_of_pair}
 use Rattle.exectrace.proofs.printing.low_digit.Goals as goal
 

@@ -1,3 +1,4 @@
+-- The proof of `put_between`: puts a text between two others.
 use Rattle.std.proofs.Common.{refl}
 use Rattle.exectrace.proofs.Pieces.{adds_then, adds_all}
 use Rattle.exectrace.proofs.printing.put_between.Goals as goal

@@ -1,3 +1,4 @@
+-- The proof of `put_short_call`: puts the line of a call as `put_call` does, if each quoted argument is that name.
 use Rattle.std.proofs.Common.{refl}
 use Rattle.std.specs.Prelude.{codes}
 use Rattle.exectrace.specs.Trace.{outcome_text}

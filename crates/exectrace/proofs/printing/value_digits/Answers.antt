@@ -1,3 +1,4 @@
+-- The proof of `value_digits`: `$` and eight digits.
 use Rattle.exectrace.proofs.Digits.{value_of_pairs}
 use Rattle.exectrace.proofs.printing.value_digits.Goals as goal
 

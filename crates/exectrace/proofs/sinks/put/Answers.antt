@@ -1,3 +1,4 @@
+-- The proof of `put`: writes all the bytes to a good sink, and nothing to one that is not good.
 use Rattle.std.proofs.Common.{sym, ◌∙◌}
 use Rattle.exectrace.proofs.Pieces.{puts_rest}
 use Rattle.exectrace.proofs.sinks.put.Goals as goal

@@ -1,3 +1,4 @@
+-- The proof of `chunk_below`: the chunk before a block that has that many units below it, or 0 if there is none.
 use Rattle.std.proofs.Common.{arith, ◌-◌, ◌<◌, ◌≤◌, length, take, ap, ◌∙◌}
 use Rattle.memlist.specs.Descent.{last_left}
 use Rattle.memlist.proofs.Descending.{one-up, unit-at}

@@ -1,3 +1,4 @@
+-- What holds in the loops of `chunk_below`: the chunk before a block that has that many units below it, or 0 if there is none.
 use Rattle.std.proofs.Common.{◌+◌, ◌*◌, ◌≤◌, take}
 use Rattle.memlist.specs.Chain.{IsClimbed, IsLastBelow}
 use Rattle.memlist.specs.Descent.{last_left}

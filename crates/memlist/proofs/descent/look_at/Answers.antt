@@ -1,3 +1,4 @@
+-- The proof of `look_at`: looks at a unit for the last chunk below `top`, if no block begins between the two.
 use Rattle.std.proofs.Common.{arith}
 use Rattle.memlist.proofs.Descending.{look-chunk, look-empty, look-full}
 use Rattle.memlist.proofs.descent.look_at.Goals as goal

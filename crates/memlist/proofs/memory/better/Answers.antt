@@ -1,3 +1,4 @@
+-- The proof of `better`: what is chosen once the header at a place is looked at too.
 use Rattle.std.proofs.Common.{◌≡◌, drop, sym, subst, ◌∙◌}
 use Rattle.std.specs.Prelude.{Option, Some, IsSomeAnd}
 use Rattle.memlist.specs.Areas.{Area, area_gaps}

@@ -1,3 +1,4 @@
+-- What holds in the loops of `choose`: the chosen region among those with a large enough gap, and its lowest such gap.
 use Rattle.std.proofs.Common.{drop}
 use Rattle.memlist.specs.Choice.{IsOffer}
 use Rattle.memlist.proofs.memory.choose.Given as goal

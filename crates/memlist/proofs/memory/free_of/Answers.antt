@@ -1,3 +1,4 @@
+-- The proof of `free_of`: the bytes that are free in the suitable regions.
 use Rattle.std.proofs.Common.{arith, sym, ◌∙◌, true, false}
 use Rattle.memlist.proofs.Choices.{free_more}
 use Rattle.memlist.proofs.memory.free_of.Goals as goal

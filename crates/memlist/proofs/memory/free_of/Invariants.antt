@@ -1,3 +1,4 @@
+-- What holds in the loops of `free_of`: the bytes that are free in the suitable regions.
 use Rattle.std.proofs.Common.{◌≡◌, ◌+◌, drop}
 use Rattle.memlist.specs.Choice.{free_of}
 use Rattle.memlist.proofs.memory.free_of.Given as goal

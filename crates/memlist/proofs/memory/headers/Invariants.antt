@@ -1,3 +1,4 @@
+-- What holds in the loops of `headers`: a header for each region.
 use Rattle.std.proofs.Common.{◌≡◌, map, take}
 use Rattle.memlist.specs.Areas.{empty_area}
 use Rattle.memlist.proofs.memory.headers.Given as goal

@@ -1,3 +1,4 @@
+-- What holds in the loops of `home`: the place of the header in whose region an address lies.
 use Rattle.std.proofs.Common.{◌≡◌, false}
 use Rattle.std.specs.List.{AllWithin}
 use Rattle.memlist.specs.Areas.{Area}

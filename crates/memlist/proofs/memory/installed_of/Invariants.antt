@@ -1,3 +1,4 @@
+-- What holds in the loops of `installed_of`: the installed size of the suitable regions.
 use Rattle.std.proofs.Common.{◌≡◌, ◌+◌, drop}
 use Rattle.memlist.specs.Choice.{installed_of}
 use Rattle.memlist.proofs.memory.installed_of.Given as goal

@@ -1,3 +1,4 @@
+-- The proof of `largest_of`: the size of the greatest gap of the suitable regions, or 0 if there is none.
 use Rattle.std.proofs.Common.{arith, sym, ◌∙◌, true, false}
 use Rattle.memlist.proofs.Choices.{largest_more}
 use Rattle.memlist.proofs.memory.largest_of.Goals as goal

@@ -1,3 +1,4 @@
+-- What holds in the loops of `largest_of`: the size of the greatest gap of the suitable regions, or 0 if there is none.
 use Rattle.std.proofs.Common.{◌≡◌, drop, max}
 use Rattle.memlist.specs.Choice.{largest_of}
 use Rattle.memlist.proofs.memory.largest_of.Given as goal

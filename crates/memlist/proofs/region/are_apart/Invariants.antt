@@ -1,3 +1,4 @@
+-- What holds in the loops of `are_apart`.
 use Rattle.std.proofs.Common.{◌≡◌, drop}
 use Rattle.memlist.specs.Regions.{are_apart}
 use Rattle.memlist.proofs.region.are_apart.Given as goal

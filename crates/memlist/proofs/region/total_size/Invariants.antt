@@ -1,3 +1,4 @@
+-- What holds in the loops of `total_size`.
 use Rattle.std.proofs.Common.{◌≡◌, ◌*◌, ◌^◌, ◌≤◌, take}
 use Rattle.memlist.specs.Regions.{total_size}
 use Rattle.memlist.proofs.region.total_size.Given as goal

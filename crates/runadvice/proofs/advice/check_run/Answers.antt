@@ -1,3 +1,5 @@
+-- The proof of `check_run`: what the run of a machine file and an event text comes to that is most likely not meant, a line or more for
+-- each; nothing if that is nothing, if a text is refused, and if an alert ends the run, of which `execsim` says more.
 use Rattle.std.proofs.Common.{◌≡◌, ◌∙◌, ◌++◌, None, Some, ap}
 use Rattle.std.specs.String.{string_bytes}
 use Rattle.runadvice.specs.Advice.{end_warning, warnings_from}

@@ -1,3 +1,4 @@
+-- The proof of `run_of`: the run of two texts to its end, if both are accepted and no alert ends it.
 use Rattle.std.proofs.Common.{◌∙◌, List, ℕ, Some, ap, ap₂}
 use Rattle.std.specs.Borrow.{Bor}
 use Rattle.runadvice.specs.Following.{marked}

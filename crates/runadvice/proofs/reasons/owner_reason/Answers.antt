@@ -1,3 +1,4 @@
+-- The proof of `owner_reason`: why nothing ends a wait for a semaphore that a task owns, if that is so.
 use Rattle.std.proofs.Common.{◌∙◌, sym}
 use Rattle.std.specs.String.{string_bytes}
 use Rattle.runadvice.specs.Standings.{standing_of}

@@ -1,3 +1,5 @@
+-- The proof of `tell_bytes`: reports a run each line that these bytes end, of which the first was begun before, and keeps what is after
+-- the last.
 use Rattle.std.proofs.Common.{◌∙◌, List, ℕ, [], ◌∷◌, ◌++◌, get_or, ap, ap₂, sym}
 use Rattle.runadvice.specs.Standing.{Standing, after_line}
 use Rattle.runadvice.specs.Standings.{standing_of}

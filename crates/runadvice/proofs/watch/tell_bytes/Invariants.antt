@@ -1,4 +1,4 @@
--- The run was told of the whole lines in the bytes so far.
+-- The run was reported of the whole lines in the bytes so far.
 use Rattle.std.proofs.Common.{◌≡◌, take}
 use Rattle.std.specs.List.{fold}
 use Rattle.runadvice.specs.Standing.{after_line}

@@ -1,3 +1,4 @@
+-- The proof of `tell_line`: reports a run the bytes of a line.
 use Rattle.runadvice.proofs.TraceLemmas.{line_of_no_text, line_of_text}
 use Rattle.runadvice.proofs.watch.tell_line.Goals as goal
 

@@ -1,4 +1,4 @@
--- A running task does not stand among the ready ones, so these stay as they are.
+-- A running task is not among the ready ones, so these stay as they are.
 use Rattle.std.proofs.Common.{ap, ◌∙◌}
 use Rattle.scheduler.specs.Schedule.{leaves}
 use Rattle.scheduler.proofs.ScheduleLemmas.{runner_runs, retired}

@@ -1,4 +1,4 @@
--- Nothing stands in the headers so far.
+-- Nothing is in the headers so far.
 use Rattle.std.proofs.Common.{◌≡◌, ℕ, ◌<◌, None}
 use Rattle.execlist.specs.Order.{first}
 use Rattle.execlist.specs.Lists.{sequence}

@@ -1,4 +1,4 @@
--- A ready task leaves its header; any other stood in none, and leaving it out changes nothing.
+-- A ready task leaves its header; any other was in none, and leaving it out changes nothing.
 use Rattle.std.proofs.Common.{◌<◌, None, ap, ◌∙◌, sym, arith, length, slice_set}
 use Rattle.execlist.specs.Order.{without}
 use Rattle.execlist.specs.Lists.{home, sequence}

@@ -1,3 +1,4 @@
+-- The proof of `accepted_events_are_within`: the events of an accepted text are at most 100,000.
 use Rattle.taskscript.proofs.AcceptedTexts.{accepted_events}
 use Rattle.taskscript.proofs.accepted.accepted_events_are_within.Goals as goal
 

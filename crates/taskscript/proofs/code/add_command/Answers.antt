@@ -1,3 +1,4 @@
+-- The proof of `add_command`.
 use Rattle.std.proofs.Common.{◌∙◌, Bool, Some, sym, ap}
 use Rattle.std.proofs.lemmas.Result.{err_from_is_err_and}
 use Rattle.taskscript.specs.declared.fault.FileFault.TheVariants.{BadCommand, NotInInterrupt, TooMany}

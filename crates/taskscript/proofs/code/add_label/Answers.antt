@@ -1,3 +1,4 @@
+-- The proof of `add_label`.
 use Rattle.std.proofs.Common.{◌≡◌, ℕ, ◌∙◌, arith, List, ◌++◌, ◌∷◌, [], map, length, Some, None, sym, ap, Option, Bool, not}
 use Rattle.std.specs.Prelude.{is_some}
 use Rattle.std.proofs.lemmas.List.{length-map}

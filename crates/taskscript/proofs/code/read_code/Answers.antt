@@ -1,4 +1,5 @@
-use Rattle.std.proofs.Common.{◌≤◌, length, Result, Ok, Err, OnOk}
+-- The proof of `read_code`: the commands of a body, whose lines are these items, and its listing.
+use Rattle.std.proofs.Common.{◌≤◌, length, Ok, Err}
 use Rattle.std.proofs.lemmas.Result.{err_from_is_err_and}
 use Rattle.toml.specs.View.{items_view}
 use Rattle.taskscript.specs.Bodies.{reading_view}
@@ -6,6 +7,7 @@ use Rattle.taskscript.specs.Code.{lines_in}
 use Rattle.taskscript.specs.Numbering.{texts}
 use Rattle.taskscript.specs.Records.{setting_view}
 use Rattle.taskscript.proofs.BodyReading.{lines_counted, too_long, line_decides, code_decided, shared_read}
+use Rattle.taskscript.proofs.Listings.{body_listed}
 use Rattle.taskscript.proofs.Fitting.{commands_within, commands_once}
 use Rattle.taskscript.proofs.code.read_code.Goals as goal
 
@@ -17,27 +19,34 @@ pub returns-in_err-body-clause-judged : goal.returns-in_err-body-clause-judged
 returns-in_err-body-clause-judged c =
     let p = err_from_is_err_and c.from_residual.result c.from_residual.ensures.1 in
     let few : length (lines_in (items_view c.args.lines.now)) ≤ 1024 = rw (lines_counted c.args.lines.now) c.if-lines-gt-LINE_LIMIT.false in
-    rw (p.1, p.2) (λ ne. line_decides (setting_view c.args.setting) (texts c.args.shared.now.keys) (lines_in (items_view c.args.lines.now)) c.in_err-body.field-0.0 few (c.in_err-body.ensures ne))
+    rw (p.1, p.2) (λ ne. line_decides (setting_view c.args.setting) (texts c.args.shared.now.keys) (lines_in (items_view c.args.lines.now)) c.in_err-body.field-0.0 few (c.in_err-body.ensures.judged ne))
 
 pub commands_in-requires-clause-fit : goal.commands_in-requires-clause-fit
 commands_in-requires-clause-fit c =
     rw c.deref.ensures.value (commands_within (setting_view c.args.setting) (texts c.args.shared.now.keys) (lines_in (items_view c.args.lines.now)) (reading_view c.in_ok-body.body c.body_of.new.shared.keys)
-    c.in_ok-body.ensures.0 c.in_ok-body.ensures.1)
+    c.in_ok-body.ensures.judged.0 c.in_ok-body.ensures.judged.1)
 
 pub commands_in-requires-clause-once : goal.commands_in-requires-clause-once
 commands_in-requires-clause-once c =
-    rw c.deref.ensures.value (commands_once (texts c.args.shared.now.keys) (lines_in (items_view c.args.lines.now)) (reading_view c.in_ok-body.body c.body_of.new.shared.keys) c.in_ok-body.ensures.1)
+    rw c.deref.ensures.value (commands_once (texts c.args.shared.now.keys) (lines_in (items_view c.args.lines.now)) (reading_view c.in_ok-body.body c.body_of.new.shared.keys) c.in_ok-body.ensures.judged.1)
+
+pub returns-in_err-commands-clause-judged : goal.returns-in_err-commands-clause-judged
+returns-in_err-commands-clause-judged c =
+    let p = err_from_is_err_and c.from_residual-in_err-commands.result c.from_residual-in_err-commands.ensures.1 in
+    let few : length (lines_in (items_view c.args.lines.now)) ≤ 1024 = rw (lines_counted c.args.lines.now) c.if-lines-gt-LINE_LIMIT.false in
+    let found = rw c.deref.ensures.value at c.in_err-commands.ensures in
+    rw (p.1, p.2) (code_decided (setting_view c.args.setting) (texts c.args.shared.now.keys) (lines_in (items_view c.args.lines.now)) (reading_view c.in_ok-body.body c.body_of.new.shared.keys) (Err c.in_err-commands.field-0.0) few c.in_ok-body.ensures.judged.0 c.in_ok-body.ensures.judged.1 found)
 
 pub returns-clause-judged : goal.returns-clause-judged
 returns-clause-judged c =
     let few : length (lines_in (items_view c.args.lines.now)) ≤ 1024 = rw (lines_counted c.args.lines.now) c.if-lines-gt-LINE_LIMIT.false in
-    let found = rw c.deref.ensures.value at c.commands_in.ensures in
-    code_decided (setting_view c.args.setting) (texts c.args.shared.now.keys) (lines_in (items_view c.args.lines.now)) (reading_view c.in_ok-body.body c.body_of.new.shared.keys) c.commands_in.result few c.in_ok-body.ensures.0 c.in_ok-body.ensures.1 found
-
-on_any : {X E P : Type 0} → P → (r : Result X E) → OnOk r P
-on_any p (Ok x) = p
-on_any p (Err e) = tt
+    let found = rw c.deref.ensures.value at c.in_ok-commands.ensures in
+    code_decided (setting_view c.args.setting) (texts c.args.shared.now.keys) (lines_in (items_view c.args.lines.now)) (reading_view c.in_ok-body.body c.body_of.new.shared.keys) (Ok c.in_ok-commands.commands) few c.in_ok-body.ensures.judged.0 c.in_ok-body.ensures.judged.1 found
 
 pub returns-clause-shared : goal.returns-clause-shared
 returns-clause-shared c =
-    on_any (shared_read (texts c.args.shared.now.keys) (lines_in (items_view c.args.lines.now)) (reading_view c.in_ok-body.body c.body_of.new.shared.keys) c.in_ok-body.ensures.1) c.commands_in.result
+    shared_read (texts c.args.shared.now.keys) (lines_in (items_view c.args.lines.now)) (reading_view c.in_ok-body.body c.body_of.new.shared.keys) c.in_ok-body.ensures.judged.1
+
+pub returns-clause-listing : goal.returns-clause-listing
+returns-clause-listing c =
+    body_listed (texts c.args.shared.now.keys) (lines_in (items_view c.args.lines.now)) (reading_view c.in_ok-body.body c.body_of.new.shared.keys) c.in_ok-body.body.lines.items c.in_ok-body.ensures.judged.1 c.in_ok-body.ensures.lines

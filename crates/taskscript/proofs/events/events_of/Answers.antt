@@ -1,3 +1,4 @@
+-- The proof of `events_of`.
 use Rattle.std.proofs.Common.{◌≡◌, sym, ◌∙◌, arith, true, false, ◌++◌, ◌∷◌, [], ◌+◌, length, map, take}
 use Rattle.std.proofs.lemmas.List.{length_push}
 use Rattle.std.proofs.lemmas.List.Sums.{sum_by_push}

@@ -1,3 +1,4 @@
+-- What holds in the loops of `events_of`.
 use Rattle.std.proofs.Common.{◌≡◌, ◌≤◌, take, drop, map, length, sum_by, []}
 use Rattle.taskscript.specs.Events.{events_of, steps, ticks, event_faults}
 use Rattle.execlist.specs.Order.{first}

@@ -1,3 +1,4 @@
+-- The proof of `read_events`: reads an event text.
 use Rattle.taskscript.proofs.EventTurns.{decided, texts}
 use Rattle.taskscript.proofs.events.read_events.Goals as goal
 

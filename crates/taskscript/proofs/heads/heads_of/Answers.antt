@@ -1,3 +1,4 @@
+-- The proof of `heads_of`.
 use Rattle.std.proofs.Common.{sym, ◌∙◌}
 use Rattle.std.proofs.lemmas.Result.{err_from_is_err_and}
 use Rattle.taskscript.specs.Numbering.{texts}

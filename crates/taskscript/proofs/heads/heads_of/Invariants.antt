@@ -1,3 +1,4 @@
+-- What holds in the loops of `heads_of`.
 use Rattle.std.proofs.Common.{◌≡◌, drop, map, ◌++◌}
 use Rattle.toml.specs.View.{items_view}
 use Rattle.execlist.specs.Order.{first}

@@ -1,3 +1,4 @@
+-- What holds in the loops of `are_known`.
 use Rattle.std.proofs.Common.{◌≡◌, drop, map}
 use Rattle.taskscript.specs.Interrupting.{softints_among}
 use Rattle.taskscript.specs.Lines.{named_argument_view}

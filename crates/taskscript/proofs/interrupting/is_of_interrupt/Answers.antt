@@ -1,3 +1,4 @@
+-- The proof of `is_of_interrupt`.
 use Rattle.std.proofs.Common.{◌≡◌, ◌∙◌, ◌&&◌, Bool, true, option_map, sym, ap}
 use Rattle.std.specs.List.{list_all}
 use Rattle.taskscript.specs.declared.named.NamedArgument.{NamedArgument}

@@ -1,3 +1,4 @@
+-- The proof of `one_command`: a line has at most one command.
 use Rattle.taskscript.specs.OneCommand.{one_command}
 use Rattle.taskscript.proofs.laws.one_command.Goals as goal
 

@@ -1,3 +1,4 @@
+-- The proof of `read_line_is_said`: what is read from a line is what it says.
 use Rattle.taskscript.proofs.Readings.{is_said}
 use Rattle.taskscript.proofs.laws.read_line_is_said.Goals as goal
 

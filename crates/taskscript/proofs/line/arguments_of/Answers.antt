@@ -1,3 +1,4 @@
+-- The proof of `arguments_of`.
 use Rattle.std.proofs.Common.{arith, ◌+◌, [], ◌∷◌, map, refl, sym, ap, ◌∙◌, length-append}
 use Rattle.std.proofs.lemmas.List.{length-map, map_push}
 use Rattle.taskscript.specs.Lines.{named_argument_view}

@@ -1,3 +1,4 @@
+-- What holds in the loops of `arguments_of`.
 use Rattle.std.proofs.Common.{◌≡◌, drop, length, map}
 use Rattle.taskscript.specs.Lines.{named_argument_view}
 use Rattle.taskscript.specs.Parsing.{arguments_of}

@@ -1,3 +1,4 @@
+-- The proof of `below_word`.
 use Rattle.std.proofs.Common.{◌≡◌, ◌+◌, arith, take, ◌*◌}
 use Rattle.std.specs.Str.Parse.{digits_value}
 use Rattle.std.proofs.lemmas.Int.Digits.{digits_value_more}

@@ -1,3 +1,4 @@
+-- What holds in the loops of `below_word`.
 use Rattle.std.proofs.Common.{◌≡◌, ◌<◌, take}
 use Rattle.std.specs.Str.Parse.{digits_value}
 use Rattle.taskscript.proofs.number.below_word.Given as goal

@@ -1,3 +1,4 @@
+-- The proof of `number_in`.
 use Rattle.std.proofs.Common.{bytes_eq, ◌∙◌}
 use Rattle.arrayvec.specs.ArrayString.{ArrayString}
 use Rattle.taskscript.proofs.Names.{number_texts, position_found, position_lacking}

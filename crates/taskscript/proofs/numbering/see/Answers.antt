@@ -1,3 +1,4 @@
+-- The proof of `see`.
 use Rattle.std.proofs.Common.{◌≡◌, ◌∙◌, refl, arith, true, false, nat_lt}
 use Rattle.std.proofs.lemmas.Bool.Decides.{nat_tests}
 use Rattle.taskscript.specs.Numbering.{number_in, texts}

@@ -1,3 +1,4 @@
+-- What holds in the loops of `see_arguments`.
 use Rattle.std.proofs.Common.{◌≡◌, drop, map}
 use Rattle.taskscript.specs.Lines.{named_argument_view}
 use Rattle.taskscript.specs.Numbering.{names_view, names_after, variables_of_arguments, have_room}

@@ -1,3 +1,4 @@
+-- The proof of `heads_in`: the first pass.
 use Rattle.std.proofs.Common.{◌≡◌, ℕ, ◌∙◌, ◌++◌, List, [], None, ap, codes, subst}
 use Rattle.std.proofs.lemmas.Result.{err_from_is_err_and}
 use Rattle.arrayvec.specs.ArrayString.{ArrayString}

@@ -1,3 +1,4 @@
+-- The proof of `owners_in`: the second pass.
 use Rattle.std.proofs.Common.{◌≡◌, ℕ, ◌∙◌, ◌++◌, Bool, true, false, List, [], length, take, sym, ap, arith}
 use Rattle.std.proofs.lemmas.Result.{err_from_is_err_and}
 use Rattle.toml.specs.Data.{Items}
@@ -5,9 +6,11 @@ use Rattle.toml.specs.View.{table_view, items_view}
 use Rattle.execlist.specs.Order.{first}
 use Rattle.taskscript.specs.File.{item_names, softints_in, servers_in, tasks_in, setting_of, bodies_faults, shared_after_bodies, with_bodies, shared_after_softints, shared_after_servers, softint_of, server_of, task_of}
 use Rattle.taskscript.specs.Interrupting.{Setting}
+use Rattle.taskscript.specs.Listings.{owner_listing}
 use Rattle.taskscript.specs.Numbering.{texts}
 use Rattle.taskscript.specs.Records.{softint_head_view, softint_head_of}
 use Rattle.taskscript.proofs.Firsts.{first_some, skip, both}
+use Rattle.taskscript.proofs.Listings.{listing_is}
 use Rattle.taskscript.proofs.OwnerTurns.{front_names, front_fits, of_three}
 use Rattle.taskscript.proofs.owners.owners_in.Goals as goal
 
@@ -114,5 +117,10 @@ returns c =
         softints = c.in_ok-softints.ensures.judged.1 ∙ of_three (λ s shared ds. with_bodies softint_of shared ds) _ _ _ _ _ _ interrupts start c.items_at.ensures;
         servers = c.in_ok-servers.ensures.judged.1 ∙ of_three (λ s shared ds. with_bodies server_of shared ds) _ _ _ _ _ _ interrupts after_softints c.items_at-2.ensures;
         tasks = c.in_ok-tasks.ensures.judged.1 ∙ of_three (λ s shared ds. with_bodies task_of shared ds) _ _ _ _ _ _ others after_servers c.items_at-3.ensures;
+        listing = listing_is c.in_ok-softints.softints.1.items c.in_ok-servers.servers.1.items c.in_ok-tasks.tasks.1.items (texts c.records_of-3.new.shared.keys) t
+            (c.in_ok-softints.ensures.listings ∙ of_three (λ s shared ds. with_bodies owner_listing shared ds) _ _ _ _ _ _ interrupts start c.items_at.ensures)
+            (c.in_ok-servers.ensures.listings ∙ of_three (λ s shared ds. with_bodies owner_listing shared ds) _ _ _ _ _ _ interrupts after_softints c.items_at-2.ensures)
+            (c.in_ok-tasks.ensures.listings ∙ of_three (λ s shared ds. with_bodies owner_listing shared ds) _ _ _ _ _ _ others after_servers c.items_at-3.ensures)
+            (c.in_ok-tasks.ensures.shared ∙ of_three after _ _ _ _ _ _ others after_servers c.items_at-3.ensures);
       },
     )

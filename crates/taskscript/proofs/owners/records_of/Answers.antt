@@ -1,3 +1,4 @@
+-- The proof of `records_of`: the second pass over the items of an array, whose heads the first one kept.
 use Rattle.std.proofs.Common.{◌≡◌, sym, ◌∙◌, arith}
 use Rattle.std.proofs.lemmas.Result.{err_from_is_err_and}
 use Rattle.toml.specs.View.{view}
@@ -5,6 +6,7 @@ use Rattle.taskscript.specs.Code.{shared_after}
 use Rattle.taskscript.specs.File.{code_lines}
 use Rattle.taskscript.specs.Numbering.{texts}
 use Rattle.taskscript.specs.Records.{setting_view, made_of}
+use Rattle.taskscript.proofs.Listings.{listings_found}
 use Rattle.taskscript.proofs.OwnerTurns.{heads_fill, heads_at, bodies_stop, bodies_go_on, shared_go_on, records_found}
 use Rattle.taskscript.proofs.owners.records_of.Goals as goal
 
@@ -30,9 +32,10 @@ loop-i-preserved g c =
     let before = texts c.loop-i.shared.keys in
     let after = texts c.record_of.new.shared.keys in
     let seen : after ≡ shared_after before (code_lines (view item)) = c.in_ok-record.ensures.shared in
-    let same : g.H.Head.record_view c.in_ok-record.record ≡ of before (view item) = c.in_ok-record.ensures.judged.1 in
-    rw c.in_ok-push.ensures.items (record {
+    let same : g.H.Head.record_view c.in_ok-record.record.0 ≡ of before (view item) = c.in_ok-record.ensures.judged.1 in
+    rw (c.in_ok-push.ensures.items, c.in_ok-push-2.ensures.items) (record {
       judged = sym (bodies_go_on setting before after c.args.items.now c.loop-i.i item c.loop-i-test.true c.index-items-i.is c.in_ok-record.ensures.judged.0 seen) ∙ c.loop-i.invariant.judged;
-      found = sym (records_found g.H.Head.record_view of before after c.loop-i.records.items c.in_ok-record.record c.args.items.now c.loop-i.i item c.loop-i-test.true c.index-items-i.is seen same) ∙ c.loop-i.invariant.found;
+      found = sym (records_found g.H.Head.record_view of before after c.loop-i.records.items c.in_ok-record.record.0 c.args.items.now c.loop-i.i item c.loop-i-test.true c.index-items-i.is seen same) ∙ c.loop-i.invariant.found;
+      listed = sym (listings_found before after c.loop-i.listings.items c.in_ok-record.record.1 c.args.items.now c.loop-i.i item c.loop-i-test.true c.index-items-i.is seen c.in_ok-record.ensures.listing) ∙ c.loop-i.invariant.listed;
       names = sym (shared_go_on before after c.args.items.now c.loop-i.i item c.loop-i-test.true c.index-items-i.is seen) ∙ c.loop-i.invariant.names;
     })

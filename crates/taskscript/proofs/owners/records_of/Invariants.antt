@@ -1,7 +1,9 @@
+-- What holds in the loops of `records_of`: the second pass over the items of an array, whose heads the first one kept.
 use Rattle.std.proofs.Common.{◌≡◌, drop, map, ◌++◌}
 use Rattle.toml.specs.View.{items_view}
 use Rattle.execlist.specs.Order.{first}
 use Rattle.taskscript.specs.File.{bodies_faults, shared_after_bodies, with_bodies}
+use Rattle.taskscript.specs.Listings.{owner_listing}
 use Rattle.taskscript.specs.Numbering.{texts}
 use Rattle.taskscript.specs.Records.{setting_view, made_of}
 use Rattle.taskscript.proofs.owners.records_of.Given as goal
@@ -15,5 +17,6 @@ invariant-loop-i g l =
     record {
       judged : first (bodies_faults setting (texts l.shared.keys) left) ≡ first (bodies_faults setting (texts l.fn.shared.keys) all);
       found : map g.H.Head.record_view l.records.items ++ with_bodies of (texts l.shared.keys) left ≡ with_bodies of (texts l.fn.shared.keys) all;
+      listed : l.listings.items ++ with_bodies owner_listing (texts l.shared.keys) left ≡ with_bodies owner_listing (texts l.fn.shared.keys) all;
       names : shared_after_bodies (texts l.shared.keys) left ≡ shared_after_bodies (texts l.fn.shared.keys) all;
     }

@@ -1,3 +1,4 @@
+-- The proof of `quoted_in`: the name between double quotes, if the field is one.
 use Rattle.std.proofs.Common.{arith}
 use Rattle.std.proofs.lemmas.Str.{IsCharBoundary-after_ascii}
 use Rattle.taskscript.proofs.quoted.quoted_in.Goals as goal

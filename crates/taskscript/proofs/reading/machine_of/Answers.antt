@@ -1,3 +1,4 @@
+-- The proof of `machine_of`.
 use Rattle.std.proofs.Common.{sym, ◌∙◌, ◌++◌, ap, map, Bool, None, Some}
 use Rattle.std.proofs.lemmas.Result.{err_from_is_err_and}
 use Rattle.toml.specs.View.{table_view}
@@ -11,8 +12,8 @@ use Rattle.taskscript.proofs.Firsts.{first_some, skip, both}
 use Rattle.taskscript.proofs.Machines.{in_version, read_holds, read_is}
 use Rattle.taskscript.proofs.reading.machine_of.Goals as goal
 
-pub invariant_of-result : goal.invariant_of-result
-invariant_of-result c =
+pub invariant_of-machine : goal.invariant_of-machine
+invariant_of-machine c =
     let owners = c.in_ok-owners.owners in
     read_holds (table_view c.args.table.now) c.in_ok-settings.settings.version c.in_ok-settings.settings.quantum c.in_ok-settings.settings.tick_micros c.in_ok-settings.settings.pool c.in_ok-regions.regions.items
     (map library_view c.in_ok-libraries.libraries.items) (map softint_view owners.softints.items) (map server_view owners.servers.items) (map task_view owners.tasks.items)
@@ -70,7 +71,10 @@ returns c =
           (both (settings_faults t) _ c.in_ok-settings.ensures.0
           (both (regions_faults (total_of (version_of t)) t) _ regions
           (both (libraries_faults t) (both_passes_faults t) c.in_ok-libraries.ensures.0 c.in_ok-owners.ensures.0))),
-      read_is t c.in_ok-settings.settings.version c.in_ok-settings.settings.quantum c.in_ok-settings.settings.tick_micros c.in_ok-settings.settings.pool c.in_ok-regions.regions.items
-          (map library_view c.in_ok-libraries.libraries.items) (map softint_view owners.softints.items) (map server_view owners.servers.items) (map task_view owners.tasks.items)
-          c.in_ok-settings.ensures.1.0 c.in_ok-settings.ensures.1.1 c.in_ok-settings.ensures.1.2 c.in_ok-settings.ensures.1.3 c.in_ok-regions.ensures.1 c.in_ok-libraries.ensures.1 c.in_ok-owners.ensures.1.softints c.in_ok-owners.ensures.1.servers c.in_ok-owners.ensures.1.tasks,
+      (
+        read_is t c.in_ok-settings.settings.version c.in_ok-settings.settings.quantum c.in_ok-settings.settings.tick_micros c.in_ok-settings.settings.pool c.in_ok-regions.regions.items
+            (map library_view c.in_ok-libraries.libraries.items) (map softint_view owners.softints.items) (map server_view owners.servers.items) (map task_view owners.tasks.items)
+            c.in_ok-settings.ensures.1.0 c.in_ok-settings.ensures.1.1 c.in_ok-settings.ensures.1.2 c.in_ok-settings.ensures.1.3 c.in_ok-regions.ensures.1 c.in_ok-libraries.ensures.1 c.in_ok-owners.ensures.1.softints c.in_ok-owners.ensures.1.servers c.in_ok-owners.ensures.1.tasks,
+        c.in_ok-owners.ensures.1.listing,
+      ),
     )

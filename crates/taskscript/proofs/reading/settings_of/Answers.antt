@@ -1,3 +1,4 @@
+-- The proof of `settings_of`.
 use Rattle.std.proofs.Common.{◌≡◌, codes, pos, rules}
 use Rattle.std.proofs.lemmas.Result.{err_from_is_err_and}
 use Rattle.toml.specs.Data.{get_member}

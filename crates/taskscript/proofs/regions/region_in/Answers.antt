@@ -1,3 +1,4 @@
+-- The proof of `region_in`: the region of a table, whose keys and values are judged in their order.
 use Rattle.std.proofs.Common.{◌≡◌, sym, ◌∙◌, ap, Bool, codes, pos, rules}
 use Rattle.std.proofs.lemmas.Result.{err_from_is_err_and}
 use Rattle.toml.specs.Data.{get_member}

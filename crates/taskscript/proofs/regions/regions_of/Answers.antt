@@ -1,3 +1,4 @@
+-- The proof of `regions_of`.
 use Rattle.std.proofs.Common.{◌≡◌, sym, ◌∙◌, None}
 use Rattle.toml.specs.View.{view}
 use Rattle.execlist.specs.Order.{first}

@@ -1,3 +1,4 @@
+-- The proof of `argument_in`.
 use Rattle.std.proofs.Common.{◌≡◌, ℕ, ◌∙◌, Some, None, refl, sym, ap, Option, ◌&&◌, true}
 use Rattle.std.specs.Prelude.{is_some, unwrap_or}
 use Rattle.taskscript.specs.Commands.{place}

@@ -1,3 +1,4 @@
+-- The proof of `arguments_in`.
 use Rattle.std.proofs.Common.{◌≡◌, ◌∙◌, ◌+◌, ◌∷◌, drop, map, take, true, sym, arith}
 use Rattle.std.proofs.Math.ListN.{length-set}
 use Rattle.taskscript.specs.Commands.{argument_view, ArgumentFits, IsNamed}

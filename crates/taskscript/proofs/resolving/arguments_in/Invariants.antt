@@ -1,3 +1,4 @@
+-- What holds in the loops of `arguments_in`.
 use Rattle.std.proofs.Common.{◌≡◌, ◌++◌, ℕ, List, All, drop, take, map, length}
 use Rattle.taskscript.specs.Commands.{argument_view, IsNamed}
 use Rattle.taskscript.specs.Labels.{are_marked, marks_view, place_at}

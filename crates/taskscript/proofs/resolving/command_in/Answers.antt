@@ -1,3 +1,4 @@
+-- The proof of `command_in`.
 use Rattle.std.proofs.Common.{ap, length}
 use Rattle.taskscript.specs.Labels.{marks_view, place_at}
 use Rattle.taskscript.specs.Numbering.{names_view}

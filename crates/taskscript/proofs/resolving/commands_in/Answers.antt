@@ -1,3 +1,5 @@
+-- The proof of `commands_in`: the commands with numbers and places for their names, or BadLabel if one jumps to a label that is not among
+-- these.
 use Rattle.std.proofs.Common.{◌≡◌, ◌∙◌, ◌+◌, ◌∷◌, drop, map}
 use Rattle.std.proofs.lemmas.List.{map_push}
 use Rattle.taskscript.specs.Commands.{CommandFits, command_view}

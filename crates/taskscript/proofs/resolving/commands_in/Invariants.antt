@@ -1,3 +1,5 @@
+-- What holds in the loops of `commands_in`: the commands with numbers and places for their names, or BadLabel if one jumps to a label that
+-- is not among these.
 use Rattle.std.proofs.Common.{◌≡◌, ◌++◌, drop, map}
 use Rattle.std.specs.List.{flat_map}
 use Rattle.taskscript.specs.Commands.{command_view}

@@ -1,3 +1,4 @@
+-- The proof of `name_among`.
 use Rattle.std.proofs.Common.{◌∙◌, ap, sym, map}
 use Rattle.std.proofs.lemmas.List.{drop_all}
 use Rattle.taskscript.specs.Commands.{first_name}

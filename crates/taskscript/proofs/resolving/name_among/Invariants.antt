@@ -1,3 +1,4 @@
+-- What holds in the loops of `name_among`.
 use Rattle.std.proofs.Common.{◌≡◌, ℕ, List, drop, map}
 use Rattle.taskscript.specs.Commands.{first_name}
 use Rattle.taskscript.specs.Lines.{named_argument_view}

@@ -1,3 +1,4 @@
+-- What holds in the loops of `are_strings`: whether the items are strings.
 use Rattle.std.proofs.Common.{◌≡◌, drop}
 use Rattle.toml.specs.View.{items_view}
 use Rattle.taskscript.specs.Tree.{are_strings}

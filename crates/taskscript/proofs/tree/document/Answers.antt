@@ -1,3 +1,4 @@
+-- The proof of `document`: the tree that the bytes state.
 use Rattle.std.proofs.Common.{refl, sym, ◌∙◌}
 use Rattle.std.proofs.lemmas.Bool.{false≢true}
 use Rattle.taskscript.proofs.Documents.{no_document, a_document}

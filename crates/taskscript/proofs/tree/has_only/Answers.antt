@@ -1,3 +1,4 @@
+-- The proof of `has_only`: whether each key of the table is one of those listed.
 use Rattle.std.proofs.Common.{sym, ◌∙◌, map, ap, ◌&&◌, Bool}
 use Rattle.std.proofs.lemmas.Map.Iter.{rest_more}
 use Rattle.std.specs.Map.Iter.{deref_pair}

@@ -1,3 +1,4 @@
+-- What holds in the loops of `has_only`: whether each key of the table is one of those listed.
 use Rattle.std.proofs.Common.{◌≡◌, map}
 use Rattle.toml.specs.View.{members_view}
 use Rattle.taskscript.specs.Tree.{keys_are_among}

@@ -1,3 +1,4 @@
+-- The proof of `member`: what the key holds.
 use Rattle.toml.proofs.Views.{table_get}
 use Rattle.taskscript.proofs.tree.member.Goals as goal
 

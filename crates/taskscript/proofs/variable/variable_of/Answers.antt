@@ -1,3 +1,4 @@
+-- The proof of `variable_of`: the variable that a field names, if it names one: `name`, or `@name` for a shared one (project rule).
 use Rattle.std.proofs.Common.{arith}
 use Rattle.std.proofs.lemmas.Str.{IsCharBoundary-after_ascii}
 use Rattle.std.proofs.lemmas.Bool.Decides.{nat_tests}

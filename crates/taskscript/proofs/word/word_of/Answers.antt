@@ -1,3 +1,4 @@
+-- The proof of `word_of`: the word of a text, if there is one.
 use Rattle.std.proofs.Common.{Bool, bytes_eq, map}
 use Rattle.taskscript.specs.declared.word.Word.{Word}
 use Rattle.taskscript.specs.declared.word.Word.TheVariants.{Plain, Signals, Nesting, Tasks, Lists, Memory, Ports, Semaphores, Interrupts, Libraries, Requests}
@@ -19,14 +20,14 @@ use Rattle.taskscript.proofs.word.word_of.Goals as goal
 pub returns : goal.returns
 returns c =
     let p : Word → Bool = λ word. bytes_eq (word_text word) c.args.text.now in
-    let plain : LookedIn p c.found.result = (map Plain plain_words, c.found.ensures) in
-    let signals = looked_on p (map Signals signal_words) c.or.ensures plain c.found-2.ensures in
-    let nesting = looked_on p (map Nesting nesting_words) c.or-2.ensures signals c.found-3.ensures in
-    let tasks = looked_on p (map Tasks task_words) c.or-3.ensures nesting c.found-4.ensures in
-    let lists = looked_on p (map Lists list_words) c.or-4.ensures tasks c.found-5.ensures in
-    let memory = looked_on p (map Memory memory_words) c.or-5.ensures lists c.found-6.ensures in
-    let ports = looked_on p (map Ports port_words) c.or-6.ensures memory c.found-7.ensures in
-    let semaphores = looked_on p (map Semaphores semaphore_words) c.or-7.ensures ports c.found-8.ensures in
-    let interrupts = looked_on p (map Interrupts interrupt_words) c.or-8.ensures semaphores c.found-9.ensures in
-    let libraries = looked_on p (map Libraries library_words) c.or-9.ensures interrupts c.found-10.ensures in
-    (looked_on p (map Requests request_words) c.or-10.ensures libraries c.found-11.ensures).1
+    let plain : LookedIn p c.found-plain.result = (map Plain plain_words, c.found-plain.ensures) in
+    let signals = looked_on p (map Signals signal_words) c.found_or-signals.ensures plain in
+    let nesting = looked_on p (map Nesting nesting_words) c.found_or-nesting.ensures signals in
+    let tasks = looked_on p (map Tasks task_words) c.found_or-tasks.ensures nesting in
+    let lists = looked_on p (map Lists list_words) c.found_or-lists.ensures tasks in
+    let memory = looked_on p (map Memory memory_words) c.found_or-memory.ensures lists in
+    let ports = looked_on p (map Ports port_words) c.found_or-ports.ensures memory in
+    let semaphores = looked_on p (map Semaphores semaphore_words) c.found_or-semaphores.ensures ports in
+    let interrupts = looked_on p (map Interrupts interrupt_words) c.found_or-interrupts.ensures semaphores in
+    let libraries = looked_on p (map Libraries library_words) c.found_or-libraries.ensures interrupts in
+    (looked_on p (map Requests request_words) c.found_or.ensures libraries).1

@@ -1,4 +1,4 @@
--- Where the first is not due, none is.
+-- If the first is not due, none is.
 use Rattle.std.proofs.Common.{rules, ◌<◌, arith, length, sym}
 use Rattle.execlist.specs.Lists.{sequence}
 use Rattle.timerdev.specs.Held.{due_at}

@@ -1,4 +1,4 @@
--- The walk stops at the first request, or has seen all that stand before the second.
+-- The walk stops at the first request, or has seen all that are before the second.
 use Rattle.std.proofs.Common.{rules, ◌≡◌, sym, ◌∙◌, subst, None}
 use Rattle.execlist.specs.Lists.{sequence, home}
 use Rattle.timerdev.proofs.Homes.{stands_once}

@@ -1,4 +1,4 @@
--- Whether the first request stands before the second is told by those that the walk has still to see.
+-- Whether the first request is before the second is reported by those that the walk has still to see.
 use Rattle.std.proofs.Common.{◌≡◌, length, Some}
 use Rattle.std.specs.Option.{ForSome}
 use Rattle.execlist.specs.Lists.{sequence, home}

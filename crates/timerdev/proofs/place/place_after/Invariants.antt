@@ -1,4 +1,4 @@
--- The requests behind the place of the walk are due later.
+-- The requests after the place of the walk are due later.
 use Rattle.std.proofs.Common.{◌≡◌, length, Some}
 use Rattle.std.specs.Option.{ForSome}
 use Rattle.execlist.specs.Lists.{sequence, home}

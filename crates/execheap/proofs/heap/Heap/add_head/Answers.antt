@@ -1,4 +1,4 @@
--- The node stands first in the list that is shown.
+-- The node is first in the list that is shown.
 use Rattle.std.proofs.Common.{ap, ◌∙◌}
 use Rattle.execmodel.specs.State.{on_heap}
 use Rattle.execmodel.specs.Lists.{added_head}

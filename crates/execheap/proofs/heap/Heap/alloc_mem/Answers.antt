@@ -1,4 +1,4 @@
--- A block fits where it is shown to fit, and is shown where it is put.
+-- A block fits if it is shown to fit, and is shown where it is put.
 use Rattle.std.proofs.Common.{ap, ◌∙◌}
 use Rattle.execmodel.specs.State.{Plain}
 use Rattle.execmodel.specs.Memory.{place_for, placed}

@@ -19,7 +19,7 @@ returns-in_err-n-clause-alert g c =
     ∙ sym (obtain_refused c.args.semaphore (shown_heap c.self.inside.objects) (sym c.in_err-n.ensures.alert) c.args.task)
     ∙ ap (λ (m : Memory). obtain_alert c.args.task c.args.semaphore m.heap) c.self.view_is
 
--- any refusal by number is told as one
+-- any refusal by number is reported as one
 refusal_told : (g : _) (c : goal.After-told g) → c.told.result
     ≡ told (fault_or (deep_fault c.in_ok-n.n c.args.task c.self.inside.objects.sems) (is_open c.args.task (sems.sem_at c.in_ok-n.n c.self.inside.objects.sems)))
 refusal_told g c = c.told.ensures ∙ ap told c.attempt.ensures.answer

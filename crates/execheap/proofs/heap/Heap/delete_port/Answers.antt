@@ -1,4 +1,4 @@
--- The port is freed where it is shown, and its task and its signal are answered as they are shown.
+-- The port is freed if it is shown, and its task and its signal are answered as they are shown.
 use Rattle.std.proofs.Common.{ℕ, ap, sym, ◌∙◌}
 use Rattle.execmodel.specs.State.{Memory}
 use Rattle.execmodel.specs.Memory.{freed}

@@ -1,4 +1,4 @@
--- The node stands among those of the list that is shown by its priority.
+-- The node is among those of the list that is shown by its priority.
 use Rattle.std.proofs.Common.{ap, ◌∙◌}
 use Rattle.execmodel.specs.State.{on_heap}
 use Rattle.execmodel.specs.Lists.{enqueued}

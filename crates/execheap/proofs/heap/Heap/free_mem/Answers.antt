@@ -1,4 +1,4 @@
--- A block is named where it is shown to be named, and freed there.
+-- A block is named if it is shown to be named, and freed there.
 use Rattle.std.proofs.Common.{ap, sym, ◌∙◌}
 use Rattle.execmodel.specs.State.{Memory}
 use Rattle.execmodel.specs.Memory.{block_at, freed, is_named}

@@ -1,4 +1,4 @@
--- The object is freed where it is shown.
+-- The object is freed if it is shown.
 use Rattle.std.proofs.Common.{ap, ◌∙◌}
 use Rattle.execmodel.specs.Memory.{freed}
 use Rattle.execheap.proofs.heap.Heap.free_node.Goals as goal

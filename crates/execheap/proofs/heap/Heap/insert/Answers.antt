@@ -1,4 +1,4 @@
--- The node stands after its predecessor in the list that is shown.
+-- The node is after its predecessor in the list that is shown.
 use Rattle.std.proofs.Common.{ap, ◌∙◌}
 use Rattle.std.specs.Prelude.{is_some}
 use Rattle.execmodel.specs.State.{on_heap}

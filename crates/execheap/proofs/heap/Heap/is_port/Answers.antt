@@ -1,4 +1,4 @@
--- A port begins there where the blocks have a number of one.
+-- A port begins there if the blocks have a number of one.
 use Rattle.std.proofs.Common.{ap, is_some, sym, ◌∙◌}
 use Rattle.execmodel.specs.State.{Memory}
 use Rattle.execmodel.specs.Ports.{is_port_at}

@@ -1,4 +1,4 @@
--- A request begins there where the blocks have a number of one.
+-- A request begins there if the blocks have a number of one.
 use Rattle.std.proofs.Common.{ap, is_some, sym, ◌∙◌}
 use Rattle.execmodel.specs.State.{Memory}
 use Rattle.execmodel.specs.Requests.{is_request_at}

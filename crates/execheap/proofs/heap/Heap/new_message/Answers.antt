@@ -1,4 +1,4 @@
--- A message is made where it is shown to fit, and is shown where it is made.
+-- A message is made if it is shown to fit, and is shown where it is made.
 use Rattle.std.proofs.Common.{ap, ◌∙◌}
 use Rattle.msgport.specs.Ports.{new_message}
 use Rattle.execmodel.specs.State.{Message}

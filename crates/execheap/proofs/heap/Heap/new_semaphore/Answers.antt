@@ -1,4 +1,4 @@
--- The object is made where it is shown to fit, and is shown where it is made.
+-- The object is made if it is shown to fit, and is shown where it is made.
 use Rattle.std.proofs.Common.{[], ap, ◌∙◌}
 use Rattle.sigsem.specs.Semaphores.{free_sem}
 use Rattle.execmodel.specs.State.{Semaphore}

@@ -20,13 +20,13 @@ returns-in_err-n-clause-alert g c =
     ∙ sym (obtain_refused c.args.semaphore (shown_heap c.self.inside.objects) (sym c.in_err-n.ensures.alert) c.args.task)
     ∙ ap (λ (m : Memory). obtain_alert c.args.task c.args.semaphore m.heap) c.self.view_is
 
--- a task that stands in no queue that is shown waits at none
+-- a task that is in no queue that is shown waits at none
 pub obtain-requires-clause-stopped : goal.obtain-requires-clause-stopped
 obtain-requires-clause-stopped g c =
     waits_at_none c.in_ok-n.ensures.known.sound c.in_ok-n.ensures.known.sems c.args.task
     (λ a. ap (λ (m : Memory). times c.args.task (waiters_of a m.heap)) c.self.view_is ∙ c.requires.stopped a)
 
--- any refusal by number is told as one
+-- any refusal by number is reported as one
 refusal_told : (g : _) (c : goal.After-told g) → c.told.result
     ≡ told (fault_or (deep_fault c.in_ok-n.n c.args.task c.self.inside.objects.sems) (outcome_for c.args.task (sems.sem_at c.in_ok-n.n c.self.inside.objects.sems)))
 refusal_told g c = c.told.ensures ∙ ap told c.obtain.ensures.answer

@@ -1,4 +1,4 @@
--- The message stands last in the port that is shown, and the port acts as it is shown to.
+-- The message is last in the port that is shown, and the port acts as it is shown to.
 use Rattle.std.proofs.Common.{ap, sym, ◌∙◌}
 use Rattle.execmodel.specs.State.{Memory, on_heap}
 use Rattle.execmodel.specs.Ports.{port_of, posted}

@@ -1,4 +1,4 @@
--- The message stands last in the reply port that is shown, or is of the type of one without.
+-- The message is last in the reply port that is shown, or is of the type of one without.
 use Rattle.std.proofs.Common.{ap, sym, ◌∙◌}
 use Rattle.execmodel.specs.State.{Memory, on_heap}
 use Rattle.execmodel.specs.Ports.{content_of}

@@ -29,7 +29,7 @@ returns-clause-next g c =
     ∙ taken_off_shown f.sound f.ports f.memory c.in_ok-p.p c.args.port c.in_ok-p.ensures.found c.in_ok-p.ensures.live
     ∙ ap (on_heap (taken_off c.args.port)) c.self.view_is
 
--- where no message is shown there is none, and nothing is taken
+-- if no message is shown there is none, and nothing is taken
 from_none : {A B : Type 0} (f : A → B) (o : Option A) → option_map f o ≡ None → o ≡ None
 from_none f None e = refl
 from_none f (Some a) e = absurd (none-some (f a) (sym e))

@@ -1,4 +1,4 @@
--- A block fits where it is shown to fit, and is shown where it is put, once libraries were asked to give way.
+-- A block fits if it is shown to fit, and is shown where it is put, once libraries were expunged under low memory.
 use Rattle.std.proofs.Common.{ap, ◌∙◌}
 use Rattle.execmodel.specs.State.{Plain}
 use Rattle.execmodel.specs.Memory.{place_for, placed}

@@ -1,4 +1,4 @@
--- A request that rests is held and waits, or is done at once, where system time may be set.
+-- A request that rests is held and waits, or is done at once, if system time may be set.
 use Rattle.std.proofs.Common.{ap, false, refl, sym, subst, ◌∙◌}
 use Rattle.std.specs.Prelude.{pos, ◌<◌, ◌^◌}
 use Rattle.execlist.specs.Lists.{home}

@@ -1,4 +1,4 @@
--- A library is closed where it is shown.
+-- A library is closed if it is shown.
 use Rattle.std.proofs.Common.{ap, ◌∙◌}
 use Rattle.execmodel.specs.Libraries.{closed}
 use Rattle.execheap.specs.Numbered.{Numbered, shown_memory}

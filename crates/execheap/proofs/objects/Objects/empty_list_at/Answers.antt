@@ -1,4 +1,4 @@
--- A list is empty where it is by number; no list begins where the blocks have no number of one.
+-- A list is empty if it is by number; no list begins if the blocks have no number of one.
 use Rattle.std.proofs.Common.{sym}
 use Rattle.execheap.proofs.Alerts.{free_list_found, free_list_refused}
 use Rattle.execheap.proofs.objects.Objects.empty_list_at.Goals as goal

@@ -1,4 +1,4 @@
--- An empty list is freed where it is shown.
+-- An empty list is freed if it is shown.
 use Rattle.std.proofs.Common.{ap, ◌∙◌}
 use Rattle.execlist.specs.Lists.{sequence}
 use Rattle.execlist.specs.Pool.{slot}

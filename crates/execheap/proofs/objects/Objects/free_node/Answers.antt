@@ -1,4 +1,4 @@
--- A node that no list has is freed where it is shown.
+-- A node that no list has is freed if it is shown.
 use Rattle.std.proofs.Common.{ap, ◌∙◌}
 use Rattle.execlist.specs.Lists.{home}
 use Rattle.execlist.specs.Pool.{slot}

@@ -1,4 +1,4 @@
--- The object is freed where it is shown.
+-- The object is freed if it is shown.
 use Rattle.std.proofs.Common.{ap, is_some, sym, subst, ◌∙◌}
 use Rattle.execlist.specs.Lists.{home}
 use Rattle.execlist.specs.Pool.{slot}

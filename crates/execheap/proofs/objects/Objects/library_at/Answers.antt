@@ -1,4 +1,4 @@
--- No library begins there where the blocks have no number of one.
+-- No library begins there if the blocks have no number of one.
 use Rattle.std.proofs.Common.{sym}
 use Rattle.execheap.proofs.LibraryCalls.{library_found, library_refused}
 use Rattle.execheap.proofs.objects.Objects.library_at.Goals as goal

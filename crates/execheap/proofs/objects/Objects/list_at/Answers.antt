@@ -1,4 +1,4 @@
--- No list begins there where the blocks have no number of one.
+-- No list begins there if the blocks have no number of one.
 use Rattle.std.proofs.Common.{sym}
 use Rattle.execheap.proofs.Alerts.{list_found, list_refused}
 use Rattle.execheap.proofs.objects.Objects.list_at.Goals as goal

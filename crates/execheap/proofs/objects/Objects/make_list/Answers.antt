@@ -1,4 +1,4 @@
--- A list is made where it is shown to fit, and is shown where it is made.
+-- A list is made if it is shown to fit, and is shown where it is made.
 use Rattle.std.proofs.Common.{None, Some, [], ap, sym, ◌∙◌}
 use Rattle.execmodel.specs.State.{ListHead}
 use Rattle.execmodel.specs.Memory.{placed}

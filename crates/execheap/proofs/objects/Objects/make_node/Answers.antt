@@ -1,4 +1,4 @@
--- A node is made where it is shown to fit, and is shown where it is made.
+-- A node is made if it is shown to fit, and is shown where it is made.
 use Rattle.std.proofs.Common.{rules, None, Some, ap, sym, ◌∙◌}
 use Rattle.std.proofs.lemmas.Int.{to_z-of_z}
 use Rattle.std.specs.Prelude.{option_map}

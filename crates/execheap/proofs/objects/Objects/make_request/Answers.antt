@@ -1,4 +1,4 @@
--- The object is made where it is shown to fit, and is shown where it is made.
+-- The object is made if it is shown to fit, and is shown where it is made.
 use Rattle.std.proofs.Common.{None, Some, refl, ap, sym, subst, ◌∙◌}
 use Rattle.iorequest.specs.Request.{idle_request}
 use Rattle.execmodel.specs.State.{Request}

@@ -1,4 +1,4 @@
--- No message begins there where the blocks have no number of one.
+-- No message begins there if the blocks have no number of one.
 use Rattle.std.proofs.Common.{ap, is_some, sym}
 use Rattle.execheap.proofs.PortAlerts.{message_found, message_refused}
 use Rattle.execheap.proofs.Front.{message_live}

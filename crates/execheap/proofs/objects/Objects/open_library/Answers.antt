@@ -1,4 +1,4 @@
--- A library is opened where it is shown.
+-- A library is opened if it is shown.
 use Rattle.std.proofs.Common.{ap, ◌∙◌}
 use Rattle.execmodel.specs.Libraries.{opened, opening}
 use Rattle.execheap.specs.Numbered.{shown_memory}

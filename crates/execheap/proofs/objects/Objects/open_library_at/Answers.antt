@@ -1,4 +1,4 @@
--- A library is open where it is by number.
+-- A library is open if it is by number.
 use Rattle.std.proofs.Common.{sym, ◌∙◌}
 use Rattle.execheap.proofs.LibraryCalls.{close_found, close_refused, close_refused_closed}
 use Rattle.execheap.proofs.objects.Objects.open_library_at.Goals as goal

@@ -1,4 +1,4 @@
--- No port begins there where the blocks have no number of one.
+-- No port begins there if the blocks have no number of one.
 use Rattle.std.proofs.Common.{ap, is_some, sym, ◌∙◌}
 use Rattle.execheap.proofs.PortAlerts.{port_found, port_refused}
 use Rattle.execheap.specs.declared.tag.Kind.TheVariants as variant

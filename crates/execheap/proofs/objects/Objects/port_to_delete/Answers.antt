@@ -1,4 +1,4 @@
--- A port is in use where it is by number.
+-- A port is in use if it is by number.
 use Rattle.std.proofs.Common.{Bool, true, false, ◌≡◌, ◌||◌, is_some, ap, sym, ◌∙◌}
 use Rattle.std.specs.List.{list_any}
 use Rattle.execlist.specs.Pool.{Pooled}

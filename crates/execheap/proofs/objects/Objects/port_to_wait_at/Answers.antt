@@ -1,4 +1,4 @@
--- A port signals the task where it does by number.
+-- A port signals the task if it does by number.
 use Rattle.std.proofs.Common.{ap, sym, ◌∙◌}
 use Rattle.msgport.specs.Port.{wait_bit}
 use Rattle.msgport.specs.Ports.{port_at}

@@ -1,4 +1,4 @@
--- A predecessor is a node where the blocks have a number of one.
+-- A predecessor is a node if the blocks have a number of one.
 use Rattle.std.proofs.Common.{sym}
 use Rattle.execheap.proofs.Alerts.{pred_found, pred_refused}
 use Rattle.execheap.proofs.objects.Objects.predecessor_at.Goals as goal

@@ -1,4 +1,4 @@
--- A port is public where it is by number; a priority of eight bits is one.
+-- A port is public if it is by number; a priority of eight bits is one.
 use Rattle.std.proofs.Common.{rules, true, ◌≡◌, ap, sym, ◌∙◌}
 use Rattle.execmodel.specs.Tasks.{is_priority}
 use Rattle.msgport.specs.Ports.{is_public}

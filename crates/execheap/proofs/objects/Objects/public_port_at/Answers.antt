@@ -1,4 +1,4 @@
--- A port is public where it is by number.
+-- A port is public if it is by number.
 use Rattle.std.proofs.Common.{ap, sym, ◌∙◌}
 use Rattle.msgport.specs.Ports.{is_public}
 use Rattle.execheap.specs.Numbered.{shown_memory}

@@ -1,4 +1,4 @@
--- A library is removed where it is shown.
+-- A library is removed if it is shown.
 use Rattle.std.proofs.Common.{ap, ◌∙◌}
 use Rattle.execmodel.specs.Libraries.{removed}
 use Rattle.execheap.specs.Numbered.{Numbered, shown_memory}

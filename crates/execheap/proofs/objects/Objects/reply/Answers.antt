@@ -1,4 +1,4 @@
--- The message that is replied is one of the table, and stands in the port.
+-- The message that is replied is one of the table, and is in the port.
 use Rattle.std.proofs.Common.{ap, refl, ◌∙◌}
 use Rattle.std.specs.Prelude.{is_some}
 use Rattle.execlist.specs.Lists.{home}

@@ -1,4 +1,4 @@
--- No request begins there where the blocks have no number of one.
+-- No request begins there if the blocks have no number of one.
 use Rattle.std.proofs.Common.{ap, is_some, sym}
 use Rattle.execheap.proofs.KeptRequests.{live_request}
 use Rattle.execheap.proofs.RequestAlerts.{request_found, request_refused, request_shown}

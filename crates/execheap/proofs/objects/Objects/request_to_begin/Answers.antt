@@ -1,4 +1,4 @@
--- A request may begin where it may by number.
+-- A request may begin if it may by number.
 use Rattle.std.proofs.Common.{ap, sym, ◌∙◌}
 use Rattle.iorequest.specs.Request.{is_open}
 use Rattle.iorequest.specs.Requests.{request_at}

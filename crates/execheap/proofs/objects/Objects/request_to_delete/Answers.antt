@@ -1,4 +1,4 @@
--- The reply of a request is in a port where it is by number.
+-- The reply of a request is in a port if it is by number.
 use Rattle.std.proofs.Common.{sym, ◌∙◌}
 use Rattle.execheap.specs.Numbered.{shown_heap}
 use Rattle.execheap.proofs.RequestAlerts.{delete_found, delete_refused, reply_shown}

@@ -1,4 +1,4 @@
--- No semaphore begins there where the blocks have no number of one.
+-- No semaphore begins there if the blocks have no number of one.
 use Rattle.std.proofs.Common.{ap, is_some, sym, ◌∙◌}
 use Rattle.execheap.proofs.SemaphoreAlerts.{semaphore_found, semaphore_refused}
 use Rattle.execheap.specs.declared.tag.Kind.TheVariants as variant

@@ -1,4 +1,4 @@
--- A semaphore is owned where it is by number.
+-- A semaphore is owned if it is by number.
 use Rattle.std.proofs.Common.{ap, sym, ◌∙◌}
 use Rattle.sigsem.specs.Semaphores.{Semaphores, is_owned, sem_at}
 use Rattle.execheap.specs.Numbered.{shown_heap}

@@ -1,4 +1,4 @@
--- The same ports and messages live, and what stands first in a port has an address.
+-- The same ports and messages live, and what is first in a port has an address.
 use Rattle.std.proofs.Common.{subst, sym}
 use Rattle.execheap.specs.Numbered.{IsKnown}
 use Rattle.execheap.proofs.KeptPorts.{kept_taken}

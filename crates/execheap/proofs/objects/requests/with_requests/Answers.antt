@@ -1,4 +1,4 @@
--- There is a number for each message, since the ports have so many free.
+-- There is a number for each message, since the ports have that many free.
 use Rattle.std.proofs.Common.{◌≡◌, ◌+◌, ◌<◌, length, suc, ap, ◌∙◌, arith}
 use Rattle.std.specs.Prelude.{is_ok}
 use Rattle.std.specs.Option.{ok_or}

@@ -1,3 +1,4 @@
+-- What holds in the loops of `with_requests`: the ports with a message more for each request.
 use Rattle.std.proofs.Common.{◌≡◌}
 use Rattle.execheap.specs.Changes.{reserved}
 use Rattle.execheap.proofs.objects.requests.with_requests.Given as goal

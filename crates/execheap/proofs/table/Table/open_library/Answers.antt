@@ -1,4 +1,4 @@
--- A library that is loaded takes a fresh block with its tag, and those that give way to it leave a table sound.
+-- A library that is loaded takes a fresh block with its tag, and those that are expunged under low memory for it leave a table sound.
 use Rattle.execlib.specs.Libraries.{library_to_open}
 use Rattle.execheap.proofs.Asking.{lie_in, sound_open}
 use Rattle.execheap.proofs.Loaded.{to_open_known}

@@ -1,4 +1,4 @@
--- The block is taken in the regions in which libraries gave way.
+-- The block is taken in the regions in which libraries were expunged under low memory.
 use Rattle.std.proofs.Common.{ap, ◌∙◌}
 use Rattle.memlist.specs.Fit.{fit}
 use Rattle.memlist.specs.Memory.{Memory}

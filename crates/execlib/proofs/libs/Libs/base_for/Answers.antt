@@ -1,4 +1,4 @@
--- A library that is absent takes its block once the others have given way; the others do not load it.
+-- A library that is absent takes its block once the others have been expunged under low memory; the others do not load it.
 use Rattle.std.proofs.Common.{ap, sym, ◌∙◌, Some}
 use Rattle.memlist.specs.Fit.{fit}
 use Rattle.memlist.specs.Memory.{allocated}

@@ -1,4 +1,4 @@
--- The library that is opened is, after the others gave way, open as often as before.
+-- The library that is opened is, after the others were expunged under low memory, open as often as before.
 use Rattle.std.proofs.Common.{ap, sym, subst, ◌∙◌}
 use Rattle.std.specs.Prelude.{not, nat_eq, IsTrue}
 use Rattle.std.specs.Option.{option_map_or}

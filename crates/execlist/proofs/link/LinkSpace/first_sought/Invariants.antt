@@ -1,4 +1,4 @@
--- What is sought is sought in the nodes ahead; the last of them is `back`, or stands before it, and `found` is what stands after `back`.
+-- What is sought is sought in the nodes ahead; the last of them is `back`, or is before it, and `found` is what is after `back`.
 use Rattle.std.proofs.Common.{◌≡◌, ℕ, ◌<◌, length, Bool, Some}
 use Rattle.std.specs.Prelude.{find}
 use Rattle.std.specs.Option.{ForSome}

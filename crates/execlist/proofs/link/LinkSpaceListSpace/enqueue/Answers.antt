@@ -1,4 +1,4 @@
--- The node goes before the first of lower priority, or last where there is none.
+-- The node goes before the first of lower priority, or last if there is none.
 use Rattle.std.proofs.Common.{◌≡◌, ℕ, Bool, Some, SFits, w8, ap, sym, ◌∙◌, rules}
 use Rattle.std.specs.Prelude.{find, slice_set, int_lt}
 use Rattle.std.specs.Option.{ForSome}

@@ -1,4 +1,4 @@
--- A cell that is put between two neighbours stands in their list.
+-- A cell that is put between two neighbours is in their list.
 use Rattle.std.proofs.Common.{◌<◌, length, ap, sym, subst, ◌∙◌, arith}
 use Rattle.execlist.specs.Links.{link_at}
 use Rattle.execlist.proofs.LinkLemmas.{known-header, homes_length, pred-in, pred-next-in, new-lists, new-holds, new-homes, stands-linked}
@@ -35,9 +35,9 @@ invariant_of-self c =
       stands = stands-linked s.nodes s.headers new still;
       keyed = s.keyed ∙ homes_length s.block.links s.nodes ∙ sym (homes_length new s.nodes);
       few = s.few;
-      deed_alloc = s.deed_alloc;
-      deed_base = s.deed_base ∙ sym c.link_between.ensures.block.0;
-      deed_cap = s.deed_cap ∙ sym c.link_between.ensures.block.1;
+      lease_alloc = s.lease_alloc;
+      lease_base = s.lease_base ∙ sym c.link_between.ensures.block.0;
+      lease_cap = s.lease_cap ∙ sym c.link_between.ensures.block.1;
       whole = c.link_between.ensures.block.1 ∙ s.whole;
     }
 

@@ -1,4 +1,4 @@
--- The cells are those of empty lists and of nodes that stand in none.
+-- The cells are those of empty lists and of nodes that are in none.
 use Rattle.std.proofs.Common.{◌≡◌, suc, ◌*◌, ◌<◌, List, [], ◌∷◌, ◌++◌, ◌+◌, length, replicate, refl, sym, ap, subst, ◌∙◌, arith}
 use Rattle.std.proofs.Common.{map, rules}
 use lib.ListN.{length-append, length-replicate}
@@ -67,9 +67,9 @@ invariant_of-result c =
       stands = stands-linked n k c.loop-h.block.links holds;
       keyed = omega (arith, c.in_ok-keys.keys.ok.0, ap length blank_keys, length-replicate n k0, homes_length c.loop-h.block.links n);
       few = omega (arith, c.requires.few_headers, c.requires.few_nodes);
-      deed_alloc = e.2;
-      deed_base = e.3 ∙ sym c.loop-i.invariant.1 ∙ sym c.loop-h.invariant.1;
-      deed_cap = e.4 ∙ sym (c.loop-h.invariant.2 ∙ c.loop-i.invariant.2 ∙ e.0);
+      lease_alloc = e.2;
+      lease_base = e.3 ∙ sym c.loop-i.invariant.1 ∙ sym c.loop-h.invariant.1;
+      lease_cap = e.4 ∙ sym (c.loop-h.invariant.2 ∙ c.loop-i.invariant.2 ∙ e.0);
       whole = c.loop-h.invariant.2 ∙ c.loop-i.invariant.2 ∙ e.0;
     }
 

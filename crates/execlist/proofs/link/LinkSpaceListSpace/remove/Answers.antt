@@ -1,4 +1,4 @@
--- A cell that is taken from between its neighbours stands in no list.
+-- A cell that is taken from between its neighbours is in no list.
 use Rattle.std.proofs.Common.{ap, sym, subst, ◌∙◌}
 use Rattle.execlist.specs.Lists.{home}
 use Rattle.execlist.specs.Chains.{IsLinked, lists_of, homes_of}
@@ -27,9 +27,9 @@ invariant_of-self c =
       stands = stands-linked s.nodes s.headers c.unlink.new.self.links (still-linked c);
       keyed = s.keyed ∙ homes_length s.block.links s.nodes ∙ sym (homes_length c.unlink.new.self.links s.nodes);
       few = s.few;
-      deed_alloc = s.deed_alloc;
-      deed_base = s.deed_base ∙ sym c.unlink.ensures.block.0;
-      deed_cap = s.deed_cap ∙ sym c.unlink.ensures.block.1;
+      lease_alloc = s.lease_alloc;
+      lease_base = s.lease_base ∙ sym c.unlink.ensures.block.0;
+      lease_cap = s.lease_cap ∙ sym c.unlink.ensures.block.1;
       whole = c.unlink.ensures.block.1 ∙ s.whole;
     }
 

@@ -1,4 +1,4 @@
--- A node put in at the end of the list stands last in the sequence of its header.
+-- A node put in at the end of the list is last in the sequence of its header.
 use Rattle.std.proofs.Common.{arith, ◌∙◌}
 use Rattle.execlist.proofs.PlainLemmas.{header_in, put_last, same_sequences}
 use Rattle.execlist.proofs.plain.PlainSpaceListSpace.add_tail.Goals as goal

@@ -1,4 +1,4 @@
--- A node put in at the place found stands before the first node of lower priority.
+-- A node put in at the place found is before the first node of lower priority.
 use Rattle.std.proofs.Common.{arith, ◌∙◌}
 use Rattle.execlist.specs.Lists.{pri_of}
 use Rattle.execlist.specs.Keys.{keys_of}

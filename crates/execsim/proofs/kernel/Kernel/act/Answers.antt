@@ -1,3 +1,4 @@
+-- The proof of `Kernel::act`: what a step does before the machine settles; a stopped machine does nothing.
 use Rattle.std.proofs.Common.{ap, sym, ◌∙◌}
 use Rattle.execsim.specs.Agreement.{Seen}
 use Rattle.execsim.proofs.Stepping.{acts_stopped, acts_going}

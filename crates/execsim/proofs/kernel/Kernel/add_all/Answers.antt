@@ -1,3 +1,4 @@
+-- The proof of `Kernel::add_all`: the tasks that start with the machine are added in the order of the file.
 use Rattle.std.proofs.Common.{refl, ap, ◌∙◌}
 use Rattle.execsim.specs.Agreement.{Seen}
 use Rattle.execsim.proofs.Stepping.{none_added, more_added}

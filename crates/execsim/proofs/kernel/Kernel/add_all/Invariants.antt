@@ -1,3 +1,4 @@
+-- What holds in the loops of `Kernel::add_all`: the tasks that start with the machine are added in the order of the file.
 use Rattle.std.proofs.Common.{◌≡◌}
 use Rattle.execmodel.specs.State.{on_schedule}
 use Rattle.execmodel.specs.Step.{all_added}

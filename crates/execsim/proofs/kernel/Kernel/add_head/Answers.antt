@@ -1,3 +1,4 @@
+-- The proof of `Kernel::add_head`: AddHead list node: puts the node first.
 use Rattle.std.proofs.Common.{refl}
 use Rattle.execmodel.specs.State.{on_heap}
 use Rattle.execmodel.specs.Lists.{added_head, does_add_head, link_alert}

@@ -1,3 +1,4 @@
+-- The proof of `Kernel::add_port`: AddPort port name pri: makes a port public.
 use Rattle.execsim.proofs.Porting.{add_outside, add_tried, add_unknown}
 use Rattle.execsim.proofs.kernel.Kernel.add_port.Goals as goal
 

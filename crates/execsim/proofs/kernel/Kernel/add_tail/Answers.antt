@@ -1,3 +1,4 @@
+-- The proof of `Kernel::add_tail`: AddTail list node: puts the node last.
 use Rattle.std.proofs.Common.{refl}
 use Rattle.execmodel.specs.State.{on_heap}
 use Rattle.execmodel.specs.Lists.{added_tail, does_add_tail, link_alert}

@@ -1,3 +1,4 @@
+-- The proof of `Kernel::add_task`: AddTask task (autodoc exec.library/AddTask).
 use Rattle.execsim.proofs.Tasking.{add_unknown, add_tried}
 use Rattle.execsim.proofs.kernel.Kernel.add_task.Goals as goal
 

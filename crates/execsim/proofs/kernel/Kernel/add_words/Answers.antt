@@ -1,3 +1,4 @@
+-- The proof of `Kernel::add_words`: add a b: answers the sum.
 use Rattle.std.proofs.Common.{refl}
 use Rattle.execsim.proofs.Calculating.{follows_add}
 use Rattle.execsim.proofs.kernel.Kernel.add_words.Goals as goal

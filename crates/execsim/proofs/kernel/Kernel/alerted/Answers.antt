@@ -1,3 +1,4 @@
+-- The proof of `Kernel::alerted`: the call of task t is refused: it changes nothing, and the machine stops for good.
 use Rattle.execsim.proofs.Endings.{follows_alerted}
 use Rattle.execsim.proofs.kernel.Kernel.alerted.Goals as goal
 

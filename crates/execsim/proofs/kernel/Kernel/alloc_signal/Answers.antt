@@ -1,3 +1,4 @@
+-- The proof of `Kernel::alloc_signal`: AllocSignal a (autodoc exec.library/AllocSignal).
 use Rattle.execsim.proofs.Signalling.{allocated}
 use Rattle.execsim.proofs.kernel.Kernel.alloc_signal.Goals as goal
 

@@ -1,3 +1,4 @@
+-- The proof of `Kernel::and_words`: and a b: answers the bits that both have.
 use Rattle.std.proofs.Common.{refl}
 use Rattle.execsim.proofs.Calculating.{follows_and}
 use Rattle.execsim.proofs.kernel.Kernel.and_words.Goals as goal

@@ -1,3 +1,4 @@
+-- The proof of `Kernel::answered`: the call answers, into its target if it has one, and task t goes on.
 use Rattle.execsim.proofs.Endings.{follows_answered}
 use Rattle.execsim.proofs.kernel.Kernel.answered.Goals as goal
 

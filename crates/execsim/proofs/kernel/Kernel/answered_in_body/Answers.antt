@@ -1,3 +1,4 @@
+-- The proof of `Kernel::answered_in_body`: the call answers, into its target if it has one, and the body goes on.
 use Rattle.std.proofs.Common.{refl}
 use Rattle.execmodel.specs.Calls.{stored_shared}
 use Rattle.execsim.specs.Views.{call_view}

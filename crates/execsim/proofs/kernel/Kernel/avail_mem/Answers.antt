@@ -1,3 +1,4 @@
+-- The proof of `Kernel::avail_mem`: AvailMem reqs (autodoc exec.library/AvailMem).
 use Rattle.execsim.proofs.Allocating.{avail_refused, avail_answered}
 use Rattle.execsim.proofs.kernel.Kernel.avail_mem.Goals as goal
 

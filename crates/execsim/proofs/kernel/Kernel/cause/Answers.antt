@@ -1,4 +1,4 @@
--- What is caused is put in behind those of its priority.
+-- What is caused is put in after those of its priority.
 use Rattle.std.proofs.Common.{◌≡◌, true, length, ap, ◌∙◌}
 use Rattle.std.specs.Prelude.{nat_lt}
 use Rattle.memlist.proofs.Answered.{nat_lt-true}

@@ -1,3 +1,5 @@
+-- The proof of `Kernel::change_of`: what a command of task t of that plain word changes, if the next one is at that place; none for a word
+-- that prints.
 use Rattle.std.proofs.Common.{ap, ◌∙◌}
 use Rattle.taskscript.specs.declared.word.Word.TheVariants.{Plain}
 use Rattle.execmodel.specs.Calls.{call_of, silent}

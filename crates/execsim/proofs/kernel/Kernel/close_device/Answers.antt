@@ -1,3 +1,4 @@
+-- The proof of `Kernel::close_device`: CloseDevice request: the request is not open.
 use Rattle.execsim.proofs.Requesting.{close_tried}
 use Rattle.execsim.proofs.kernel.Kernel.close_device.Goals as goal
 

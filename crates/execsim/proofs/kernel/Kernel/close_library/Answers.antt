@@ -1,3 +1,5 @@
+-- The proof of `Kernel::close_library`: CloseLibrary base: the library is open once less, and goes if it is to be expunged and is open no
+-- more; 0 does nothing.
 use Rattle.execsim.proofs.Opening.{close_none, close_tried}
 use Rattle.execsim.proofs.kernel.Kernel.close_library.Goals as goal
 

@@ -1,3 +1,4 @@
+-- The proof of `Kernel::delete_io_request`: DeleteIORequest request: frees a request; 0 does nothing.
 use Rattle.execsim.proofs.Requesting.{delete_none, delete_tried}
 use Rattle.execsim.proofs.kernel.Kernel.delete_io_request.Goals as goal
 

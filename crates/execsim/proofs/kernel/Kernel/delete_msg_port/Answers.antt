@@ -1,3 +1,4 @@
+-- The proof of `Kernel::delete_msg_port`: DeleteMsgPort port: frees a port and gives its signal back to its task; 0 does nothing.
 use Rattle.execsim.proofs.Porting.{delete_none, delete_tried}
 use Rattle.execsim.proofs.kernel.Kernel.delete_msg_port.Goals as goal
 

@@ -1,3 +1,4 @@
+-- The proof of `Kernel::disable`: disable (autodoc exec.library/Disable).
 use Rattle.forbid.specs.Nesting.{after_disable}
 use Rattle.execmodel.specs.Nesting.{does_disable}
 use Rattle.execsim.proofs.Forbidding.{counts}

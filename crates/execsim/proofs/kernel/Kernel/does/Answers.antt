@@ -1,3 +1,4 @@
+-- The proof of `Kernel::does`: a call of task t, by the group of its word.
 use Rattle.execsim.specs.Views.{call_view}
 use Rattle.execsim.proofs.Stepping.{asks_and_sets}
 use Rattle.execsim.proofs.kernel.Kernel.does.Goals as goal

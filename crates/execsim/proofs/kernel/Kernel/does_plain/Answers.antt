@@ -1,3 +1,4 @@
+-- The proof of `Kernel::does_plain`: a call of task t, by its word: a plain one.
 use Rattle.std.proofs.Common.{◌≡◌, ℕ, subst, sym}
 use Rattle.exectrace.specs.Sink.{Tape}
 use Rattle.taskscript.specs.declared.word.plain.PlainWord.{PlainWord}

@@ -1,3 +1,4 @@
+-- The proof of `Kernel::does_plain_in_body`.
 use Rattle.std.proofs.Common.{◌≡◌, subst, sym}
 use Rattle.exectrace.specs.Sink.{Tape}
 use Rattle.taskscript.specs.declared.word.plain.PlainWord.{PlainWord}

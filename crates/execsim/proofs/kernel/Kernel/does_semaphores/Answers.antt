@@ -1,3 +1,4 @@
+-- The proof of `Kernel::does_semaphores`: a call of task t on semaphores, by its word.
 use Rattle.std.proofs.Common.{arith}
 use Rattle.execsim.proofs.Reached.{runs_for_none}
 use Rattle.execsim.proofs.kernel.Kernel.does_semaphores.Goals as goal

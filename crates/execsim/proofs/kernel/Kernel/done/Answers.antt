@@ -1,3 +1,4 @@
+-- The proof of `Kernel::done`: the call answers nothing, and task t goes on.
 use Rattle.execsim.proofs.Endings.{follows_done}
 use Rattle.execsim.proofs.kernel.Kernel.done.Goals as goal
 

@@ -1,3 +1,4 @@
+-- The proof of `Kernel::enable`: enable (autodoc exec.library/Enable).
 use Rattle.forbid.specs.Nesting.{after_enable}
 use Rattle.execmodel.specs.Nesting.{does_enable}
 use Rattle.execsim.proofs.Forbidding.{counts}

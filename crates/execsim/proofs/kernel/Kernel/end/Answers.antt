@@ -1,3 +1,4 @@
+-- The proof of `Kernel::end`: a task whose commands are used up ends, as by RemTask 0.
 use Rattle.execsim.proofs.Stepping.{ends_as}
 use Rattle.execsim.proofs.kernel.Kernel.end.Goals as goal
 

@@ -1,3 +1,4 @@
+-- The proof of `Kernel::enqueue`: enqueue list node: puts the node before the first one of lower priority, or last.
 use Rattle.std.proofs.Common.{refl}
 use Rattle.execmodel.specs.State.{on_heap}
 use Rattle.execmodel.specs.Lists.{does_enqueue, enqueued, link_alert}

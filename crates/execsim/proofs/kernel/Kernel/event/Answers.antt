@@ -1,3 +1,4 @@
+-- The proof of `Kernel::event`: one event.
 use Rattle.execsim.proofs.kernel.Kernel.event.Goals as goal
 
 pub steps-requires : goal.steps-requires

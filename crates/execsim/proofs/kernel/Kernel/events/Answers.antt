@@ -1,3 +1,4 @@
+-- The proof of `Kernel::events`: one event after another.
 use Rattle.execsim.proofs.Clock.{time_for_event}
 use Rattle.execsim.proofs.Stepping.{no_events, more_events}
 use Rattle.execsim.proofs.kernel.Kernel.events.Goals as goal

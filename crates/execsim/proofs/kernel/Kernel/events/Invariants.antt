@@ -1,3 +1,4 @@
+-- What holds in the loops of `Kernel::events`: one event after another.
 use Rattle.std.proofs.Common.{take}
 use Rattle.execmodel.specs.Step.{events}
 use Rattle.execsim.specs.Agreement.{FollowsWhileGood}

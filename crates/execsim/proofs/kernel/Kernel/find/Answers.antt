@@ -1,3 +1,4 @@
+-- The proof of `Kernel::find`: the address of the first node of that name in a list, or after a linked node, or 0.
 use Rattle.execsim.proofs.kernel.Kernel.find.Goals as goal
 
 pub returns-in-Some-clause-answer : goal.returns-in-Some-clause-answer

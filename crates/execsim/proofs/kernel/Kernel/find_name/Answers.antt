@@ -1,3 +1,4 @@
+-- The proof of `Kernel::find_name`: FindName start name: answers the first node of that name in a list, or after a linked node, or 0.
 use Rattle.std.specs.Prelude.{[], unwrap_or}
 use Rattle.execmodel.specs.Calls.{name_argument}
 use Rattle.execmodel.specs.Lists.{does_find_name, find_alert, found_node}

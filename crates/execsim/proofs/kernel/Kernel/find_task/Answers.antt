@@ -1,3 +1,4 @@
+-- The proof of `Kernel::find_task`: FindTask name (autodoc exec.library/FindTask).
 use Rattle.execsim.proofs.Tasking.{task_found}
 use Rattle.execsim.proofs.kernel.Kernel.find_task.Goals as goal
 

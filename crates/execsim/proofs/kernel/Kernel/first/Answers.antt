@@ -1,3 +1,4 @@
+-- The proof of `Kernel::first`: first list: answers the first node, or 0 for an empty list.
 use Rattle.execmodel.specs.Lists.{does_first, first_of, list_alert}
 use Rattle.execsim.proofs.Listing.{heap_read}
 use Rattle.execsim.proofs.kernel.Kernel.first.Goals as goal

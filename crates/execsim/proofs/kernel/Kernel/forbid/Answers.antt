@@ -1,3 +1,4 @@
+-- The proof of `Kernel::forbid`: forbid (autodoc exec.library/Forbid).
 use Rattle.forbid.specs.Nesting.{after_forbid}
 use Rattle.execmodel.specs.Nesting.{does_forbid}
 use Rattle.execsim.proofs.Forbidding.{counts}

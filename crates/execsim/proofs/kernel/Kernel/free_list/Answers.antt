@@ -1,3 +1,4 @@
+-- The proof of `Kernel::free_list`: FreeList list: frees an empty list.
 use Rattle.std.proofs.Common.{refl}
 use Rattle.execmodel.specs.Memory.{freed}
 use Rattle.execmodel.specs.Lists.{does_free_list, free_list_alert}

@@ -1,3 +1,4 @@
+-- The proof of `Kernel::free_mem`: FreeMem addr size (autodoc exec.library/FreeMem).
 use Rattle.std.proofs.Common.{sym, ◌∙◌}
 use Rattle.execsim.proofs.Allocating.{free_refused, free_done}
 use Rattle.execsim.proofs.kernel.Kernel.free_mem.Goals as goal

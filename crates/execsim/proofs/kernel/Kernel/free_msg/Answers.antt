@@ -1,3 +1,4 @@
+-- The proof of `Kernel::free_msg`: FreeMsg message: frees a message.
 use Rattle.std.proofs.Common.{refl}
 use Rattle.execmodel.specs.Memory.{freed}
 use Rattle.execmodel.specs.Ports.{does_free_msg, loose_alert}

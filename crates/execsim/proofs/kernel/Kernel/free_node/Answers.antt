@@ -1,3 +1,4 @@
+-- The proof of `Kernel::free_node`: FreeNode node: frees a node.
 use Rattle.std.proofs.Common.{refl}
 use Rattle.execmodel.specs.Memory.{freed}
 use Rattle.execmodel.specs.Lists.{does_free_node, free_node_alert}

@@ -1,3 +1,4 @@
+-- The proof of `Kernel::free_sem`: FreeSem semaphore: frees a semaphore.
 use Rattle.std.proofs.Common.{refl}
 use Rattle.execmodel.specs.Memory.{freed}
 use Rattle.execmodel.specs.Semaphores.{does_free_sem, free_sem_alert}

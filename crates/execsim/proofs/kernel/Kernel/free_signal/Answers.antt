@@ -1,3 +1,4 @@
+-- The proof of `Kernel::free_signal`: FreeSignal a (autodoc exec.library/FreeSignal).
 use Rattle.execsim.proofs.Signalling.{free_none, free_other, free_own}
 use Rattle.execsim.proofs.kernel.Kernel.free_signal.Goals as goal
 

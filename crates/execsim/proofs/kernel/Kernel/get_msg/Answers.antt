@@ -1,3 +1,4 @@
+-- The proof of `Kernel::get_msg`: GetMsg port: answers the first message, which leaves the port, or 0.
 use Rattle.execsim.proofs.Porting.{get_tried}
 use Rattle.execsim.proofs.kernel.Kernel.get_msg.Goals as goal
 

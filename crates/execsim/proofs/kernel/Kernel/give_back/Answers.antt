@@ -1,3 +1,4 @@
+-- The proof of `Kernel::give_back`: a signal of a task, if there is a task of that number, is not allocated any more.
 use Rattle.std.proofs.Common.{◌≤◌, length, ap, sym, arith}
 use Rattle.execsim.proofs.PortOrder.{frees_past}
 use Rattle.execsim.proofs.kernel.Kernel.give_back.Goals as goal

@@ -1,3 +1,4 @@
+-- The proof of `Kernel::given_back`: a call that frees a port: its signal is given back to its task, or the call is refused by its alert.
 use Rattle.execsim.proofs.Porting.{gives_back_done}
 use Rattle.execsim.proofs.kernel.Kernel.given_back.Goals as goal
 

@@ -1,3 +1,4 @@
+-- The proof of `Kernel::insert`: insert list node pred: puts the node after pred, or first if pred is 0.
 use Rattle.std.proofs.Common.{refl}
 use Rattle.execmodel.specs.State.{on_heap}
 use Rattle.execmodel.specs.Lists.{does_insert, insert_alert, inserted}

@@ -1,3 +1,4 @@
+-- The proof of `Kernel::interrupt`: all that asks is served, if interrupts are allowed.
 use Rattle.execsim.proofs.Serving.{nothing_asks}
 use Rattle.execsim.proofs.kernel.Kernel.interrupt.Goals as goal
 

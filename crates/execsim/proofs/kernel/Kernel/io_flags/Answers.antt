@@ -1,3 +1,4 @@
+-- The proof of `Kernel::io_flags`: IOFlags request: answers 1 if IOF_QUICK is set, and else 0.
 use Rattle.std.specs.Prelude.{if◌then◌else◌}
 use Rattle.execmodel.specs.Requests.{does_io_flags, request_alert, request_of}
 use Rattle.execsim.proofs.Listing.{heap_read}

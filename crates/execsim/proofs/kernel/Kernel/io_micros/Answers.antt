@@ -1,3 +1,4 @@
+-- The proof of `Kernel::io_micros`: IOMicros request: answers the microseconds of its time.
 use Rattle.execmodel.specs.Requests.{does_io_micros, request_alert, request_of}
 use Rattle.execsim.proofs.Listing.{heap_read}
 use Rattle.execsim.proofs.kernel.Kernel.io_micros.Goals as goal

@@ -1,3 +1,4 @@
+-- The proof of `Kernel::io_secs`: IOSecs request: answers the seconds of its time.
 use Rattle.execmodel.specs.Requests.{does_io_secs, request_alert, request_of}
 use Rattle.execsim.proofs.Listing.{heap_read}
 use Rattle.execsim.proofs.kernel.Kernel.io_secs.Goals as goal

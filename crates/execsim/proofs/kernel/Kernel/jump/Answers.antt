@@ -1,3 +1,4 @@
+-- The proof of `Kernel::jump`: jump l: goes on at l.
 use Rattle.execsim.proofs.Calculating.{follows_jump}
 use Rattle.execsim.proofs.kernel.Kernel.jump.Goals as goal
 

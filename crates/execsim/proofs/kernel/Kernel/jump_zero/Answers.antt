@@ -1,3 +1,4 @@
+-- The proof of `Kernel::jump_zero`: JumpZ a l: goes on at l if a is 0.
 use Rattle.std.proofs.Common.{refl}
 use Rattle.execsim.proofs.Calculating.{follows_jump_zero}
 use Rattle.execsim.proofs.kernel.Kernel.jump_zero.Goals as goal

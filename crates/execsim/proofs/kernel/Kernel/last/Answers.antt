@@ -1,3 +1,4 @@
+-- The proof of `Kernel::last`: last list: answers the last node, or 0 for an empty list.
 use Rattle.execmodel.specs.Lists.{does_last, last_of, list_alert}
 use Rattle.execsim.proofs.Listing.{heap_read}
 use Rattle.execsim.proofs.kernel.Kernel.last.Goals as goal

@@ -1,3 +1,4 @@
+-- The proof of `Kernel::lib_open_cnt`: LibOpenCnt base: answers how often the library is open.
 use Rattle.execmodel.specs.Libraries.{count_of, does_lib_open_cnt, library_alert}
 use Rattle.execsim.proofs.Listing.{heap_read}
 use Rattle.execsim.proofs.kernel.Kernel.lib_open_cnt.Goals as goal

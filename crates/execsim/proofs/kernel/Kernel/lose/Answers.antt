@@ -1,3 +1,4 @@
+-- The proof of `Kernel::lose`: the running task clears its signals of the mask.
 use Rattle.execsim.proofs.Porting.{loses_running}
 use Rattle.execsim.proofs.kernel.Kernel.lose.Goals as goal
 

@@ -1,3 +1,4 @@
+-- The proof of `Kernel::make_call`: task t, which runs, tries the call again that it waits in, or makes that of its next command, or ends.
 use Rattle.std.proofs.Common.{refl, ap, sym, take, ◌∙◌, ◌+◌, Some}
 use Rattle.std.proofs.lemmas.Option.{slice_get_within}
 use Rattle.execmodel.specs.State.{program_of}

@@ -1,3 +1,4 @@
+-- The proof of `Kernel::msg_type`: MsgType message: answers its type, 0 for a new one.
 use Rattle.execmodel.specs.Ports.{content_of, does_msg_type, message_alert}
 use Rattle.execsim.proofs.Listing.{heap_read}
 use Rattle.execsim.proofs.kernel.Kernel.msg_type.Goals as goal

@@ -1,3 +1,4 @@
+-- The proof of `Kernel::msg_word`: MsgWord message: answers its word.
 use Rattle.execmodel.specs.Ports.{content_of, does_msg_word, message_alert}
 use Rattle.execsim.proofs.Listing.{heap_read}
 use Rattle.execsim.proofs.kernel.Kernel.msg_word.Goals as goal

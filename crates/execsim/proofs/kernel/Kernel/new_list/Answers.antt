@@ -1,3 +1,5 @@
+-- The proof of `Kernel::new_list`: NewList: answers the address of a new empty list, or 0 (autodoc amiga.lib/NewList; that it takes the
+-- memory: project rule).
 use Rattle.execsim.proofs.Listing.{list_made}
 use Rattle.execsim.proofs.kernel.Kernel.new_list.Goals as goal
 

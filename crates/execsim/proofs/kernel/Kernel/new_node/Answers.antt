@@ -1,3 +1,4 @@
+-- The proof of `Kernel::new_node`: NewNode pri name: answers the address of a new node, which is not linked, or 0.
 use Rattle.execsim.proofs.Listing.{node_made, node_refused}
 use Rattle.execsim.proofs.kernel.Kernel.new_node.Goals as goal
 

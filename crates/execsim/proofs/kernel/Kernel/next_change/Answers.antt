@@ -1,3 +1,4 @@
+-- The proof of `Kernel::next_change`: what task t changes by what it does next, if that is a plain word that prints nothing.
 use Rattle.std.proofs.Common.{refl, ap, ◌∙◌, ◌+◌}
 use Rattle.execmodel.specs.State.{Program}
 use Rattle.execsim.proofs.Changing.{next_changes}

@@ -1,3 +1,4 @@
+-- The proof of `Kernel::or_words`: or a b: answers the bits that either has.
 use Rattle.std.proofs.Common.{refl}
 use Rattle.execsim.proofs.Calculating.{follows_or}
 use Rattle.execsim.proofs.kernel.Kernel.or_words.Goals as goal

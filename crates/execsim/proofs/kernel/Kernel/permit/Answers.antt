@@ -1,3 +1,4 @@
+-- The proof of `Kernel::permit`: permit (autodoc exec.library/Permit).
 use Rattle.forbid.specs.Nesting.{after_permit}
 use Rattle.execmodel.specs.Nesting.{does_permit}
 use Rattle.execsim.proofs.Forbidding.{counts}

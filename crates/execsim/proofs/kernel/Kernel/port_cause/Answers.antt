@@ -1,3 +1,4 @@
+-- The proof of `Kernel::port_cause`: PortCause port name: the port causes the software interrupt of that name.
 use Rattle.execsim.proofs.Porting.{cause_set}
 use Rattle.execsim.proofs.kernel.Kernel.port_cause.Goals as goal
 

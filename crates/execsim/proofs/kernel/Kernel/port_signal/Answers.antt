@@ -1,3 +1,4 @@
+-- The proof of `Kernel::port_signal`: PortSignal port: the port signals its task, as a new port does.
 use Rattle.std.proofs.Common.{refl}
 use Rattle.msgport.specs.declared.action.PortAction.TheVariants.{Signal}
 use Rattle.execmodel.specs.State.{on_heap}

@@ -1,3 +1,4 @@
+-- The proof of `Kernel::pred`: pred node: answers the node before a linked one, or 0.
 use Rattle.execmodel.specs.Lists.{does_pred, linked_alert, pred_of}
 use Rattle.execsim.proofs.Listing.{heap_read}
 use Rattle.execsim.proofs.kernel.Kernel.pred.Goals as goal

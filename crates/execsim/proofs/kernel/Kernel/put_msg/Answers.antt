@@ -1,3 +1,4 @@
+-- The proof of `Kernel::put_msg`: PutMsg port message: puts a message at a port, after those that it has.
 use Rattle.execsim.proofs.Porting.{put_tried}
 use Rattle.execsim.proofs.kernel.Kernel.put_msg.Goals as goal
 

@@ -1,3 +1,4 @@
+-- The proof of `Kernel::release_semaphore`: ReleaseSemaphore semaphore: the owner has to release the semaphore once less.
 use Rattle.execsim.specs.Views.{call_view}
 use Rattle.execsim.proofs.Obtaining.{release_tried}
 use Rattle.execsim.proofs.Reached.{heirs_wait}

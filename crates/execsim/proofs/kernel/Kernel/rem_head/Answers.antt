@@ -1,3 +1,4 @@
+-- The proof of `Kernel::rem_head`: RemHead list: takes the first node out and answers it, or 0 for an empty list.
 use Rattle.std.proofs.Common.{refl}
 use Rattle.execmodel.specs.State.{on_heap}
 use Rattle.execmodel.specs.Lists.{does_rem_head, first_of, list_alert, removed_head}

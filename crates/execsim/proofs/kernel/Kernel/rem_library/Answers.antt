@@ -1,3 +1,4 @@
+-- The proof of `Kernel::rem_library`: RemLibrary base: the library is expunged, or is to be when it is closed for the last time.
 use Rattle.execmodel.specs.Libraries.{does_rem_library, library_alert, removed}
 use Rattle.execsim.proofs.GivingWay.{removed-in_order}
 use Rattle.execsim.proofs.Listing.{heap_changed}

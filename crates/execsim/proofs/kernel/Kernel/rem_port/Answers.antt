@@ -1,3 +1,4 @@
+-- The proof of `Kernel::rem_port`: RemPort port: makes a port public no more.
 use Rattle.execmodel.specs.Ports.{does_rem_port, made_private, rem_port_alert}
 use Rattle.execsim.proofs.Listing.{follows_changed}
 use Rattle.execsim.proofs.PortOrder.{made_private-in_order, rem_port_alert-in_order}

@@ -1,3 +1,4 @@
+-- The proof of `Kernel::rem_tail`: RemTail list: takes the last node out and answers it, or 0 for an empty list.
 use Rattle.std.proofs.Common.{refl}
 use Rattle.execmodel.specs.State.{on_heap}
 use Rattle.execmodel.specs.Lists.{does_rem_tail, last_of, list_alert, removed_tail}

@@ -1,3 +1,4 @@
+-- The proof of `Kernel::rem_task`: RemTask task (autodoc exec.library/RemTask).
 use Rattle.execsim.proofs.Tasking.{rem_caller, rem_unknown, rem_other}
 use Rattle.execsim.proofs.kernel.Kernel.rem_task.Goals as goal
 

@@ -1,3 +1,4 @@
+-- The proof of `Kernel::remove`: remove node: takes the node out of its list.
 use Rattle.std.proofs.Common.{refl}
 use Rattle.execmodel.specs.State.{on_heap}
 use Rattle.execmodel.specs.Lists.{does_remove, linked_alert, unlinked}

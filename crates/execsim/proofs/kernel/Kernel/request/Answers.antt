@@ -1,3 +1,4 @@
+-- The proof of `Kernel::request`: an interrupt is requested, and the machine settles; a stopped machine does nothing.
 use Rattle.std.proofs.Common.{ap, sym, ◌∙◌}
 use Rattle.execsim.specs.Agreement.{Seen}
 use Rattle.execsim.proofs.Stepping.{request_stopped, request_going}

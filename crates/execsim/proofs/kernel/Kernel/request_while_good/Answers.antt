@@ -1,3 +1,4 @@
+-- The proof of `Kernel::request_while_good`: an interrupt is requested, as long as the sink is good.
 use Rattle.std.proofs.Common.{◌≡◌, false, true, refl}
 use Rattle.execsim.proofs.Following.{while_good, stays_behind}
 use Rattle.execsim.proofs.kernel.Kernel.request_while_good.Goals as goal

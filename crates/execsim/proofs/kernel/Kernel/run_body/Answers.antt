@@ -1,3 +1,4 @@
+-- The proof of `Kernel::run_body`: a whole body: its commands one after another; after an alert there is no other.
 use Rattle.std.proofs.Common.{refl}
 use Rattle.execsim.specs.Views.{code_of_body}
 use Rattle.execsim.proofs.BodyCalls.{more_commands, no_command}

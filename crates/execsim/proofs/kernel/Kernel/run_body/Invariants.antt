@@ -1,3 +1,4 @@
+-- What holds in the loops of `Kernel::run_body`: a whole body: its commands one after another; after an alert there is no other.
 use Rattle.std.proofs.Common.{take}
 use Rattle.execmodel.specs.Bodies.{runs_body}
 use Rattle.execsim.specs.Agreement.{Follows}

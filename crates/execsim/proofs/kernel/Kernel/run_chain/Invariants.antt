@@ -1,3 +1,5 @@
+-- What holds in the loops of `Kernel::run_chain`: the servers of a source run one after another, until one claims the interrupt, or an
+-- alert stops the machine.
 use Rattle.execsim.specs.Agreement.{Follows}
 use Rattle.exectrace.specs.Sink.{Tape}
 use Rattle.execsim.specs.Agreement.{Seen}

@@ -1,3 +1,4 @@
+-- The proof of `Kernel::run_command`: task t, which runs, does one command, or ends.
 use Rattle.execsim.proofs.Changing.{changed_as}
 use Rattle.execsim.proofs.kernel.Kernel.run_command.Goals as goal
 

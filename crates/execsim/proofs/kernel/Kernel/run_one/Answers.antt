@@ -1,3 +1,4 @@
+-- The proof of `Kernel::run_one`: a software interrupt that may run does so, or else the running task does one command.
 use Rattle.std.proofs.Common.{subst, sym}
 use Rattle.execsim.specs.Reached.{IsInOrder}
 use Rattle.execsim.proofs.Stepping.{acting_softint, acting_task}

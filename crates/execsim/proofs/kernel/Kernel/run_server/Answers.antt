@@ -1,3 +1,4 @@
+-- The proof of `Kernel::run_server`: server k runs its whole body.
 use Rattle.std.proofs.Common.{ap, ◌∙◌}
 use Rattle.execmodel.specs.Interrupts.{server_at}
 use Rattle.execsim.specs.Agreement.{Seen}

@@ -1,3 +1,4 @@
+-- The proof of `Kernel::run_softint`: a software interrupt, which is not caused any more, runs its whole body.
 use Rattle.std.proofs.Common.{ap, ◌∙◌}
 use Rattle.execmodel.specs.Interrupts.{softint_at}
 use Rattle.execsim.specs.Agreement.{Seen}

@@ -1,3 +1,4 @@
+-- The proof of `Kernel::run_task`: the running task does one command; if none runs, the step is used up.
 use Rattle.std.proofs.Common.{sym, ◌∙◌}
 use Rattle.execsim.proofs.Stepping.{running_none}
 use Rattle.execsim.proofs.kernel.Kernel.run_task.Goals as goal

@@ -1,3 +1,5 @@
+-- What holds in the loops of `Kernel::serve_all`: all that asks is served, if interrupts are allowed: there are three sources, and no
+-- serving sets a latch.
 use Rattle.std.proofs.Common.{◌≡◌, ℕ, ◌+◌}
 use Rattle.exectrace.specs.Sink.{Tape}
 use Rattle.execmodel.specs.Interrupts.{servings}

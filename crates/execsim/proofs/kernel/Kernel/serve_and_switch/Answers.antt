@@ -1,3 +1,4 @@
+-- The proof of `Kernel::serve_and_switch`.
 use Rattle.execsim.proofs.Following.{follows_then}
 use Rattle.execsim.proofs.kernel.Kernel.serve_and_switch.Goals as goal
 

@@ -1,3 +1,4 @@
+-- The proof of `Kernel::set`: set a: answers a.
 use Rattle.execsim.proofs.Calculating.{follows_set}
 use Rattle.execsim.proofs.kernel.Kernel.set.Goals as goal
 

@@ -1,3 +1,4 @@
+-- The proof of `Kernel::set_msg_word`: SetMsgWord message word: gives the message another word.
 use Rattle.std.proofs.Common.{refl}
 use Rattle.execmodel.specs.State.{on_heap}
 use Rattle.execmodel.specs.Ports.{does_set_msg_word, message_alert, with_word}

@@ -1,3 +1,4 @@
+-- The proof of `Kernel::set_signal`: SetSignal new mask (autodoc exec.library/SetSignal).
 use Rattle.execsim.proofs.Signalling.{set_unmasked, set_masked}
 use Rattle.execsim.proofs.kernel.Kernel.set_signal.Goals as goal
 

@@ -1,3 +1,4 @@
+-- The proof of `Kernel::set_task_pri`: SetTaskPri task pri (autodoc exec.library/SetTaskPri).
 use Rattle.execsim.proofs.Tasking.{pri_unknown, pri_outside, pri_set}
 use Rattle.execsim.proofs.kernel.Kernel.set_task_pri.Goals as goal
 

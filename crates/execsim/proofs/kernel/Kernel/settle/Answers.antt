@@ -1,3 +1,4 @@
+-- The proof of `Kernel::settle`: what follows each action; a stopped machine stays as it is.
 use Rattle.std.proofs.Common.{ap, sym, ◌∙◌}
 use Rattle.execsim.specs.Agreement.{Seen}
 use Rattle.execsim.proofs.Stepping.{settle_stopped, settle_going}

@@ -1,3 +1,4 @@
+-- The proof of `Kernel::signal`: signal t mask: the task of that number receives the signals of the mask.
 use Rattle.execsim.proofs.Signalling.{signal_unknown, signal_unmasked, signal_sent}
 use Rattle.execsim.proofs.kernel.Kernel.signal.Goals as goal
 

@@ -1,3 +1,4 @@
+-- The proof of `Kernel::signal_any`: a task, if there is one of that number and it is live, receives the signals.
 use Rattle.std.proofs.Common.{◌≤◌, length, ap, sym, arith}
 use Rattle.execsim.proofs.PortOrder.{signalled_past}
 use Rattle.execsim.proofs.kernel.Kernel.signal_any.Goals as goal

@@ -1,3 +1,4 @@
+-- The proof of `Kernel::silent`: a word that is no call of Exec answers, and prints nothing.
 use Rattle.execsim.proofs.Endings.{follows_silent}
 use Rattle.execsim.proofs.kernel.Kernel.silent.Goals as goal
 

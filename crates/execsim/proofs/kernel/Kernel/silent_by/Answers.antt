@@ -1,8 +1,10 @@
-use Rattle.std.proofs.Common.{[]}
+-- The proof of `Kernel::silent_by`: a word that is no call of Exec answers, and prints nothing, in a task or in a body.
+use Rattle.std.proofs.Common.{[], refl}
+use Rattle.execsim.specs.Views.{call_view}
 use Rattle.execsim.proofs.kernel.Kernel.silent_by.Goals as goal
 
 pub returns-in-Task : goal.returns-in-Task
 returns-in-Task g c tape = rw c.in-Task.is (c.silent.ensures tape)
 
 pub returns-in-Body : goal.returns-in-Body
-returns-in-Body g c tape = rw c.in-Body.is (c.silent_in_body.ensures [] tape)
+returns-in-Body g c tape = rw c.in-Body.is (c.silent_in_body.ensures [] (call_view c.args.call.now) tape refl)

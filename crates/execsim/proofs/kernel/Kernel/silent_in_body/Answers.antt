@@ -1,7 +1,7 @@
-use Rattle.execmodel.specs.Calls.{stored_shared}
-use Rattle.execsim.specs.Views.{call_view}
-use Rattle.execsim.proofs.Following.{follows_quietly, moves_scripts}
+-- The proof of `Kernel::silent_in_body`: a word that is no call of Exec answers, into its target if it has one, and prints nothing, in the
+-- body of any name.
+use Rattle.execsim.proofs.BodyCalls.{silently}
 use Rattle.execsim.proofs.kernel.Kernel.silent_in_body.Goals as goal
 
 pub returns : goal.returns
-returns g c name tape = follows_quietly tape (moves_scripts (stored_shared (call_view c.args.call.now).target c.args.value) c.store_in_body.ensures)
+returns g c name call tape same = silently name call c.args.target c.args.value tape c.store_in_body.ensures same

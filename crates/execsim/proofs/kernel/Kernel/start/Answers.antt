@@ -1,3 +1,4 @@
+-- The proof of `Kernel::start`: the start of the machine.
 use Rattle.execsim.proofs.Stepping.{starts_as}
 use Rattle.execsim.proofs.kernel.Kernel.start.Goals as goal
 

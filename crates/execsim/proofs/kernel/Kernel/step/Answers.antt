@@ -1,3 +1,4 @@
+-- The proof of `Kernel::step`: one step.
 use Rattle.execsim.proofs.Stepping.{step_as}
 use Rattle.execsim.proofs.kernel.Kernel.step.Goals as goal
 

@@ -1,3 +1,4 @@
+-- The proof of `Kernel::step_while_good`: one step, as long as the sink is good; after a failed write nothing more is simulated.
 use Rattle.std.proofs.Common.{◌≡◌, false, true, refl}
 use Rattle.execsim.proofs.Following.{while_good, stays_behind}
 use Rattle.execsim.proofs.kernel.Kernel.step_while_good.Goals as goal

@@ -1,3 +1,4 @@
+-- The proof of `Kernel::steps`: that many steps.
 use Rattle.execsim.proofs.Reached.{agree_after_steps}
 use Rattle.execsim.proofs.Stepping.{no_steps, more_steps}
 use Rattle.execsim.proofs.kernel.Kernel.steps.Goals as goal

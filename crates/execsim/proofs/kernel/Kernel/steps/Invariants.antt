@@ -1,3 +1,4 @@
+-- What holds in the loops of `Kernel::steps`: that many steps.
 use Rattle.execmodel.specs.Step.{steps}
 use Rattle.execsim.specs.Agreement.{FollowsWhileGood}
 use Rattle.execsim.proofs.kernel.Kernel.steps.Given as goal

@@ -1,3 +1,4 @@
+-- The proof of `Kernel::sub_words`: sub a b: answers the difference.
 use Rattle.std.proofs.Common.{refl}
 use Rattle.execsim.proofs.Calculating.{follows_sub}
 use Rattle.execsim.proofs.kernel.Kernel.sub_words.Goals as goal

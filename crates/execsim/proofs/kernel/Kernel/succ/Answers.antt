@@ -1,3 +1,4 @@
+-- The proof of `Kernel::succ`: succ node: answers the node after a linked one, or 0.
 use Rattle.execmodel.specs.Lists.{does_succ, linked_alert, succ_of}
 use Rattle.execsim.proofs.Listing.{heap_read}
 use Rattle.execsim.proofs.kernel.Kernel.succ.Goals as goal

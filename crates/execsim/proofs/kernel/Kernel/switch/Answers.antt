@@ -1,3 +1,4 @@
+-- The proof of `Kernel::switch`: the switch to another task, or to being idle, if one is due.
 use Rattle.execsim.proofs.Stepping.{switches_as}
 use Rattle.execsim.proofs.kernel.Kernel.switch.Goals as goal
 

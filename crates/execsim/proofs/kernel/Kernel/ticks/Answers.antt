@@ -1,3 +1,4 @@
+-- The proof of `Kernel::ticks`: that many ticks.
 use Rattle.execsim.proofs.Clock.{time_for_tick}
 use Rattle.execsim.proofs.Stepping.{no_ticks, more_ticks}
 use Rattle.execsim.proofs.kernel.Kernel.ticks.Goals as goal

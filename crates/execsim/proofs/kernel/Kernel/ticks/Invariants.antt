@@ -1,3 +1,4 @@
+-- What holds in the loops of `Kernel::ticks`: that many ticks.
 use Rattle.execmodel.specs.Step.{ticks}
 use Rattle.execsim.specs.Agreement.{FollowsWhileGood}
 use Rattle.execsim.proofs.kernel.Kernel.ticks.Given as goal

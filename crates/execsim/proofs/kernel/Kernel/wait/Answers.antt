@@ -1,3 +1,4 @@
+-- The proof of `Kernel::wait`: wait mask (autodoc exec.library/Wait).
 use Rattle.std.proofs.Common.{sym, ◌∙◌}
 use Rattle.execsim.proofs.Signalling.{wait_unmasked, wait_tried}
 use Rattle.execsim.proofs.kernel.Kernel.wait.Goals as goal

@@ -1,3 +1,4 @@
+-- The proof of `Kernel::wait_for_message`: the call waits for signals of the mask that come from now on.
 use Rattle.execsim.specs.Views.{call_view}
 use Rattle.execsim.proofs.Porting.{waits_cleared}
 use Rattle.execsim.proofs.kernel.Kernel.wait_for_message.Goals as goal

@@ -1,3 +1,5 @@
+-- The proof of `Machine::event`: does one event: that many steps or ticks, each followed by a settle, or a request of an interrupt,
+-- followed by one.
 use Rattle.std.proofs.Common.{◌+◌, sym, subst}
 use Rattle.taskscript.specs.Events.{ticks as ticks_of}
 use Rattle.execsim.specs.Headline.{Shown}

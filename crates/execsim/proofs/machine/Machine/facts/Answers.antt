@@ -1,3 +1,4 @@
+-- The proof of `Machine::facts`: does nothing: its clause is what always holds of a machine that has not failed.
 use Rattle.std.proofs.Common.{ap, subst, ◌∙◌}
 use Rattle.execsim.specs.Headline.{Shown}
 use Rattle.execsim.specs.Reached.{QueuesAgree}

@@ -1,3 +1,4 @@
+-- The proof of `Machine::run`: starts the machine and does one event after another.
 use Rattle.std.proofs.Common.{ap, sym, ◌∙◌, subst}
 use Rattle.std.specs.Prelude.{sum_by}
 use Rattle.taskscript.specs.Events.{ticks as ticks_of}

@@ -1,3 +1,4 @@
+-- The proof of `Machine::start`: starts the machine: its tasks are added in the order of the file, and it settles once.
 use Rattle.std.proofs.Common.{◌≡◌, ℕ, ◌+◌, ap, sym, subst, ◌∙◌, arith}
 use Rattle.execsim.specs.Headline.{Shown}
 use Rattle.execsim.specs.Reached.{after_start}

@@ -1,3 +1,4 @@
+-- The proof of `Program::command`: the next command, if any is left.
 use Rattle.std.proofs.Common.{◌∙◌, ap, sym}
 use Rattle.std.specs.Prelude.{slice_get}
 use Rattle.std.specs.Option.{option_map}

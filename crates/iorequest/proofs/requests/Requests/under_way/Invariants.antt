@@ -1,4 +1,4 @@
--- What the requests so far left to be told is told by those that are left.
+-- What the requests so far left to be reported is reported by those that are left.
 use Rattle.std.proofs.Common.{◌≡◌, drop}
 use Rattle.std.specs.List.{list_any}
 use Rattle.iorequest.specs.Requests.{is_under_way_at}

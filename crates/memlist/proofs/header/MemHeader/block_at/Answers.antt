@@ -1,3 +1,4 @@
+-- The proof of `MemHeader::block_at`: the size and the tag of the block that begins at an address of the region.
 use Rattle.std.proofs.Common.{sym, ap, subst, ◌∙◌, IsTrue}
 use Rattle.memlist.specs.Areas.{Area}
 use Rattle.memlist.specs.Blocks.{block_at, is_in}

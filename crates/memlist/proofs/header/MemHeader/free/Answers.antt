@@ -1,3 +1,4 @@
+-- The proof of `MemHeader::free`: frees the block that begins at an address.
 use Rattle.std.proofs.Common.{List, arith, ap, subst, sym, take, ◌∙◌}
 use Rattle.memlist.specs.declared.slot.Slot.{Slot}
 use Rattle.memlist.specs.Areas.{Area}

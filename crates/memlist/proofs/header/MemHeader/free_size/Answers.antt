@@ -1,3 +1,4 @@
+-- The proof of `MemHeader::free_size`: the bytes that are free.
 use Rattle.std.proofs.Common.{List, arith, ap}
 use Rattle.std.specs.List.{sum_by}
 use Rattle.memlist.specs.declared.gap.Gap.{Gap}

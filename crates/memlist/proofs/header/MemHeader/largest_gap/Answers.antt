@@ -1,3 +1,4 @@
+-- The proof of `MemHeader::largest_gap`: the size of the greatest gap, or 0 if there is none.
 use Rattle.std.proofs.Common.{List, ap, map, ◌∙◌}
 use Rattle.memlist.specs.declared.gap.Gap.{Gap}
 use Rattle.memlist.specs.Fit.{greatest}

@@ -1,3 +1,4 @@
+-- The proof of `MemHeader::new`: a region in which nothing is allocated, with a slot for each unit and a word for each 4 bytes.
 use Rattle.std.proofs.Common.{arith, ap}
 use Rattle.memlist.specs.Areas.{Area}
 use Rattle.memlist.proofs.Headers.{aligned_region, new_header, reach_region}

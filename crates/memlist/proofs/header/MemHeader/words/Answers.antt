@@ -1,3 +1,4 @@
+-- The proof of `MemHeader::words`: the words of the region.
 use Rattle.std.proofs.Common.{List, ap, arith, subst}
 use Rattle.memlist.specs.declared.gap.Gap.{Gap}
 use Rattle.memlist.specs.Areas.{Area, area_gaps}

@@ -1,3 +1,5 @@
+-- The proof of `MemList::alloc_mem`: allocates a block of a size in bytes, which is rounded up to a multiple of 8, and answers its
+-- address.
 use Rattle.std.proofs.Common.{◌≡◌, List, arith, sym, ap, subst, ◌∙◌}
 use Rattle.std.specs.Prelude.{Some, None}
 use Rattle.memlist.specs.Areas.{Area, area_gaps}

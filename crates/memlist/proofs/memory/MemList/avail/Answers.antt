@@ -1,3 +1,5 @@
+-- The proof of `MemList::avail`: the bytes that are free in the regions that have each of bits 0 to 2 that is asked for; with bit 17
+-- (MEMF_LARGEST) the size of their greatest gap, with bit 19 (MEMF_TOTAL) their installed size.
 use Rattle.std.proofs.Common.{List, arith, sym, ap, ◌∙◌}
 use Rattle.memlist.specs.Areas.{Area}
 use Rattle.memlist.specs.Choice.{free_of, installed_of, largest_of}

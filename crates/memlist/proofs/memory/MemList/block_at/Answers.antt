@@ -1,3 +1,4 @@
+-- The proof of `MemList::block_at`: the size, as it was rounded, and the tag of the block that begins at an address.
 use Rattle.std.proofs.Common.{◌≡◌, List, true, sym, ap, subst, ◌∙◌}
 use Rattle.std.specs.Prelude.{Some, None}
 use Rattle.memlist.specs.Areas.{Area}

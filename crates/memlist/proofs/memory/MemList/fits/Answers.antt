@@ -1,3 +1,4 @@
+-- The proof of `MemList::fits`: whether `alloc_mem` would find a gap for a block of that size, and changes nothing.
 use Rattle.std.proofs.Common.{List, sym, ap, subst, ◌∙◌}
 use Rattle.std.specs.Prelude.{is_some}
 use Rattle.memlist.specs.Areas.{Area}

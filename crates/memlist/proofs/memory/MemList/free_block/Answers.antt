@@ -1,3 +1,4 @@
+-- The proof of `MemList::free_block`: frees the block that begins at an address, whatever its tag.
 use Rattle.std.proofs.Common.{◌≡◌, List, true, arith, sym, ap, subst, ◌∙◌, IsSome}
 use Rattle.memlist.specs.Areas.{Area}
 use Rattle.memlist.specs.Blocks.{block_at, is_in}

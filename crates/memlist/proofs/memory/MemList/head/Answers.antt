@@ -1,3 +1,4 @@
+-- The proof of `MemList::head`: if the first free chunk of a region begins, or 0 if nothing of it is free.
 use Rattle.std.proofs.Common.{arith, sym, subst, length, ◌<◌, ◌≡◌}
 use Rattle.std.specs.Prelude.{IfSome, slice_get}
 use Rattle.memlist.specs.Blocks.{gaps}

@@ -1,3 +1,4 @@
+-- The proof of `FreeSpace::after`: the gap after the chunk at an address, or the first if that is 0.
 use Rattle.std.proofs.Common.{arith, ap, ◌∙◌, get_or, ◌+◌}
 use Rattle.memlist.specs.Chain.{Space}
 use Rattle.memlist.proofs.Chains.{after_some, first_within, next_above, next_reach, next_sum, seen}

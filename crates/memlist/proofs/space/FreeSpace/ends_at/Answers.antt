@@ -1,3 +1,4 @@
+-- The proof of `FreeSpace::ends_at`: whether the chunk at an address, if that is not 0, ends at another.
 use Rattle.std.proofs.Common.{arith, ap, ◌∙◌, get_or, ◌+◌, ◌<◌}
 use Rattle.std.specs.Prelude.{nat_eq}
 use Rattle.memlist.specs.Chain.{Space}

@@ -1,3 +1,4 @@
+-- The proof of `FreeSpace::join`: frees a block, which joins the gaps that touch it.
 use Rattle.std.proofs.Common.{◌+◌, ◌-◌, ◌*◌, ◌≤◌, arith, ap, sym, length, ◌∙◌}
 use Rattle.memlist.specs.Chain.{Space, written}
 use Rattle.memlist.proofs.Chains.{before_within, seen}

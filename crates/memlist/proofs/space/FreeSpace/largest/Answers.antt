@@ -1,3 +1,4 @@
+-- The proof of `FreeSpace::largest`: the size of the greatest gap, or 0 if there is none.
 use Rattle.std.proofs.Common.{List, ◌∙◌, refl, sym, ap, max, map}
 use Rattle.memlist.specs.declared.gap.Gap.{Gap}
 use Rattle.memlist.specs.Fit.{greatest}

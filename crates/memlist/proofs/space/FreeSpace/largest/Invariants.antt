@@ -1,3 +1,4 @@
+-- What holds in the loops of `FreeSpace::largest`: the size of the greatest gap, or 0 if there is none.
 use Rattle.std.proofs.Common.{◌-◌, List, map}
 use Rattle.memlist.specs.declared.gap.Gap.{Gap}
 use Rattle.memlist.specs.Fit.{greatest}

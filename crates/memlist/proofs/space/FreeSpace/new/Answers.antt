@@ -1,3 +1,4 @@
+-- The proof of `FreeSpace::new`: that many bytes from an address on, all of them free.
 use Rattle.std.proofs.Common.{◌/◌, arith, ap, length, ◌∙◌}
 use Rattle.std.proofs.lemmas.List.{length-replicate}
 use Rattle.memlist.proofs.Writing.{new_space}

@@ -1,3 +1,5 @@
+-- The proof of `FreeSpace::take`: takes that many bytes off the front of the lowest gap that has them, which is the one after the chunk at
+-- an address, and answers where they begin.
 use Rattle.std.proofs.Common.{◌+◌, ◌*◌, refl, arith, ap, sym, ◌∙◌, subst, length}
 use Rattle.std.specs.Prelude.{IsSome}
 use Rattle.memlist.specs.declared.gap.Gap.{Gap}

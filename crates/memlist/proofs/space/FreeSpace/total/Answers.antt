@@ -1,3 +1,4 @@
+-- The proof of `FreeSpace::total`: the bytes of all gaps.
 use Rattle.std.proofs.Common.{arith, ◌∙◌, refl, sym, ap, ◌+◌}
 use Rattle.std.specs.List.{sum_by}
 use Rattle.memlist.specs.declared.gap.Gap.{Gap}

@@ -1,3 +1,4 @@
+-- What holds in the loops of `FreeSpace::total`: the bytes of all gaps.
 use Rattle.std.proofs.Common.{◌-◌}
 use Rattle.std.specs.List.{sum_by}
 use Rattle.memlist.specs.declared.gap.Gap.{Gap}

@@ -1,3 +1,4 @@
+-- The proof of `FreeSpace::words`: the words, the first of which represents the lowest address.
 use Rattle.std.proofs.Common.{arith, ap, subst, sym, length}
 use Rattle.memlist.specs.Chain.{IsLinked, Space, chain}
 use Rattle.memlist.proofs.space.FreeSpace.words.Goals as goal

@@ -1,4 +1,4 @@
--- A message stands in a live port alone, so that a port that was free has none.
+-- A message is in a live port alone, so that a port that was free has none.
 use Rattle.std.proofs.Common.{ap, ◌∙◌, not, is_some, sym}
 use Rattle.execlist.specs.Order.{first}
 use Rattle.msgport.specs.Ports.{is_port}

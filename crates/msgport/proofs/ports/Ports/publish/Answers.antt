@@ -1,4 +1,4 @@
--- A port that is not public stands in no list.
+-- A port that is not public is in no list.
 use Rattle.std.proofs.Common.{ap, ◌∙◌, not, IsTrue, sym, subst}
 use Rattle.execlist.specs.Lists.{home}
 use Rattle.msgport.specs.Ports.{MessagePorts, is_public}

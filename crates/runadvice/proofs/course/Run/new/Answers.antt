@@ -1,3 +1,4 @@
+-- The proof of `Run::new`: the run of a machine at its start.
 use Rattle.runadvice.proofs.StandingLemmas.{start_is}
 use Rattle.runadvice.proofs.course.Run.new.Goals as goal
 

@@ -1,3 +1,4 @@
+-- The proof of `Run::task_named`: the number from 0 of the task of a name.
 use Rattle.std.proofs.Common.{◌∙◌, bytes_eq}
 use Rattle.runadvice.proofs.StandingLemmas.{position_of_records}
 use Rattle.runadvice.proofs.course.Run.task_named.Goals as goal

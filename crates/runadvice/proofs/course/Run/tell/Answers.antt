@@ -1,3 +1,4 @@
+-- The proof of `Run::tell`: the next line of the trace.
 use Rattle.std.proofs.Common.{◌≡◌, ◌∙◌, ◌≢◌, length, bytes_eq, ap, subst, sym}
 use Rattle.std.specs.List.{position_from}
 use Rattle.std.specs.Prelude.{OnOk}

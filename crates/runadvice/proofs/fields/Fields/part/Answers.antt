@@ -1,3 +1,4 @@
+-- The proof of `Fields::part`: the part of a number from 0; the empty one after the last.
 use Rattle.std.proofs.Common.{◌∙◌, ℕ, List, [], Option, ap, lit<, sym}
 use Rattle.std.specs.Borrow.{Bor}
 use Rattle.std.specs.Option.{option_map, unwrap_or}

@@ -1,3 +1,4 @@
+-- The proof of `Watch::into_run`: the run, up to its last whole line.
 use Rattle.std.proofs.Math.Logic.{∥∥₁_map}
 use Rattle.runadvice.proofs.watch.Watch.into_run.Goals as goal
 

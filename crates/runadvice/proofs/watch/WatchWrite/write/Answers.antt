@@ -1,3 +1,4 @@
+-- The proof of `WatchWrite::write`.
 use Rattle.std.proofs.Math.Logic.{∥∥₁_map}
 use Rattle.runadvice.proofs.TraceLemmas.{follows_more}
 use Rattle.runadvice.proofs.watch.WatchWrite.write.Goals as goal

@@ -1,4 +1,4 @@
--- What the code keeps, and that a task stands once in the queue where it waits.
+-- What the code keeps, and that a task is once in the queue if it waits.
 use Rattle.std.proofs.Common.{subst}
 use Rattle.sigsem.specs.Semaphores.{IsSound}
 use Rattle.sigsem.proofs.Waiting.{sound}

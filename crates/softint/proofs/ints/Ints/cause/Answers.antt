@@ -1,4 +1,4 @@
--- What is caused goes behind those of its priority, which stand in one header; what is caused already stays.
+-- What is caused goes after those of its priority, which are in one header; what is caused already stays.
 use Rattle.std.proofs.Common.{rules, arith, ◌≡◌, ◌<◌, length, map, false, None, sym, ◌∙◌, ap}
 use Rattle.std.specs.Prelude.{is_none, is_some}
 use Rattle.std.proofs.lemmas.List.{length-map}

@@ -1,4 +1,4 @@
--- What is taken off leaves its header, and stood in no other.
+-- What is taken off leaves its header, and was in no other.
 use Rattle.std.proofs.Common.{sym, arith}
 use Rattle.std.proofs.lemmas.List.{length-map}
 use Rattle.softint.specs.declared.interrupt.Soft.{Soft}

@@ -1,4 +1,4 @@
--- What stands in a chain is a server.
+-- What is in a chain is a server.
 use Rattle.std.proofs.Common.{◌∙◌, ap}
 use Rattle.std.specs.Prelude.{slice_get}
 use Rattle.softint.proofs.Chains.{server_known}

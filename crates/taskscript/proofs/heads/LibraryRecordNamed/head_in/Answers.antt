@@ -1,3 +1,4 @@
+-- The proof of `LibraryRecordNamed::head_in`.
 use Rattle.std.proofs.Common.{sym, ◌∙◌, ap, Bool, codes, pos}
 use Rattle.std.proofs.lemmas.Result.{err_from_is_err_and}
 use Rattle.toml.specs.Data.{get_member}

@@ -1,3 +1,4 @@
+-- The proof of `TaskHeadNamed::head_in`.
 use Rattle.std.proofs.Common.{sym, ◌∙◌, ap, Bool, codes}
 use Rattle.std.proofs.lemmas.Result.{err_from_is_err_and}
 use Rattle.toml.specs.Data.{get_member}

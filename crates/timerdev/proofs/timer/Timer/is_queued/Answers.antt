@@ -1,4 +1,4 @@
--- A request waits where it stands in the order of beginning.
+-- A request waits where it is in the order of beginning.
 use Rattle.std.proofs.Common.{ap, sym, ◌∙◌, is_some}
 use Rattle.execlist.specs.Lists.{home, sequence, times}
 use Rattle.timerdev.specs.Timing.{is_waiting}

@@ -1,4 +1,4 @@
--- A request that does not wait has no home, and goes where the times of its header rise.
+-- A request that does not wait has no home, and goes if the times of its header rise.
 use Rattle.std.proofs.Common.{◌≡◌, ◌<◌, ℕ, length, slice_set, sym, ap, ◌∙◌, subst, arith}
 use Rattle.std.specs.Prelude.{IsTrue, not}
 use Rattle.std.proofs.lemmas.List.{length-set, get_or-set_same}

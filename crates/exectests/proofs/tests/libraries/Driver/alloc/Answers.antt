@@ -1,3 +1,5 @@
+-- The proof of `Driver::alloc`: takes a plain block of public memory, to which libraries may are expunged under low memory, and answers
+-- its address, if it answered one.
 use Rattle.execlib.specs.Libraries.{lent}
 use Rattle.exectests.proofs.Lent.{few_asked}
 use Rattle.exectests.proofs.tests.libraries.Driver.alloc.Goals as goal

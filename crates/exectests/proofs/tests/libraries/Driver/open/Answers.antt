@@ -1,3 +1,4 @@
+-- The proof of `Driver::open`: opens a library, and answers its base, if it answered one.
 use Rattle.execlib.specs.Libraries.{lent, library_to_open}
 use Rattle.exectests.proofs.Lent.{few_opened}
 use Rattle.exectests.proofs.tests.libraries.Driver.open.Goals as goal

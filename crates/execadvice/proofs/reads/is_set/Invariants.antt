@@ -1,8 +1,0 @@
-use Rattle.std.proofs.Common.{◌≡◌, drop, map}
-use Rattle.std.specs.List.{list_any}
-use Rattle.execadvice.specs.Spoken.{spoken_view}
-use Rattle.execadvice.specs.Warnings.{is_target, read_view}
-use Rattle.execadvice.proofs.reads.is_set.Given as goal
-
-abbrev pub invariant-loop-one : goal.invariant-loop-one
-invariant-loop-one l = list_any (is_target (read_view l.read)) (map spoken_view (drop l.one-index l.all)) ≡ list_any (is_target (read_view l.read)) (map spoken_view l.all)

@@ -1,0 +1,3 @@
+-- The lemma files of `execlog`.
+pub mod Logging
+pub mod UnitRuns

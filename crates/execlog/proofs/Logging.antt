@@ -1,0 +1,215 @@
+-- How the entries of some events follow one another in a log, and what they hold together.
+use Rattle.std.proofs.Common.{◌≡◌, ℕ, zero, suc, ◌+◌, ◌*◌, ◌^◌, ◌<◌, Bool, true, false, cond, List, [], ◌∷◌, ◌++◌, length, take, drop, get_or, replicate, refl, ap, sym, ◌∙◌, subst, append-nil, arith}
+use Rattle.std.specs.Prelude.{Option, None, Some, Result, Ok, Err, OnOk, is_some, ◌||◌, if◌then◌else◌, ◌==◌, sum_by}
+use Rattle.std.specs.List.{flat_map}
+use Rattle.std.proofs.lemmas.Grind.{flat_map-append}
+use Rattle.std.proofs.lemmas.List.{length-append, length-replicate, take_more}
+use Rattle.std.proofs.lemmas.List.Sums.{sum_by-cons, sum_by-drop_more, sum_by_more, sum_by_more_le}
+use Rattle.std.proofs.Math.Nat.{suc-mul}
+use Rattle.exectrace.specs.Sink.{Tape, Puts}
+use Rattle.exectrace.specs.declared.sinks.SinkState.{SinkState}
+use Rattle.exectrace.specs.Trace.{printed, printed_line}
+use Rattle.exectrace.proofs.Pieces.{put_same, puts_none, puts_then}
+use Rattle.taskscript.specs.Events.{ticks as ticks_of}
+use Rattle.taskscript.specs.File.{MachineData}
+use Rattle.taskscript.specs.declared.event.Event.{Event}
+use Rattle.taskscript.specs.declared.event.Event.TheVariants.{Run, Tick, Irq}
+use Rattle.scheduler.specs.Schedule.{Schedule}
+use Rattle.execmodel.specs.State.{Memory, Scripts, State, Outcome, andthen, booted}
+use Rattle.execmodel.specs.Pending.{next_softint}
+use Rattle.execmodel.specs.Step.{starts, event, events, run}
+use Rattle.execmodel.proofs.Moments.{events_more}
+use Rattle.execsim.specs.Actions.{softint_seen}
+use Rattle.execsim.specs.Agreement.{Seen, Agrees}
+use Rattle.execsim.specs.Headline.{Acts, Shown}
+use Rattle.execsim.specs.declared.machine.Flow.{Flow}
+use Rattle.execsim.specs.Time.{HasTimeFor}
+use Rattle.execsim.proofs.Clock.{time_for_fewer}
+use Rattle.execsim.proofs.Serving.{softint_same}
+use Rattle.execlog.specs.declared.moment.Actor.{Actor}
+use Rattle.execlog.specs.Log.{Entry, LogsTellTheTrace, actor_at, actor_of, acts_next, entries_after, entry_after, log_of, turns, unit_of, units}
+use Rattle.execlog.specs.Rows.{RowsHoldTheText, fronted, log_rows, rows_of}
+use Rattle.execlog.specs.Runs.{Logs, actor_now}
+use Rattle.execlog.proofs.UnitRuns.{units_same}
+
+-- ---- the texts of a log
+
+texts_after : (n : ℕ) (list : List Event) (s : State) → flat_map (λ (e : Entry). e.text) (entries_after n list s) ≡ printed (events list s).lines
+unfolding events andthen
+texts_after n [] s = refl
+texts_after n (e ∷ rest) s =
+    let o = event e s in
+    ap (λ (x : List ℕ). printed o.lines ++ x) (texts_after (suc n) rest o.state)
+    ∙ sym (flat_map-append printed_line o.lines (events rest o.state).lines)
+
+pub logs_tell_the_trace : LogsTellTheTrace
+unfolding run andthen
+logs_tell_the_trace machine list =
+    let o = starts (booted machine) in
+    ap (λ (x : List ℕ). printed o.lines ++ x)
+    (texts_after 1 (units list) o.state ∙ ap (λ (p : Outcome). printed p.lines) (units_same list o.state))
+    ∙ sym (flat_map-append printed_line o.lines (events list o.state).lines)
+
+same_either : (b : Bool) → cond {A = List ℕ} b [] [] ≡ []
+same_either true = refl
+same_either false = refl
+
+pub rows_hold_the_text : RowsHoldTheText
+rows_hold_the_text [] = refl
+rows_hold_the_text (b ∷ bytes) = ap (λ (due : List ℕ). b ∷ fronted due [] bytes) (same_either (b == 10)) ∙ ap (λ (x : List ℕ). b ∷ x) (rows_hold_the_text bytes)
+
+-- ---- some events, and then others
+
+more_state : (some more : List Event) (s : State) → (events (some ++ more) s).state ≡ (events more (events some s).state).state
+unfolding andthen
+more_state some more s = ap (λ (o : Outcome). o.state) (events_more some more s)
+
+more_entries : (n : ℕ) (some more : List Event) (s : State)
+    → entries_after n (some ++ more) s ≡ entries_after n some s ++ entries_after (n + length some) more (events some s).state
+unfolding events andthen
+more_entries n [] more s = let same : n ≡ n + 0 = omega arith in ap (λ (k : ℕ). entries_after k more s) same
+more_entries n (e ∷ some) more s =
+    let at : suc n + length some ≡ n + suc (length some) = omega arith in
+    ap (λ (x : List Entry). entry_after n (actor_of e s) (event e s) ∷ x)
+    (more_entries (suc n) some more (event e s).state
+    ∙ ap (λ (k : ℕ). entries_after (suc n) some (event e s).state ++ entries_after k more (events some (event e s).state).state) at)
+
+module _ (line_of : Option Actor → Option ℕ) where
+  more_rows : (n : ℕ) (some more : List Event) (s : State)
+      → log_rows line_of (entries_after n (some ++ more) s)
+      ≡ log_rows line_of (entries_after n some s) ++ log_rows line_of (entries_after (n + length some) more (events some s).state)
+  more_rows n some more s =
+      ap (log_rows line_of) (more_entries n some more s)
+      ∙ flat_map-append (rows_of line_of) (entries_after n some s) (entries_after (n + length some) more (events some s).state)
+
+  -- no event
+  pub logs_none : (n : ℕ) (m : Seen) (a : Tape) → Logs line_of [] n m m a a
+  unfolding events
+  logs_none n m a = record { agrees = λ s e. e; puts = λ s e. puts_none a }
+
+  pub logs_more : {m n o : Seen} {a b c : Tape} (k : ℕ) (some more : List Event)
+      → Logs line_of some k m n a b → Logs line_of more (k + length some) n o b c → Logs line_of (some ++ more) k m o a c
+  logs_more {m} {n} {o} {a} {b} {c} k some more first second = record {
+    agrees = λ s e. subst (λ (t : State). Agrees o t) (sym (more_state some more s)) (second.agrees (events some s).state (first.agrees s e));
+    puts = λ s e. puts_then _ (first.puts s e) (second.puts (events some s).state (first.agrees s e)) (more_rows k some more s);
+  }
+
+-- ---- whose command a step is
+
+actor_same : {m : Seen} (e : Event) (s : State) → Agrees m s → actor_now e m ≡ actor_of e s
+actor_same {m} (Run n) s a =
+    ap (λ (b : Bool). actor_at (if b || is_some (softint_seen m) then None else m.schedule.running) m.scripts) a.stopped
+    ∙ ap (λ (o : Option ℕ). actor_at (if s.stopped || is_some o then None else m.schedule.running) m.scripts) (sym (softint_same s a))
+    ∙ ap (λ (y : Schedule). actor_at (if s.stopped || is_some (next_softint s) then None else y.running) m.scripts) a.schedule
+    ∙ ap (λ (y : Scripts). actor_at (acts_next s) y) a.scripts
+actor_same (Tick n) s a = refl
+actor_same (Irq source) s a = refl
+
+-- ---- one event
+
+-- the clock of a state that is agreed with
+clock_same : {m : Seen} (s : State) → Agrees m s → m.memory.timer.clock ≡ s.memory.timer.clock
+clock_same s a = ap (λ (memory : Memory). memory.timer.clock) a.memory
+
+module _ (line_of : Option Actor → Option ℕ) {old new : Shown} {x b : List ℕ} {p q : SinkState} {flow : Flow} {a c : Tape} where
+  -- the rows of what an event has printed
+  pub entered : (n clock : ℕ) (e : Event) (actor : Option Actor)
+      → Acts (event e) old new (record { taken = Some x; state = p }) (record { taken = Some b; state = q }) (Ok flow)
+      → x ≡ [] → actor ≡ actor_now e old.seen → clock ≡ new.seen.memory.timer.clock
+      → Puts a c (rows_of line_of (record { moment = record { number = n; clock = clock; actor = actor }; text = b }))
+      → Logs line_of (e ∷ []) n old.seen new.seen a c
+  unfolding events andthen
+  entered n clock e actor acts blank acting timed puts = record {
+    agrees = λ s h. acts.agrees s h refl;
+    puts = λ s h.
+        let o = event e s in
+        let prints : b ≡ printed o.lines = (acts.writes s h).took ∙ ap (λ (y : List ℕ). y ++ printed o.lines) blank in
+        put_same _ puts
+        (append-nil (rows_of line_of (entry_after n (actor_of e s) o))
+        ∙ ap (λ (x : List ℕ). rows_of line_of (record { moment = record { number = n; clock = o.state.memory.timer.clock; actor = actor_of e s }; text = x })) (sym prints)
+        ∙ ap (λ (k : ℕ). rows_of line_of (record { moment = record { number = n; clock = k; actor = actor_of e s }; text = b })) (sym (timed ∙ clock_same o.state (acts.agrees s h refl)))
+        ∙ ap (λ (x : Option Actor). rows_of line_of (record { moment = record { number = n; clock = clock; actor = x }; text = b })) (sym (acting ∙ actor_same e s h)));
+  }
+
+  -- the rows of what the start has printed
+  pub began : (clock : ℕ) → Acts starts old new (record { taken = Some x; state = p }) (record { taken = Some b; state = q }) (Ok flow)
+      → x ≡ [] → clock ≡ new.seen.memory.timer.clock
+      → Puts a c (rows_of line_of (record { moment = record { number = 0; clock = clock; actor = None }; text = b }))
+      → (m : MachineData) → Agrees old.seen (booted m) → Puts a c (rows_of line_of (entry_after 0 None (starts (booted m))))
+  began clock acts blank timed puts m h =
+      let o = starts (booted m) in
+      let prints : b ≡ printed o.lines = (acts.writes (booted m) h).took ∙ ap (λ (y : List ℕ). y ++ printed o.lines) blank in
+      put_same _ puts
+      (ap (λ (x : List ℕ). rows_of line_of (record { moment = record { number = 0; clock = o.state.memory.timer.clock; actor = None }; text = x })) (sym prints)
+      ∙ ap (λ (k : ℕ). rows_of line_of (record { moment = record { number = 0; clock = k; actor = None }; text = b })) (sym (timed ∙ clock_same o.state (acts.agrees (booted m) h refl))))
+
+-- ---- many events
+
+replicate_more : {A : Type 0} (k : ℕ) (x : A) → replicate k x ++ x ∷ [] ≡ replicate (suc k) x
+replicate_more zero x = refl
+replicate_more (suc k) x = ap (λ l. x ∷ l) (replicate_more k x)
+
+pub turns_of_all : (list : List Event) → length (units list) ≡ sum_by turns list
+turns_of_all [] = refl
+turns_of_all (e ∷ rest) = omega (arith, length-append (unit_of e) (units rest), turns_of_all rest, sum_by-cons turns e rest)
+
+module _ (line_of : Option Actor → Option ℕ) {m n o : Seen} {a b c : Tape} (k : ℕ) where
+  -- an event once more
+  pub logs_again : (j : ℕ) (e : Event) → Logs line_of (replicate j e) k m n a b → Logs line_of (e ∷ []) (k + j) n o b c
+      → Logs line_of (replicate (j + 1) e) k m o a c
+  logs_again j e before last =
+      let many : k + j ≡ k + length (replicate j e) = ap (λ (x : ℕ). k + x) (sym (length-replicate j e)) in
+      let more : suc j ≡ j + 1 = omega arith in
+      subst (λ (l : List Event). Logs line_of l k m o a c) (replicate_more j e ∙ ap (λ (x : ℕ). replicate x e) more)
+      (logs_more line_of k (replicate j e) (e ∷ []) before (subst (λ (x : ℕ). Logs line_of (e ∷ []) x n o b c) many last))
+
+  -- one event more
+  pub logs_turn : (list : List Event) (i : ℕ) (d : Event) → i < length list
+      → Logs line_of (units (take i list)) k m n a b → Logs line_of (unit_of (get_or list i d)) (k + sum_by turns (take i list)) n o b c
+      → Logs line_of (units (take (i + 1) list)) k m o a c
+  logs_turn list i d within before last =
+      let one = get_or list i d in
+      let whole : units (take (i + 1) list) ≡ units (take i list) ++ unit_of one = ap units (take_more list i d within)
+      ∙ flat_map-append unit_of (take i list) (one ∷ []) ∙ ap (λ (x : List Event). units (take i list) ++ x) (append-nil (unit_of one)) in
+      let many : k + sum_by turns (take i list) ≡ k + length (units (take i list)) = ap (λ (x : ℕ). k + x) (sym (turns_of_all (take i list))) in
+      subst (λ (l : List Event). Logs line_of l k m o a c) (sym whole)
+      (logs_more line_of k (units (take i list)) (unit_of one) before (subst (λ (x : ℕ). Logs line_of (unit_of one) x n o b c) many last))
+
+-- the rows of the next events, reported by if the first ones began
+pub logs_next : {L : Type 0} (line : L → Option Actor → Option ℕ) {p q : L} {j k : ℕ} {list : List Event} {m n : Seen} {a b : Tape}
+    → p ≡ q → j ≡ k → Logs (line p) list j m n a b → Logs (line q) list k m n a b
+logs_next line {p} {q} {j} {k} {list} {m} {n} {a} {b} same number logs =
+    subst (λ x. Logs (line x) list k m n a b) same (subst (λ (x : ℕ). Logs (line p) list x m n a b) number logs)
+
+pub more_time : (j k t : ℕ) → (j + 1) * k + t ≡ j * k + (k + t)
+more_time j k t =
+    let more : j + 1 ≡ suc j = omega arith in
+    let product : (j + 1) * k ≡ j * k + k = ap (λ (x : ℕ). x * k) more ∙ suc-mul j k in
+    omega (arith, product)
+
+-- ---- how many there are, and the time that is left
+
+module _ (list : List Event) (i : ℕ) (d : Event) (within : i < length list) where
+  pub few_turns : (k n : ℕ) → n ≡ k + sum_by turns (take i list) → k + sum_by turns list < 2 ^ 63 → n + turns (get_or list i d) < 2 ^ 63
+  few_turns k n number few = omega (arith, number, few, sum_by_more_le turns list i d within)
+
+  pub turns_more : (k n m : ℕ) → n ≡ k + sum_by turns (take i list) → m ≡ n + turns (get_or list i d) → m ≡ k + sum_by turns (take (i + 1) list)
+  turns_more k n m number more = omega (arith, number, more, sum_by_more turns list i d within)
+
+  pub time_for_one : (m : Seen) → HasTimeFor (sum_by ticks_of (drop i list)) m → HasTimeFor (ticks_of (get_or list i d)) m
+  time_for_one m enough =
+      let rest = sum_by-drop_more ticks_of list i d within in
+      time_for_fewer (ticks_of (get_or list i d)) (sum_by ticks_of (drop i list)) m (omega (arith, rest)) enough
+
+-- ---- the whole run
+
+pub logged : (line_of : Option Actor → Option ℕ) {mid new : Seen} {a b c : Tape} (machine : MachineData) (list : List Event)
+    → Puts a b (rows_of line_of (entry_after 0 None (starts (booted machine)))) → Agrees mid (starts (booted machine)).state
+    → Logs line_of (units list) 1 mid new b c → Puts a c (log_rows line_of (log_of machine list))
+logged line_of machine list first agrees rest = puts_then _ first (rest.puts (starts (booted machine)).state agrees) refl
+
+-- ---- what follows if a call was made whole
+
+pub whole_then : {T E P Q : Type 0} (r : Result T E) → (P → Q) → OnOk r P → OnOk r Q
+whole_then (Ok x) f p = f p
+whole_then (Err e) f p = p

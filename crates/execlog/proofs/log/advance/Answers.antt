@@ -1,0 +1,11 @@
+-- The rows of the event are added.
+use Rattle.std.proofs.Common.{ap}
+use Rattle.execsim.specs.declared.machine.readers.MachineView.{MachineView}
+use Rattle.execlog.proofs.Logging.{entered, whole_then}
+use Rattle.execlog.proofs.log.advance.Goals as goal
+
+pub returns-in-Ok-clause-logs : goal.returns-in-Ok-clause-logs
+returns-in-Ok-clause-logs g c = whole_then c.enter.result
+    (λ puts. entered (g.L.Lines.line c.args.log.now.lines.now) c.args.log.now.number c.view.result.clock c.args.one c.actor_of-actor.result (c.in-Ok.ensures.acts c.requires.going)
+    c.clear.ensures.bytes c.actor_of-actor.ensures (ap (λ (v : MachineView). v.clock) c.view.ensures) puts)
+    c.enter.ensures.rows

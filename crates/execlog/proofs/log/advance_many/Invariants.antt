@@ -1,0 +1,17 @@
+-- The rows of each event so far were put.
+use Rattle.std.proofs.Common.{◌≡◌, ◌+◌, ◌*◌, ℕ, false, replicate}
+use Rattle.exectrace.specs.declared.sinks.SinkState.TheVariants.{Good}
+use Rattle.taskscript.specs.Events.{ticks as ticks_of}
+use Rattle.execsim.specs.Time.{HasTimeFor}
+use Rattle.execlog.specs.Runs.{Logs}
+use Rattle.execlog.proofs.log.advance_many.Given as goal
+
+abbrev pub invariant-loop-turn : goal.invariant-loop-turn
+invariant-loop-turn g l = record {
+  logs : Logs (g.L.Lines.line l.initial.log.lines.now) (replicate l._turn l.one) l.initial.log.number l.initial.machine.seen l.machine.seen (g.W.Sink.tape l.initial.out) (g.W.Sink.tape l.out);
+  going : l.machine.failed ≡ false;
+  good : l.log.text.state ≡ Good;
+  number : l.log.number ≡ l.initial.log.number + l._turn;
+  lines : l.log.lines ≡ l.initial.log.lines;
+  time : (ticks : ℕ) → HasTimeFor (l._turn * ticks_of l.one + ticks) l.initial.machine.seen → HasTimeFor ticks l.machine.seen;
+}

@@ -1,0 +1,31 @@
+-- What running a machine adds to its log, by what the machine shows.
+use Rattle.std.specs.Prelude.{ℕ, List, Option, None, Result, Ok, Err}
+use Rattle.exectrace.specs.Sink.{Tape, Breaks, Puts, TakesAll}
+use Rattle.taskscript.specs.declared.event.Event.{Event}
+use Rattle.taskscript.specs.declared.event.Event.TheVariants.{Run, Tick, Irq}
+use Rattle.execmodel.specs.State.{State}
+use Rattle.execmodel.specs.Step.{events}
+use Rattle.execsim.specs.Agreement.{Seen, Agrees}
+use Rattle.execsim.specs.Readers.{actor_seen}
+use Rattle.execlog.specs.declared.log.LogFault.{LogFault}
+use Rattle.execlog.specs.declared.log.LogFault.TheVariants.{Memory, Write}
+use Rattle.execlog.specs.declared.moment.Actor.{Actor}
+use Rattle.execlog.specs.Log.{actor_at, entries_after}
+use Rattle.execlog.specs.Rows.{log_rows}
+
+-- the task whose command an event is
+abbrev pub actor_now : Event → Seen → Option Actor
+actor_now (Run n) seen = actor_at (actor_seen seen) seen.scripts
+actor_now (Tick n) seen = None
+actor_now (Irq source) seen = None
+
+-- The machine goes on over some events, one after another, and the rows of their entries are put, before which there were that many entries.
+pub record Logs (line_of : Option Actor → Option ℕ) (list : List Event) (n : ℕ) (old new : Seen) (before after : Tape) : Type 0 where
+  pub agrees : (s : State) → Agrees old s → Agrees new (events list s).state
+  pub puts : (s : State) → Agrees old s → Puts before after (log_rows line_of (entries_after n list s))
+
+-- A log was written: these rows were taken; or a prefix of them, if the sink failed.
+abbrev pub LogsRun : List ℕ → Tape → Tape → Result (Unit {0}) LogFault → Type 0
+LogsRun rows before after (Ok nothing) = TakesAll before after rows
+LogsRun rows before after (Err Write) = Breaks before after rows
+LogsRun rows before after (Err Memory) = Unit {0}

@@ -1,0 +1,27 @@
+-- The proof of `Kernel::evaluate_all_in_body`: puts the values of the first `count` arguments of a command of a body if they are to be;
+-- what is past them is unused.
+use Rattle.std.proofs.Common.{◌≡◌, ◌<◌, ℕ, arith, length, map, subst, take}
+use Rattle.std.proofs.lemmas.List.{get_or_default}
+use Rattle.std.proofs.Math.ListN.{length-set}
+use Rattle.exectrace.specs.Short.{short_argument}
+use Rattle.execmodel.specs.Calls.{evaluated_in_body}
+use Rattle.taskscript.specs.Commands.{argument_view}
+use Rattle.execsim.proofs.Calling.{shown_one_more}
+use Rattle.execsim.proofs.kernel.Kernel.evaluate_all_in_body.Goals as goal
+
+pub loop-k-preserved : goal.loop-k-preserved
+loop-k-preserved g c =
+    let there : c.loop-k.k < length c.args.arguments.now = omega (arith, c.loop-k-test.true, c.requires.few, c.told-arguments) in
+    let room : c.loop-k.k < length c.loop-k.values = omega (arith, c.loop-k-test.true, c.requires.few, c.loop-k.invariant.four) in
+    record {
+      four = simp length-set c.loop-k.invariant.four;
+      made = λ name. shown_one_more (λ a. evaluated_in_body c.args.self.now.scripts (argument_view name a)) (short_argument name)
+          c.args.arguments.now c.loop-k.values c.loop-k.k _ _ there room (get_or_default c.args.arguments.now c.loop-k.k _ _ there) (c.evaluate_in_body.ensures name)
+          (c.loop-k.invariant.made name);
+    }
+
+pub returns : goal.returns
+returns g c = λ name.
+    let all : c.loop-k.k ≡ c.args.count = omega (arith, c.loop-k-test.false, c.loop-k.auto) in
+    subst (λ (n : ℕ). map (short_argument name) (take n c.loop-k.values) ≡ map (λ a. evaluated_in_body c.args.self.now.scripts (argument_view name a)) (take n c.args.arguments.now))
+    all (c.loop-k.invariant.made name)

@@ -1,0 +1,70 @@
+//! How the process called the program: by which command's name, and whether it asks for the version.
+ghost use Rattle.std.specs.Prelude.{◌≡◌, ◌≤◌};
+
+use crate::command::{Command, command_called};
+use crate::version::print_version;
+use std::env::{Env, FillError};
+use std::io::Write;
+use std::rt::Files;
+
+/// The most bytes of the path by which the program is called, and one more: the system has no longer paths.
+const PATH_ROOM: usize = 4_096;
+
+/// The status if the name is no command's.
+const COMMAND_LINE_REFUSED: u8 = 2;
+
+/// The command by whose name the program was called.
+fn command_of<R: Env>(rt: &R) -> Option<Command> {
+    let mut path = [b'/'; PATH_ROOM];
+    match rt.arg(0, &mut path[1..]) {
+        Ok(length) => command_called(&path[..length + 1]),
+        Err(_) => None,
+    }
+}
+
+/// Whether `--version` is the only word of the command line.
+fn asks_for_version<R: Env>(rt: &R) -> bool {
+    let mut word = [0u8; PATH_ROOM];
+    let Ok(length) = rt.arg(1, &mut word) else {
+        return false;
+    };
+    if &word[..length] != b"--version".as_slice() {
+        return false;
+    }
+    matches!(rt.arg(2, &mut word), Err(FillError::NotPresent))
+}
+
+/// Refuses a name that is no command's.
+fn refuse_name<E: Write>(err: &mut E) -> u8
+    ensures { result ≡ 2 }
+{
+    let _ = writeln!(
+        err,
+        "execsim: this program does the command by whose name it is called: execsim or execcheck"
+    );
+    COMMAND_LINE_REFUSED
+}
+
+/// Runs the command by whose name the program was called on the process's arguments, and answers the status with which it ends.
+///
+/// Each command but `execsim`, whose command line is two paths, takes the word `--version` too.
+///
+/// Source: project rule.
+pub fn run_as_called<R: Env + Files + AllocGlobal, W: Write + Drop, E: Write>(
+    rt: &R,
+    mut out: W,
+    err: &mut E,
+) -> u8
+    ensures { result ≤ 4 }
+{
+    let Some(command) = command_of(rt) else {
+        return refuse_name(err);
+    };
+    if command.takes_version() && asks_for_version(rt) {
+        return print_version(command, &mut out, err);
+    }
+    match command {
+        Command::Execsim => execrun::run_on_arguments(rt, out, err),
+        Command::Execcheck => checker::run_on_arguments(rt, out, err),
+    }
+}

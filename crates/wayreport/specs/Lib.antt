@@ -1,0 +1,4 @@
+pub mod Events
+pub mod Reports
+pub mod Sums
+pub mod Parts

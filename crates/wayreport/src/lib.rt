@@ -1,0 +1,15 @@
+//! Reports of a search: the text of one, its reading, and the sum of the reports of all parts. No machine is known here.
+#![tactic(auto)]
+
+mod events;
+pub mod laws;
+mod reading;
+mod report;
+mod sum;
+mod text;
+
+pub use events::{first_text, lines_of};
+pub use reading::{ReportFault, read_report};
+pub use report::{Found, Part, Report, found_of};
+pub use sum::{SumFault, sum_reports};
+pub use text::report_text;

@@ -1,0 +1,174 @@
+//! The reading of a report.
+ghost use Rattle.std.specs.Prelude.{◌≡◌, IfOk};
+ghost use Rattle.wayreport.specs.Reports.{report_view, text_of};
+
+use crate::report::{Found, Part, Report};
+use crate::text::report_text;
+use std::alloc::{AllocError, AllocFailed, Global};
+use thiserror::Error;
+
+/// Why a text is no report.
+#[derive(Clone, Copy, Debug, PartialEq, Eq, Error)]
+pub enum ReportFault {
+    /// Memory was refused.
+    #[error("no memory")]
+    OutOfMemory,
+    /// The text is not what a search prints.
+    #[error("it is no report")]
+    NotAReport,
+}
+
+impl From<AllocError> for ReportFault {
+    fn from(_error: AllocError) -> ReportFault {
+        ReportFault::OutOfMemory
+    }
+}
+
+impl<T: Drop> From<AllocFailed<T>> for ReportFault {
+    fn from(_error: AllocFailed<T>) -> ReportFault {
+        ReportFault::OutOfMemory
+    }
+}
+
+/// A number in decimal digits.
+fn number_in(text: &str) -> Result<u64, ReportFault> {
+    match text.parse::<u64>() {
+        Ok(number) => Ok(number),
+        Err(_) => Err(ReportFault::NotAReport),
+    }
+}
+
+/// A number of 32 bits in decimal digits.
+fn small_number_in(text: &str) -> Result<u32, ReportFault> {
+    match text.parse::<u32>() {
+        Ok(number) => Ok(number),
+        Err(_) => Err(ReportFault::NotAReport),
+    }
+}
+
+/// What is before and after the first mark in a text.
+fn cut<'a>(text: &'a str, mark: &str) -> Result<(&'a str, &'a str), ReportFault> {
+    match text.split_once(mark) {
+        None => Err(ReportFault::NotAReport),
+        Some(parts) => Ok(parts),
+    }
+}
+
+/// What is after the front of a text.
+fn after<'a>(text: &'a str, front: &str) -> Result<&'a str, ReportFault> {
+    match text.strip_prefix(front) {
+        None => Err(ReportFault::NotAReport),
+        Some(rest) => Ok(rest),
+    }
+}
+
+/// A copy of a text.
+fn owned(alloc: Global, text: &str) -> Result<String, AllocError> {
+    let mut copy = String::new(alloc);
+    copy.push_str(text)?;
+    Ok(copy)
+}
+
+/// What is before the last comma of the first line, of which the number of outcomes follows.
+fn title_in(line: &str) -> Result<&str, ReportFault> {
+    match line.rsplit_once(", ") {
+        None => Err(ReportFault::NotAReport),
+        Some((title, _)) => Ok(title),
+    }
+}
+
+/// The part that a line names, as `part 2 of 4: 226 ways`.
+fn part_in(line: &str) -> Result<Part, ReportFault> {
+    let (number, rest) = cut(after(line, "part ")?, " of ")?;
+    let (of, rest) = cut(rest, ": ")?;
+    let (ways, _) = cut(rest, " ways")?;
+    Ok(Part {
+        number: small_number_in(number)?,
+        of: small_number_in(of)?,
+        ways: number_in(ways)?,
+    })
+}
+
+/// The outcome that a line begins, as `outcome 3: 71 ways, first run 1, tick 1`, of which nothing was seen yet.
+fn found_on(alloc: Global, line: &str) -> Result<Found, ReportFault> {
+    let (_, rest) = cut(after(line, "outcome ")?, ": ")?;
+    let (count, first) = cut(rest, " ways, first ")?;
+    Ok(Found {
+        seen: Vec::new(alloc),
+        count: number_in(count)?,
+        first: owned(alloc, first)?,
+    })
+}
+
+/// Adds a line of what was seen of the last outcome.
+fn push_seen(found: &mut [Found], line: &str) -> Result<(), ReportFault> {
+    let seen = after(line, "  ")?;
+    match found.last_mut() {
+        None => Err(ReportFault::NotAReport),
+        Some(last) => {
+            last.seen.extend_from_slice(seen.as_bytes())?;
+            last.seen.push(10)?;
+            Ok(())
+        }
+    }
+}
+
+/// The outcomes in the lines after the head.
+fn found_in(alloc: Global, text: &str) -> Result<Vec<Found>, ReportFault> {
+    let mut found = Vec::new(alloc);
+    for line in text.lines() {
+        if line.starts_with("outcome ") {
+            found.push(found_on(alloc, line)?)?;
+        } else if !line.is_empty() {
+            push_seen(&mut found, line)?;
+        }
+    }
+    Ok(found)
+}
+
+/// The report that a text has, if it is one.
+fn report_in(alloc: Global, text: &str) -> Result<Report, ReportFault> {
+    let (line, rest) = cut(text, "\n")?;
+    let title = owned(alloc, title_in(line)?)?;
+    let (line, after_part) = cut(rest, "\n")?;
+    let (part, rest) = if line.starts_with("part ") {
+        (Some(part_in(line)?), after_part)
+    } else {
+        (None, rest)
+    };
+    let (machine, rest) = cut(after(rest, "machine file: SHA-256 ")?, "\n")?;
+    let (events, rest) = cut(after(rest, "event text: SHA-256 ")?, "\n")?;
+    let (see, rest) = cut(after(rest, "seen of a way: ")?, "\n")?;
+    let (alerts, rest) = cut(after(rest, "ways that end in an alert: ")?, "\n")?;
+    Ok(Report {
+        title,
+        machine: owned(alloc, machine)?,
+        events: owned(alloc, events)?,
+        see: owned(alloc, see)?,
+        part,
+        alerts: number_in(alerts)?,
+        found: found_in(alloc, rest)?,
+    })
+}
+
+/// Reads a report. What is read prints the same text again, byte for byte: any other text is refused.
+///
+/// # Errors
+///
+/// `NotAReport`, and `OutOfMemory`.
+///
+/// Source: project rule.
+pub fn read_report(alloc: Global, text: &[u8]) -> Result<Report, ReportFault>
+    ensures { IfOk result (λ report. text_of (report_view report) ≡ text.now) }
+{
+    let Ok(shown) = std::str::from_utf8(text) else {
+        return Err(ReportFault::NotAReport);
+    };
+    let report = report_in(alloc, shown)?;
+    let printed = report_text(alloc, &report)?;
+    if printed.as_slice() == text {
+        Ok(report)
+    } else {
+        Err(ReportFault::NotAReport)
+    }
+}

@@ -1,0 +1,4 @@
+-- The lemma files of `wayrun`.
+mod Texts
+mod Steps
+mod Standing

@@ -1,0 +1,23 @@
+-- The run so far, and its time.
+use Rattle.std.proofs.Common.{◌≡◌, ◌++◌, take, drop, false, [], sum_by}
+use Rattle.exectrace.specs.Trace.{printed}
+use Rattle.exectrace.specs.declared.sinks.SinkState.TheVariants.{Good}
+use Rattle.taskscript.specs.Events.{ticks as ticks_of}
+use Rattle.execsim.specs.Agreement.{Agrees}
+use Rattle.execsim.specs.Headline.{flow_of}
+use Rattle.execsim.specs.Time.{HasTimeFor}
+use Rattle.wayrun.specs.Texts.{last_of, shown_of, whole_lines}
+use Rattle.wayrun.specs.SoFar.{so_far}
+use Rattle.wayrun.proofs.running.run_on.Given as goal
+
+abbrev pub invariant-loop-event : goal.invariant-loop-event
+invariant-loop-event l = record {
+  good : l.room.state ≡ Good;
+  going : l.machine.failed ≡ false;
+  agrees : Agrees l.machine.seen (so_far l._file (take l.event-index l.way)).state;
+  line : l.line.items ≡ [];
+  last : l.last.items ≡ last_of [] (whole_lines [] (printed (so_far l._file (take l.event-index l.way)).lines));
+  kept : l.kept.items ≡ shown_of l.see (printed (so_far l._file (take l.event-index l.way)).lines);
+  flow : l.flow ≡ flow_of (so_far l._file (take l.event-index l.way)).state.stopped;
+  time : HasTimeFor (sum_by ticks_of (drop l.event-index l.way)) l.machine.seen;
+}

@@ -1,0 +1,4 @@
+pub mod Seen
+pub mod SoFar
+pub mod Texts
+pub mod Words

@@ -1,0 +1,13 @@
+//! What is seen of each way: one way is run on a machine of its own, and a search notes what is seen of all ways of a part.
+#![tactic(auto)]
+
+mod lines;
+mod room;
+mod running;
+mod searching;
+mod see;
+
+pub use room::Room;
+pub use running::run_way;
+pub use searching::{Runs, search};
+pub use see::See;

@@ -1,0 +1,141 @@
+//! One way, run on a machine of its own, of which what is seen is kept.
+ghost use Rattle.std.specs.Prelude.{◌≡◌, ◌≤◌, ◌++◌, false, IfOk, OnOk, sum_by};
+ghost use Rattle.exectrace.specs.declared.sinks.SinkState.{SinkState};
+ghost use Rattle.taskscript.specs.Events.{ticks as ticks_of};
+ghost use Rattle.execmodel.specs.State.{booted};
+ghost use Rattle.execmodel.specs.Step.{run};
+ghost use Rattle.execsim.specs.Agreement.{Agrees};
+ghost use Rattle.execsim.specs.Headline.{flow_of};
+ghost use Rattle.execsim.specs.Standing.{standing_text};
+ghost use Rattle.execsim.specs.Time.{HasTimeFor};
+ghost use Rattle.wayrun.specs.Seen.{alert_text, ending, seen_of};
+ghost use Rattle.wayrun.specs.SoFar.{stops};
+
+use crate::lines::{keep_lines, push_line};
+use crate::room::Room;
+use crate::see::See;
+use execlist::link::LinkSpace;
+use execsim::{Flow, Machine};
+use std::alloc::{AllocError, Global};
+use taskscript::{Event, MachineFile};
+
+/// Adds the line of the alert that ends a run, unless all lines are kept.
+fn push_alert(see: See, last: &[u8], kept: &mut Vec<u8>) -> Result<(), AllocError>
+    ensures { OnOk result (kept.new.items ≡ kept.old.items ++ alert_text see last.now) }
+{
+    match see {
+        See::End | See::Prints => push_line(last, kept),
+        See::Trace => Ok(()),
+    }
+}
+
+/// Writes how the tasks of a machine are into a room.
+fn write_standing(machine: &Machine<LinkSpace>, room: &mut Room) -> Result<(), AllocError>
+    requires { room.old.state ≡ SinkState.Good }
+    ensures text { OnOk result (room.new.bytes.items ≡ standing_text machine.now.seen.schedule machine.now.seen.scripts) }
+    ensures good { OnOk result (room.new.state ≡ SinkState.Good) }
+{
+    room.bytes.clear();
+    match machine.write_standing(room) {
+        Ok(()) => Ok(()),
+        Err(_) => Err(AllocError),
+    }
+}
+
+/// Adds how the tasks of a machine are.
+fn push_standing(
+    machine: &Machine<LinkSpace>,
+    room: &mut Room,
+    kept: &mut Vec<u8>,
+) -> Result<(), AllocError>
+    requires { room.old.state ≡ SinkState.Good }
+    ensures kept { OnOk result (kept.new.items ≡ kept.old.items ++ standing_text machine.now.seen.schedule machine.now.seen.scripts) }
+    ensures good { OnOk result (room.new.state ≡ SinkState.Good) }
+{
+    write_standing(machine, room)?;
+    kept.extend_from_slice(room.bytes.as_slice())?;
+    Ok(())
+}
+
+/// Adds how a run ends.
+fn push_ending(
+    machine: &Machine<LinkSpace>,
+    flow: Flow,
+    see: See,
+    last: &[u8],
+    room: &mut Room,
+    kept: &mut Vec<u8>,
+) -> Result<(), AllocError>
+    requires { room.old.state ≡ SinkState.Good }
+    ensures kept { OnOk result (kept.new.items ≡ kept.old.items ++ ending (stops flow) see last.now machine.now.seen.schedule machine.now.seen.scripts) }
+    ensures good { OnOk result (room.new.state ≡ SinkState.Good) }
+{
+    match flow {
+        Flow::Going => push_standing(machine, room, kept),
+        Flow::Alerted => push_alert(see, last, kept),
+    }
+}
+
+/// Runs a way on a machine that was not started, that of the file.
+fn run_on(
+    alloc: Global,
+    machine: &mut Machine<LinkSpace>,
+    _file: &MachineFile,
+    way: &[Event],
+    see: See,
+    room: &mut Room,
+    kept: &mut Vec<u8>,
+) -> Result<Flow, AllocError>
+    requires good { room.old.state ≡ SinkState.Good }
+    requires time { sum_by ticks_of way.now ≤ 1000000 }
+    requires going { machine.old.failed ≡ false }
+    requires agrees { Agrees machine.old.seen (booted _file.now) }
+    requires enough { HasTimeFor 1000000 machine.old.seen }
+    ensures kept { OnOk result (kept.new.items ≡ seen_of see _file.now way.now) }
+    ensures flow { IfOk result (λ flow. flow ≡ flow_of (run _file.now way.now).state.stopped) }
+    ensures good { OnOk result (room.new.state ≡ SinkState.Good) }
+{
+    room.bytes.clear();
+    kept.clear();
+    let mut line = Vec::new(alloc);
+    let mut last = Vec::new(alloc);
+    let Ok(mut flow) = machine.start(room) else {
+        return Err(AllocError);
+    };
+    keep_lines(see, room.bytes.as_slice(), &mut line, &mut last, kept)?;
+    for event in way {
+        room.bytes.clear();
+        flow = match machine.event(*event, room) {
+            Ok(flow) => flow,
+            Err(_) => return Err(AllocError),
+        };
+        keep_lines(see, room.bytes.as_slice(), &mut line, &mut last, kept)?;
+    }
+    push_ending(machine, flow, see, last.as_slice(), room, kept)?;
+    Ok(flow)
+}
+
+/// Runs a way on a machine of its own, and leaves in `kept` what is seen of it.
+///
+/// # Errors
+///
+/// Memory was refused.
+///
+/// Source: project rule.
+pub fn run_way(
+    alloc: Global,
+    file: &MachineFile,
+    way: &[Event],
+    see: See,
+    room: &mut Room,
+    kept: &mut Vec<u8>,
+) -> Result<Flow, AllocError>
+    requires good { room.old.state ≡ SinkState.Good }
+    requires time { sum_by ticks_of way.now ≤ 1000000 }
+    ensures kept { OnOk result (kept.new.items ≡ seen_of see file.now way.now) }
+    ensures flow { IfOk result (λ flow. flow ≡ flow_of (run file.now way.now).state.stopped) }
+    ensures good { OnOk result (room.new.state ≡ SinkState.Good) }
+{
+    let mut machine: Machine<LinkSpace> = Machine::boot(alloc, file)?;
+    run_on(alloc, &mut machine, file, way, see, room, kept)
+}

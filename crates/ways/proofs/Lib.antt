@@ -1,0 +1,11 @@
+-- The lemma files of `ways`.
+pub mod WayLemmas
+pub mod Counting
+pub mod Parts
+pub mod Skips
+pub mod Tables
+pub mod Rows
+pub mod Merging
+pub mod Exact
+mod Folding
+mod Groups

@@ -1,0 +1,26 @@
+//! Laws of the ways and of their tables.
+ghost use Rattle.std.specs.Prelude.{◌≡◌, ◌+◌, ◌*◌, ◌^◌, ◌++◌, ℕ, List, [], length};
+ghost use Rattle.taskscript.specs.declared.event.Event.{Event};
+ghost use Rattle.ways.specs.Ways.{exactly, choose};
+ghost use Rattle.ways.specs.Tables.{table_of, merged, total, count_in, first_in, showing, first_showing};
+
+/// How many ways have exactly that many extras.
+pub fn number_of_ways()
+    ensures { (kinds acts : List Event) (j : ℕ) → length (exactly kinds j acts) ≡ choose (length acts + j) j * length kinds ^ j }
+{}
+
+/// No way is lost and none is made.
+pub fn each_way_counts_once()
+    ensures { (seen : List Event → List ℕ) (ways : List (List Event)) → total (table_of seen [] ways) ≡ length ways }
+{}
+
+/// The table of two parts, one after the other, is their two tables merged.
+pub fn sum_of_parts()
+    ensures { (seen : List Event → List ℕ) (xs ys : List (List Event)) → table_of seen [] (xs ++ ys) ≡ merged (table_of seen [] xs) (table_of seen [] ys) }
+{}
+
+/// A text's count is the number of ways that show it, and its way is the first of them.
+pub fn exact()
+    ensures count { (seen : List Event → List ℕ) (ways : List (List Event)) (text : List ℕ) → count_in (table_of seen [] ways) text ≡ showing seen text ways }
+    ensures first { (seen : List Event → List ℕ) (ways : List (List Event)) (text : List ℕ) → first_in (table_of seen [] ways) text ≡ first_showing seen text ways }
+{}

@@ -1,0 +1,116 @@
+"""The parts of pages that are made: tables between two marks, and the index of the examples."""
+import re
+import tomllib
+
+import tables
+
+DOCS = tables.TOP / "docs"
+EXAMPLES = tables.DATA / "examples"
+
+
+class BadPage(Exception):
+    """A page without the marks of a part, or an example that is not in the index."""
+
+
+def with_part(text, part, made, page):
+    """The text of a page with what was made between the marks of a part."""
+    begin, end = f"<!-- made by tools/make-pages: {part} -->\n", f"<!-- end of {part} -->\n"
+    if text.count(begin) != 1 or text.count(end) != 1:
+        raise BadPage(f"{page}: no marks for the part {part}")
+    before, rest = text.split(begin)
+    return before + begin + "\n" + made + "\n\n" + end + rest.split(end)[1]
+
+
+def arguments_of(word):
+    """How a table names the arguments of a word."""
+    return ", ".join(one["text"] for one in word["arguments"])
+
+
+def answer_of(word):
+    """How a table names the answer of a word."""
+    return word["answer"]["text"] if word["answer"] else ""
+
+
+def alert_text(alert):
+    return alert["code"] + (f": {alert['when']}" if alert["when"] else "")
+
+
+def plain_words(words):
+    """REFERENCE's table of the words that print nothing."""
+    silent = (word for word in words if not word["prints"])
+    rows = [(f"`{word['name']}`", arguments_of(word), answer_of(word), word["effect"]) for word in silent]
+    return as_table(("Word", "Arguments", "Answers", "Effect"), rows)
+
+
+def calls(words):
+    """REFERENCE's table of the words that print a line."""
+    rows = []
+    for word in words:
+        if word["prints"]:
+            alerts = "; ".join(map(alert_text, word["alerts"]))
+            rows.append((f"`{word['name']}`", arguments_of(word), answer_of(word), alerts, word["effect"]))
+    return as_table(("Word", "Arguments", "Answers", "Alerts, in their order", "Effect"), rows)
+
+
+def as_table(head, rows):
+    """A table of a page; an empty cell is one space."""
+    lines = ["| " + " | ".join(head) + " |", "|" + "---|" * len(head)]
+    return "\n".join(lines + ["|" + "|".join(f" {cell} " if cell else " " for cell in row) + "|" for row in rows])
+
+
+def number_text(value, base):
+    return f"`${value:X}`" if base == 16 else f"`{value}`"
+
+
+def numbers(groups):
+    """The table of Exec's numbers."""
+    rows = []
+    for group in groups:
+        shown = ", ".join(f"{name} {number_text(value, group['base'])}" for name, value in group["of"])
+        rows.append((group["title"], f"`{group['header']}`", shown, group["says"]))
+    return as_table(("What", "Header file", "Numbers", "Use"), rows)
+
+
+def from_c(words):
+    """FROM-C's table: what a C program writes, and the line for it."""
+    rows = []
+    for word in words:
+        c = word["c"] if word["c"].startswith("the memory") else f"`{word['c'].replace('|', chr(92) + '|')}`"
+        rows.append((c, f"`{word['here']}`"))
+    return as_table(("In C", "Here"), rows)
+
+
+def first_comment(path):
+    """The sentence that an example begins with."""
+    for line in path.read_text().splitlines():
+        if line.startswith("# "):
+            return line[2:]
+    raise BadPage(f"{path}: no comment says what the example shows")
+
+
+def index_of_examples(words):
+    """The index of the examples, by topic, with the words that each uses."""
+    topics = tomllib.loads((tables.TOP / "tools" / "topics.toml").read_text())["topic"]
+    listed = [name for topic in topics for name in topic["examples"]]
+    there = sorted(path.stem for path in EXAMPLES.glob("*.toml"))
+    if sorted(listed) != there:
+        raise BadPage(f"tools/topics.toml: not each example once: {sorted(set(listed).symmetric_difference(there)) or 'one is there twice'}")
+    parts = []
+    for topic in topics:
+        rows = [example_row(name, words) for name in topic["examples"]]
+        parts.append(f"## {topic['title']}\n\n" + as_table(("Example", "What it shows", "Calls"), rows))
+    return "\n\n".join(parts)
+
+
+def count_of_runs():
+    """What EXAMPLES says of the tables of runs."""
+    count = sum(1 for _ in tables.all_runs())
+    return f"The tables in [crates/runs/data](../crates/runs/data) have {count:,} runs more, in a form that only a program of this repository reads."
+
+
+def example_row(name, words):
+    path = EXAMPLES / f"{name}.toml"
+    run = tables.Run(name, "examples", "", path.read_text(), "", 0, "", None)
+    used = [f"`{word}`" for word in run.words(words) if words[word]["prints"] and word != "Print"]
+    folder = EXAMPLES.relative_to(tables.TOP)
+    return f"[{name}](../{folder}/{name}.toml)", re.sub(r"\|", r"\\|", first_comment(path)), ", ".join(used)
