@@ -1,6 +1,9 @@
-/* execsim.h: the proved simulator of the Amiga's Exec for C programs, in the library libexecsim.a. Link with no other library: it calls malloc,
- * realloc and free alone, which are to be of one allocator, and to align a block to each power of two up to 16 that divides its size. It keeps
- * nothing between calls, so that calls in several threads need not wait for one another. No call is to be made from a signal handler. */
+/* execsim.h: the proved simulator of the Amiga's Exec for C programs, in the library libexecsim.a. A run of two texts is one call, execsim_run. Or a
+ * program keeps a machine, and asks for its events step by step: execsim_open, execsim_events, execsim_take, the readers, execsim_close.
+ *
+ * Link with no other library: it calls malloc, realloc and free alone, which are to be of one allocator, and to align a block to each power of two up
+ * to 16 that divides its size. What a program keeps is all in its machines, so calls in several threads need not wait for one another if each has a
+ * machine of its own; a machine stays in the thread that opened it. No call is to be made from a signal handler. */
 #ifndef EXECSIM_H
 #define EXECSIM_H
 
@@ -11,14 +14,16 @@
 extern "C" {
 #endif
 
-/* What execsim_run answers. */
+/* What the calls answer. */
 enum {
-    EXECSIM_RAN = 0,             /* the machine ran over all its events */
+    EXECSIM_RAN = 0,             /* the machine ran over all its events, or what was asked for is there */
     EXECSIM_MACHINE_REFUSED = 1, /* the machine file is refused */
     EXECSIM_EVENTS_REFUSED = 2,  /* the event text is refused */
     EXECSIM_ALERTED = 3,         /* an alert ended the run */
     EXECSIM_NO_MEMORY = 4,       /* memory was refused */
-    EXECSIM_TOO_LONG = 5         /* the trace is longer than the buffer */
+    EXECSIM_TOO_LONG = 5,        /* what is to be put into the buffer is longer than it */
+    EXECSIM_NO_MACHINE = 6,      /* there is no machine: none was opened, or it was closed */
+    EXECSIM_NOT_THERE = 7        /* there is no such task, or no block at that address */
 };
 
 /* The most bytes that the program takes of a machine file or of an event text. Here a longer text is read too. */
@@ -40,6 +45,109 @@ enum {
  * *length overlap nothing else. The caller owns all memory, before and after; what the call allocates it frees. */
 uint32_t execsim_run(const uint8_t *machine, size_t machine_length, const uint8_t *events, size_t events_length, uint8_t *out,
                      size_t out_length, uint64_t *length);
+
+/* A machine that a program keeps. It has to be EXECSIM_NO_MACHINE_YET before it is first used, and is changed by the calls below alone. It may be
+ * moved, but of two copies only one may be used. What it points to is the library's: execsim_close frees it. */
+typedef struct {
+    void *machine;
+} execsim_machine;
+
+#define EXECSIM_NO_MACHINE_YET {0}
+
+/* Of the calls below each requires that no pointer is null, that each points to as many bytes as its length says, and that what it writes overlaps
+ * nothing else. The caller owns the texts, the buffers and the structs, before and after. */
+
+/* Reads a machine file, and starts its machine: the tasks are added whose `start` is true, and it settles once. A machine that *machine had is closed
+ * first.
+ *
+ * EXECSIM_RAN, EXECSIM_ALERTED: it is open, and execsim_take gives the lines of its start. After an alert it is read as before, and its events do nothing.
+ * EXECSIM_MACHINE_REFUSED, EXECSIM_NO_MEMORY: *machine has none, and the buffer begins with the words of the fault, as those of execsim_run. */
+uint32_t execsim_open(execsim_machine *machine, const uint8_t *file, size_t file_length, uint8_t *out, size_t out_length, uint64_t *length);
+
+/* Does the events of an event text one after another, as "run 1", which is the next step, or "tick 1", "irq PORTS", or a whole text.
+ *
+ * EXECSIM_RAN, EXECSIM_ALERTED: they are done, and execsim_take gives their lines.
+ * EXECSIM_EVENTS_REFUSED: none is done; the buffer begins with the words of the fault. "events: TooMany" is also said if they would take the ticks of
+ * this machine past 1,000,000. Of steps each text may have 1,000,000.
+ * EXECSIM_NO_MEMORY: the machine is closed. EXECSIM_NO_MACHINE: there is none. */
+uint32_t execsim_events(execsim_machine *machine, const uint8_t *events, size_t events_length, uint8_t *out, size_t out_length, uint64_t *length);
+
+/* Moves the lines that were printed since the last call of it into a buffer, *length bytes; each ends with a line feed.
+ * EXECSIM_TOO_LONG: they are *length bytes, more than the buffer, which is as it was; they stay. EXECSIM_NO_MACHINE: there is none. */
+uint32_t execsim_take(execsim_machine *machine, uint8_t *out, size_t out_length, uint64_t *length);
+
+/* Closes the machine, and frees all its memory. Nothing happens if there is none. */
+void execsim_close(execsim_machine *machine);
+
+/* Tasks are numbered from 0 here, in the order of the file: one less than the number by which a script names them. This is no task. */
+#define EXECSIM_NO_TASK UINT64_MAX
+
+/* What is seen of a machine. */
+typedef struct {
+    uint64_t clock;        /* the clock, in microseconds */
+    uint64_t system_time;  /* system time, in microseconds */
+    uint64_t tasks;        /* how many tasks the file has */
+    uint64_t running;      /* the task that runs, or EXECSIM_NO_TASK */
+    uint32_t quantum_left; /* the servings of VERTB that are left to it */
+    uint32_t latches;      /* the sources that ask to be served: bit 0 is PORTS, bit 1 VERTB, bit 2 EXTER */
+    uint32_t stopped;      /* 1 if an alert has stopped the machine */
+} execsim_machine_view;
+
+/* The states of a task. */
+enum {
+    EXECSIM_TASK_ABSENT = 0,    /* it was never added */
+    EXECSIM_TASK_READY = 1,     /* it may run */
+    EXECSIM_TASK_RUNNING = 2,   /* it runs */
+    EXECSIM_TASK_SIGNALS = 3,   /* it waits for signals */
+    EXECSIM_TASK_SEMAPHORE = 4, /* it waits for a semaphore */
+    EXECSIM_TASK_REMOVED = 5    /* it has ended, or was removed */
+};
+
+/* What is seen of a task. Bit n of a mask is signal n. */
+typedef struct {
+    uint64_t place;     /* its next command, from 0; the number of its commands at their end. If it waits: the call that it waits in */
+    uint32_t state;     /* EXECSIM_TASK_.. */
+    uint32_t waits_for; /* the signals that it waits for */
+    uint32_t received;  /* the signals that it has received */
+    uint32_t allocated; /* the signals that it has allocated */
+    int32_t priority;
+    int32_t forbids;  /* its count of Forbid, -1 if it has none outstanding */
+    int32_t disables; /* its count of Disable, as that of Forbid */
+} execsim_task_view;
+
+/* What is in a block. */
+enum {
+    EXECSIM_PLAIN = 0, /* memory of AllocMem */
+    EXECSIM_LIST = 1,
+    EXECSIM_NODE = 2,
+    EXECSIM_PORT = 3,
+    EXECSIM_MESSAGE = 4,
+    EXECSIM_SEMAPHORE = 5,
+    EXECSIM_LIBRARY = 6,
+    EXECSIM_REQUEST = 7
+};
+
+/* What is seen of a block. What a thing of its kind does not have is 0, or EXECSIM_NO_TASK. */
+typedef struct {
+    uint64_t task;       /* the task of a port, or the owner of a semaphore */
+    uint32_t size;       /* in bytes */
+    uint32_t kind;       /* EXECSIM_PLAIN .. */
+    uint32_t count;      /* how often the owner of a semaphore has to release it, or how often a library is open */
+    uint32_t signal;     /* the number of a port's signal */
+    uint32_t word;       /* the word of a message */
+    uint32_t reply_port; /* the address of the reply port of a message or of a request */
+    uint32_t state;      /* of a request: 0 never begun, 1 in progress, 2 finished at once, 3 replied */
+    int32_t priority;    /* of a node */
+} execsim_block_view;
+
+/* Put what is seen into *view, and change nothing of the machine. EXECSIM_RAN: it is there. EXECSIM_NOT_THERE: there is no such task, or no block
+ * begins at the address; EXECSIM_NO_MACHINE: there is none; *view is as it was then. */
+uint32_t execsim_view(execsim_machine *machine, execsim_machine_view *view);
+uint32_t execsim_task(execsim_machine *machine, size_t task, execsim_task_view *view);
+uint32_t execsim_block(execsim_machine *machine, uint32_t address, execsim_block_view *view);
+
+/* Puts the name of a task into a buffer: *length bytes, without a 0. EXECSIM_TOO_LONG if it has more than the buffer, which is as it was; at most 31. */
+uint32_t execsim_task_name(execsim_machine *machine, size_t task, uint8_t *out, size_t out_length, uint64_t *length);
 
 #ifdef __cplusplus
 }

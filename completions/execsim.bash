@@ -1,15 +1,21 @@
-# Completion of execsim and execcheck for bash: first a machine file, *.toml, and then an event text, *.events.
+# Completion of execsim, execcheck and execlog for bash: options, then a machine file, *.toml, and an event text, *.events.
 _execsim() {
     local word=${COMP_WORDS[COMP_CWORD]} ending=toml
     if [[ $word == -* ]]; then
         local options='--help'
         [[ ${COMP_WORDS[0]##*/} == execsim ]] || options+=' --version'
+        [[ ${COMP_WORDS[0]##*/} != execlog ]] || options+=' --plain-words --json --state --from --to --at --task'
         mapfile -t COMPREPLY < <(compgen -W "$options" -- "$word")
         return
     fi
-    ((COMP_CWORD < 3)) || return
-    ((COMP_CWORD == 1)) || ending=events
+    # Options and their values may be before the paths.
+    local it paths=0
+    for it in "${COMP_WORDS[@]:1:COMP_CWORD-1}"; do
+        [[ $it != *.toml && ! -f $it ]] || ((++paths))
+    done
+    ((paths < 2)) || return
+    ((paths == 0)) || ending=events
     compopt -o filenames
     mapfile -t COMPREPLY < <(compgen -d -- "$word"; compgen -f -X "!*.$ending" -- "$word")
 }
-complete -F _execsim execsim execcheck
+complete -F _execsim execsim execcheck execlog

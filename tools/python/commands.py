@@ -57,7 +57,8 @@ def run(command, machine, events, seconds, most):
     try:
         child = subprocess.Popen(words, stdin=subprocess.DEVNULL, stdout=subprocess.PIPE, stderr=subprocess.PIPE, start_new_session=True)
     except OSError as error:
-        raise CannotStart(f"{command[0]}: cannot be started: {error.strerror}") from None
+        way_out = "write the path of a program, as ./execsim, or the name of one on PATH"
+        raise CannotStart(f"{command[0]}: cannot be started: {error.strerror}; {way_out}") from None
     deadline = time.monotonic() + seconds
     with child:
         chunks, is_in_time, too_much = read_all(child, deadline, most)

@@ -1,4 +1,5 @@
 """Runs as files: a folder with NAME.toml, NAME.events, NAME.trace and NAME.status for each run, and index.json."""
+import contextlib
 import dataclasses
 import json
 import pathlib
@@ -10,7 +11,17 @@ INDEX = "index.json"
 
 
 class BadFolder(Exception):
-    """A folder that holds no runs, or an index that cannot be read."""
+    """A folder that holds no runs, an index that cannot be read, or a path that cannot be written."""
+
+
+@contextlib.contextmanager
+def writing(path):
+    """Names the path that cannot be written, and the way out."""
+    try:
+        yield
+    except OSError as error:
+        way_out = "name a path in a folder that exists, that you may write to, and that has room"
+        raise BadFolder(f"{error.filename or path}: cannot be written: {error.strerror}; {way_out}") from None
 
 
 @dataclasses.dataclass(frozen=True)
@@ -30,16 +41,18 @@ class Stored:
 def write_run(folder, run, words):
     """Writes the files of a run, and answers its entry of the index."""
     path = folder / run.name
-    path.parent.mkdir(parents=True, exist_ok=True)
-    for ending, text in (("toml", run.machine), ("events", run.events), ("trace", run.trace), ("status", f"{run.status}\n")):
-        path.with_name(f"{path.name}.{ending}").write_bytes(text.encode())
+    with writing(path):
+        path.parent.mkdir(parents=True, exist_ok=True)
+        for ending, text in (("toml", run.machine), ("events", run.events), ("trace", run.trace), ("status", f"{run.status}\n")):
+            path.with_name(f"{path.name}.{ending}").write_bytes(text.encode())
     kept = {"name": run.name, "title": run.title, "table": run.table, "status": run.status, "fault": run.fault}
     return kept | {"words": run.words(words)}
 
 
 def write_index(folder, program, entries):
     index = {"format": FORMAT, "program": program, "runs": entries}
-    (folder / INDEX).write_text(json.dumps(index, indent=1) + "\n")
+    with writing(folder / INDEX):
+        (folder / INDEX).write_text(json.dumps(index, indent=1) + "\n")
 
 
 def check_new(folder):
@@ -50,11 +63,19 @@ def check_new(folder):
         raise BadFolder(f"{folder}: the folder is not empty; name one that does not exist yet, or empty it")
 
 
+def read_status(path):
+    """The status that a file says."""
+    try:
+        return int(path.read_bytes())
+    except ValueError:
+        raise BadFolder(f"{path}: no status; write the number of one, as 0 or 3, or remove the file") from None
+
+
 def stored(folder, entry):
     """The run of an entry of an index."""
     path = folder / entry["name"]
     file = {ending: path.with_name(f"{path.name}.{ending}") for ending in ("toml", "events", "trace", "status")}
-    status = int(file["status"].read_text()) if file["status"].exists() else entry["status"]
+    status = read_status(file["status"]) if file["status"].exists() else entry["status"]
     return Stored(
         entry["name"], entry["title"], tuple(entry["words"]), file["toml"], file["events"], status, file["trace"].read_bytes(), entry["fault"]
     )
@@ -93,7 +114,7 @@ def found(folder, words):
         machine, events, status = (path.with_suffix(ending) for ending in (".toml", ".events", ".status"))
         if machine.exists() and events.exists():
             trace = path.read_bytes()
-            wanted = int(status.read_text()) if status.exists() else status_of(trace)
+            wanted = read_status(status) if status.exists() else status_of(trace)
             name = str(path.relative_to(folder).with_suffix(""))
             runs.append(Stored(name, name, words_in(trace, words), machine, events, wanted, trace, None))
     return runs

@@ -160,8 +160,15 @@ def run_of(command, machine, events, room):
     if said.status is None:
         raise BadProgram(f"{' '.join(command)}: no answer in {SECONDS} seconds; if it builds itself first, start it once by hand")
     if said.status not in (0, 3):
-        raise BadProgram(f"{' '.join(command)}: status {said.status} over a machine that is valid: {said.error.decode().strip()}")
-    return said.status, said.out.decode()
+        why = said.error.decode(errors="replace").strip()
+        raise BadProgram(f"{' '.join(command)}: status {said.status} over a machine that is valid: {why}")
+    try:
+        trace = said.out.decode()
+    except UnicodeDecodeError:
+        raise BadProgram(f"{' '.join(command)}: wrote what is no text, in place of a trace") from None
+    if not trace:
+        raise BadProgram(f"{' '.join(command)}: wrote no trace; name a program that prints one, as ./execsim")
+    return said.status, trace
 
 
 def line_to_drop(world, trace, words, is_alert_kept):
@@ -208,7 +215,8 @@ def one(seed, number, words, allowed, command, room, covered):
 def write_all(folder, seed, count, words, allowed, command, progress):
     """Writes that many random machines with their traces, and answers what they cover."""
     covered, entries = Covered(), []
-    folder.mkdir(parents=True, exist_ok=True)
+    with folders.writing(folder):
+        folder.mkdir(parents=True, exist_ok=True)
     with tempfile.TemporaryDirectory() as room:
         for number in range(1, count + 1):
             run = one(seed, number, words, allowed, command, pathlib.Path(room), covered)

@@ -26,4 +26,6 @@ def chosen(words, text):
         if name not in groups and name not in words:
             raise NoWord(f"{name}: neither a word nor a group; the groups are {', '.join(sorted(groups))}")
         found.update(groups.get(name, [name]))
+    if not found:
+        raise NoWord(f"no word is named; name words or groups, with commas between them; the groups are {', '.join(sorted(groups))}")
     return [name for name in words if name in found]

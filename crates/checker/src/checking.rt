@@ -19,7 +19,7 @@ const CLEAN: u8 = 0;
 /// The status if a text is refused.
 const REFUSED: u8 = 1;
 
-/// The status if there are warnings alone.
+/// The status if there are warnings, or an alert ended the run, and no text is refused.
 const WARNED: u8 = 3;
 
 /// The bytes of the text at a path.
@@ -119,10 +119,10 @@ fn check_events_text<'a, W: Write>(
     Ok(status_of(finding.fault.is_some(), text))
 }
 
-/// Checks the run of two texts that were read from two paths, and writes what was found in it. A run refuses nothing.
+/// Checks the run of two texts, and writes what was found in it. A run refuses nothing, and notes alone are no warning.
 fn check_run_of<'a, W: Write>(
     alloc: Global,
-    paths: (&'a str, &'a str),
+    path: &'a str,
     machine: &[u8],
     events: &[u8],
     out: &mut W,
@@ -131,10 +131,9 @@ fn check_run_of<'a, W: Write>(
     ensures known { IfOk result (λ status. status ≢ 2) }
     ensures accepted { IfOk result (λ status. status ≢ 1) }
 {
-    let found = check_run(alloc, paths.0, machine, paths.1, events)?;
-    let text = found.as_str();
-    write_text(text, out)?;
-    Ok(status_of(false, text))
+    let report = check_run(alloc, path, machine, events)?;
+    write_text(report.text.as_str(), out)?;
+    Ok(if report.warns { WARNED } else { CLEAN })
 }
 
 /// Reads the event text at a path, checks it, and then its run on a machine file that was read before, and writes what was found.
@@ -153,7 +152,7 @@ fn check_events_at<'a, T: Texts, W: Write>(
 {
     let events = read_text(texts, alloc, path)?;
     let of_text = check_events_text(alloc, path, &events, out)?;
-    let of_run = check_run_of(alloc, (machine_path, path), machine, &events, out)?;
+    let of_run = check_run_of(alloc, machine_path, machine, &events, out)?;
     Ok(worse(of_text, of_run))
 }
 

@@ -48,35 +48,35 @@ fn word_texts(alloc: Global) -> Result<Vec<&'static str>, AllocError> {
 /// Why a text is no word.
 fn word_reason(alloc: Global, fields: &[&str], at: usize) -> Result<String, AllocError> {
     let Some(text) = fields.get(at).copied() else {
-        return format!(in alloc; "a word is wanted here");
+        return format!(in alloc; "expected a word here");
     };
     if at == 0 && fields.len() == 1 && text.ends_with(":") {
         return label_reason(alloc, text);
     }
     if at == 0 && is_assignment(text) {
-        return format!(in alloc; "one space stands before and one behind the =");
+        return format!(in alloc; "put one space before and one after the =");
     }
     if at == 0 && is_variable(text.as_bytes()) {
         if let Some(word) = fields.get(1).copied() {
             if word.starts_with("=") {
-                return format!(in alloc; "one space stands before and one behind the =");
+                return format!(in alloc; "put one space before and one after the =");
             }
             if word_of(word).is_some() {
-                return format!(in alloc; "no word of this name; did you mean {text} = {word}?");
+                return format!(in alloc; "unknown word; did you mean {text} = {word}?");
             }
         }
     }
     if text.ends_with(":") {
-        return format!(in alloc; "a label stands on a line of its own");
+        return format!(in alloc; "a label has a line of its own");
     }
     let texts = word_texts(alloc)?;
     let near = nearest(alloc, text, &texts)?;
     let question = proposal(alloc, "", near, "")?;
     match near {
         Some(word) if text.eq_ignore_ascii_case(word) => {
-            format!(in alloc; "no word of this name, for upper and lower case count{question}")
+            format!(in alloc; "unknown word; words are case-sensitive{question}")
         }
-        _ => format!(in alloc; "no word of this name{question}"),
+        _ => format!(in alloc; "unknown word{question}"),
     }
 }
 
@@ -86,7 +86,7 @@ fn target_reason(alloc: Global, field: &str) -> Result<String, AllocError> {
         return format!(in alloc; "a variable has no capital letter; did you mean {lower}?");
     }
     format!(in alloc;
-        "no variable: a letter a to z, then letters, digits and _, 1 to 16 together, with @ before it where it is shared"
+        "no variable: a letter a to z, then letters, digits and _, 1 to 16 together, with @ before it if it is shared"
     )
 }
 
@@ -136,7 +136,7 @@ fn value_reason(alloc: Global, field: &str) -> Result<String, AllocError> {
         return format!(in alloc; "a number has no zero before its digits; did you mean 0?");
     }
     if field.starts_with("\"") {
-        return format!(in alloc; "a number or a variable is wanted here, and no name");
+        return format!(in alloc; "expected a number or a variable here, not a name");
     }
     let digits = field.trim_start_matches('-');
     if !digits.is_empty() && digits.as_bytes().iter().all(|b| b.is_ascii_digit()) {
@@ -146,34 +146,32 @@ fn value_reason(alloc: Global, field: &str) -> Result<String, AllocError> {
     if is_variable(lower.as_str().as_bytes()) {
         return format!(in alloc; "a variable has no capital letter; did you mean {lower}?");
     }
-    format!(in alloc; "a number or a variable is wanted here")
+    format!(in alloc; "expected a number or a variable here")
 }
 
 /// Why a part is no label.
 fn label_argument_reason(alloc: Global, field: &str) -> Result<String, AllocError> {
     let name = field.trim_end_matches(':');
     if name.len() < field.len() && is_identifier(name.as_bytes()) {
-        return format!(in alloc;
-            "the colon stands at the label's own line alone; did you mean {name}?"
-        );
+        return format!(in alloc; "only the label's own line has the colon; did you mean {name}?");
     }
     let lower = lower_case(alloc, name)?;
     if is_identifier(lower.as_str().as_bytes()) {
         return format!(in alloc; "a label has no capital letter; did you mean {lower}?");
     }
-    format!(in alloc; "the name of a label of this body is wanted here")
+    format!(in alloc; "expected the name of a label of this body here")
 }
 
 /// Why a part is no name between double quotes.
 fn quoted_reason(alloc: Global, field: &str, or_none: &str) -> Result<String, AllocError> {
     if is_name(field.as_bytes()) {
         return format!(in alloc;
-            "a name between double quotes{or_none} is wanted here; did you mean \"{field}\"?"
+            "expected a name between double quotes{or_none} here; did you mean \"{field}\"?"
         );
     }
     let inside = field.trim_matches('\'');
     if inside.len() < field.len() && is_name(inside.as_bytes()) {
-        return format!(in alloc; "a name stands between double quotes; did you mean \"{inside}\"?");
+        return format!(in alloc; "put a name between double quotes; did you mean \"{inside}\"?");
     }
     if field.starts_with("\"") && !field.ends_with("\"") {
         return format!(in alloc;
@@ -185,7 +183,7 @@ fn quoted_reason(alloc: Global, field: &str, or_none: &str) -> Result<String, Al
             "a name has 1 to 31 characters: letters, digits, the dot, _ and -"
         );
     }
-    format!(in alloc; "a name between double quotes{or_none} is wanted here")
+    format!(in alloc; "expected a name between double quotes{or_none} here")
 }
 
 /// Why a name is none of the file's software interrupts.
@@ -218,10 +216,10 @@ fn count_reason(alloc: Global, word: Word, given: usize) -> Result<String, Alloc
     let text = word.text();
     let wanted = counted(alloc, word.kinds().len())?;
     if given == 0 {
-        return format!(in alloc; "{text} takes {wanted}, and none stands here");
+        return format!(in alloc; "{text} takes {wanted}, but none is given");
     }
-    let stands = if given == 1 { "stands" } else { "stand" };
-    format!(in alloc; "{text} takes {wanted}, and {given} {stands} here")
+    let verb = if given == 1 { "is" } else { "are" };
+    format!(in alloc; "{text} takes {wanted}, but {given} {verb} given")
 }
 
 /// Why an argument is not right.
@@ -273,10 +271,10 @@ fn mistake_reason(
     let at = word_place(fields);
     let text = fields.get(at).copied().unwrap_or("");
     match mistake {
-        Mistake::NoWord => format!(in alloc; "a word is wanted behind the ="),
+        Mistake::NoWord => format!(in alloc; "expected a word after the ="),
         Mistake::UnknownWord => word_reason(alloc, fields, at),
         Mistake::NoAnswer => {
-            format!(in alloc; "{text} gives no answer, so no variable stands before it")
+            format!(in alloc; "{text} returns nothing, so it cannot be assigned")
         }
         Mistake::Target => target_reason(alloc, fields.get(0).copied().unwrap_or("")),
         Mistake::Argument(number) => {

@@ -1,7 +1,8 @@
 //! The lines of the bodies of a machine file, by their places: the text of each, and the line of the file at which it is written.
 
-use crate::locate::{escaped_string, is_header, is_header_of};
-use crate::strings::Strings;
+use crate::locate::{escaped_string, is_escaped, is_header, is_header_of};
+use crate::show::width_of;
+use crate::strings::{Spot, Strings};
 use execcheck::{Array, LinePlace, Owner};
 use std::alloc::{AllocError, Global};
 use taskscript::{items_at, line_in, lines_of};
@@ -59,6 +60,15 @@ pub fn is_same_body(one: LinePlace, other: LinePlace) -> bool {
         | (Owner::Task, Owner::Task) => one.item == other.item,
         _ => false,
     }
+}
+
+/// A character of a file.
+#[derive(Clone, Copy, Debug, PartialEq, Eq)]
+pub struct FilePlace {
+    /// Its line, from 1.
+    pub line: usize,
+    /// Its number in the line, from 1.
+    pub column: usize,
 }
 
 /// A machine file as it is written. It keeps the strings of the table that was asked for last, since questions come body after body.
@@ -149,20 +159,13 @@ impl<'a> Written<'a> {
         }
     }
 
-    /// The line of the file at which a line of a body is written, by its number from 1, if the file shows it: of several lines of the same
-    /// text the one of its number among them.
-    ///
-    /// # Errors
-    ///
-    /// When memory is refused.
-    ///
-    /// Source: project rule.
-    pub fn line_of_code(
+    /// Where a line of a body is written, if the file shows it: of several lines of the same text the one of its number among them.
+    fn spot_of(
         &mut self,
         alloc: Global,
         table: &Table,
         place: LinePlace,
-    ) -> Result<Option<usize>, AllocError> {
+    ) -> Result<Option<Spot>, AllocError> {
         let body = body_at(table, place);
         let Some(item) = body.get(place.line) else {
             return Ok(None);
@@ -171,22 +174,77 @@ impl<'a> Written<'a> {
         let text = line_in(item);
         let plain = format!(in alloc; "'{text}'")?;
         let escaped = escaped_string(alloc, text)?;
-        let numbers = self.strings.lines_of(
+        let spots = self.strings.spots_of(
             alloc,
             plain.as_str().as_bytes(),
             escaped.as_str().as_bytes(),
         )?;
         let before = count_of(body.get(..place.line).unwrap_or(&[]), text);
-        Ok(among(&numbers, before, count_of(body, text)))
+        Ok(among(&spots, before, count_of(body, text)))
+    }
+
+    /// The line of the file from the place where a string begins, and how many characters are before it.
+    fn line_from(&self, spot: Spot) -> (&'a str, usize) {
+        let line = self
+            .lines
+            .get(spot.0.saturating_sub(1))
+            .copied()
+            .unwrap_or("");
+        match line.split_at_checked(spot.1) {
+            None => ("", 0),
+            Some((before, string)) => (string, width_of(before)),
+        }
+    }
+
+    /// The line of the file and the column in it, both from 1, at which a character (from 0) of a line of a body is written, if the file
+    /// shows it.
+    ///
+    /// # Errors
+    ///
+    /// When memory is refused.
+    ///
+    /// Source: project rule.
+    pub fn place_of_code(
+        &mut self,
+        alloc: Global,
+        table: &Table,
+        place: LinePlace,
+        character: usize,
+    ) -> Result<Option<FilePlace>, AllocError> {
+        let Some(spot) = self.spot_of(alloc, table, place)? else {
+            return Ok(None);
+        };
+        let (string, before) = self.line_from(spot);
+        let escapes = if string.starts_with("\"") {
+            escapes_before(line_at(table, place), character)
+        } else {
+            0
+        };
+        let column = before
+            .saturating_add(2)
+            .saturating_add(character)
+            .saturating_add(escapes);
+        Ok(Some(FilePlace {
+            line: spot.0,
+            column,
+        }))
     }
 }
 
-/// Of the lines with a string that has to be on that many lines, the one of that number; if one line alone has it, that one.
-fn among(numbers: &[usize], number: usize, count: usize) -> Option<usize> {
-    if numbers.len() == 1 {
-        numbers.get(0).copied()
-    } else if numbers.len() == count {
-        numbers.get(number).copied()
+/// How many of the first characters of a text are written as an escape of two characters in a basic string of TOML.
+fn escapes_before(text: &str, character: usize) -> usize {
+    text.chars()
+        .take(character)
+        .filter(|c| is_escaped(*c))
+        .count()
+}
+
+/// Of the places of a string that has to be at that many, the one of that number; if it is at one place alone, that one.
+fn among(spots: &[Spot], number: usize, count: usize) -> Option<Spot> {
+    if spots.len() == 1 {
+        spots.get(0).copied()
+    } else if spots.len() == count {
+        spots.get(number).copied()
     } else {
         None
     }

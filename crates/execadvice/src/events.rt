@@ -12,10 +12,10 @@ use taskscript::{EventFault, read_events};
 /// Why a number of turns is none.
 fn number_reason(alloc: Global, digits: &str) -> Result<String, AllocError> {
     if digits.is_empty() {
-        return format!(in alloc; "a number from 1 to 1000000 is wanted here");
+        return format!(in alloc; "expected a number from 1 to 1000000 here");
     }
     if !digits.as_bytes().iter().all(|b| b.is_ascii_digit()) {
-        return format!(in alloc; "a number from 1 to 1000000 is wanted here, in decimal digits");
+        return format!(in alloc; "expected a number from 1 to 1000000 here, in decimal digits");
     }
     let short = digits.trim_start_matches('0');
     if short.is_empty() {
@@ -34,7 +34,7 @@ fn source_reason(alloc: Global, name: &str) -> Result<String, AllocError> {
         );
     }
     let question = proposal(alloc, "", nearest(alloc, name, &["PORTS", "EXTER"])?, "")?;
-    format!(in alloc; "PORTS or EXTER is wanted here{question}")
+    format!(in alloc; "expected PORTS or EXTER here{question}")
 }
 
 /// What is wrong with the spaces of a line, or with its end.
@@ -44,30 +44,24 @@ fn spacing_reason(line: &str) -> Option<(usize, &'static str)> {
         let end = length.saturating_sub(1);
         return Some((
             end,
-            "a carriage return stands at the end: lines end with a line feed alone",
+            "remove the carriage return at the end: lines end with a line feed only",
         ));
     }
     if line.ends_with(" ") {
         let end = length.saturating_sub(1);
-        return Some((end, "a space stands at the end; there is none"));
+        return Some((end, "remove the space at the end of the line"));
     }
     if line.starts_with(" ") {
-        return Some((0, "a space stands at the beginning; there is none"));
+        return Some((0, "remove the space at the start of the line"));
     }
     let mut place = 0usize;
     let mut was_space = false;
     for c in line.chars() {
         if c == '\t' {
-            return Some((
-                place,
-                "a tab stands here; one space separates the parts of a line",
-            ));
+            return Some((place, "put one space in place of the tab"));
         }
         if c == ' ' && was_space {
-            return Some((
-                place,
-                "two spaces stand in a row; one space separates the parts of a line",
-            ));
+            return Some((place, "put one space in place of two"));
         }
         was_space = c == ' ';
         place = place.saturating_add(1);
@@ -98,7 +92,7 @@ fn event_advice(alloc: Global, line: &str) -> Result<Advice, AllocError> {
     let (word, rest) = line.split_once(" ").unwrap_or((line, ""));
     let argument = field_span(line, 1);
     if rest.contains("#") {
-        let reason = "a comment stands on a line of its own";
+        let reason = "a comment has a line of its own";
         return Advice::new(alloc, argument, reason);
     }
     if rest.contains(" ") {
@@ -134,7 +128,7 @@ pub fn text_or_nothing(line: &[u8]) -> &str {
 }
 
 /// The line before which that many are, as text.
-fn line_behind(bytes: &[u8], before: usize) -> &str {
+fn line_after(bytes: &[u8], before: usize) -> &str {
     match bytes.split(|b| *b == 10).nth(before) {
         None => "",
         Some(line) => text_or_nothing(line),
@@ -146,7 +140,7 @@ fn line_numbered(bytes: &[u8], number: usize) -> &str {
     if number == 0 {
         ""
     } else {
-        line_behind(bytes, number - 1)
+        line_after(bytes, number - 1)
     }
 }
 

@@ -61,18 +61,24 @@ fn tree_line(
     first_line(alloc, path, line, words.as_str(), name)
 }
 
-/// The first line of what is said of a line of a body.
+/// The first line of what is said of a character of a line of a body.
 fn code_line(
     alloc: Global,
     path: &str,
     written: &mut Written<'_>,
     table: &Table,
     place: LinePlace,
+    character: usize,
     name: &str,
 ) -> Result<String, AllocError> {
-    let line = written.line_of_code(alloc, table, place)?;
     let words = line_words(alloc, table, place)?;
-    first_line(alloc, path, line, words.as_str(), name)
+    match written.place_of_code(alloc, table, place, character)? {
+        None => format!(in alloc; "{path}: {words}{name}\n"),
+        Some(at) => {
+            let (line, column) = (at.line, at.column);
+            format!(in alloc; "{path}:{line}:{column}: {words}{name}\n")
+        }
+    }
 }
 
 /// What there is to say of a fault of the tree.
@@ -133,7 +139,13 @@ fn advice_at(
 }
 
 /// What there is to say of a line of a body: its place with a name, and the line with marks under a part of it and a reason.
-fn line_text(
+///
+/// # Errors
+///
+/// When memory is refused.
+///
+/// Source: project rule.
+pub fn line_text(
     alloc: Global,
     path: &str,
     written: &mut Written<'_>,
@@ -142,9 +154,10 @@ fn line_text(
     name: &str,
     advice: &Advice,
 ) -> Result<String, AllocError> {
-    let mut told = code_line(alloc, path, written, table, place, name)?;
-    push_marked(&mut told, line_at(table, place), advice)?;
-    Ok(told)
+    let start = advice.span.start;
+    let mut text = code_line(alloc, path, written, table, place, start, name)?;
+    push_marked(&mut text, line_at(table, place), advice)?;
+    Ok(text)
 }
 
 /// What there is to say of a fault of a line.

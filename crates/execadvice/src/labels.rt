@@ -68,7 +68,7 @@ fn repeated_advice(
         return Ok(None);
     };
     let number = place.saturating_add(1);
-    let reason = format!(in alloc; "this label stands before, at line {number} of the code")?;
+    let reason = format!(in alloc; "this label is already defined, in line {number} of the code")?;
     Ok(Some(Advice {
         span: field_span(line, 0),
         reason,

@@ -21,5 +21,8 @@ mod stands;
 mod strings;
 mod warnings;
 
+pub use code::{FilePlace, Written, line_at};
 pub use events::{EventsFinding, check_events};
-pub use finding::{Finding, check_machine};
+pub use finding::{Finding, check_machine, line_text};
+pub use said::{Said, said_by};
+pub use show::{Advice, Span, field_span, width_of};

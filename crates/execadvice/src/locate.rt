@@ -14,7 +14,7 @@ pub struct Section<'a> {
 }
 
 /// What is after that part in a line that begins with it, after white space or none.
-fn behind<'a>(line: &'a str, part: &str) -> Option<&'a str> {
+fn after<'a>(line: &'a str, part: &str) -> Option<&'a str> {
     line.trim_start().strip_prefix(part)
 }
 
@@ -22,18 +22,18 @@ fn behind<'a>(line: &'a str, part: &str) -> Option<&'a str> {
 ///
 /// Source: project rule.
 pub fn is_header(line: &str) -> bool {
-    behind(line, "[").is_some()
+    after(line, "[").is_some()
 }
 
 /// Whether a line begins a table of the array of that name.
 ///
 /// Source: project rule.
 pub fn is_header_of(line: &str, name: &str) -> bool {
-    match behind(line, "[[") {
+    match after(line, "[[") {
         None => false,
-        Some(rest) => match behind(rest, name) {
+        Some(rest) => match after(rest, name) {
             None => false,
-            Some(end) => behind(end, "]]").is_some(),
+            Some(end) => after(end, "]]").is_some(),
         },
     }
 }
@@ -105,9 +105,9 @@ pub fn top_section(alloc: Global, text: &str) -> Result<Section<'_>, AllocError>
 
 /// Whether a line gives a value to that key.
 fn sets(line: &str, key: &str) -> bool {
-    match behind(line, key) {
+    match after(line, key) {
         None => false,
-        Some(rest) => behind(rest, "=").is_some(),
+        Some(rest) => after(rest, "=").is_some(),
     }
 }
 
@@ -130,6 +130,13 @@ impl Section<'_> {
         }
         found
     }
+}
+
+/// Whether a character is written with a `\` before it in a basic string of TOML.
+///
+/// Source: project rule.
+pub fn is_escaped(c: char) -> bool {
+    c == '"' || c == '\\' || c == '\t'
 }
 
 /// Adds a character as it is in a basic string of TOML.

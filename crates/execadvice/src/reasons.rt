@@ -44,7 +44,7 @@ fn keys_of<'a>(alloc: Global, place: TablePlace) -> Result<Vec<&'a str>, AllocEr
 fn unknown_key_reason(alloc: Global, place: TablePlace, key: &str) -> Result<String, AllocError> {
     let keys = keys_of(alloc, place)?;
     let question = proposal(alloc, "", nearest(alloc, key, &keys)?, "")?;
-    let mut reason = format!(in alloc; "no key of this table{question}")?;
+    let mut reason = format!(in alloc; "unknown key in this table{question}")?;
     let mut before = " Its keys are ";
     if question.as_str().is_empty() {
         reason.push_str(";")?;
@@ -64,9 +64,7 @@ fn wanted_text(alloc: Global, wanted: Wanted) -> Result<String, AllocError> {
         Wanted::SoftintPri => format!(in alloc; "one of the priorities -32, -16, 0, 16 and 32"),
         Wanted::Source => format!(in alloc; "one of \"PORTS\", \"VERTB\" and \"EXTER\""),
         Wanted::Boolean => format!(in alloc; "true or false"),
-        Wanted::Name => {
-            format!(in alloc; "a name of 1 to 31 characters, letters, digits, the dot, _ and -,")
-        }
+        Wanted::Name => { format!(in alloc; "a name of 1 to 31 letters, digits, dots, _ and -") }
         Wanted::Code => format!(in alloc; "an array of strings"),
     }
 }
@@ -110,17 +108,17 @@ fn first_no_string(items: &[Value]) -> Option<usize> {
 fn bad_value_reason(alloc: Global, rule: Rule, table: &Table) -> Result<String, AllocError> {
     let wanted = wanted_text(alloc, rule.wanted)?;
     let Some(value) = member(table, rule.key.text()) else {
-        return format!(in alloc; "{wanted} is wanted");
+        return format!(in alloc; "expected {wanted}");
     };
     if let Some(items) = value.as_array() {
         if let Some(number) = first_no_string(items) {
             if rule.wanted == Wanted::Code {
-                return format!(in alloc; "{wanted} is wanted, and line {number} is none");
+                return format!(in alloc; "expected {wanted}, but line {number} is not a string");
             }
         }
     }
     let held = held_text(alloc, value)?;
-    format!(in alloc; "{wanted} is wanted, and {held} stands here")
+    format!(in alloc; "expected {wanted}, found {held}")
 }
 
 /// The first item of an array that has that name.
@@ -152,10 +150,10 @@ fn twice_reason(
         if let Some(item) = item_named(table, *array, name) {
             let key = array.key();
             let number = item.saturating_add(1);
-            return format!(in alloc; "the name \"{name}\" stands before, in {key} {number}");
+            return format!(in alloc; "the name \"{name}\" is already used, in {key} {number}");
         }
     }
-    format!(in alloc; "the name \"{name}\" stands before")
+    format!(in alloc; "the name \"{name}\" is already used")
 }
 
 /// The table of a place; if the item is no table, the top table.
@@ -187,7 +185,7 @@ fn key_reason(
     match fault {
         FileFault::MissingKey => {
             let wanted = wanted_text(alloc, rule.wanted)?;
-            format!(in alloc; "the key is not there; {wanted} is wanted")
+            format!(in alloc; "the key is missing; expected {wanted}")
         }
         FileFault::NameTwice => twice_reason(alloc, place, text_at(own, "name"), table),
         FileFault::TooMany => {
@@ -214,7 +212,7 @@ fn array_reason(
             format!(in alloc; "{count} tables; there are at most {limit} of {key}")
         }
         _ => format!(in alloc;
-            "an array of tables is wanted, and each begins with two brackets on each side"
+            "expected an array of tables, each of which begins with two brackets on each side"
         ),
     }
 }
@@ -242,6 +240,6 @@ pub fn tree_reason(
         TreePlace::UnknownKey(of) => unknown_key_reason(alloc, of, key_at(place, table)),
         TreePlace::Key(of, key) => key_reason(alloc, of, key, fault, table),
         TreePlace::Array(array) => array_reason(alloc, array, fault, table),
-        TreePlace::Item(_, _) => format!(in alloc; "a table is wanted"),
+        TreePlace::Item(_, _) => format!(in alloc; "expected a table"),
     }
 }

@@ -138,7 +138,7 @@ fn overlap_text(alloc: Global, one: usize, number: usize) -> Result<String, Allo
 }
 
 /// The number of a region that is that many places after the one after that.
-fn number_behind(one: usize, places: usize) -> usize {
+fn number_after(one: usize, places: usize) -> usize {
     one.saturating_add(places).saturating_add(1)
 }
 
@@ -151,7 +151,7 @@ fn overlapped(
 ) -> Result<Option<String>, AllocError> {
     for (k, other) in others.iter().enumerate() {
         if overlaps(region, *other) {
-            let text = overlap_text(alloc, one, number_behind(one, k))?;
+            let text = overlap_text(alloc, one, number_after(one, k))?;
             return Ok(Some(text));
         }
     }

@@ -29,7 +29,7 @@ fn cut<'b, 'a>(parts: &'b [&'a str]) -> (Option<&'a str>, &'b [&'a str]) {
 }
 
 /// What parts say that begin at the place of a word, after a target.
-fn said_behind<'a>(
+fn said_after<'a>(
     alloc: Global,
     target: Option<&'a str>,
     parts: &[&'a str],
@@ -53,7 +53,7 @@ fn said_behind<'a>(
 pub fn said_by(alloc: Global, line: &str) -> Result<Option<Said<'_>>, AllocError> {
     let fields = fields_of(alloc, line)?;
     let (target, parts) = cut(&fields);
-    said_behind(alloc, target, parts)
+    said_after(alloc, target, parts)
 }
 
 /// A target as a part that may be a variable, if it is there.

@@ -22,11 +22,11 @@ fn has_at_end(part: &str, text: &str) -> bool {
 /// What a part is that no line has, if it is one: a comment, or one with a comma or a semicolon at its end.
 fn reason_of(part: &str) -> Option<&'static str> {
     if is_comment(part) {
-        Some("a line of code has no comment; a comment of the file stands behind the string")
+        Some("no comments inside a line of code; put it after the closing quote")
     } else if has_at_end(part, ",") {
-        Some("no comma stands between the parts of a line, but one space")
+        Some("put one space in place of the comma")
     } else if has_at_end(part, ";") {
-        Some("no semicolon stands at the end of a line")
+        Some("remove the semicolon at the end of the line")
     } else {
         None
     }
@@ -62,11 +62,11 @@ fn space_reason(line: &str, start: usize) -> &'static str {
     if line.is_empty() {
         "an empty line says nothing: leave it out"
     } else if start == 0 {
-        "a space stands at the beginning; there is none"
+        "remove the space at the start of the line"
     } else if start >= line.chars().count() {
-        "a space stands at the end; there is none"
+        "remove the space at the end of the line"
     } else {
-        "two spaces stand in a row; one space separates the parts of a line"
+        "put one space in place of two"
     }
 }
 
@@ -94,7 +94,7 @@ fn parts_advice(alloc: Global, line: &str) -> Result<Option<Advice>, AllocError>
 pub fn spacing_advice(alloc: Global, line: &str) -> Result<Option<Advice>, AllocError> {
     match first_of(line, '\t') {
         Some(start) => {
-            let reason = "a tab stands here; one space separates the parts of a line";
+            let reason = "put one space in place of the tab";
             Ok(Some(Advice::new(alloc, Span { start, width: 1 }, reason)?))
         }
         None => parts_advice(alloc, line),

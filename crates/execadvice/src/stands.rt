@@ -52,7 +52,7 @@ fn word_advice(alloc: Global, line: &str, said: &Said<'_>) -> Result<Option<Advi
         None => Ok(None),
         Some((place, name)) => {
             let reason = format!(in alloc;
-                "the code of an interrupt has shared variables alone; did you mean @{name}?"
+                "an interrupt's code may use shared variables only; did you mean @{name}?"
             )?;
             Ok(Some(Advice {
                 span: field_span(line, place),

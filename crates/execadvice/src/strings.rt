@@ -3,12 +3,15 @@
 use std::alloc::{AllocError, Global};
 use std::collections::HashMap;
 
-/// Each string with the numbers of the lines that have it.
+/// Where a string begins: the number of its line, from 1, and the byte of the line, from 0.
+pub type Spot = (usize, usize);
+
+/// Each string with the places at which it is written.
 #[derive(Drop)]
 pub struct Strings<'a> {
-    /// The place in `numbers` of each string.
+    /// The place in `spots` of each string.
     places: HashMap<&'a [u8], usize>,
-    numbers: Vec<Vec<usize>>,
+    spots: Vec<Vec<Spot>>,
 }
 
 impl<'a> Strings<'a> {
@@ -18,27 +21,25 @@ impl<'a> Strings<'a> {
     pub fn new(alloc: Global) -> Strings<'a> {
         Strings {
             places: HashMap::new(alloc),
-            numbers: Vec::new(alloc),
+            spots: Vec::new(alloc),
         }
     }
 
-    /// Adds a string of the line of a number, once for each line.
-    fn add(&mut self, alloc: Global, string: &'a [u8], number: usize) -> Result<(), AllocError> {
+    /// Adds a string that begins there.
+    fn add(&mut self, alloc: Global, string: &'a [u8], spot: Spot) -> Result<(), AllocError> {
         match self.places.get(string).copied() {
-            Some(place) => match self.numbers.get_mut(place) {
+            Some(place) => match self.spots.get_mut(place) {
                 None => Ok(()),
-                Some(numbers) => {
-                    if numbers.last().copied() != Some(number) {
-                        numbers.push(number)?;
-                    }
+                Some(spots) => {
+                    spots.push(spot)?;
                     Ok(())
                 }
             },
             None => {
-                let place = self.numbers.len();
-                let mut numbers = Vec::new(alloc);
-                numbers.push(number)?;
-                self.numbers.push(numbers)?;
+                let place = self.spots.len();
+                let mut spots = Vec::new(alloc);
+                spots.push(spot)?;
+                self.spots.push(spots)?;
                 self.places.insert(string, place)?;
                 Ok(())
             }
@@ -79,7 +80,7 @@ impl<'a> Strings<'a> {
                     } else if byte == quote {
                         open = None;
                         if let Some(string) = line.get(start..i.saturating_add(1)) {
-                            self.add(alloc, string, number)?;
+                            self.add(alloc, string, (number, start))?;
                         }
                     }
                 }
@@ -88,24 +89,24 @@ impl<'a> Strings<'a> {
         Ok(())
     }
 
-    /// The numbers of the lines that have the one string or the other, in their order.
+    /// The places of the one string and of the other, in their order.
     ///
     /// # Errors
     ///
     /// When memory is refused.
     ///
     /// Source: project rule.
-    pub fn lines_of(
+    pub fn spots_of(
         &self,
         alloc: Global,
         one: &[u8],
         other: &[u8],
-    ) -> Result<Vec<usize>, AllocError> {
+    ) -> Result<Vec<Spot>, AllocError> {
         let mut all = Vec::new(alloc);
         for string in [one, other] {
             if let Some(place) = self.places.get(string).copied() {
-                if let Some(numbers) = self.numbers.get(place) {
-                    all.extend_from_slice(numbers)?;
+                if let Some(spots) = self.spots.get(place) {
+                    all.extend_from_slice(spots)?;
                 }
             }
         }

@@ -1,7 +1,7 @@
 -- Blocks by number and by address: where one fits, and how much is free, is the same.
 use Rattle.std.proofs.Common.{◌≡◌, ℕ, List, [], ◌∷◌, ◌++◌, ◌+◌, map, refl, ap, ◌∙◌}
 use Rattle.std.proofs.Math.Path.{fun_ext}
-use Rattle.std.specs.Prelude.{None, ◌&&◌, nat_eq, if◌then◌else◌, is_some}
+use Rattle.std.specs.Prelude.{None, Option, Some, ◌&&◌, nat_eq, if◌then◌else◌, is_some}
 use Rattle.std.specs.Option.{option_map, option_and_then}
 use Rattle.std.specs.List.{filter, flat_map, sum_by}
 use Rattle.execlist.specs.Order.{chosen}
@@ -10,6 +10,7 @@ use Rattle.memlist.specs.declared.region.Region.{Region}
 use Rattle.memlist.specs.Regions.{region_end, total_size}
 use Rattle.memlist.specs.Blocks.{Blocks, blocks_in, is_in, gaps_between, gaps, stretch}
 use Rattle.memlist.specs.Fit.{fit, avail, round, asks, is_suitable, lowest_gap, greatest, region_pri}
+use Rattle.memlist.specs.Readers.{gaps_in}
 use Rattle.execmodel.specs.Memory.{extents, place_for}
 use Rattle.execheap.specs.Numbered.{Numbered, shown_entry, shown_heap, shown_memory}
 use Rattle.execheap.proofs.Entries.{where_key_shown}
@@ -52,6 +53,11 @@ avail_bare regions blocks reqs =
     let sizes = map (λ (gap : Gap). gap.size) (flat_map of (filter (is_suitable reqs) regions)) in
     if asks 17 reqs then greatest sizes
     else (if asks 19 reqs then total_size (filter (is_suitable reqs) regions) else sum_by (λ n. n) sizes)) (fun_ext (gaps_bare blocks))
+
+-- the gaps that are shown are those that the numbered blocks leave
+pub gaps_shown : (s : Numbered) (region : Option Region) → gaps_in region (extents (shown_heap s)) ≡ gaps_in region s.table.memory.blocks
+gaps_shown s None = refl
+gaps_shown s (Some region) = ap (gaps region) (extents_shown s) ∙ gaps_bare s.table.memory.blocks region
 
 -- a block fits if it fits among the numbered ones
 pub fit_shown : (s : Numbered) (size reqs : ℕ) → place_for size reqs (shown_memory s) ≡ fit s.table.memory.regions s.table.memory.blocks size reqs

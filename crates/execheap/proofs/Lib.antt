@@ -59,3 +59,4 @@ pub mod Unused
 pub mod Waits
 pub mod Passed
 pub mod BlockViews
+pub mod Queues

@@ -25,7 +25,7 @@ use Rattle.execheap.proofs.Tagging.{read_tag}
 -- ---- the port that has an address, among entries
 
 -- an address is among the messages of an object
-abbrev Has : ℕ → Numbered → Tagged → Bool
+abbrev pub Has : ℕ → Numbered → Tagged → Bool
 Has a s x = list_any (λ other. other == a) (messages_in (shown_tagged s x))
 
 in_entries : (s : Numbered) (a : ℕ) → (es : Blocks)
@@ -47,7 +47,7 @@ module _ {s : Numbered} (sound : IsSound s) (held : ports.IsSound s.ports) where
 
   module _ (m a : ℕ) (here : slot (message_places s) m ≡ Some a) where
     -- an address is in the messages of a port if its number has that port
-    has_shown : (p : ℕ) → list_any (λ other. other == a) (map (address_in (message_places s)) (messages_of p s.ports)) ≡ is_at (home s.ports.places m) p
+    pub has_shown : (p : ℕ) → list_any (λ other. other == a) (map (address_in (message_places s)) (messages_of p s.ports)) ≡ is_at (home s.ports.places m) p
     has_shown p =
         ap (λ x. list_any (λ other. other == x) (map (address_in (message_places s)) (messages_of p s.ports))) (sym (ap (λ o. unwrap_or o 0) here))
         ∙ stands-map (address_in (message_places s)) m (messages_of p s.ports) (messages_apart sound held p m a here) ∙ stands_in_port sound held p m

@@ -258,18 +258,18 @@ module _ {s : Numbered} (sound : IsSound s) (held : ports.IsSound s.ports) (form
 
 -- ---- the timer
 
+-- what waits lives
+pub waiting_placed : {s : Numbered} → IsSound s → (k : ℕ) → is_waiting k s.timing.timer ≡ true → (a : ℕ) × (slot (places variant.Request s) k ≡ Some a)
+waiting_placed {s} sound k stands = some_is (slot (places variant.Request s) k) (request_live sound.kept k (waiting_under_way sound.kept k stands).0)
+
 module _ {s : Numbered} (sound : IsSound s) (r request : ℕ) (here : slot (places variant.Request s) r ≡ Some request) where
   address_is : address_in (places variant.Request s) r ≡ request
   address_is = ap (λ o. unwrap_or o 0) here
 
-  -- what waits lives
-  waiting_placed : (k : ℕ) → is_waiting k s.timing.timer ≡ true → (a : ℕ) × (slot (places variant.Request s) k ≡ Some a)
-  waiting_placed k stands = some_is (slot (places variant.Request s) k) (request_live sound.kept k (waiting_under_way sound.kept k stands).0)
-
   -- a request is distinguished from those that wait by its address as by its number
-  told_waiting : AllByRecursion (λ (w : Waiting). not ((shown_waiting s w).request == request) ≡ not (w.request == r)) s.timing.timer.waiting
-  told_waiting = waiting_members (λ (w : Waiting). not ((shown_waiting s w).request == request) ≡ not (w.request == r)) s.timing.timer.waiting
-      (λ w stands. ap not (by_case w.request (cases_eq w.request r) (waiting_placed w.request stands)))
+  pub waiting_apart : AllByRecursion (λ (w : Waiting). ((shown_waiting s w).request == request) ≡ (w.request == r)) s.timing.timer.waiting
+  waiting_apart = waiting_members (λ (w : Waiting). ((shown_waiting s w).request == request) ≡ (w.request == r)) s.timing.timer.waiting
+      (λ w stands. by_case w.request (cases_eq w.request r) (waiting_placed sound w.request stands))
     where
       by_case : (k : ℕ) → (k ≡ r) ⊎ (k ≡ r → ⊥) → (a : ℕ) × (slot (places variant.Request s) k ≡ Some a)
           → (address_in (places variant.Request s) k == request) ≡ (k == r)
@@ -279,6 +279,9 @@ module _ {s : Numbered} (sound : IsSound s) (r request : ℕ) (here : slot (plac
           ne_eqb (address_in (places variant.Request s) k) request (λ e. other (number_same sound.table variant.Request k r request
           (placed.1 ∙ ap Some (ap (λ o. unwrap_or o 0) (sym placed.1) ∙ e)) here))
           ∙ sym (ne_eqb k r other)
+
+  told_waiting : AllByRecursion (λ (w : Waiting). not ((shown_waiting s w).request == request) ≡ not (w.request == r)) s.timing.timer.waiting
+  told_waiting = all_then (λ (w : Waiting) same. ap not same) s.timing.timer.waiting waiting_apart
 
   -- a request waits no more
   no_more_shown : shown_timer (on_timing (waits_no_more r) s) ≡ waits_no_more request (shown_timer s)

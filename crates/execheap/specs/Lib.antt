@@ -6,3 +6,4 @@ pub mod Refusals
 pub mod Listing
 pub mod Requesting
 pub mod BlockViews
+pub mod Queues

@@ -15,6 +15,7 @@ ghost use Rattle.execheap.specs.Changes.{unused};
 mod libraries;
 mod lists;
 mod ports;
+mod queues;
 mod readers;
 mod requests;
 mod room;

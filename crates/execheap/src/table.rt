@@ -3,6 +3,7 @@
 ghost use Rattle.std.specs.Prelude.{◌≡◌, ◌≤◌, not, ◌&&◌, true, false, length, map, slice_get, IfOk, IfSome, IsSome, IsTrue, None, Some};
 ghost use Rattle.memlist.specs.Fit.{asks, avail, fit};
 ghost use Rattle.memlist.specs.Memory.{IsWellFormed, allocated, can_free, untouched, without_block};
+ghost use Rattle.memlist.specs.Readers.{gap_from, gaps_in};
 ghost use Rattle.execlist.specs.Pool.{IsStocked, all_free, slot};
 ghost use Rattle.execlib.specs.Libraries.{close_fault, count_of, description_of, is_loaded, loaded_at, library_to_open, no_library_loaded, opened_base};
 ghost use Rattle.execheap.specs.Table.{IsSound, after_asking, base_at, begins_at, free_pools, library_at, library_closed, library_opened, library_removed, next_object, number_at, pool_of, ready_for, ready_to_open, slots_of, unused, with_object, without_object};
@@ -12,7 +13,7 @@ use execlib::library::{LibInit, Loaded};
 use execlib::libs::{LibId, Libs};
 use execlist::pool::Pool;
 use execlist::space::ListSpace;
-use memlist::{MEMF_PUBLIC, MemList, Region};
+use memlist::{Gap, MEMF_PUBLIC, MemList, Region};
 use std::alloc::{AllocError, Global};
 use std::marker::Model;
 
@@ -206,6 +207,15 @@ impl<S: ListSpace> Table<S> {
         ensures { result ≡ slice_get self.now.memory.regions k }
     {
         self.memory.region(k)
+    }
+
+    /// The lowest gap of a region that begins at an address or above it.
+    ///
+    /// Source: RKM Libraries, Exec Memory Allocation: MemChunk.
+    pub fn gap_from(&self, k: usize, address: u32) -> Option<Gap>
+        ensures { result ≡ gap_from address (gaps_in (slice_get self.now.memory.regions k) self.now.memory.blocks) }
+    {
+        self.memory.gap_from(k, address)
     }
 
     /// How often a loaded library is open.

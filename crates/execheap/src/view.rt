@@ -34,6 +34,24 @@ pub enum ObjectView {
     Request(Request),
 }
 
+impl ObjectView {
+    /// The kind of what begins at a block, in one word.
+    ///
+    /// Source: project rule.
+    pub fn kind_name(&self) -> &'static str {
+        match self {
+            ObjectView::Plain => "memory",
+            ObjectView::List => "list",
+            ObjectView::Node(_) => "node",
+            ObjectView::Port(_) => "port",
+            ObjectView::Message(_) => "message",
+            ObjectView::Semaphore(_) => "semaphore",
+            ObjectView::Library(_) => "library",
+            ObjectView::Request(_) => "request",
+        }
+    }
+}
+
 /// What is seen of a message port (RKM Libraries, Exec Messages and Ports).
 #[derive(Clone, Copy, Debug, PartialEq, Eq)]
 pub struct PortView {

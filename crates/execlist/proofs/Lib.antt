@@ -17,3 +17,5 @@ pub mod Linked
 pub mod Read
 pub mod Empty
 pub mod LinkLemmas
+pub mod KeyLemmas
+pub mod Fresh

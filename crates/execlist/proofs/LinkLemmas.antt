@@ -111,7 +111,7 @@ homes_length ls n = length-map-range_with_len (λ i. header_of (link_at ls i).ho
 pub home-at : (ls : List Link) (n i : ℕ) → i < n → home (homes_of ls n) i ≡ header_of (link_at ls i).home
 home-at ls n i l = get_or-map-range_with_len (λ j. header_of (link_at ls j).home) 0 n i i None l (omega arith)
 
-home-past : (ls : List Link) (n i : ℕ) → n ≤ i → home (homes_of ls n) i ≡ None
+pub home-past : (ls : List Link) (n i : ℕ) → n ≤ i → home (homes_of ls n) i ≡ None
 home-past ls n i l = get_or_past (homes_of ls n) i None (omega (arith, homes_length ls n))
 
 pub home-some : (ls : List Link) (n i h : ℕ) → home (homes_of ls n) i ≡ Some h → (i < n) × ((link_at ls i).home ≡ suc h)

@@ -1,7 +1,10 @@
 //! A list space linked by raw pointers: each header is the two cells at the ends of its list, and each node
 //! a cell. All of it is safe code over the block of cells. No call but a search walks along a list.
-ghost use Rattle.std.specs.Prelude.{find, IfSome, ◌≡◌, ℕ, ◌<◌, ◌≤◌, ◌+◌, ◌*◌, List, Option, Some, None, length, vec_len, if◌then◌else◌};
-ghost use Rattle.execlist.specs.Lists.{sequence, home, is_at, key_at, times, ahead};
+ghost use Rattle.std.specs.Prelude.{find, IfSome, ◌≡◌, ℕ, ◌<◌, ◌≤◌, ◌+◌, ◌-◌, ◌++◌, ◌*◌, List, Option, Some, None, length, option_copied, replicate, slice_get, slice_set, vec_len, if◌then◌else◌};
+ghost use Rattle.execlist.specs.Lists.{blank, sequence, home, is_at, key_at, times, ahead};
+ghost use Rattle.execlist.specs.DigestKeys.{digest_keys_of, keys_in};
+ghost use Rattle.execlist.specs.Links.{link_at};
+ghost use Rattle.std.specs.Vec.{vec_capacity};
 ghost use Rattle.std.specs.Mem.Slots.{lease_ptr, lease_len, lease_heap};
 ghost use Rattle.execlist.specs.Chains.{IsLinked, IsLinked-prop, lists_of, homes_of, node_at, cell_before};
 
@@ -31,8 +34,15 @@ pub struct LinkSpace {
     alloc: Global,
     headers: usize,
     nodes: usize,
+    // No node below this number was in a list since the space was made or reset.
+    low: usize,
+    // The keys of the nodes up to the last that was given one; each node after it has the key of a new one.
     keys: Vec<DigestKey>,
-    ghost keyed: { vec_len keys ≡ length (homes_of block.links nodes) },
+    ghost low_inside: { low ≤ nodes },
+    ghost fresh: { (n : ℕ) → n < low → (link_at block.links n).home ≡ 0 },
+    ghost stored: { vec_len keys ≤ nodes },
+    ghost keyed: { length (keys_in nodes keys.items) ≡ length (homes_of block.links nodes) },
+    ghost key_room: { nodes ≤ vec_capacity keys },
     ghost few: { nodes + headers * 2 ≤ 12288 },
     ghost lease_alloc: { lease_heap lease ≡ alloc },
     ghost lease_base: { lease_ptr lease ≡ block.base },
@@ -43,6 +53,33 @@ pub struct LinkSpace {
         ≡ (if is_at (home (homes_of block.links nodes) n) h then 1 else 0) },
 }
 
+/// The lesser of two numbers.
+#[inline]
+fn lesser(a: usize, b: usize) -> usize
+    ensures { (result ≤ a) × (result ≤ b) }
+{
+    if a < b { a } else { b }
+}
+
+/// The key that is stored of a node, if one is.
+#[inline]
+fn stored(keys: &[DigestKey], n: NodeId) -> Option<&DigestKey>
+    ensures { option_copied result ≡ slice_get keys.now n }
+{
+    keys.get(n)
+}
+
+/// Gives each node below a number that has no key yet the key of a new one.
+fn fill(keys: &mut Vec<DigestKey>, count: usize)
+    requires { count ≤ vec_capacity keys.old }
+    ensures keys { digest_keys_of keys.new.items ≡ digest_keys_of keys.old.items ++ replicate (count - length keys.old.items) blank }
+    ensures capacity { vec_capacity keys.old ≤ vec_capacity keys.new }
+{
+    for _n in keys.len()..count {
+        keys.push(DigestKey::new(0, None)).unwrap();
+    }
+}
+
 impl Drop for LinkSpace {
     fn drop(self) {
         let LinkSpace {
@@ -51,6 +88,7 @@ impl Drop for LinkSpace {
             alloc,
             headers,
             nodes,
+            low: _,
             keys: _,
         } = self;
         block.free(lease, &alloc, nodes + headers * 2);
@@ -58,8 +96,6 @@ impl Drop for LinkSpace {
 }
 
 impl LinkSpace {
-    ghost use Rattle.execlist.specs.DigestKeys.{digest_keys_of};
-
     /// The cell of the header's head.
     fn head(&self, h: HeaderId) -> usize
         requires { h < self.now.headers }
@@ -83,9 +119,12 @@ impl LinkSpace {
     #[inline]
     fn is_sought<W: Sought>(&self, n: NodeId, wanted: &W) -> bool
         requires { n < length (homes_of self.now.block.links self.now.nodes) }
-        ensures { result ≡ W.wanted wanted.now (key_at (digest_keys_of self.now.keys.items) n) }
+        ensures { result ≡ W.wanted wanted.now (key_at (keys_in self.now.nodes self.now.keys.items) n) }
     {
-        wanted.is_met(&self.keys[n])
+        match stored(&self.keys, n) {
+            Some(key) => wanted.is_met(key),
+            None => wanted.is_met(&DigestKey::new(0, None)),
+        }
     }
 
     /// Answers the first node that is sought, of `from` and of those after it in its list, or none. Goes from
@@ -93,7 +132,7 @@ impl LinkSpace {
     fn first_sought<W: Sought>(&self, h: HeaderId, from: NodeId, wanted: &W) -> Option<NodeId>
         requires header { h < length (lists_of self.now.block.links self.now.nodes self.now.headers) }
         requires home { home (homes_of self.now.block.links self.now.nodes) from ≡ Some h }
-        ensures value { result ≡ find (λ m. W.wanted wanted.now (key_at (digest_keys_of self.now.keys.items) m))
+        ensures value { result ≡ find (λ m. W.wanted wanted.now (key_at (keys_in self.now.nodes self.now.keys.items) m))
             (ahead (Some from) (sequence (lists_of self.now.block.links self.now.nodes self.now.headers) h)) }
         ensures home { IfSome result (λ m. home (homes_of self.now.block.links self.now.nodes) m ≡ Some h) }
     {
@@ -118,6 +157,19 @@ impl LinkSpace {
         }
     }
 
+    /// Takes the node out of its list, if it is in one.
+    fn take_out(&mut self, n: NodeId)
+        requires { n < self.old.nodes }
+        ensures nodes { self.new.nodes ≡ self.old.nodes }
+        ensures headers { self.new.headers ≡ self.old.headers }
+        ensures homes { homes_of self.new.block.links self.new.nodes
+            ≡ slice_set (homes_of self.old.block.links self.old.nodes) n None }
+    {
+        if self.block.home_id(n) != 0 {
+            self.block.unlink(n);
+        }
+    }
+
     /// The node that the cell is, or none if it is a header's.
     fn node_at(&self, cell: u32) -> Option<NodeId>
         ensures { result ≡ node_at self.now.nodes cell }
@@ -128,18 +180,16 @@ impl LinkSpace {
 }
 
 impl ListSpace for LinkSpace {
-    ghost use Rattle.execlist.specs.DigestKeys.{digest_key_of, digest_keys_of};
-    ghost use Rattle.std.proofs.Common.{arith};
-    ghost use Rattle.std.proofs.lemmas.List.{length-map};
+    ghost use Rattle.execlist.specs.DigestKeys.{keys_in};
 
     ghost sequences = { λ s. lists_of s.block.links s.nodes s.headers };
 
     ghost homes = { λ s. homes_of s.block.links s.nodes };
 
-    ghost keys = { λ s. digest_keys_of s.keys.items };
+    ghost keys = { λ s. keys_in s.nodes s.keys.items };
 
     fn new(alloc: Global, headers: usize, nodes: usize) -> Result<Self, AllocError> {
-        let keys = Vec::from_elem(alloc, DigestKey::new(0, None), nodes)?;
+        let keys = Vec::with_capacity(alloc, nodes)?;
         match reserve(&alloc, nodes + headers * 2) {
             None => Err(AllocError),
             Some((mut block, lease)) => {
@@ -157,6 +207,7 @@ impl ListSpace for LinkSpace {
                     alloc,
                     headers,
                     nodes,
+                    low: nodes,
                     keys,
                 })
             }
@@ -166,11 +217,20 @@ impl ListSpace for LinkSpace {
     fn insert(&mut self, h: HeaderId, n: NodeId, pred: Option<NodeId>) {
         let before = self.cell_before(h, pred);
         let after = self.block.next_id(before) as usize;
+        self.low = lesser(self.low, n);
         self.block.link_between(before, n, after, (h + 1) as u32);
     }
 
     fn remove(&mut self, n: NodeId) {
         self.block.unlink(n);
+    }
+
+    fn reset(&mut self) {
+        for n in self.low..self.nodes {
+            self.take_out(n);
+        }
+        self.low = self.nodes;
+        self.keys.clear();
     }
 
     fn first(&self, h: HeaderId) -> Option<NodeId> {
@@ -199,15 +259,22 @@ impl ListSpace for LinkSpace {
     }
 
     fn set_key(&mut self, n: NodeId, pri: i8, name: Option<Name>) {
+        fill(&mut self.keys, n + 1);
         self.keys[n] = DigestKey::new(pri, name);
     }
 
     fn pri(&self, n: NodeId) -> i8 {
-        self.keys[n].pri()
+        match stored(&self.keys, n) {
+            Some(key) => key.pri(),
+            None => 0,
+        }
     }
 
     fn has_name(&self, n: NodeId, name: &str) -> bool {
-        self.keys[n].is_named(name)
+        match stored(&self.keys, n) {
+            Some(key) => key.is_named(name),
+            None => false,
+        }
     }
 
     // The two searches below have bodies of their own, which go from both ends.
@@ -233,7 +300,7 @@ impl ListSpace for LinkSpace {
 
     ghost stands = { λ s. s.stands };
 
-    ghost keyed = { λ s. omega (arith, length-map s.keys.items digest_key_of, s.keys.ok.0, s.keyed) };
+    ghost keyed = { λ s. s.keyed };
 }
 
 impl LinkSpace {

@@ -180,6 +180,12 @@ impl ListSpace for PlainSpace {
         })
     }
 
+    fn reset(&mut self) {
+        self.order.clear();
+        self.homes.fill(None);
+        self.keys.fill(NodeKey { pri: 0, name: None });
+    }
+
     fn home(&self, n: NodeId) -> Option<HeaderId> {
         self.homes[n]
     }

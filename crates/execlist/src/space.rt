@@ -38,6 +38,14 @@ pub trait ListSpace: Drop {
         ensures unlinked { IfOk result (λ s. homes s ≡ replicate nodes None) }
         ensures blank { IfOk result (λ s. keys s ≡ replicate nodes blank) };
 
+    /// Makes the space as `new` made it: each header is empty, and each node is in none, of priority 0 and with no name.
+    ///
+    /// Source: project rule.
+    fn reset(&mut self)
+        ensures empty { sequences self.new ≡ replicate (length (sequences self.old)) [] }
+        ensures unlinked { homes self.new ≡ replicate (length (homes self.old)) None }
+        ensures blank { keys self.new ≡ replicate (length (homes self.old)) blank };
+
     /// Answers the header whose sequence has the node, or none. Project rule: Exec cannot say.
     fn home(&self, n: NodeId) -> Option<HeaderId>
         requires { n < length (homes self.now) }

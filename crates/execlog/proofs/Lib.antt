@@ -1,3 +1,4 @@
 -- The lemma files of `execlog`.
 pub mod Logging
 pub mod UnitRuns
+pub mod Laying

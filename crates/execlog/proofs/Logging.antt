@@ -1,15 +1,16 @@
--- How the entries of some events follow one another in a log, and what they hold together.
-use Rattle.std.proofs.Common.{◌≡◌, ℕ, zero, suc, ◌+◌, ◌*◌, ◌^◌, ◌<◌, Bool, true, false, cond, List, [], ◌∷◌, ◌++◌, length, take, drop, get_or, replicate, refl, ap, sym, ◌∙◌, subst, append-nil, arith}
-use Rattle.std.specs.Prelude.{Option, None, Some, Result, Ok, Err, OnOk, is_some, ◌||◌, if◌then◌else◌, ◌==◌, sum_by}
+-- How the entries of some events follow one another in a log, and the bytes that show them.
+use Rattle.std.proofs.Common.{◌≡◌, ◌≢◌, ℕ, zero, suc, ◌+◌, ◌*◌, ◌^◌, ◌<◌, Bool, List, [], ◌∷◌, ◌++◌, length, take, drop, get_or, replicate, refl, ap, sym, ◌∙◌, subst, append-nil, append_assoc, arith}
+use Rattle.std.specs.Prelude.{Option, None, Some, Result, Ok, Err, OnOk, is_ok, is_some, ◌||◌, if◌then◌else◌, sum_by}
 use Rattle.std.specs.List.{flat_map}
 use Rattle.std.proofs.lemmas.Grind.{flat_map-append}
 use Rattle.std.proofs.lemmas.List.{length-append, length-replicate, take_more}
 use Rattle.std.proofs.lemmas.List.Sums.{sum_by-cons, sum_by-drop_more, sum_by_more, sum_by_more_le}
 use Rattle.std.proofs.Math.Nat.{suc-mul}
-use Rattle.exectrace.specs.Sink.{Tape, Puts}
+use Rattle.exectrace.specs.Sink.{Tape, Breaks, Puts, TakesAll}
 use Rattle.exectrace.specs.declared.sinks.SinkState.{SinkState}
+use Rattle.exectrace.specs.declared.sinks.SinkState.TheVariants.{Good}
 use Rattle.exectrace.specs.Trace.{printed, printed_line}
-use Rattle.exectrace.proofs.Pieces.{put_same, puts_none, puts_then}
+use Rattle.exectrace.proofs.Pieces.{put_all, put_part, puts_none, puts_then}
 use Rattle.taskscript.specs.Events.{ticks as ticks_of}
 use Rattle.taskscript.specs.File.{MachineData}
 use Rattle.taskscript.specs.declared.event.Event.{Event}
@@ -27,9 +28,8 @@ use Rattle.execsim.specs.Time.{HasTimeFor}
 use Rattle.execsim.proofs.Clock.{time_for_fewer}
 use Rattle.execsim.proofs.Serving.{softint_same}
 use Rattle.execlog.specs.declared.moment.Actor.{Actor}
-use Rattle.execlog.specs.Log.{Entry, LogsTellTheTrace, actor_at, actor_of, acts_next, entries_after, entry_after, log_of, turns, unit_of, units}
-use Rattle.execlog.specs.Rows.{RowsHoldTheText, fronted, log_rows, rows_of}
-use Rattle.execlog.specs.Runs.{Logs, actor_now}
+use Rattle.execlog.specs.Log.{Entry, LogsTellTheTrace, ShowsLog, actor_at, actor_of, acts_next, entries_after, entry_after, log_of, turns, unit_of, units}
+use Rattle.execlog.specs.Runs.{Logs, Wrote, actor_now}
 use Rattle.execlog.proofs.UnitRuns.{units_same}
 
 -- ---- the texts of a log
@@ -50,14 +50,6 @@ logs_tell_the_trace machine list =
     (texts_after 1 (units list) o.state ∙ ap (λ (p : Outcome). printed p.lines) (units_same list o.state))
     ∙ sym (flat_map-append printed_line o.lines (events list o.state).lines)
 
-same_either : (b : Bool) → cond {A = List ℕ} b [] [] ≡ []
-same_either true = refl
-same_either false = refl
-
-pub rows_hold_the_text : RowsHoldTheText
-rows_hold_the_text [] = refl
-rows_hold_the_text (b ∷ bytes) = ap (λ (due : List ℕ). b ∷ fronted due [] bytes) (same_either (b == 10)) ∙ ap (λ (x : List ℕ). b ∷ x) (rows_hold_the_text bytes)
-
 -- ---- some events, and then others
 
 more_state : (some more : List Event) (s : State) → (events (some ++ more) s).state ≡ (events more (events some s).state).state
@@ -74,24 +66,40 @@ more_entries n (e ∷ some) more s =
     (more_entries (suc n) some more (event e s).state
     ∙ ap (λ (k : ℕ). entries_after (suc n) some (event e s).state ++ entries_after k more (events some (event e s).state).state) at)
 
-module _ (line_of : Option Actor → Option ℕ) where
-  more_rows : (n : ℕ) (some more : List Event) (s : State)
-      → log_rows line_of (entries_after n (some ++ more) s)
-      ≡ log_rows line_of (entries_after n some s) ++ log_rows line_of (entries_after (n + length some) more (events some s).state)
-  more_rows n some more s =
-      ap (log_rows line_of) (more_entries n some more s)
-      ∙ flat_map-append (rows_of line_of) (entries_after n some s) (entries_after (n + length some) more (events some s).state)
+-- bytes that show some entries, and bytes that show others
+shows_both : (shows : Entry → List ℕ → Type 0) (some more : List Entry) (x y : List ℕ) → ShowsLog shows some x → ShowsLog shows more y
+    → ShowsLog shows (some ++ more) (x ++ y)
+shows_both shows [] more x y first second = subst (λ (z : List ℕ). ShowsLog shows more (z ++ y)) (sym first) second
+shows_both shows (e ∷ some) more x y first second = record {
+  first = first.first;
+  rest = first.rest ++ y;
+  whole = ap (λ (z : List ℕ). z ++ y) first.whole ∙ append_assoc first.first first.rest y;
+  shows = first.shows;
+  rests = shows_both shows some more first.rest y first.rests second;
+}
 
+-- what was put in one way and then in another
+wrote_both : {First Second All : List ℕ → Type 0} {a b c : Tape} → ((x y : List ℕ) → First x → Second y → All (x ++ y))
+    → Wrote (Puts a b) First → Wrote (Puts b c) Second → Wrote (Puts a c) All
+wrote_both {First} {Second} {All} {a} {b} {c} both first second = record {
+  bytes = first.bytes ++ second.bytes;
+  shows = both first.bytes second.bytes first.shows second.shows;
+  goes = puts_then _ first.goes second.goes refl;
+}
+
+module _ (shows : Entry → List ℕ → Type 0) where
   -- no event
-  pub logs_none : (n : ℕ) (m : Seen) (a : Tape) → Logs line_of [] n m m a a
+  pub logs_none : (n : ℕ) (m : Seen) (a : Tape) → Logs shows [] n m m a a
   unfolding events
-  logs_none n m a = record { agrees = λ s e. e; puts = λ s e. puts_none a }
+  logs_none n m a = record { agrees = λ s e. e; puts = λ s e. record { bytes = []; shows = refl; goes = puts_none a } }
 
   pub logs_more : {m n o : Seen} {a b c : Tape} (k : ℕ) (some more : List Event)
-      → Logs line_of some k m n a b → Logs line_of more (k + length some) n o b c → Logs line_of (some ++ more) k m o a c
+      → Logs shows some k m n a b → Logs shows more (k + length some) n o b c → Logs shows (some ++ more) k m o a c
   logs_more {m} {n} {o} {a} {b} {c} k some more first second = record {
     agrees = λ s e. subst (λ (t : State). Agrees o t) (sym (more_state some more s)) (second.agrees (events some s).state (first.agrees s e));
-    puts = λ s e. puts_then _ (first.puts s e) (second.puts (events some s).state (first.agrees s e)) (more_rows k some more s);
+    puts = λ s e. subst (λ (l : List Entry). Wrote (Puts a c) (ShowsLog shows l)) (sym (more_entries k some more s))
+        (wrote_both (shows_both shows (entries_after k some s) (entries_after (k + length some) more (events some s).state))
+        (first.puts s e) (second.puts (events some s).state (first.agrees s e)));
   }
 
 -- ---- whose command a step is
@@ -111,37 +119,47 @@ actor_same (Irq source) s a = refl
 clock_same : {m : Seen} (s : State) → Agrees m s → m.memory.timer.clock ≡ s.memory.timer.clock
 clock_same s a = ap (λ (memory : Memory). memory.timer.clock) a.memory
 
-module _ (line_of : Option Actor → Option ℕ) {old new : Shown} {x b : List ℕ} {p q : SinkState} {flow : Flow} {a c : Tape} where
-  -- the rows of what an event has printed
+-- bytes that show one entry
+pub shows_one : (shows : Entry → List ℕ → Type 0) (e : Entry) (x : List ℕ) → shows e x → ShowsLog shows (e ∷ []) x
+shows_one shows e x h = record { first = x; rest = []; whole = sym (append-nil x); shows = h; rests = refl }
+
+-- what shows one thing, if it shows another
+pub wrote_as : {Goes First Other : List ℕ → Type 0} → ((x : List ℕ) → First x → Other x) → Wrote Goes First → Wrote Goes Other
+wrote_as other wrote = record { bytes = wrote.bytes; shows = other wrote.bytes wrote.shows; goes = wrote.goes }
+
+module _ (shows : Entry → List ℕ → Type 0) {old new : Shown} {x b : List ℕ} {p q : SinkState} {flow : Flow} {a c : Tape} where
+  -- the bytes that show what an event has printed
   pub entered : (n clock : ℕ) (e : Event) (actor : Option Actor)
       → Acts (event e) old new (record { taken = Some x; state = p }) (record { taken = Some b; state = q }) (Ok flow)
       → x ≡ [] → actor ≡ actor_now e old.seen → clock ≡ new.seen.memory.timer.clock
-      → Puts a c (rows_of line_of (record { moment = record { number = n; clock = clock; actor = actor }; text = b }))
-      → Logs line_of (e ∷ []) n old.seen new.seen a c
+      → Wrote (Puts a c) (shows (record { moment = record { number = n; clock = clock; actor = actor }; text = b }))
+      → Logs shows (e ∷ []) n old.seen new.seen a c
   unfolding events andthen
-  entered n clock e actor acts blank acting timed puts = record {
+  entered n clock e actor acts blank acting timed wrote = record {
     agrees = λ s h. acts.agrees s h refl;
     puts = λ s h.
         let o = event e s in
         let prints : b ≡ printed o.lines = (acts.writes s h).took ∙ ap (λ (y : List ℕ). y ++ printed o.lines) blank in
-        put_same _ puts
-        (append-nil (rows_of line_of (entry_after n (actor_of e s) o))
-        ∙ ap (λ (x : List ℕ). rows_of line_of (record { moment = record { number = n; clock = o.state.memory.timer.clock; actor = actor_of e s }; text = x })) (sym prints)
-        ∙ ap (λ (k : ℕ). rows_of line_of (record { moment = record { number = n; clock = k; actor = actor_of e s }; text = b })) (sym (timed ∙ clock_same o.state (acts.agrees s h refl)))
-        ∙ ap (λ (x : Option Actor). rows_of line_of (record { moment = record { number = n; clock = clock; actor = x }; text = b })) (sym (acting ∙ actor_same e s h)));
+        let same : record { moment = record { number = n; clock = clock; actor = actor }; text = b } ≡ entry_after n (actor_of e s) o =
+        ap (λ (x : Option Actor). record { moment = record { number = n; clock = clock; actor = x }; text = b }) (acting ∙ actor_same e s h)
+        ∙ ap (λ (k : ℕ). record { moment = record { number = n; clock = k; actor = actor_of e s }; text = b }) (timed ∙ clock_same o.state (acts.agrees s h refl))
+        ∙ ap (λ (x : List ℕ). record { moment = record { number = n; clock = o.state.memory.timer.clock; actor = actor_of e s }; text = x }) prints in
+        wrote_as (λ y h. shows_one shows (entry_after n (actor_of e s) o) y (subst (λ (z : Entry). shows z y) same h)) wrote;
   }
 
-  -- the rows of what the start has printed
-  pub began : (clock : ℕ) → Acts starts old new (record { taken = Some x; state = p }) (record { taken = Some b; state = q }) (Ok flow)
-      → x ≡ [] → clock ≡ new.seen.memory.timer.clock
-      → Puts a c (rows_of line_of (record { moment = record { number = 0; clock = clock; actor = None }; text = b }))
-      → (m : MachineData) → Agrees old.seen (booted m) → Puts a c (rows_of line_of (entry_after 0 None (starts (booted m))))
-  began clock acts blank timed puts m h =
+  -- the bytes that show what the start has printed
+  pub began : (n clock : ℕ) → Acts starts old new (record { taken = Some x; state = p }) (record { taken = Some b; state = q }) (Ok flow)
+      → n ≡ 0 → x ≡ [] → clock ≡ new.seen.memory.timer.clock
+      → Wrote (Puts a c) (shows (record { moment = record { number = n; clock = clock; actor = None }; text = b }))
+      → (m : MachineData) → Agrees old.seen (booted m) → Wrote (Puts a c) (shows (entry_after 0 None (starts (booted m))))
+  began n clock acts begins blank timed wrote m h =
       let o = starts (booted m) in
       let prints : b ≡ printed o.lines = (acts.writes (booted m) h).took ∙ ap (λ (y : List ℕ). y ++ printed o.lines) blank in
-      put_same _ puts
-      (ap (λ (x : List ℕ). rows_of line_of (record { moment = record { number = 0; clock = o.state.memory.timer.clock; actor = None }; text = x })) (sym prints)
-      ∙ ap (λ (k : ℕ). rows_of line_of (record { moment = record { number = 0; clock = k; actor = None }; text = b })) (sym (timed ∙ clock_same o.state (acts.agrees (booted m) h refl))))
+      let same : record { moment = record { number = n; clock = clock; actor = None }; text = b } ≡ entry_after 0 None o =
+      ap (λ (k : ℕ). record { moment = record { number = k; clock = clock; actor = None }; text = b }) begins
+      ∙ ap (λ (k : ℕ). record { moment = record { number = 0; clock = k; actor = None }; text = b }) (timed ∙ clock_same o.state (acts.agrees (booted m) h refl))
+      ∙ ap (λ (x : List ℕ). record { moment = record { number = 0; clock = o.state.memory.timer.clock; actor = None }; text = x }) prints in
+      subst (λ (e : Entry). Wrote (Puts a c) (shows e)) same wrote
 
 -- ---- many events
 
@@ -153,33 +171,33 @@ pub turns_of_all : (list : List Event) → length (units list) ≡ sum_by turns 
 turns_of_all [] = refl
 turns_of_all (e ∷ rest) = omega (arith, length-append (unit_of e) (units rest), turns_of_all rest, sum_by-cons turns e rest)
 
-module _ (line_of : Option Actor → Option ℕ) {m n o : Seen} {a b c : Tape} (k : ℕ) where
+module _ (shows : Entry → List ℕ → Type 0) {m n o : Seen} {a b c : Tape} (k : ℕ) where
   -- an event once more
-  pub logs_again : (j : ℕ) (e : Event) → Logs line_of (replicate j e) k m n a b → Logs line_of (e ∷ []) (k + j) n o b c
-      → Logs line_of (replicate (j + 1) e) k m o a c
+  pub logs_again : (j : ℕ) (e : Event) → Logs shows (replicate j e) k m n a b → Logs shows (e ∷ []) (k + j) n o b c
+      → Logs shows (replicate (j + 1) e) k m o a c
   logs_again j e before last =
       let many : k + j ≡ k + length (replicate j e) = ap (λ (x : ℕ). k + x) (sym (length-replicate j e)) in
       let more : suc j ≡ j + 1 = omega arith in
-      subst (λ (l : List Event). Logs line_of l k m o a c) (replicate_more j e ∙ ap (λ (x : ℕ). replicate x e) more)
-      (logs_more line_of k (replicate j e) (e ∷ []) before (subst (λ (x : ℕ). Logs line_of (e ∷ []) x n o b c) many last))
+      subst (λ (l : List Event). Logs shows l k m o a c) (replicate_more j e ∙ ap (λ (x : ℕ). replicate x e) more)
+      (logs_more shows k (replicate j e) (e ∷ []) before (subst (λ (x : ℕ). Logs shows (e ∷ []) x n o b c) many last))
 
   -- one event more
   pub logs_turn : (list : List Event) (i : ℕ) (d : Event) → i < length list
-      → Logs line_of (units (take i list)) k m n a b → Logs line_of (unit_of (get_or list i d)) (k + sum_by turns (take i list)) n o b c
-      → Logs line_of (units (take (i + 1) list)) k m o a c
+      → Logs shows (units (take i list)) k m n a b → Logs shows (unit_of (get_or list i d)) (k + sum_by turns (take i list)) n o b c
+      → Logs shows (units (take (i + 1) list)) k m o a c
   logs_turn list i d within before last =
       let one = get_or list i d in
       let whole : units (take (i + 1) list) ≡ units (take i list) ++ unit_of one = ap units (take_more list i d within)
       ∙ flat_map-append unit_of (take i list) (one ∷ []) ∙ ap (λ (x : List Event). units (take i list) ++ x) (append-nil (unit_of one)) in
       let many : k + sum_by turns (take i list) ≡ k + length (units (take i list)) = ap (λ (x : ℕ). k + x) (sym (turns_of_all (take i list))) in
-      subst (λ (l : List Event). Logs line_of l k m o a c) (sym whole)
-      (logs_more line_of k (units (take i list)) (unit_of one) before (subst (λ (x : ℕ). Logs line_of (unit_of one) x n o b c) many last))
+      subst (λ (l : List Event). Logs shows l k m o a c) (sym whole)
+      (logs_more shows k (units (take i list)) (unit_of one) before (subst (λ (x : ℕ). Logs shows (unit_of one) x n o b c) many last))
 
--- the rows of the next events, reported by if the first ones began
-pub logs_next : {L : Type 0} (line : L → Option Actor → Option ℕ) {p q : L} {j k : ℕ} {list : List Event} {m n : Seen} {a b : Tape}
-    → p ≡ q → j ≡ k → Logs (line p) list j m n a b → Logs (line q) list k m n a b
-logs_next line {p} {q} {j} {k} {list} {m} {n} {a} {b} same number logs =
-    subst (λ x. Logs (line x) list k m n a b) same (subst (λ (x : ℕ). Logs (line p) list x m n a b) number logs)
+-- the entries of the next events, by the form with which the first ones began
+pub logs_next : {F : Type 0} (shows : F → Entry → List ℕ → Type 0) {p q : F} {j k : ℕ} {list : List Event} {m n : Seen} {a b : Tape}
+    → p ≡ q → j ≡ k → Logs (shows p) list j m n a b → Logs (shows q) list k m n a b
+logs_next shows {p} {q} {j} {k} {list} {m} {n} {a} {b} same number logs =
+    subst (λ x. Logs (shows x) list k m n a b) same (subst (λ (x : ℕ). Logs (shows p) list x m n a b) number logs)
 
 pub more_time : (j k t : ℕ) → (j + 1) * k + t ≡ j * k + (k + t)
 more_time j k t =
@@ -203,13 +221,31 @@ module _ (list : List Event) (i : ℕ) (d : Event) (within : i < length list) wh
 
 -- ---- the whole run
 
-pub logged : (line_of : Option Actor → Option ℕ) {mid new : Seen} {a b c : Tape} (machine : MachineData) (list : List Event)
-    → Puts a b (rows_of line_of (entry_after 0 None (starts (booted machine)))) → Agrees mid (starts (booted machine)).state
-    → Logs line_of (units list) 1 mid new b c → Puts a c (log_rows line_of (log_of machine list))
-logged line_of machine list first agrees rest = puts_then _ first (rest.puts (starts (booted machine)).state agrees) refl
+pub logged : (shows : Entry → List ℕ → Type 0) {mid new : Seen} {a b c : Tape} (machine : MachineData) (list : List Event)
+    → Wrote (Puts a b) (shows (entry_after 0 None (starts (booted machine)))) → Agrees mid (starts (booted machine)).state
+    → Logs shows (units list) 1 mid new b c → Wrote (Puts a c) (ShowsLog shows (log_of machine list))
+logged shows machine list first agrees rest =
+    let e = entry_after 0 None (starts (booted machine)) in
+    wrote_both (shows_both shows (e ∷ []) (entries_after 1 (units list) (starts (booted machine)).state))
+    (wrote_as (λ x h. shows_one shows e x h) first) (rest.puts (starts (booted machine)).state agrees)
+
+-- ---- whether all was taken
+
+-- a sink that was good and is good took all
+pub wrote_all : {Shows : List ℕ → Type 0} {a b : Tape} → Wrote (Puts a b) Shows → a.state ≡ Good → b.state ≡ Good → Wrote (TakesAll a b) Shows
+wrote_all wrote good still = record { bytes = wrote.bytes; shows = wrote.shows; goes = put_all wrote.goes good still }
+
+-- a sink that was good and is not good broke off
+pub wrote_part : {Shows : List ℕ → Type 0} {a b : Tape} → Wrote (Puts a b) Shows → a.state ≡ Good → b.state ≢ Good → Wrote (Breaks a b) Shows
+wrote_part wrote good bad = record { bytes = wrote.bytes; shows = wrote.shows; goes = put_part wrote.goes good bad }
 
 -- ---- what follows if a call was made whole
 
 pub whole_then : {T E P Q : Type 0} (r : Result T E) → (P → Q) → OnOk r P → OnOk r Q
 whole_then (Ok x) f p = f p
 whole_then (Err e) f p = p
+
+-- what a call made that leaves all as it was if memory is refused
+pub made_whole : {T E : Type 0} {new : List ℕ} (made old : List ℕ) (r : Result T E) → new ≡ (if is_ok r then made else old) → OnOk r (new ≡ made)
+made_whole made old (Ok x) e = e
+made_whole made old (Err x) e = tt

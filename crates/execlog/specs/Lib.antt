@@ -1,3 +1,4 @@
+pub mod Books
 pub mod Log
 pub mod Rows
 pub mod Runs

@@ -1,6 +1,6 @@
 -- The log of a run: an entry for the start, and one for each step, tick and request of an interrupt, with when it was, which command it was, and
 -- the lines that it printed.
-use Rattle.std.specs.Prelude.{◌≡◌, ℕ, suc, ◌||◌, if◌then◌else◌, nat_lt, is_some, List, [], ◌∷◌, length, replicate, Option, None, Some}
+use Rattle.std.specs.Prelude.{◌≡◌, ℕ, suc, ◌||◌, if◌then◌else◌, nat_lt, is_some, List, [], ◌∷◌, ◌++◌, length, replicate, Option, None, Some}
 use Rattle.std.specs.List.{flat_map}
 use Rattle.exectrace.specs.Trace.{printed}
 use Rattle.taskscript.specs.File.{MachineData}
@@ -67,6 +67,27 @@ abbrev pub log_of : MachineData → List Event → List Entry
 log_of machine list =
     let started = starts (booted machine) in
     entry_after 0 None started ∷ entries_after 1 (units list) started.state
+
+-- ---- bytes that show entries
+
+-- Bytes that show one thing, and after them bytes that show another.
+pub record Both (First Rest : List ℕ → Type 0) (bytes : List ℕ) : Type 0 where
+  pub first : List ℕ
+  pub rest : List ℕ
+  pub whole : bytes ≡ first ++ rest
+  pub shows : First first
+  pub rests : Rest rest
+
+-- the bytes show some entries, one after another
+abbrev pub ShowsLog : (Entry → List ℕ → Type 0) → List Entry → List ℕ → Type 0
+ShowsLog shows [] bytes = bytes ≡ []
+ShowsLog shows (e ∷ rest) bytes = Both (shows e) (ShowsLog shows rest) bytes
+
+-- Bytes that show something were added to a page.
+pub record Gains (Shows : List ℕ → Type 0) (before after : List ℕ) : Type 0 where
+  pub bytes : List ℕ
+  pub shows : Shows bytes
+  pub added : after ≡ before ++ bytes
 
 -- ---- laws
 

@@ -1,9 +1,8 @@
--- How the entries of a log are printed: a row for each line of the trace, with columns before it.
-use Rattle.std.specs.Prelude.{◌≡◌, ℕ, ◌+◌, ◌-◌, ◌/◌, ◌%◌, ◌==◌, if◌then◌else◌, codes, decimal, length, replicate, List, [], ◌∷◌, ◌++◌, Option, None, Some}
-use Rattle.std.specs.List.{flat_map}
-use Rattle.execlog.specs.declared.moment.Actor.{Actor}
+-- The plain form of the entries of a log: a row for each line of the trace, with columns before it and after it.
+use Rattle.std.specs.Prelude.{◌≡◌, ◌≢◌, ⊤, ℕ, ◌+◌, ◌-◌, ◌/◌, ◌%◌, ◌<◌, if◌then◌else◌, Bool, true, codes, decimal, length, replicate, slice_index, List, [], ◌∷◌, ◌++◌, Option, None, Some}
+use Rattle.std.specs.Borrow.{Bor}
+use Rattle.std.specs.List.{flat_map, list_all}
 use Rattle.execlog.specs.declared.moment.Moment.{Moment}
-use Rattle.execlog.specs.Log.{Entry}
 
 -- ---- columns
 
@@ -16,36 +15,78 @@ digit n = 48 + n % 10
 
 -- microseconds as milliseconds with three places
 abbrev pub millis : ℕ → List ℕ
-millis micros = padded 10 (decimal (micros / 1000)) ++ 46 ∷ digit (micros / 100) ∷ digit (micros / 10) ∷ digit micros ∷ []
+millis micros = padded 5 (decimal (micros / 1000)) ++ 46 ∷ digit (micros / 100) ∷ digit (micros / 10) ∷ digit micros ∷ []
 
 -- the number and the time of an entry
 abbrev pub time_columns : Moment → List ℕ
-time_columns m = padded 8 (decimal m.number) ++ millis m.clock
+time_columns m = padded 5 (decimal m.number) ++ millis m.clock
 
 -- the column of a line, or an empty one
 abbrev pub line_column : Option ℕ → List ℕ
-line_column None = replicate 7 32
-line_column (Some line) = replicate (6 - length (decimal line)) 32 ++ 58 ∷ decimal line
+line_column None = replicate 6 32
+line_column (Some line) = replicate (5 - length (decimal line)) 32 ++ 58 ∷ decimal line
 
--- ---- rows
-
--- Bytes with a text before each line: one that is due before the first byte, and another before each later line.
-abbrev pub fronted : (due later : List ℕ) → List ℕ → List ℕ
-fronted due later [] = []
-fronted due later (b ∷ bytes) = due ++ b ∷ fronted (if b == 10 then later else []) later bytes
-
--- what is before the first row of an entry, and before the others
+-- what is before the text of a row
 abbrev pub front : Option ℕ → Moment → List ℕ
 front line m = time_columns m ++ line_column line ++ codes "  "
 
--- The rows of an entry, by if commands were written. The line of the command is in the first one.
-abbrev pub rows_of : (Option Actor → Option ℕ) → Entry → List ℕ
-rows_of line_of e = fronted (front (line_of e.moment.actor) e.moment) (front None e.moment) e.text
+-- the column of the text of a command, after that many bytes of a line; nothing if there is no text
+abbrev pub source_column : ℕ → List ℕ → List ℕ
+source_column taken [] = []
+source_column taken (c ∷ source) = replicate (43 - taken) 32 ++ codes "  " ++ c ∷ source
 
--- the rows of a log
-abbrev pub log_rows : (Option Actor → Option ℕ) → List Entry → List ℕ
-log_rows line_of entries = flat_map (rows_of line_of) entries
+-- ---- rows
 
--- a row without the texts before it is the line of the trace
-abbrev pub RowsHoldTheText : Type 0
-RowsHoldTheText = (bytes : List ℕ) → fronted [] [] bytes ≡ bytes
+-- a row with that text
+abbrev pub row_with : Moment → Option ℕ → List ℕ → List ℕ → List ℕ
+row_with m line text source = front line m ++ text ++ source_column (length text) source ++ 10 ∷ []
+
+-- a line of the trace, with the line of the file and the text of its command
+pub record Row : Type 0 where
+  pub line : Option ℕ
+  pub text : List ℕ
+  pub source : List ℕ
+  pub is_shown : Bool
+
+-- the line of the trace
+abbrev pub traced : Row → List ℕ
+traced r = r.text ++ 10 ∷ []
+
+-- the row, if it is shown
+abbrev pub laid : Moment → Row → List ℕ
+laid m r = if r.is_shown then row_with m r.line r.text r.source else []
+
+-- the bytes have no line feed
+abbrev pub IsPart : List ℕ → Type 0
+IsPart bytes = (k : ℕ) → k < length bytes → slice_index bytes k ≢ 10
+
+-- a text is cut at its first line feed, if it has one
+abbrev pub IsCutAt : List ℕ → Option (Bor (List ℕ) × Bor (List ℕ)) → Type 0
+IsCutAt text None = IsPart text
+IsCutAt text (Some cut) = text ≡ cut.0.now ++ 10 ∷ cut.1.now
+
+-- The bytes are the row of a line of the trace, if it is shown.
+pub record IsRow (All : Type 0) (m : Moment) (line : Option ℕ) (text bytes : List ℕ) : Type 0 where
+  pub source : List ℕ
+  pub is_shown : Bool
+  pub bytes_are : bytes ≡ laid m (record { line = line; text = text; source = source; is_shown = is_shown })
+  pub shown : All → is_shown ≡ true
+
+-- The bytes are rows, one for each line of the text; and what is after its last line feed is after the rows.
+pub record FollowsRows (All : Type 0) (m : Moment) (text bytes : List ℕ) : Type 0 where
+  pub rows : List Row
+  pub left : List ℕ
+  pub text_is : text ≡ flat_map traced rows ++ left
+  pub bytes_are : bytes ≡ flat_map (laid m) rows ++ left
+  pub shown : All → list_all (λ (r : Row). r.is_shown) rows ≡ true
+  pub is_part : IsPart left
+
+-- the first row has that line of the file
+abbrev pub BeginsAt : Option ℕ → List Row → Type 0
+BeginsAt line [] = ⊤
+BeginsAt line (r ∷ rows) = r.line ≡ line
+
+-- The same, and the first row has that line of the file.
+pub record LaysOut (All : Type 0) (m : Moment) (line : Option ℕ) (text bytes : List ℕ) : Type 0 where
+  pub follows : FollowsRows All m text bytes
+  pub begins : BeginsAt line follows.rows

@@ -10,8 +10,7 @@ use Rattle.execsim.specs.Readers.{actor_seen}
 use Rattle.execlog.specs.declared.log.LogFault.{LogFault}
 use Rattle.execlog.specs.declared.log.LogFault.TheVariants.{Memory, Write}
 use Rattle.execlog.specs.declared.moment.Actor.{Actor}
-use Rattle.execlog.specs.Log.{actor_at, entries_after}
-use Rattle.execlog.specs.Rows.{log_rows}
+use Rattle.execlog.specs.Log.{Entry, ShowsLog, actor_at, entries_after}
 
 -- the task whose command an event is
 abbrev pub actor_now : Event → Seen → Option Actor
@@ -19,13 +18,19 @@ actor_now (Run n) seen = actor_at (actor_seen seen) seen.scripts
 actor_now (Tick n) seen = None
 actor_now (Irq source) seen = None
 
--- The machine goes on over some events, one after another, and the rows of their entries are put, before which there were that many entries.
-pub record Logs (line_of : Option Actor → Option ℕ) (list : List Event) (n : ℕ) (old new : Seen) (before after : Tape) : Type 0 where
-  pub agrees : (s : State) → Agrees old s → Agrees new (events list s).state
-  pub puts : (s : State) → Agrees old s → Puts before after (log_rows line_of (entries_after n list s))
+-- Bytes that show something went to a sink in that way.
+pub record Wrote (Goes : List ℕ → Type 0) (Shows : List ℕ → Type 0) : Type 0 where
+  pub bytes : List ℕ
+  pub shows : Shows bytes
+  pub goes : Goes bytes
 
--- A log was written: these rows were taken; or a prefix of them, if the sink failed.
-abbrev pub LogsRun : List ℕ → Tape → Tape → Result (Unit {0}) LogFault → Type 0
-LogsRun rows before after (Ok nothing) = TakesAll before after rows
-LogsRun rows before after (Err Write) = Breaks before after rows
-LogsRun rows before after (Err Memory) = Unit {0}
+-- The machine goes on over some events, one after another, and bytes that show their entries are put, before which there were that many entries.
+pub record Logs (shows : Entry → List ℕ → Type 0) (list : List Event) (n : ℕ) (old new : Seen) (before after : Tape) : Type 0 where
+  pub agrees : (s : State) → Agrees old s → Agrees new (events list s).state
+  pub puts : (s : State) → Agrees old s → Wrote (Puts before after) (ShowsLog shows (entries_after n list s))
+
+-- A log was written: bytes that show it were taken; or a prefix of such bytes, if the sink failed.
+abbrev pub LogsRun : (List ℕ → Type 0) → Tape → Tape → Result (Unit {0}) LogFault → Type 0
+LogsRun Shows before after (Ok nothing) = Wrote (TakesAll before after) Shows
+LogsRun Shows before after (Err Write) = Wrote (Breaks before after) Shows
+LogsRun Shows before after (Err Memory) = Unit {0}

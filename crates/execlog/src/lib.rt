@@ -1,14 +1,24 @@
-//! The log of a run: each line of its trace with the step, the time and the place of the command in the machine file.
-//! `write_log` runs a machine one step and one tick at a time and prints the rows; `laws` says that the log holds the whole trace.
+//! The log of a run: an entry for the start, and one for each step, tick and request of an interrupt, with its number, the time, the command and
+//! what it printed. `write_log` runs a machine one step and one tick at a time and writes each entry in a form; `Plain` is the form of rows, which
+//! has the whole trace.
 #![tactic(auto)]
 
+mod book;
 mod buffer;
+mod cursor;
+mod filter;
+mod form;
 pub mod laws;
-mod lines;
 mod log;
 mod moment;
+mod plain;
 mod rows;
 
-pub use lines::Lines;
+pub use book::{Body, Book, Place};
+pub use cursor::{Cursor, Spot, place_at};
+pub use filter::{Filter, Who};
+pub use form::{Before, Form};
 pub use log::{LogFault, write_log};
 pub use moment::{Actor, Moment};
+pub use plain::{Plain, cut_line, line_of, source_at};
+pub use rows::push_row;

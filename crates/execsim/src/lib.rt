@@ -31,7 +31,7 @@ mod task_signals;
 mod tasks;
 
 /// What is seen of a block of memory and of the object that begins there.
-pub use execheap::{BlockView, LibraryView, ObjectView, PortView};
+pub use execheap::{BlockView, DueTime, Gap, LibraryView, ObjectView, PortView};
 /// Laws of every run of the abstract machine, which the machine follows.
 pub use call::Call;
 pub use execmodel::laws;

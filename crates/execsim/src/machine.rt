@@ -11,6 +11,7 @@ ghost use Rattle.execsim.specs.Headline.{Acts, StaysFailed, Finishes, flow_of};
 ghost use Rattle.execsim.specs.Reached.{QueuesAgree};
 ghost use Rattle.execsim.specs.Time.{HasTimeFor};
 
+mod queues;
 mod readers;
 mod standing;
 

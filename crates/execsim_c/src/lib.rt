@@ -1,86 +1,27 @@
-//! What a C program calls, by the header `execsim.h`: two texts in, the trace of their run out.
+//! What a C program calls, by the header `execsim.h`: two texts in, the trace of their run out; and a machine that is kept between calls
+//! (`stepping`), whose tasks and blocks are read between any two events (`reading`).
 #![tactic(auto)]
 
+mod handle;
+mod loose;
+mod put;
+mod reading;
 mod run;
+mod session;
+mod shown;
+mod status;
+mod stepping;
 
-ghost use Rattle.std.specs.Prelude.{◌≡◌, ◌≤◌, ◌⊎◌, ◌++◌, length, drop};
+ghost use Rattle.std.specs.Prelude.{◌≡◌, ◌≤◌};
 ghost use Rattle.taskscript.specs.File.{file_of};
 ghost use Rattle.taskscript.specs.Events.{script_of};
 ghost use Rattle.execsim.specs.declared.simulation.End.{End};
-ghost use Rattle.execsim_c.specs.Buffers.{Holds, Exceeds, IsEventsFault, IsMachineFault, RefusesEvents, RefusesFile};
+ghost use Rattle.execsim_c.specs.Buffers.{Holds, Exceeds, RefusesEvents, RefusesFile};
 
+use crate::put::{put, put_fault};
 use crate::run::run_of;
-use execsim::{End, SimFault};
+use crate::status::{TOO_LONG, status_of, status_of_fault};
 use std::alloc::Global;
-use std::io::{Cursor, Write};
-use taskscript::{EventFault, FileFault};
-
-/// The status if the machine ran over all its events.
-const RAN: u32 = 0;
-
-/// The status if the machine file is refused.
-const MACHINE_REFUSED: u32 = 1;
-
-/// The status if the event text is refused.
-const EVENTS_REFUSED: u32 = 2;
-
-/// The status if an alert ended the run.
-const ALERTED: u32 = 3;
-
-/// The status if memory was refused.
-const NO_MEMORY: u32 = 4;
-
-/// The status if the trace is longer than the caller's buffer.
-const TOO_LONG: u32 = 5;
-
-/// Puts these bytes at the front of a buffer that has room for them.
-fn put(bytes: &[u8], out: &mut [u8])
-    requires { length bytes.now ≤ length out.old }
-    ensures { out.new ≡ bytes.now ++ drop (length bytes.now) out.old }
-{
-    let n = bytes.len();
-    out[..n].copy_from_slice(bytes);
-}
-
-/// The status of a run that came to its end.
-fn status_of(end: End) -> u32
-    ensures ran { end ≡ End.Ran → result ≡ 0 }
-    ensures alerted { end ≡ End.Alerted → result ≡ 3 }
-{
-    match end {
-        End::Ran => RAN,
-        End::Alerted => ALERTED,
-    }
-}
-
-/// Puts the words of a fault at the front of a buffer, as far as there is room, and answers their length. Which part of a run was refused
-/// memory is not said.
-fn put_fault(fault: SimFault, status: u32, out: &mut [u8]) -> u64 {
-    let mut text = Cursor::new(out);
-    let _ = if status == NO_MEMORY {
-        write!(text, "no memory")
-    } else {
-        write!(text, "{fault}")
-    };
-    text.position()
-}
-
-/// The status of a run that did not come to its end.
-fn status_of_fault(fault: SimFault) -> u32
-    ensures machine { result ≡ 1 → IsMachineFault fault }
-    ensures events { result ≡ 2 → IsEventsFault fault }
-    ensures others { (result ≡ 1) ⊎ (result ≡ 2) ⊎ (result ≡ 4) }
-{
-    match fault {
-        SimFault::File(FileFault::OutOfMemory) => NO_MEMORY,
-        SimFault::File(_) => MACHINE_REFUSED,
-        SimFault::Events(EventFault::OutOfMemory) => NO_MEMORY,
-        SimFault::Events(_) => EVENTS_REFUSED,
-        SimFault::Memory => NO_MEMORY,
-        // the trace is kept in memory, which is all that can be refused
-        SimFault::Write => NO_MEMORY,
-    }
-}
 
 /// Runs a machine file over an event text, and puts the trace at the front of `out`, and its length in bytes in `length`.
 ///

@@ -12,6 +12,7 @@ pub mod Choices
 pub mod Merged
 pub mod Together
 pub mod Memories
+pub mod Readers
 pub mod Tiling
 pub mod Keeping
 pub mod Fitting

@@ -8,3 +8,4 @@ pub mod Joins
 pub mod Choice
 pub mod Chain
 pub mod Descent
+pub mod Readers

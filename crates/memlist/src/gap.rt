@@ -1,8 +1,10 @@
 //! A gap of a region.
 
 /// A stretch of free memory: its address and its size in bytes.
-#[derive(Clone, Copy, Debug)]
+#[derive(Clone, Copy, Debug, PartialEq, Eq)]
 pub struct Gap {
+    /// The address at which it begins.
     pub address: u32,
+    /// Its size in bytes, a multiple of 8.
     pub size: u32,
 }

@@ -10,10 +10,12 @@ ghost use Rattle.memlist.specs.Fit.{greatest, is_suitable, lowest_gap};
 ghost use Rattle.memlist.specs.Chain.{IsLinked, IsSpot, first_or};
 ghost use Rattle.memlist.specs.Areas.{Area, IsLaidArea, area_gaps};
 ghost use Rattle.memlist.specs.Choice.{IsLowest};
+ghost use Rattle.memlist.specs.Readers.{gap_from};
 ghost use Rattle.memlist.specs.declared.gap.Gap.{Gap};
 
 use crate::chunk::WORD;
 use crate::descent::chunk_below;
+use crate::gap::Gap;
 use crate::region::{MEM_BLOCKSIZE, Region};
 use crate::slot::Slot;
 use crate::space::FreeSpace;
@@ -125,6 +127,15 @@ impl MemHeader {
         ensures { IsLowest size (area_gaps self.now) result }
     {
         self.space.lowest_gap(size)
+    }
+
+    /// The lowest gap that begins at an address or above it.
+    ///
+    /// Source: RKM Libraries, Exec Memory Allocation: MemChunk.
+    pub fn gap_from(&self, address: u32) -> Option<Gap>
+        ensures { result ≡ gap_from address (area_gaps self.now) }
+    {
+        self.space.gap_from(address)
     }
 
     /// Puts a block at the front of the lowest gap that has room for it, which is the one after the chunk at an address, or the

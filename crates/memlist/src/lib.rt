@@ -4,6 +4,7 @@
 //! (`specs/Memory.antt`); where AllocMem takes memory is `fit` of `specs/Fit.antt`.
 #![tactic(auto)]
 
+pub use gap::Gap;
 pub use memory::{MemList, NotABlock};
 pub use region::{MEM_BLOCKSIZE, MemFault, Region, check_regions};
 pub use requirement::{

@@ -7,8 +7,10 @@ ghost use Rattle.memlist.specs.Chain.{first_or};
 ghost use Rattle.memlist.specs.Fit.{asks, avail, fit, round};
 ghost use Rattle.memlist.specs.Memory.{IsWellFormed, Memory, allocated, can_free, names, untouched, without_block};
 ghost use Rattle.memlist.specs.Areas.{Area, IsFreeChain, empty_area};
+ghost use Rattle.memlist.specs.Readers.{gap_from, gaps_in};
 ghost use Rattle.memlist.specs.Choice.{IsHome, IsOffer, free_of, installed_of, is_outranked, largest_of};
 
+use crate::gap::Gap;
 use crate::header::MemHeader;
 use crate::region::{MemFault, Region, check_regions};
 use crate::requirement::{MEMB_LARGEST, MEMB_TOTAL, MEMF_LARGEST, MEMF_TOTAL};
@@ -151,6 +153,19 @@ impl MemList {
     {
         match self.headers.get(k) {
             Some(header) => Some(header.region()),
+            None => None,
+        }
+    }
+
+    /// The lowest gap of a region that begins at an address or above it; none if there is none, and past the last region. The region is
+    /// named by its place in the machine's file.
+    ///
+    /// Source: RKM Libraries, Exec Memory Allocation: MemChunk.
+    pub fn gap_from(&self, k: usize, address: u32) -> Option<Gap>
+        ensures { result ≡ gap_from address (gaps_in (slice_get self.now.regions k) self.now.blocks) }
+    {
+        match self.headers.get(k) {
+            Some(header) => header.gap_from(address),
             None => None,
         }
     }

@@ -6,6 +6,7 @@ ghost use Rattle.memlist.specs.Chain.{IsClimbed, IsLastBelow, IsLinked, IsNextBe
 ghost use Rattle.memlist.specs.Choice.{IsLowest};
 ghost use Rattle.memlist.specs.Fit.{greatest};
 ghost use Rattle.memlist.specs.Joins.{Around};
+ghost use Rattle.memlist.specs.Readers.{gap_from};
 ghost use Rattle.memlist.specs.declared.gap.Gap.{Gap};
 
 use crate::chunk::{Chunk, WORD, cut, link, read, word_place, write};
@@ -115,6 +116,22 @@ impl FreeSpace {
         while let Some(gap) = self.after(before) {
             if size <= u64::from(gap.size) {
                 return Some(before);
+            }
+            before = gap.address;
+        }
+        None
+    }
+
+    /// The lowest gap that begins at an address or above it.
+    ///
+    /// Source: RKM Libraries, Exec Memory Allocation: MemChunk.
+    pub fn gap_from(&self, address: u32) -> Option<Gap>
+        ensures { result ≡ gap_from address self.now.gaps }
+    {
+        let mut before = 0;
+        while let Some(gap) = self.after(before) {
+            if address <= gap.address {
+                return Some(gap);
             }
             before = gap.address;
         }

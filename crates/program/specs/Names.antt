@@ -13,5 +13,9 @@ command_named path =
     Some command.Execsim
     else if ends_with eqb path (codes "/execcheck") then
     Some command.Execcheck
+    else if ends_with eqb path (codes "/execexplore") then
+    Some command.Execexplore
+    else if ends_with eqb path (codes "/execlog") then
+    Some command.Execlog
     else
     None

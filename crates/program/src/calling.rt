@@ -4,8 +4,8 @@ ghost use Rattle.std.specs.Prelude.{◌≡◌, ◌≤◌};
 use crate::command::{Command, command_called};
 use crate::version::print_version;
 use std::env::{Env, FillError};
-use std::io::Write;
-use std::rt::Files;
+use std::io::{IsTerminal, Write};
+use std::rt::{Clock, Files};
 
 /// The most bytes of the path by which the program is called, and one more: the system has no longer paths.
 const PATH_ROOM: usize = 4_096;
@@ -40,7 +40,7 @@ fn refuse_name<E: Write>(err: &mut E) -> u8
 {
     let _ = writeln!(
         err,
-        "execsim: this program does the command by whose name it is called: execsim or execcheck"
+        "execsim: this program does the command by whose name it is called: execsim, execcheck, execexplore or execlog"
     );
     COMMAND_LINE_REFUSED
 }
@@ -50,7 +50,7 @@ fn refuse_name<E: Write>(err: &mut E) -> u8
 /// Each command but `execsim`, whose command line is two paths, takes the word `--version` too.
 ///
 /// Source: project rule.
-pub fn run_as_called<R: Env + Files + AllocGlobal, W: Write + Drop, E: Write>(
+pub fn run_as_called<R: Env + Files + Clock + AllocGlobal, W: Write + Drop, E: Write + IsTerminal>(
     rt: &R,
     mut out: W,
     err: &mut E,
@@ -66,5 +66,7 @@ pub fn run_as_called<R: Env + Files + AllocGlobal, W: Write + Drop, E: Write>(
     match command {
         Command::Execsim => execrun::run_on_arguments(rt, out, err),
         Command::Execcheck => checker::run_on_arguments(rt, out, err),
+        Command::Execexplore => execexplore::run_on_arguments(rt, out, err),
+        Command::Execlog => logger::run_on_arguments(rt, out, err),
     }
 }

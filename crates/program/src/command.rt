@@ -10,6 +10,10 @@ pub enum Command {
     Execsim,
     /// Says what is wrong with the texts of a run.
     Execcheck,
+    /// Runs every way in which interrupts can come among the events of a run.
+    Execexplore,
+    /// Prints the trace of a run with the step, the time and the place of each line, or what the machine shows.
+    Execlog,
 }
 
 impl Command {
@@ -20,6 +24,8 @@ impl Command {
         match self {
             Command::Execsim => "execsim",
             Command::Execcheck => "execcheck",
+            Command::Execexplore => "execexplore",
+            Command::Execlog => "execlog",
         }
     }
 
@@ -29,7 +35,7 @@ impl Command {
     pub fn takes_version(self) -> bool {
         match self {
             Command::Execsim => false,
-            Command::Execcheck => true,
+            Command::Execcheck | Command::Execexplore | Command::Execlog => true,
         }
     }
 }
@@ -55,6 +61,10 @@ pub fn command_called(path: &[u8]) -> Option<Command>
         Some(Command::Execsim)
     } else if ends_in(path, "/execcheck") {
         Some(Command::Execcheck)
+    } else if ends_in(path, "/execexplore") {
+        Some(Command::Execexplore)
+    } else if ends_in(path, "/execlog") {
+        Some(Command::Execlog)
     } else {
         None
     }

@@ -1,14 +1,2 @@
-pub mod Parts
-pub mod Awaiting
-pub mod Owned
-pub mod Owning
-pub mod Waiters
-pub mod Effects
-pub mod Standing
-pub mod Standings
-pub mod Trace
-pub mod Waiting
-pub mod Reasons
-pub mod Advice
-pub mod Following
-pub mod Running
+pub mod Ends
+pub mod Going

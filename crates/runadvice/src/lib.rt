@@ -1,17 +1,24 @@
-//! Says what a run comes to that is most likely not meant, as its trace reports it: tasks that still wait when the events end, and events
-//! that end before any task has.
+//! Explains how a run ends: the alert that stopped it, each task that still waits, a deadlock, and a task that runs without end.
+//! `course` notes what each step did, `following` makes the run, and the other files ask the machine at its end.
 #![tactic(auto)]
 
-mod advice;
+mod alert;
+mod argument;
+mod check;
 mod course;
-mod effect;
-mod fields;
-mod owners;
-mod past;
-mod reasons;
-mod start;
+mod deadlock;
+mod ending;
+mod following;
+mod handles;
+mod origin;
+mod page;
+mod ready;
+mod room;
+mod rules;
+mod running;
+mod step;
+mod value;
 mod wait;
-mod waiters;
-mod watch;
+mod waiting;
 
-pub use advice::check_run;
+pub use check::{Report, check_run};

@@ -18,9 +18,6 @@ use std::io;
 /// The path that is before the places of each text.
 const PATH: &str = "text";
 
-/// The path that is before the places of the event text of a run.
-const EVENTS_PATH: &str = "events";
-
 /// A text and the answer that is wanted.
 #[derive(Clone, Copy)]
 struct Case<'a> {
@@ -54,27 +51,33 @@ fn status_of(is_refused: bool, answer: &str) -> &'static str {
     }
 }
 
-/// Whether the text of a case of a table is refused, and what was found in it.
-fn found_in(rt: &HostRuntime, table: &str, text: &str) -> io::Result<(bool, String)> {
+/// The status of the texts of a run, and what was found of it.
+fn found_of_run(rt: &HostRuntime, text: &str) -> io::Result<(&'static str, String)> {
+    let (machine, events) = text.split_once("-- events\n").unwrap_or((text, ""));
+    let report = check_run(rt.alloc(), PATH, machine.as_bytes(), events.as_bytes())?;
+    Ok((if report.warns { "3" } else { "0" }, report.text))
+}
+
+/// The status of the text of a case of a table, and what was found in it.
+fn found_in(rt: &HostRuntime, table: &str, text: &str) -> io::Result<(&'static str, String)> {
     if table.ends_with(".endings") {
-        let (machine, events) = text.split_once("-- events\n").unwrap_or((text, ""));
-        let (machine, events) = (machine.as_bytes(), events.as_bytes());
-        let found = check_run(rt.alloc(), PATH, machine, EVENTS_PATH, events)?;
-        return Ok((false, found));
+        return found_of_run(rt, text);
     }
-    if table.ends_with(".events") {
+    let (is_refused, answer) = if table.ends_with(".events") {
         let finding = check_events(rt.alloc(), PATH, text.as_bytes())?;
-        return Ok((finding.fault.is_some(), finding.text));
-    }
-    let finding = check_machine(rt.alloc(), PATH, text.as_bytes())?;
-    Ok((finding.fault.is_some(), finding.text))
+        (finding.fault.is_some(), finding.text)
+    } else {
+        let finding = check_machine(rt.alloc(), PATH, text.as_bytes())?;
+        (finding.fault.is_some(), finding.text)
+    };
+    let status = status_of(is_refused, answer.as_str());
+    Ok((status, answer))
 }
 
 /// Whether the answer to a text is as it is wanted. If it is not, it is printed.
 fn is_as_wanted(rt: &HostRuntime, table: &str, case: &Case<'_>) -> io::Result<bool> {
-    let (is_refused, answer) = found_in(rt, table, case.text)?;
+    let (status, answer) = found_in(rt, table, case.text)?;
     let answer = answer.as_str();
-    let status = status_of(is_refused, answer);
     if status == case.status && answer == case.answer {
         return Ok(true);
     }

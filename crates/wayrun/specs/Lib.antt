@@ -1,4 +1,5 @@
 pub mod Seen
 pub mod SoFar
+pub mod Sought
 pub mod Texts
 pub mod Words

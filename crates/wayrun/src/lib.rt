@@ -1,4 +1,4 @@
-//! What is seen of each way: one way is run on a machine of its own, and a search notes what is seen of all ways of a part.
+//! What is seen of each way: one way is run from the first state of its machine, and a search notes what is seen of all ways of a part.
 #![tactic(auto)]
 
 mod lines;
@@ -8,6 +8,6 @@ mod searching;
 mod see;
 
 pub use room::Room;
-pub use running::run_way;
+pub use running::{Bench, run_way};
 pub use searching::{Runs, search};
 pub use see::See;

@@ -16,6 +16,7 @@ use crate::room::Room;
 use crate::see::See;
 use execlist::link::LinkSpace;
 use execsim::{Flow, Machine};
+use exectrace::SinkState;
 use std::alloc::{AllocError, Global};
 use taskscript::{Event, MachineFile};
 
@@ -78,12 +79,13 @@ fn push_ending(
 
 /// Runs a way on a machine that was not started, that of the file.
 fn run_on(
-    alloc: Global,
     machine: &mut Machine<LinkSpace>,
     _file: &MachineFile,
     way: &[Event],
     see: See,
     room: &mut Room,
+    line: &mut Vec<u8>,
+    last: &mut Vec<u8>,
     kept: &mut Vec<u8>,
 ) -> Result<Flow, AllocError>
     requires good { room.old.state ≡ SinkState.Good }
@@ -93,29 +95,69 @@ fn run_on(
     requires enough { HasTimeFor 1000000 machine.old.seen }
     ensures kept { OnOk result (kept.new.items ≡ seen_of see _file.now way.now) }
     ensures flow { IfOk result (λ flow. flow ≡ flow_of (run _file.now way.now).state.stopped) }
-    ensures good { OnOk result (room.new.state ≡ SinkState.Good) }
 {
     room.bytes.clear();
     kept.clear();
-    let mut line = Vec::new(alloc);
-    let mut last = Vec::new(alloc);
+    line.clear();
+    last.clear();
     let Ok(mut flow) = machine.start(room) else {
         return Err(AllocError);
     };
-    keep_lines(see, room.bytes.as_slice(), &mut line, &mut last, kept)?;
+    keep_lines(see, room.bytes.as_slice(), line, last, kept)?;
     for event in way {
         room.bytes.clear();
         flow = match machine.event(*event, room) {
             Ok(flow) => flow,
             Err(_) => return Err(AllocError),
         };
-        keep_lines(see, room.bytes.as_slice(), &mut line, &mut last, kept)?;
+        keep_lines(see, room.bytes.as_slice(), line, last, kept)?;
     }
     push_ending(machine, flow, see, last.as_slice(), room, kept)?;
     Ok(flow)
 }
 
-/// Runs a way on a machine of its own, and leaves in `kept` what is seen of it.
+/// What ways are run on, one after another: a machine, and room for what it prints.
+#[derive(Drop)]
+pub struct Bench {
+    machine: Machine<LinkSpace>,
+    room: Room,
+    line: Vec<u8>,
+    last: Vec<u8>,
+}
+
+impl Bench {
+    /// What the ways of a machine file are run on.
+    ///
+    /// # Errors
+    ///
+    /// Memory was refused.
+    ///
+    /// Source: project rule.
+    pub fn new(alloc: Global, file: &MachineFile) -> Result<Bench, AllocError> {
+        Ok(Bench {
+            machine: Machine::boot(alloc, file)?,
+            room: Room::new(alloc),
+            line: Vec::new(alloc),
+            last: Vec::new(alloc),
+        })
+    }
+}
+
+/// Puts a machine back to its first state: that of the file, before its start.
+fn made_again(
+    alloc: Global,
+    machine: &mut Machine<LinkSpace>,
+    file: &MachineFile,
+) -> Result<(), AllocError>
+    ensures going { OnOk result (machine.new.failed ≡ false) }
+    ensures agrees { OnOk result (Agrees machine.new.seen (booted file.now)) }
+    ensures enough { OnOk result (HasTimeFor 1000000 machine.new.seen) }
+{
+    *machine = Machine::boot(alloc, file)?;
+    Ok(())
+}
+
+/// Runs a way from the first state of its machine, and leaves in `kept` what is seen of it.
 ///
 /// # Errors
 ///
@@ -124,18 +166,26 @@ fn run_on(
 /// Source: project rule.
 pub fn run_way(
     alloc: Global,
+    bench: &mut Bench,
     file: &MachineFile,
     way: &[Event],
     see: See,
-    room: &mut Room,
     kept: &mut Vec<u8>,
 ) -> Result<Flow, AllocError>
-    requires good { room.old.state ≡ SinkState.Good }
-    requires time { sum_by ticks_of way.now ≤ 1000000 }
+    requires { sum_by ticks_of way.now ≤ 1000000 }
     ensures kept { OnOk result (kept.new.items ≡ seen_of see file.now way.now) }
     ensures flow { IfOk result (λ flow. flow ≡ flow_of (run file.now way.now).state.stopped) }
-    ensures good { OnOk result (room.new.state ≡ SinkState.Good) }
 {
-    let mut machine: Machine<LinkSpace> = Machine::boot(alloc, file)?;
-    run_on(alloc, &mut machine, file, way, see, room, kept)
+    made_again(alloc, &mut bench.machine, file)?;
+    bench.room.state = SinkState::Good;
+    run_on(
+        &mut bench.machine,
+        file,
+        way,
+        see,
+        &mut bench.room,
+        &mut bench.line,
+        &mut bench.last,
+        kept,
+    )
 }

@@ -1,4 +1,4 @@
-//! The search: each way of a part is run on a machine of its own, and what is seen of it is noted.
+//! The search: each way of a part is run from the first state of the machine, and what is seen of it is noted.
 ghost use Rattle.std.specs.Prelude.{◌≡◌, ◌≤◌, ◌+◌, [], true, IfOk, OnOk, List, ℕ, length, sum_by};
 ghost use Rattle.taskscript.specs.Events.{ticks as ticks_of};
 ghost use Rattle.ways.specs.Ways.{ways as ways_of, part_of};
@@ -6,11 +6,11 @@ ghost use Rattle.ways.specs.Tables.{number_where, table_of};
 ghost use Rattle.wayrun.specs.Seen.{is_alerted, seen_of};
 ghost use Rattle.wayrun.specs.SoFar.{stops};
 
-use crate::room::Room;
-use crate::running::run_way;
+use crate::running::{Bench, run_way};
 use crate::see::See;
 use execsim::Flow;
 use std::alloc::Global;
+use std::marker::Model;
 use taskscript::{Event, MachineFile};
 use ways::{SearchFault, Show, Sizes, Tabler, Watcher, Window, table_of_part};
 
@@ -58,26 +58,34 @@ pub struct Runs<'a> {
     alloc: Global,
     file: &'a MachineFile,
     see: See,
+    bench: Bench,
+}
+
+impl<'a> Model for Runs<'a> {
+    ghost use Rattle.wayrun.specs.Sought.{Sought};
+
+    ghost Value = { Sought };
+
+    ghost view = { λ runs. record { file = runs.file.now; see = runs.see } };
 }
 
 impl<'a> Show for Runs<'a> {
     ghost use Rattle.wayrun.specs.Seen.{is_alerted, seen_of};
 
-    ghost seen = { λ runs way. seen_of runs.see runs.file.now way };
+    ghost seen = { λ runs way. seen_of runs.see runs.file way };
 
-    ghost alerted = { λ runs way. is_alerted runs.file.now way };
+    ghost alerted = { λ runs way. is_alerted runs.file way };
 
     fn show(&mut self, way: &[Event], text: &mut Vec<u8>) -> Result<bool, SearchFault> {
         if !has_time(way) {
             return Err(SearchFault::TooManyTicks);
         }
-        let mut room = Room::new(self.alloc);
-        let flow = run_way(self.alloc, self.file, way, self.see, &mut room, text)?;
+        let flow = run_way(self.alloc, &mut self.bench, self.file, way, self.see, text)?;
         Ok(is_stopped(flow))
     }
 }
 
-/// Runs each way of a part on a machine of its own, and answers the table of what is seen.
+/// Runs each way of a part from the first state of the machine, and answers the table of what is seen.
 ///
 /// The ways are those with at most `sizes.most` extras of these kinds among the actions; the part names them by their numbers from 0. No way
 /// is left out, no outcome is made up, each count is right, and each first way is the least.
@@ -102,7 +110,14 @@ pub fn search<'a, P: Watcher + Drop>(
     ensures table { IfOk result (λ found. found.table ≡ table_of (seen_of see file.now) [] (part_of part.skip part.left (ways_of kinds.now sizes.now.most actions.now))) }
     ensures alerts { IfOk result (λ found. found.alerts ≡ number_where (is_alerted file.now) (part_of part.skip part.left (ways_of kinds.now sizes.now.most actions.now))) }
 {
-    let mut tabler = Tabler::new(alloc, Runs { alloc, file, see }, watcher);
+    let bench = Bench::new(alloc, file)?;
+    let runs = Runs {
+        alloc,
+        file,
+        see,
+        bench,
+    };
+    let mut tabler = Tabler::new(alloc, runs, watcher);
     table_of_part(alloc, &mut tabler, sizes, kinds, actions, part)?;
     Ok(tabler)
 }

@@ -4,6 +4,7 @@ pub mod Counting
 pub mod Parts
 pub mod Skips
 pub mod Tables
+pub mod Maps
 pub mod Rows
 pub mod Merging
 pub mod Exact

@@ -1,11 +1,13 @@
 //! The table of what is seen: an outcome for each different text, in the order in which they are first seen.
-ghost use Rattle.std.specs.Prelude.{◌≡◌, OnOk, IfOk};
+ghost use Rattle.std.specs.Prelude.{◌≡◌, [], ℕ, length, OnOk, IfOk};
 ghost use Rattle.taskscript.specs.declared.event.Event.{Event};
 ghost use Rattle.ways.specs.Tables.{noted};
-ghost use Rattle.ways.specs.Entries.{entry_of, entries_of};
+ghost use Rattle.ways.specs.Entries.{entries_in, entries_of};
 
 use crate::fault::SearchFault;
+use indexmap::IndexMap;
 use std::alloc::{AllocError, Global};
+use std::marker::Model;
 use taskscript::Event;
 
 /// How many outcomes a table may have.
@@ -19,43 +21,97 @@ pub struct Outcome {
     pub first: Vec<Event>,
 }
 
-/// The outcome of a text that is seen for the first time.
-fn opened(alloc: Global, text: &[u8], way: &[Event]) -> Result<Outcome, AllocError>
-    ensures { IfOk result (λ outcome. entry_of outcome ≡ record { seen = text.now; count = 1; first = way.now }) }
-{
-    let mut seen = Vec::new(alloc);
-    seen.extend_from_slice(text)?;
-    let mut first = Vec::new(alloc);
-    first.extend_from_slice(way)?;
-    Ok(Outcome {
-        seen,
-        count: 1,
-        first,
-    })
+/// The number of ways that show a text, and the first of them.
+#[derive(Drop)]
+pub struct Tally {
+    pub count: u64,
+    pub first: Vec<Event>,
 }
 
-/// Notes what is seen of one more way.
-pub(crate) fn note(
-    alloc: Global,
-    outcomes: &mut Vec<Outcome>,
-    text: &[u8],
-    way: &[Event],
-) -> Result<(), SearchFault>
-    ensures { OnOk result (entries_of outcomes.new.items ≡ noted (entries_of outcomes.old.items) text.now way.now) }
+/// The table of some ways. A text is found by its hash, so that a table of many outcomes is as fast as one of few.
+#[derive(Drop)]
+pub struct Table {
+    tallies: IndexMap<Vec<u8>, Tally>,
+}
+
+impl Model for Table {
+    ghost use Rattle.ways.specs.Entries.{entries_in};
+    ghost use Rattle.std.specs.Prelude.{List};
+    ghost use Rattle.taskscript.specs.declared.event.Event.{Event};
+    ghost use Rattle.ways.specs.Tables.{Entry};
+
+    ghost Value = { List (Entry (List Event)) };
+
+    ghost view = { λ t. entries_in t.tallies.entries };
+}
+
+/// A copy of a text.
+fn copied_text(alloc: Global, text: &[u8]) -> Result<Vec<u8>, AllocError>
+    ensures { IfOk result (λ copy. copy.items ≡ text.now) }
 {
-    for i in 0..outcomes.len() {
-        if outcomes[i].seen.as_slice() == text {
-            match outcomes[i].count.checked_add(1) {
+    let mut copy = Vec::new(alloc);
+    copy.extend_from_slice(text)?;
+    Ok(copy)
+}
+
+/// A copy of a way.
+fn copied_way(alloc: Global, way: &[Event]) -> Result<Vec<Event>, AllocError>
+    ensures { IfOk result (λ copy. copy.items ≡ way.now) }
+{
+    let mut copy = Vec::new(alloc);
+    copy.extend_from_slice(way)?;
+    Ok(copy)
+}
+
+impl Table {
+    /// A table of no ways.
+    pub fn new(alloc: Global) -> Table
+        ensures { result ≡ [] }
+    {
+        Table {
+            tallies: IndexMap::new(alloc),
+        }
+    }
+
+    /// The number of outcomes.
+    pub fn len(&self) -> usize
+        ensures { result ≡ length self.now }
+    {
+        self.tallies.len()
+    }
+
+    /// Notes what is seen of one more way.
+    pub fn note(&mut self, alloc: Global, text: &[u8], way: &[Event]) -> Result<(), SearchFault>
+        ensures { OnOk result (self.new ≡ noted self.old text.now way.now) }
+    {
+        if let Some(tally) = self.tallies.get_mut(text) {
+            match tally.count.checked_add(1) {
                 None => return Err(SearchFault::TooManyOutcomes),
-                Some(count) => outcomes[i].count = count,
+                Some(count) => tally.count = count,
             }
             return Ok(());
         }
+        if self.tallies.len() >= MOST_OUTCOMES {
+            return Err(SearchFault::TooManyOutcomes);
+        }
+        let seen = copied_text(alloc, text)?;
+        let first = copied_way(alloc, way)?;
+        self.tallies.insert(seen, Tally { count: 1, first })?;
+        Ok(())
     }
-    if outcomes.len() >= MOST_OUTCOMES {
-        return Err(SearchFault::TooManyOutcomes);
+
+    /// The outcomes, in the order in which they were first seen.
+    pub fn into_outcomes(self, alloc: Global) -> Result<Vec<Outcome>, AllocError>
+        ensures { IfOk result (λ outcomes. entries_of outcomes.items ≡ self) }
+    {
+        let mut outcomes = Vec::new(alloc);
+        for (seen, tally) in self.tallies {
+            outcomes.push(Outcome {
+                seen,
+                count: tally.count,
+                first: tally.first,
+            })?;
+        }
+        Ok(outcomes)
     }
-    let outcome = opened(alloc, text, way)?;
-    outcomes.push(outcome)?;
-    Ok(())
 }

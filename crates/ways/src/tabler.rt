@@ -8,9 +8,9 @@ ghost use Rattle.ways.specs.Tabled.{Tabled};
 
 use crate::fault::SearchFault;
 use crate::sizes::Sizes;
-use crate::table::{Outcome, note};
+use crate::table::{Outcome, Table};
 use crate::visiting::{Visitor, Window, visit_part};
-use std::alloc::Global;
+use std::alloc::{AllocError, Global};
 use std::marker::Model;
 use taskscript::Event;
 
@@ -44,7 +44,7 @@ pub struct Tabler<S: Show, P: Watcher> {
     text: Vec<u8>,
     tried: u64,
     alerts: u64,
-    outcomes: Vec<Outcome>,
+    table: Table,
 }
 
 impl<S: Show, P: Watcher> Model for Tabler<S, P> {
@@ -53,7 +53,7 @@ impl<S: Show, P: Watcher> Model for Tabler<S, P> {
 
     ghost Value = { Tabled S };
 
-    ghost view = { λ t. record { shows = t.shows; table = entries_of t.outcomes.items; alerts = t.alerts } };
+    ghost view = { λ t. record { shows = t.shows; table = t.table; alerts = t.alerts } };
 }
 
 impl<S: Show, P: Watcher> Tabler<S, P> {
@@ -70,17 +70,8 @@ impl<S: Show, P: Watcher> Tabler<S, P> {
             text: Vec::new(alloc),
             tried: 0,
             alerts: 0,
-            outcomes: Vec::new(alloc),
+            table: Table::new(alloc),
         }
-    }
-
-    /// The outcomes, in the order in which they were first seen.
-    ///
-    /// Source: project rule.
-    pub fn outcomes(&self) -> &[Outcome]
-        ensures { entries_of result.now ≡ self.now.table }
-    {
-        self.outcomes.as_slice()
     }
 
     /// The number of ways that end in an alert.
@@ -90,6 +81,21 @@ impl<S: Show, P: Watcher> Tabler<S, P> {
         ensures { result ≡ self.now.alerts }
     {
         self.alerts
+    }
+}
+
+impl<S: Show + Drop, P: Watcher + Drop> Tabler<S, P> {
+    /// The outcomes, in the order in which they were first seen.
+    ///
+    /// # Errors
+    ///
+    /// Memory was refused.
+    ///
+    /// Source: project rule.
+    pub fn into_outcomes(self) -> Result<Vec<Outcome>, AllocError>
+        ensures { IfOk result (λ outcomes. entries_of outcomes.items ≡ self.table) }
+    {
+        self.table.into_outcomes(self.alloc)
     }
 }
 
@@ -115,9 +121,9 @@ impl<S: Show, P: Watcher> Visitor for Tabler<S, P> {
     fn visit(&mut self, way: &[Event]) -> Result<(), SearchFault> {
         let alerted = self.shows.show(way, &mut self.text)?;
         self.alerts = counted(self.alerts, alerted)?;
-        note(self.alloc, &mut self.outcomes, self.text.as_slice(), way)?;
+        self.table.note(self.alloc, self.text.as_slice(), way)?;
         self.tried = self.tried.saturating_add(1);
-        self.watcher.report(self.tried, self.outcomes.len());
+        self.watcher.report(self.tried, self.table.len());
         Ok(())
     }
 }

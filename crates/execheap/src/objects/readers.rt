@@ -2,8 +2,10 @@
 ghost use Rattle.std.specs.Prelude.{◌≡◌, slice_get};
 ghost use Rattle.std.specs.Option.{option_map};
 ghost use Rattle.execlist.specs.Lists.{key_at};
+ghost use Rattle.memlist.specs.Readers.{gap_from as first_from, gaps_in};
 ghost use Rattle.execmodel.specs.Memory.{block_at};
 ghost use Rattle.execheap.specs.BlockViews.{block_view, object_view, port_view};
+ghost use Rattle.execheap.specs.Queues.{gap_from};
 ghost use Rattle.execheap.specs.Numbered.{object_of, shown_heap, shown_tagged};
 ghost use Rattle.msgport.specs.Ports.{port_at};
 
@@ -13,7 +15,7 @@ use crate::tag::{Kind, Tagged};
 use crate::view::{BlockView, LibraryView, ObjectView, PortView};
 use execlib::libs::LibId;
 use execlist::space::{ListSpace, NodeId};
-use memlist::Region;
+use memlist::{Gap, Region};
 use msgport::ports::PortId;
 
 impl<S: ListSpace> Objects<S> {
@@ -30,6 +32,15 @@ impl<S: ListSpace> Objects<S> {
                 object: self.view_of(begins),
             }),
         }
+    }
+
+    /// The lowest gap of a region that begins at an address or above it.
+    ///
+    /// Source: RKM Libraries, Exec Memory Allocation: MemChunk.
+    pub fn gap_from(&self, k: usize, address: u32) -> Option<Gap>
+        ensures { result ≡ first_from address (gaps_in (slice_get self.now.table.memory.regions k) self.now.table.memory.blocks) }
+    {
+        self.table.gap_from(k, address)
     }
 
     // What is seen of what begins at a block.
@@ -111,6 +122,15 @@ impl<S: ListSpace> Heap<S> {
         ensures { result ≡ slice_get self.now.regions k }
     {
         self.objects.table.region(k)
+    }
+
+    /// The lowest gap of a region that begins at an address or above it; none if there is none, and past the last region.
+    ///
+    /// Source: RKM Libraries, Exec Memory Allocation: MemChunk.
+    pub fn gap_from(&self, k: usize, address: u32) -> Option<Gap>
+        ensures { result ≡ gap_from k address self.now }
+    {
+        self.objects.gap_from(k, address)
     }
 
     /// What is seen of the block that begins at an address, if one does.

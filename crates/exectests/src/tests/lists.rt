@@ -28,6 +28,7 @@ enum Change {
     Remove(NodeId),
     RemHead(HeaderId),
     RemTail(HeaderId),
+    Reset,
 }
 
 /// A call that reads a space.
@@ -126,6 +127,10 @@ impl<S: ListSpace> Driver<S> {
             }
             RemHead(h) if h < self.headers => Node(self.space.rem_head(h)),
             RemTail(h) if h < self.headers => Node(self.space.rem_tail(h)),
+            Reset => {
+                self.space.reset();
+                Done
+            }
             _ => Refused,
         }
     }
@@ -218,7 +223,7 @@ fn call_of(x: u32) -> Change {
     }
 }
 
-/// A thousand calls of both spaces, which are compared after each.
+/// A thousand calls of both spaces, each hundredth of which is a reset; the spaces are compared after each.
 #[test]
 fn mixed_calls_agree(rt: HostRuntime) -> Result<(), Fail> {
     let mut linked: Driver<LinkSpace> = Driver::new(rt.alloc(), 2, 8)?;
@@ -226,7 +231,11 @@ fn mixed_calls_agree(rt: HostRuntime) -> Result<(), Fail> {
     let mut x: u32 = 1;
     for number in 0..1000 {
         x = x.wrapping_mul(1664525).wrapping_add(1013904223);
-        let call = call_of(x / 512);
+        let call = if number % 100 == 99 {
+            Reset
+        } else {
+            call_of(x / 512)
+        };
         same(&rt, number, 0, linked.change(call), plain.change(call));
         compare(&rt, number, &linked, &plain);
     }
@@ -271,6 +280,36 @@ fn look_at_six<S: ListSpace>(rt: &impl Abort, alloc: Global) -> Result<(), Fail>
         same(rt, number, 0, d.look(*call), *wanted);
     }
     Ok(())
+}
+
+/// Links and names the nodes of a space, resets it, and compares it with a new one, before and after a node is linked in each.
+fn reset_as_new<S: ListSpace>(rt: &impl Abort, alloc: Global) -> Result<(), Fail> {
+    let mut used: Driver<S> = Driver::new(alloc, 2, 8)?;
+    let mut new: Driver<S> = Driver::new(alloc, 2, 8)?;
+    for (n, (pri, name)) in KEYS.iter().enumerate() {
+        for call in [SetKey(n, *pri, *name), Put(n % 2, n, ByPriority)] {
+            same(rt, n, n, used.change(call), Done);
+        }
+    }
+    same(rt, 6, 0, used.change(Reset), Done);
+    for (number, (call, _)) in LOOKS.iter().enumerate() {
+        same(rt, number, 0, used.look(*call), new.look(*call));
+    }
+    for call in [Put(1, 5, Tail), Put(1, 0, ByPriority)] {
+        same(rt, 7, 1, used.change(call), new.change(call));
+    }
+    for n in 0..8 {
+        for call in [Home(n), Pri(n), Succ(n), HasName(n, "y")] {
+            same(rt, 8, n, used.look(call), new.look(call));
+        }
+    }
+    Ok(())
+}
+
+#[test]
+fn a_space_that_was_reset_is_as_new(rt: HostRuntime) -> Result<(), Fail> {
+    reset_as_new::<PlainSpace>(&rt, rt.alloc())?;
+    reset_as_new::<LinkSpace>(&rt, rt.alloc())
 }
 
 #[test]

@@ -6,6 +6,6 @@ use Rattle.execlog.proofs.log.advance.Goals as goal
 
 pub returns-in-Ok-clause-logs : goal.returns-in-Ok-clause-logs
 returns-in-Ok-clause-logs g c = whole_then c.enter.result
-    (λ puts. entered (g.L.Lines.line c.args.log.now.lines.now) c.args.log.now.number c.view.result.clock c.args.one c.actor_of-actor.result (c.in-Ok.ensures.acts c.requires.going)
-    c.clear.ensures.bytes c.actor_of-actor.ensures (ap (λ (v : MachineView). v.clock) c.view.ensures) puts)
-    c.enter.ensures.rows
+    (λ puts. entered (g.F.Form.shows c.args.log.now.form.now) c.args.log.now.number c.view-clock.result.clock c.args.one c.actor_of-actor.result (c.in-Ok.ensures.acts c.requires.going)
+    c.clear.ensures.bytes c.actor_of-actor.ensures (ap (λ (v : MachineView). v.clock) c.view-clock.ensures) puts)
+    c.enter.ensures.shows

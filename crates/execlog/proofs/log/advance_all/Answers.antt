@@ -12,7 +12,7 @@ loop-one-init g c = record {
   going = c.requires.going;
   good = c.requires.good;
   number = omega arith;
-  lines = refl;
+  form = refl;
   time = c.requires.time;
 }
 
@@ -26,11 +26,11 @@ advance_event-requires-clause-time g c = time_for_one c.args.list.now c.loop-one
 pub loop-one-preserved : goal.loop-one-preserved
 loop-one-preserved g c = record {
   logs = logs_turn _ c.args.log.now.number c.args.list.now c.loop-one.one-index _ c.loop-one-test.true c.loop-one.invariant.logs
-      (logs_next g.L.Lines.line (ap (λ l. l.now) c.loop-one.invariant.lines) c.loop-one.invariant.number c.in_ok-advance_event.ensures.logs);
+      (logs_next g.F.Form.shows (ap (λ l. l.now) c.loop-one.invariant.form) c.loop-one.invariant.number c.in_ok-advance_event.ensures.logs);
   going = c.in_ok-advance_event.ensures.going;
   good = c.in_ok-advance_event.ensures.good;
   number = turns_more c.args.list.now c.loop-one.one-index _ c.loop-one-test.true c.args.log.now.number c.loop-one.log.number _ c.loop-one.invariant.number c.in_ok-advance_event.ensures.number;
-  lines = c.in_ok-advance_event.ensures.lines ∙ c.loop-one.invariant.lines;
+  form = c.in_ok-advance_event.ensures.form ∙ c.loop-one.invariant.form;
   time = c.in_ok-advance_event.ensures.time _
       (subst (λ (n : ℕ). HasTimeFor n c.loop-one.machine.seen) (sum_by-drop_more ticks_of c.args.list.now c.loop-one.one-index _ c.loop-one-test.true)
       c.loop-one.invariant.time);

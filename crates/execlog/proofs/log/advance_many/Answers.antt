@@ -13,7 +13,7 @@ loop-turn-init g c = record {
   going = c.requires.going;
   good = c.requires.good;
   number = omega arith;
-  lines = refl;
+  form = refl;
   time = λ ticks enough. time_for_fewer ticks (0 * ticks_of c.args.one + ticks) c.args.machine.now.seen (omega arith) enough;
 }
 
@@ -34,11 +34,11 @@ loop-turn-preserved g c =
     let j = c.loop-turn._turn in
     record {
       logs = logs_again _ c.args.log.now.number j c.args.one c.loop-turn.invariant.logs
-          (logs_next g.L.Lines.line (ap (λ l. l.now) c.loop-turn.invariant.lines) c.loop-turn.invariant.number c.in_ok-advance.ensures.logs);
+          (logs_next g.F.Form.shows (ap (λ l. l.now) c.loop-turn.invariant.form) c.loop-turn.invariant.number c.in_ok-advance.ensures.logs);
       going = c.in_ok-advance.ensures.going;
       good = c.in_ok-advance.ensures.good;
       number = omega (arith, c.in_ok-advance.ensures.number, c.loop-turn.invariant.number);
-      lines = c.in_ok-advance.ensures.lines ∙ c.loop-turn.invariant.lines;
+      form = c.in_ok-advance.ensures.form ∙ c.loop-turn.invariant.form;
       time = λ ticks enough. c.in_ok-advance.ensures.time ticks
           (c.loop-turn.invariant.time (k + ticks) (subst (λ (n : ℕ). HasTimeFor n c.args.machine.now.seen) (more_time j k ticks) enough));
     }

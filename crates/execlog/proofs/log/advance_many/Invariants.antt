@@ -8,10 +8,10 @@ use Rattle.execlog.proofs.log.advance_many.Given as goal
 
 abbrev pub invariant-loop-turn : goal.invariant-loop-turn
 invariant-loop-turn g l = record {
-  logs : Logs (g.L.Lines.line l.initial.log.lines.now) (replicate l._turn l.one) l.initial.log.number l.initial.machine.seen l.machine.seen (g.W.Sink.tape l.initial.out) (g.W.Sink.tape l.out);
+  logs : Logs (g.F.Form.shows l.initial.log.form.now) (replicate l._turn l.one) l.initial.log.number l.initial.machine.seen l.machine.seen (g.W.Sink.tape l.initial.out) (g.W.Sink.tape l.out);
   going : l.machine.failed ≡ false;
   good : l.log.text.state ≡ Good;
   number : l.log.number ≡ l.initial.log.number + l._turn;
-  lines : l.log.lines ≡ l.initial.log.lines;
+  form : l.log.form ≡ l.initial.log.form;
   time : (ticks : ℕ) → HasTimeFor (l._turn * ticks_of l.one + ticks) l.initial.machine.seen → HasTimeFor ticks l.machine.seen;
 }

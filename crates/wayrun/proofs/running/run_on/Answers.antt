@@ -29,10 +29,10 @@ loop-event-init c =
       good = a.good;
       going = a.going;
       agrees = subst (λ (o : Outcome). Agrees c.start.new.self.seen o.state) (sym (starts_only file)) a.agrees;
-      line = line_after c.new-line.result.items c.keep_lines.new.line.items c.as_slice.result.now first.lines c.new-line.ensures.items text c.in_ok-keep_lines.ensures.line;
-      last = last_after c.new-line.result.items c.new-last.result.items c.keep_lines.new.last.items c.as_slice.result.now first.lines c.new-line.ensures.items text c.in_ok-keep_lines.ensures.last
-          ∙ (ap (λ l. last_of l (whole_lines [] (printed first.lines))) c.new-last.ensures.items ∙ ap (λ (o : Outcome). last_of [] (whole_lines [] (printed o.lines))) (sym (starts_only file)));
-      kept = kept_after see c.new-line.result.items c.clear-2.new.self.items c.keep_lines.new.kept.items c.as_slice.result.now first.lines c.new-line.ensures.items text c.in_ok-keep_lines.ensures.kept
+      line = line_after c.clear-3.new.self.items c.keep_lines.new.line.items c.as_slice.result.now first.lines c.clear-3.ensures.items text c.in_ok-keep_lines.ensures.line;
+      last = last_after c.clear-3.new.self.items c.clear-4.new.self.items c.keep_lines.new.last.items c.as_slice.result.now first.lines c.clear-3.ensures.items text c.in_ok-keep_lines.ensures.last
+          ∙ (ap (λ l. last_of l (whole_lines [] (printed first.lines))) c.clear-4.ensures.items ∙ ap (λ (o : Outcome). last_of [] (whole_lines [] (printed o.lines))) (sym (starts_only file)));
+      kept = kept_after see c.clear-3.new.self.items c.clear-2.new.self.items c.keep_lines.new.kept.items c.as_slice.result.now first.lines c.clear-3.ensures.items text c.in_ok-keep_lines.ensures.kept
           ∙ (ap (λ l. l ++ shown_of see (printed first.lines)) c.clear-2.ensures.items ∙ ap (λ (o : Outcome). shown_of see (printed o.lines)) (sym (starts_only file)));
       flow = a.flow_is ∙ ap (λ (o : Outcome). flow_of o.state.stopped) (sym (starts_only file));
       time = c.in-Ok.ensures.time_left c.requires.going refl (sum_by ticks_of c.args.way.now)

@@ -3,7 +3,7 @@ use Rattle.std.proofs.Common.{◌≡◌, ℕ, ◌<◌, Bool, Some, cond, refl, a
 use Rattle.std.specs.Prelude.{find}
 use Rattle.std.proofs.lemmas.Bool.{cond-true, cond-false, ne_eqb}
 use Rattle.execlist.specs.Lists.{sequence, home, key_at, ahead, part_before, part_from}
-use Rattle.execlist.specs.DigestKeys.{digest_keys_of}
+use Rattle.execlist.specs.DigestKeys.{keys_in}
 use Rattle.execlist.specs.Chains.{lists_of, homes_of}
 use Rattle.execlist.proofs.PlainLemmas.{last_none}
 use Rattle.execlist.proofs.Walks.{ahead_shorter, once_from, from_last, from_before, in_sequence, front_step, back_step, last_ahead, nearer, has_last, not_first, before_ahead}
@@ -22,7 +22,7 @@ loop-found-init g c =
     let s = c.args.self.now in
     let seq = sequence (lists_of s.block.links s.nodes s.headers) c.args.h in
     let homes = homes_of s.block.links s.nodes in
-    let wanted : ℕ → Bool = (λ m. g.W.Sought.wanted c.args.wanted.now (key_at (digest_keys_of s.keys.items) m)) in
+    let wanted : ℕ → Bool = (λ m. g.W.Sought.wanted c.args.wanted.now (key_at (keys_in s.nodes s.keys.items) m)) in
     let once = once_from seq (home homes) c.args.h (s.stands c.args.h) in
     let inside = in_sequence _ (home homes c.args.from) c.args.h (s.stands c.args.h c.args.from) c.requires.home in
     let at_end = c.in_ok-back.ensures.value in
@@ -49,7 +49,7 @@ returns-then-next-back-2-clause-value g c =
     let s = c.args.self.now in
     let seq = sequence (lists_of s.block.links s.nodes s.headers) c.args.h in
     let homes = homes_of s.block.links s.nodes in
-    let wanted : ℕ → Bool = (λ m. g.W.Sought.wanted c.args.wanted.now (key_at (digest_keys_of s.keys.items) m)) in
+    let wanted : ℕ → Bool = (λ m. g.W.Sought.wanted c.args.wanted.now (key_at (keys_in s.nodes s.keys.items) m)) in
     let once = once_from seq (home homes) c.args.h (s.stands c.args.h) in
     let l = c.loop-found in
     let step = c.in_ok-next.ensures.value c.args.h l.invariant.next_home in
@@ -78,7 +78,7 @@ loop-found-preserved g c =
     let s = c.args.self.now in
     let seq = sequence (lists_of s.block.links s.nodes s.headers) c.args.h in
     let homes = homes_of s.block.links s.nodes in
-    let wanted : ℕ → Bool = (λ m. g.W.Sought.wanted c.args.wanted.now (key_at (digest_keys_of s.keys.items) m)) in
+    let wanted : ℕ → Bool = (λ m. g.W.Sought.wanted c.args.wanted.now (key_at (keys_in s.nodes s.keys.items) m)) in
     let once = once_from seq (home homes) c.args.h (s.stands c.args.h) in
     let l = c.loop-found in
     let step = c.in_ok-next.ensures.value c.args.h l.invariant.next_home in

@@ -3,7 +3,7 @@ use Rattle.std.proofs.Common.{◌≡◌, ℕ, ◌<◌, length, Bool, Some}
 use Rattle.std.specs.Prelude.{find}
 use Rattle.std.specs.Option.{ForSome}
 use Rattle.execlist.specs.Lists.{sequence, home, key_at, times, ahead, part_after}
-use Rattle.execlist.specs.DigestKeys.{digest_keys_of}
+use Rattle.execlist.specs.DigestKeys.{keys_in}
 use Rattle.execlist.specs.Chains.{lists_of, homes_of}
 use Rattle.execlist.proofs.link.LinkSpace.first_sought.Given as goal
 
@@ -11,7 +11,7 @@ abbrev pub invariant-loop-found : goal.invariant-loop-found
 invariant-loop-found g l =
     let seq = sequence (lists_of l.self.block.links l.self.nodes l.self.headers) l.h in
     let homes = homes_of l.self.block.links l.self.nodes in
-    let wanted : ℕ → Bool = (λ m. g.W.Sought.wanted l.wanted (key_at (digest_keys_of l.self.keys.items) m)) in
+    let wanted : ℕ → Bool = (λ m. g.W.Sought.wanted l.wanted (key_at (keys_in l.self.nodes l.self.keys.items) m)) in
     record {
       sought : find wanted (ahead (Some l.fn.from) seq) ≡ find wanted (ahead (Some l.next) seq);
       kept : l.found ≡ find wanted (part_after l.back seq);

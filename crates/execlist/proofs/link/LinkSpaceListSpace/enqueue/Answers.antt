@@ -5,7 +5,7 @@ use Rattle.std.specs.Option.{ForSome}
 use Rattle.std.proofs.lemmas.Int.{to_z-of_z}
 use Rattle.execlist.specs.Order.{is_lower}
 use Rattle.execlist.specs.Lists.{sequence, home, key_at, pri_of, ahead}
-use Rattle.execlist.specs.DigestKeys.{digest_keys_of}
+use Rattle.execlist.specs.DigestKeys.{keys_in}
 use Rattle.execlist.specs.Chains.{lists_of, homes_of}
 use Rattle.execlist.proofs.Walks.{ahead_first, once_from, in_sequence, arrives_at, arrives_at_end}
 use Rattle.execlist.proofs.link.LinkSpaceListSpace.enqueue.Goals.{in-None, in-Some, in-Some-lower, in-None-lower}
@@ -17,7 +17,7 @@ returns-clause-placed c =
     let all = lists_of s.block.links s.nodes s.headers in
     let seq = sequence all c.args.h in
     let homes = homes_of s.block.links s.nodes in
-    let keys = digest_keys_of s.keys.items in
+    let keys = keys_in s.nodes s.keys.items in
     let key = pri_of keys in
     let lower : ℕ → Bool = (λ m. is_lower key m c.args.n) in
     let once = once_from seq (home homes) c.args.h (s.stands c.args.h) in

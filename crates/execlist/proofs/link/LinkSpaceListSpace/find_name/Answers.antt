@@ -2,7 +2,7 @@
 use Rattle.std.proofs.Common.{◌≡◌, ap, sym, ◌∙◌, Some}
 use Rattle.std.specs.Prelude.{find}
 use Rattle.execlist.specs.Lists.{sequence, home, key_at, part_from, is_named, name_is, ahead}
-use Rattle.execlist.specs.DigestKeys.{digest_keys_of}
+use Rattle.execlist.specs.DigestKeys.{keys_in}
 use Rattle.execlist.specs.Chains.{lists_of, homes_of}
 use Rattle.execlist.proofs.Walks.{ahead_first, ahead_after, once_from}
 use Rattle.execlist.proofs.link.LinkSpaceListSpace.find_name.Goals.{in-None, in-Some}
@@ -12,7 +12,7 @@ pub returns-clause-value : goal.returns-clause-value
 returns-clause-value c =
     let s = c.args.self.now in
     let seq = sequence (lists_of s.block.links s.nodes s.headers) c.args.h in
-    let keys = digest_keys_of s.keys.items in
+    let keys = keys_in s.nodes s.keys.items in
     let once = once_from seq (home (homes_of s.block.links s.nodes)) c.args.h (s.stands c.args.h) in
     let asked : ahead c.match-after.from seq ≡ part_from c.args.after seq =
     elim c.match-after.branch [

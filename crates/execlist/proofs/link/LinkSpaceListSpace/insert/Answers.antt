@@ -1,7 +1,8 @@
 -- A cell that is put between two neighbours is in their list.
-use Rattle.std.proofs.Common.{◌<◌, length, ap, sym, subst, ◌∙◌, arith}
+use Rattle.std.proofs.Common.{◌+◌, ◌<◌, length, ap, sym, subst, ◌∙◌, arith}
 use Rattle.execlist.specs.Links.{link_at}
 use Rattle.execlist.proofs.LinkLemmas.{known-header, homes_length, pred-in, pred-next-in, new-lists, new-holds, new-homes, stands-linked}
+use Rattle.execlist.proofs.Fresh.{AreFresh, linked-fresh}
 use Rattle.execlist.proofs.link.LinkSpaceListSpace.insert.Goals as goal
 
 pub cell_before-before-requires : goal.cell_before-before-requires
@@ -33,7 +34,11 @@ invariant_of-self c =
     record {
       linked = still;
       stands = stands-linked s.nodes s.headers new still;
+      low_inside = let less = c.lesser-self.ensures.0 in omega (arith, less, s.low_inside);
+      fresh = subst (AreFresh c.lesser-self.result) (sym c.link_between.ensures.links) (linked-fresh s.low c.lesser-self.result c.cell_before-before.result c.args.n c.next_id-after.result (c.args.h + 1) s.block.links c.lesser-self.ensures.0 c.lesser-self.ensures.1 s.fresh);
+      stored = s.stored;
       keyed = s.keyed ∙ homes_length s.block.links s.nodes ∙ sym (homes_length new s.nodes);
+      key_room = s.key_room;
       few = s.few;
       lease_alloc = s.lease_alloc;
       lease_base = s.lease_base ∙ sym c.link_between.ensures.block.0;

@@ -1,14 +1,12 @@
 -- The cells are those of empty lists and of nodes that are in none.
 use Rattle.std.proofs.Common.{◌≡◌, suc, ◌*◌, ◌<◌, List, [], ◌∷◌, ◌++◌, ◌+◌, length, replicate, refl, sym, ap, subst, ◌∙◌, arith}
-use Rattle.std.proofs.Common.{map, rules}
 use lib.ListN.{length-append, length-replicate}
 use Rattle.execlist.specs.Lists.{blank}
-use Rattle.execlist.specs.DigestKeys.{digest_key_of}
-use Rattle.execlist.specs.declared.digest.DigestKey.{DigestKey}
-use Rattle.execlist.proofs.PlainLemmas.{mapped_replicate}
-use Rattle.execlist.specs.Links.{Link, link}
+use Rattle.execlist.specs.DigestKeys.{keys_in}
+use Rattle.execlist.proofs.KeyLemmas.{no-keys}
+use Rattle.execlist.specs.Links.{Link, link, link_at}
 use Rattle.execlist.specs.Chains.{IsLinked, lists_of, head_cell, tail_cell, free_links, empty_links, homes_of}
-use Rattle.execlist.proofs.Empty.{free-length, empty-length, empty-lists, empty-holds, free-more, empty-more, empty-none, free-none}
+use Rattle.execlist.proofs.Empty.{free-length, empty-length, empty-lists, empty-holds, free-more, empty-more, empty-none, free-none, empty-at}
 use Rattle.execlist.proofs.LinkLemmas.{stands-linked, homes_length, empty-homes}
 use Rattle.execlist.proofs.link.LinkSpaceListSpace.new.Goals as goal
 
@@ -60,12 +58,14 @@ pub invariant_of-result : goal.invariant_of-result
 invariant_of-result c =
     let n = c.args.nodes in let k = c.args.headers in let e = c.in-Some.ensures in
     let holds : IsLinked n k c.loop-h.block.links (lists_of c.loop-h.block.links n k) = subst (λ l. IsLinked n k l (lists_of l n k)) (sym (links-are c)) (empty-holds n k) in
-    let k0 : DigestKey = c.new.result in
-    let blank_keys : c.in_ok-keys.keys.items ≡ replicate n k0 = search rules in
     record {
       linked = holds;
       stands = stands-linked n k c.loop-h.block.links holds;
-      keyed = omega (arith, c.in_ok-keys.keys.ok.0, ap length blank_keys, length-replicate n k0, homes_length c.loop-h.block.links n);
+      low_inside = omega arith;
+      fresh = λ m lt. ap (λ (ls : List Link). (link_at ls m).home) (links-are c) ∙ ap (λ (l : Link). l.home) (empty-at n k m lt);
+      stored = omega (arith, c.in_ok-keys.keys.ok.0, ap length c.in_ok-keys.ensures.items);
+      keyed = ap (λ ks. length (keys_in n ks)) c.in_ok-keys.ensures.items ∙ ap length (no-keys n) ∙ length-replicate n blank ∙ sym (homes_length c.loop-h.block.links n);
+      key_room = c.in_ok-keys.ensures.capacity;
       few = omega (arith, c.requires.few_headers, c.requires.few_nodes);
       lease_alloc = e.2;
       lease_base = e.3 ∙ sym c.loop-i.invariant.1 ∙ sym c.loop-h.invariant.1;
@@ -77,10 +77,8 @@ pub returns-after-loop-h : goal.returns-after-loop-h
 returns-after-loop-h c =
     let n = c.args.nodes in let k = c.args.headers in
     let done : c.loop-h.h ≡ k = omega (arith, c.loop-h-test.false, c.loop-h.auto.h-end) in let links = c.loop-h.invariant.0 ∙ ap (empty_links n) done in
-    let k0 : DigestKey = c.new.result in
-    let blank_keys : c.in_ok-keys.keys.items ≡ replicate n k0 = search rules in
     record {
       empty = ap (λ l. lists_of l n k) links ∙ empty-lists n k;
       unlinked = ap (λ l. homes_of l n) links ∙ empty-homes n k;
-      blank = ap (map digest_key_of) blank_keys ∙ mapped_replicate digest_key_of n k0 blank c.new.ensures;
+      blank = ap (keys_in n) c.in_ok-keys.ensures.items ∙ no-keys n;
     }

@@ -4,6 +4,7 @@ use Rattle.execlist.specs.Lists.{home}
 use Rattle.execlist.specs.Chains.{IsLinked, lists_of, homes_of}
 use Rattle.execlist.proofs.PlainLemmas.{if_some_from}
 use Rattle.execlist.proofs.LinkLemmas.{is-some, node-in, node-next-in, node-prev-in, out-lists, out-holds, out-homes, stands-linked, homes_length}
+use Rattle.execlist.proofs.Fresh.{AreFresh, unlinked-fresh}
 use Rattle.execlist.proofs.link.LinkSpaceListSpace.remove.Goals as goal
 
 pub unlink-requires : goal.unlink-requires
@@ -25,7 +26,11 @@ invariant_of-self c =
     record {
       linked = still-linked c;
       stands = stands-linked s.nodes s.headers c.unlink.new.self.links (still-linked c);
+      low_inside = s.low_inside;
+      fresh = subst (AreFresh s.low) (sym c.unlink.ensures.links) (unlinked-fresh s.low c.args.n s.block.links (let at = is-some (home (homes_of s.block.links s.nodes) c.args.n) c.requires in node-in s.nodes s.headers s.block.links s.linked c.args.n at.0 at.1) s.fresh);
+      stored = s.stored;
       keyed = s.keyed ∙ homes_length s.block.links s.nodes ∙ sym (homes_length c.unlink.new.self.links s.nodes);
+      key_room = s.key_room;
       few = s.few;
       lease_alloc = s.lease_alloc;
       lease_base = s.lease_base ∙ sym c.unlink.ensures.block.0;

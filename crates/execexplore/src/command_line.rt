@@ -1,0 +1,253 @@
+//! The command line: options and two paths, or `--sum` and the paths of reports.
+ghost use Rattle.std.specs.Prelude.{◌≤◌, IfOk};
+
+use crate::failure::Failure;
+use crate::options::{Options, extras_in, outcome_number};
+use crate::stretch::{Stretch, stretch_in};
+use crate::whole::Paths;
+use clap::{Arg, ArgAction, ArgMatches, Command, Error};
+use std::alloc::{AllocError, Global};
+use wayrun::See;
+
+/// What a command line asks for.
+#[derive(Drop)]
+pub enum Asked<'a> {
+    /// A search over two texts.
+    Search(Paths<'a>, Options<'a>),
+    /// The sum of the reports at some paths.
+    Sum(Vec<&'a str>),
+}
+
+/// An option that takes a value.
+fn option<'a>(alloc: Global, name: &'a str, value: &'a str, help: &'a str) -> Arg<'a> {
+    Arg::new(alloc, name)
+        .long(name)
+        .value_name(value)
+        .action(ArgAction::Set)
+        .help(help)
+}
+
+/// An option that takes none.
+fn flag<'a>(alloc: Global, name: &'a str, help: &'a str) -> Arg<'a> {
+    Arg::new(alloc, name)
+        .long(name)
+        .action(ArgAction::SetTrue)
+        .help(help)
+}
+
+/// The paths.
+fn paths<'a>(alloc: Global) -> Arg<'a> {
+    Arg::new(alloc, "PATH")
+        .required(true)
+        .num_args(1..)
+        .action(ArgAction::Append)
+        .help("MACHINE and EVENTS: the machine file, in TOML, and the event text, an event a line")
+}
+
+/// The command, whose words are given without its own name.
+fn command<'a>(alloc: Global) -> Result<Command<'a>, AllocError> {
+    Command::new(alloc, "execexplore")
+        .about(
+            "Runs every way in which interrupts can come among the events of a run of execsim, and says what is seen of each",
+        )
+        .override_usage("execexplore [OPTIONS] MACHINE EVENTS\n       execexplore --sum REPORT..")
+        .after_help(
+            "Example: `execexplore --extra 2 lost.toml lost.events` runs the events of lost.events with at most two more ticks, anywhere among them.\n`execexplore --extra 2 --events 3 lost.toml lost.events >third.events` keeps the events of the first way of outcome 3, and\n`execsim lost.toml third.events` prints the trace of that run.",
+        )
+        .no_binary_name(true)
+        .arg(option(
+            alloc,
+            "extra",
+            "N",
+            "How many extra interrupts a way has at most, 0 to 8 [default: 1]",
+        ))?
+        .arg(option(
+            alloc,
+            "of",
+            "LIST",
+            "Their kinds, of tick, PORTS and EXTER with commas between [default: tick, and the sources that servers of MACHINE serve]",
+        ))?
+        .arg(option(
+            alloc,
+            "see",
+            "WHAT",
+            "What is seen of a way: end, prints or trace [default: prints]",
+        ))?
+        .arg(option(
+            alloc,
+            "part",
+            "I/N",
+            "Runs only part I of N parts of the ways, I from 1",
+        ))?
+        .arg(option(
+            alloc,
+            "events",
+            "K",
+            "Prints only the events of the first way of outcome K, as an event text",
+        ))?
+        .arg(flag(
+            alloc,
+            "progress",
+            "Reports on standard error, at most once a second, how far the search is, also if that is no terminal",
+        ))?
+        .arg(flag(
+            alloc,
+            "sum",
+            "Reads the reports of all parts, in any order, and prints the report of the whole",
+        ))?
+        .arg(paths(alloc))
+}
+
+/// Why a command line gives nothing to do.
+#[derive(Drop)]
+pub enum Refusal<'a> {
+    /// What `clap` says.
+    Words(Error),
+    /// What the command says.
+    Command(Failure<'a>),
+}
+
+impl From<AllocError> for Refusal<'_> {
+    fn from(_error: AllocError) -> Self {
+        Refusal::Command(Failure::NoMemory)
+    }
+}
+
+impl From<Error> for Refusal<'_> {
+    fn from(error: Error) -> Self {
+        Refusal::Words(error)
+    }
+}
+
+impl<'a> From<Failure<'a>> for Refusal<'a> {
+    fn from(failure: Failure<'a>) -> Self {
+        Refusal::Command(failure)
+    }
+}
+
+/// The number of extras that is asked for.
+fn extra_given<'a>(matches: &ArgMatches<'a>) -> Result<usize, Failure<'a>>
+    ensures { IfOk result (λ extra. extra ≤ 8) }
+{
+    let Some(word) = matches.get_str("extra") else {
+        return Ok(1);
+    };
+    match extras_in(word) {
+        None => Err(Failure::Option("--extra takes a number from 0 to 8")),
+        Some(extra) => Ok(extra),
+    }
+}
+
+/// What is to be seen.
+fn see_given<'a>(matches: &ArgMatches<'a>) -> Result<See, Failure<'a>> {
+    let Some(word) = matches.get_str("see") else {
+        return Ok(See::Prints);
+    };
+    match See::named(word) {
+        None => Err(Failure::Option("--see takes end, prints or trace")),
+        Some(see) => Ok(see),
+    }
+}
+
+/// The part that is asked for, if one is.
+fn part_given<'a>(matches: &ArgMatches<'a>) -> Result<Option<Stretch>, Failure<'a>> {
+    let Some(word) = matches.get_str("part") else {
+        return Ok(None);
+    };
+    match stretch_in(word) {
+        None => Err(Failure::Option(
+            "--part takes I/N, as 2/4: the part's number from 1, and the number of parts, at most 1000000",
+        )),
+        Some(stretch) => Ok(Some(stretch)),
+    }
+}
+
+/// The outcome of which the events are asked for, if one is.
+fn events_given<'a>(matches: &ArgMatches<'a>) -> Result<Option<u64>, Failure<'a>> {
+    let Some(word) = matches.get_str("events") else {
+        return Ok(None);
+    };
+    match outcome_number(word) {
+        None => Err(Failure::Option("--events takes the number of an outcome, from 1")),
+        Some(number) => Ok(Some(number)),
+    }
+}
+
+/// What the options ask for.
+fn options_in<'a>(matches: &ArgMatches<'a>) -> Result<Options<'a>, Failure<'a>> {
+    let extra = extra_given(matches)?;
+    let see = see_given(matches)?;
+    let part = part_given(matches)?;
+    let events = events_given(matches)?;
+    Ok(Options {
+        extra,
+        of: matches.get_str("of"),
+        see,
+        part,
+        events,
+        progress: matches.get_flag("progress"),
+    })
+}
+
+/// Whether an option of a search is given.
+fn has_options(matches: &ArgMatches<'_>) -> bool {
+    matches.get_str("extra").is_some()
+        || matches.get_str("of").is_some()
+        || matches.get_str("see").is_some()
+        || matches.get_str("part").is_some()
+        || matches.get_str("events").is_some()
+}
+
+/// The paths that are given.
+fn paths_given<'a>(alloc: Global, matches: &ArgMatches<'a>) -> Result<Vec<&'a str>, AllocError> {
+    let mut paths = Vec::new(alloc);
+    if let Some(given) = matches.get_strs("PATH") {
+        for path in given {
+            paths.push(*path)?;
+        }
+    }
+    Ok(paths)
+}
+
+/// What the words of a command line ask for.
+///
+/// # Errors
+///
+/// What `clap` answers, and a value that an option does not take.
+///
+/// Source: project rule.
+pub fn asked_by<'a>(alloc: Global, words: &'a [&'a str]) -> Result<Asked<'a>, Refusal<'a>> {
+    let matches = command(alloc)?.try_get_matches_from(words)?;
+    let paths = paths_given(alloc, &matches)?;
+    if matches.get_flag("sum") {
+        if has_options(&matches) {
+            return Err(Refusal::Command(Failure::Option(
+                "--sum takes the paths of reports and no other option: the reports have the options",
+            )));
+        }
+        return Ok(Asked::Sum(paths));
+    }
+    if paths.len() != 2 {
+        return Err(Refusal::Command(Failure::Option(
+            "two paths are wanted, MACHINE and EVENTS; see execexplore --help",
+        )));
+    }
+    let options = options_in(&matches)?;
+    Ok(Asked::Search(
+        Paths {
+            machine: paths[0],
+            events: paths[1],
+        },
+        options,
+    ))
+}
+
+/// The error of a command line whose words are no text.
+///
+/// Source: project rule.
+pub fn not_text_error(alloc: Global) -> Result<Error, AllocError> {
+    command(alloc)?.error(
+        clap::error::ErrorKind::InvalidValue,
+        "invalid UTF-8 was detected in one or more arguments",
+    )
+}

@@ -1,0 +1,302 @@
+//! The search that a command line asks for, from two texts to the text of its report.
+ghost use Rattle.std.specs.Prelude.{◌≡◌, IfOk, None, option_map};
+ghost use Rattle.std.specs.String.{string_bytes};
+ghost use Rattle.hex.specs.Hex.{encode_lower};
+ghost use Rattle.sha2.specs.Sha256.{sha256};
+ghost use Rattle.ways.specs.Entries.{entries_of};
+ghost use Rattle.wayreport.specs.Reports.{report_view, text_of};
+ghost use Rattle.execexplore.specs.Reporting.{limits_text, names_text, number_text, part_in, report_in, report_with, title_text};
+
+use crate::failure::Failure;
+use crate::frame::{Frame, MOST_ACTIONS, check_ticks, kinds_for, number_of};
+use crate::options::{Options, kinds_text};
+use crate::stretch::{Stretch, stretch_window};
+use execrun::Texts;
+use execsim::{ReadFault, read_limited};
+use sha2::{Digest, Sha256};
+use std::alloc::{AllocError, Global};
+use taskscript::{Event, EventFault, Events, FileFault, MachineFile, read_events, read_machine};
+use wayreport::{Part, Report, found_of, lines_of, report_text};
+use wayrun::search;
+use ways::{Outcome, Sizes, Watcher, Window, actions_of};
+
+/// The paths of both texts.
+#[derive(Clone, Copy, Debug)]
+pub struct Paths<'a> {
+    pub machine: &'a str,
+    pub events: &'a str,
+}
+
+/// The last part of a path.
+fn name_in(path: &str) -> &str {
+    match path.rsplit_once("/") {
+        None => path,
+        Some((_, name)) => name,
+    }
+}
+
+impl<'a> Paths<'a> {
+    /// The names of both files, without their folders: so the parts of a search may be run in different folders.
+    pub fn names(self) -> Paths<'a> {
+        Paths {
+            machine: name_in(self.machine),
+            events: name_in(self.events),
+        }
+    }
+}
+
+/// The bytes of the text at a path.
+fn read_text<'a, T: Texts>(
+    texts: &T,
+    alloc: Global,
+    path: &'a str,
+) -> Result<Vec<u8>, Failure<'a>> {
+    match texts.open_text(path) {
+        Err(error) => Err(Failure::at(path, ReadFault::from(error))),
+        Ok(mut text) => match read_limited(alloc, &mut text) {
+            Ok(bytes) => Ok(bytes),
+            Err(fault) => Err(Failure::at(path, fault)),
+        },
+    }
+}
+
+/// The SHA-256 of some bytes, in hexadecimal digits.
+fn digest(alloc: Global, bytes: &[u8]) -> Result<String, AllocError>
+    ensures { IfOk result (λ text. string_bytes text ≡ encode_lower (sha256 bytes.now)) }
+{
+    hex::encode(alloc, Sha256::digest(bytes))
+}
+
+/// The machine file of a text.
+fn file_of<'a>(alloc: Global, bytes: &[u8]) -> Result<MachineFile, Failure<'a>> {
+    match read_machine(alloc, bytes) {
+        Ok(file) => Ok(file),
+        Err(FileFault::OutOfMemory) => Err(Failure::NoMemory),
+        Err(fault) => Err(Failure::Machine(fault)),
+    }
+}
+
+/// The events of a text.
+fn events_of<'a>(alloc: Global, bytes: &[u8]) -> Result<Events, Failure<'a>> {
+    match read_events(alloc, bytes) {
+        Ok(events) => Ok(events),
+        Err(EventFault::OutOfMemory) => Err(Failure::NoMemory),
+        Err(fault) => Err(Failure::Events(fault)),
+    }
+}
+
+/// What is searched, by both texts and the options.
+pub fn frame_of<'a, T: Texts>(
+    texts: &T,
+    alloc: Global,
+    paths: Paths<'a>,
+    options: &Options<'a>,
+) -> Result<Frame, Failure<'a>> {
+    let machine = read_text(texts, alloc, paths.machine)?;
+    let events = read_text(texts, alloc, paths.events)?;
+    let file = file_of(alloc, &machine)?;
+    let script = events_of(alloc, &events)?;
+    let actions = actions_of(alloc, script.list())?;
+    let kinds = kinds_for(alloc, options.of, &file)?;
+    check_ticks(&actions, &kinds, options.extra)?;
+    if actions.len() > MOST_ACTIONS {
+        return Err(Failure::Events(EventFault::TooMany));
+    }
+    let Some(sizes) = Sizes::new(alloc, kinds.len(), options.extra, actions.len())? else {
+        return Err(Failure::TooManyWays(None));
+    };
+    let ways = number_of(&sizes, actions.len())?;
+    let machine = digest(alloc, &machine)?;
+    let events = digest(alloc, &events)?;
+    Ok(Frame {
+        file,
+        actions,
+        kinds,
+        sizes,
+        ways,
+        machine,
+        events,
+    })
+}
+
+/// The ways that are searched.
+pub fn window_of(frame: &Frame, options: &Options<'_>) -> Window {
+    match options.part {
+        None => Window {
+            skip: 0,
+            left: frame.ways,
+        },
+        Some(stretch) => stretch_window(frame.ways, stretch),
+    }
+}
+
+/// The names of both files.
+fn names_text(alloc: Global, names: Paths<'_>) -> Result<String, AllocError>
+    ensures { IfOk result (λ text. string_bytes text ≡ names_text names.entry) }
+{
+    let machine = names.machine;
+    let events = names.events;
+    format!(in alloc; "{machine}, {events}: ")
+}
+
+/// The number of actions, and that of extras.
+fn limits_text(alloc: Global, actions: usize, extra: usize) -> Result<String, AllocError>
+    ensures { IfOk result (λ text. string_bytes text ≡ limits_text actions extra) }
+{
+    format!(in alloc; "{actions} actions, at most {extra} more of ")
+}
+
+/// The number of ways.
+fn number_text(alloc: Global, ways: u64) -> Result<String, AllocError>
+    ensures { IfOk result (λ text. string_bytes text ≡ number_text ways) }
+{
+    format!(in alloc; ": {ways} ways")
+}
+
+/// What a report says of what was searched.
+fn title_of(alloc: Global, names: Paths<'_>, frame: &Frame) -> Result<String, AllocError>
+    ensures { IfOk result (λ text. string_bytes text ≡ title_text names.entry frame.now.sizes.most frame.now) }
+{
+    let mut text = names_text(alloc, names)?;
+    let limits = limits_text(alloc, frame.actions.len(), frame.sizes.most)?;
+    text.push_str(limits.as_str())?;
+    let kinds = kinds_text(alloc, &frame.kinds)?;
+    text.push_str(kinds.as_str())?;
+    let number = number_text(alloc, frame.ways)?;
+    text.push_str(number.as_str())?;
+    Ok(text)
+}
+
+/// A copy of a text.
+fn owned(alloc: Global, text: &str) -> Result<String, AllocError>
+    ensures { IfOk result (λ copy. string_bytes copy ≡ text.now) }
+{
+    let mut copy = String::new(alloc);
+    copy.push_str(text)?;
+    Ok(copy)
+}
+
+/// The part that a report is of.
+fn part_of(stretch: Option<Stretch>, window: Window) -> Option<Part>
+    ensures { result ≡ option_map (λ s. part_in s window) stretch }
+{
+    match stretch {
+        None => None,
+        Some(stretch) => Some(Part {
+            number: stretch.number,
+            of: stretch.of,
+            ways: window.left,
+        }),
+    }
+}
+
+/// The report of what a search found.
+fn report_of(
+    alloc: Global,
+    names: Paths<'_>,
+    options: &Options<'_>,
+    frame: &Frame,
+    window: Window,
+    outcomes: &[Outcome],
+    alerts: u64,
+) -> Result<Report, AllocError>
+    ensures { IfOk result (λ report. report_view report ≡ report_with names.entry options.now.see options.now.part frame.now window alerts (entries_of outcomes.now)) }
+{
+    Ok(Report {
+        title: title_of(alloc, names, frame)?,
+        machine: owned(alloc, frame.machine.as_str())?,
+        events: owned(alloc, frame.events.as_str())?,
+        see: owned(alloc, options.see.text())?,
+        part: part_of(options.part, window),
+        alerts,
+        found: found_of(alloc, outcomes)?,
+    })
+}
+
+/// The events of the first way of the outcome of a number, or none if there are fewer.
+fn events_text(
+    alloc: Global,
+    outcomes: &[Outcome],
+    number: u64,
+) -> Result<Option<String>, AllocError> {
+    if number == 0 || number > outcomes.len() as u64 {
+        return Ok(None);
+    }
+    Ok(Some(lines_of(alloc, &outcomes[number as usize - 1].first)?))
+}
+
+/// What a search prints, and whether it found more than one outcome, or an alert.
+#[derive(Drop)]
+pub struct Answer {
+    pub text: Vec<u8>,
+    pub is_mixed: bool,
+}
+
+/// The text of the report of what a search found.
+fn reported(
+    alloc: Global,
+    names: Paths<'_>,
+    options: &Options<'_>,
+    frame: &Frame,
+    window: Window,
+    outcomes: &[Outcome],
+    alerts: u64,
+) -> Result<Vec<u8>, AllocError>
+    ensures { IfOk result (λ text. text.items ≡ text_of (report_with names.entry options.now.see options.now.part frame.now window alerts (entries_of outcomes.now))) }
+{
+    let report = report_of(alloc, names, options, frame, window, outcomes, alerts)?;
+    let text = report_text(alloc, &report)?;
+    Ok(text)
+}
+
+/// The events of the first way of the outcome that is asked for, as an event text.
+fn events_wanted<'a>(
+    alloc: Global,
+    outcomes: &[Outcome],
+    number: u64,
+) -> Result<Vec<u8>, Failure<'a>> {
+    match events_text(alloc, outcomes, number)? {
+        None => Err(Failure::NoOutcome(number, outcomes.len())),
+        Some(text) => Ok(text.into_bytes()),
+    }
+}
+
+/// Makes a search of some ways, and answers what is printed: the text of the report, or the events that are asked for.
+///
+/// # Errors
+///
+/// As those of `search`; `NoOutcome` if there are fewer outcomes.
+///
+/// Source: project rule.
+pub fn searched<'a, P: Watcher + Drop>(
+    alloc: Global,
+    names: Paths<'a>,
+    options: &Options<'a>,
+    frame: &Frame,
+    window: Window,
+    watcher: P,
+) -> Result<Answer, Failure<'a>>
+    ensures { IfOk result (λ answer. options.now.events ≡ None
+        → answer.text.items ≡ text_of (report_in names.entry options.now.see options.now.part frame.now window)) }
+{
+    let found = search(
+        alloc,
+        &frame.file,
+        options.see,
+        watcher,
+        &frame.sizes,
+        &frame.kinds,
+        &frame.actions,
+        window,
+    )?;
+    let alerts = found.alerts();
+    let outcomes = found.into_outcomes()?;
+    let text = match options.events {
+        None => reported(alloc, names, options, frame, window, &outcomes, alerts)?,
+        Some(number) => events_wanted(alloc, &outcomes, number)?,
+    };
+    Ok(Answer {
+        text,
+        is_mixed: outcomes.len() > 1 || alerts > 0,
+    })
+}

@@ -1,0 +1,89 @@
+-- How rows follow one another.
+use Rattle.std.proofs.Common.{◌≡◌, ◌≤◌, ℕ, take, replicate, Bool, true, List, [], ◌∷◌, ◌++◌, refl, ap, sym, ◌∙◌, subst, append-nil, append_assoc}
+use Rattle.std.specs.Prelude.{◌&&◌, Option}
+use Rattle.std.specs.List.{flat_map, list_all}
+use Rattle.std.proofs.lemmas.List.{take-replicate}
+use Rattle.execlog.specs.declared.moment.Moment.{Moment}
+use Rattle.execlog.specs.Log.{Gains}
+use Rattle.execlog.specs.Rows.{FollowsRows, IsPart, IsRow, LaysOut, Row, laid, traced}
+
+-- ---- spaces
+
+pub spaces_taken : (n m : ℕ) → n ≤ m → take {A = ℕ} n (replicate {A = ℕ} m 32) ≡ replicate {A = ℕ} n 32
+spaces_taken n m few = take-replicate n m 32 few
+
+-- ---- rows one after another
+
+all_shown : (c d : Bool) → c ≡ true → d ≡ true → (c && d) ≡ true
+all_shown c d first rest = rw (first) rest
+
+-- a row, and the rows of what is after its line
+pub row_follows : {All : Type 0} {m : Moment} {line : Option ℕ} {text after : List ℕ} (x y : List ℕ)
+    → IsRow All m line text x → FollowsRows All m after y → FollowsRows All m (text ++ 10 ∷ after) (x ++ y)
+row_follows {All} {m} {line} {text} {after} x y one rest =
+    let r : Row = record { line = line; text = text; source = one.source; is_shown = one.is_shown } in
+    record {
+      rows = r ∷ rest.rows;
+      left = rest.left;
+      text_is = ap (λ (z : List ℕ). text ++ 10 ∷ z) rest.text_is ∙ sym (append_assoc text (10 ∷ flat_map traced rest.rows) rest.left) ∙ ap (λ (z : List ℕ). z ++ rest.left) (sym (append_assoc text (10 ∷ []) (flat_map traced rest.rows)));
+      bytes_are = ap (λ (z : List ℕ). z ++ y) one.bytes_are ∙ ap (λ (z : List ℕ). laid m r ++ z) rest.bytes_are ∙ sym (append_assoc (laid m r) (flat_map (laid m) rest.rows) rest.left);
+      shown = λ all. all_shown one.is_shown (list_all (λ (r : Row). r.is_shown) rest.rows) (one.shown all) (rest.shown all);
+      is_part = rest.is_part;
+    }
+
+-- a text with no line feed
+pub part_follows : {All : Type 0} {m : Moment} (text : List ℕ) → IsPart text → FollowsRows All m text text
+part_follows text part = record { rows = []; left = text; text_is = refl; bytes_are = refl; shown = λ all. refl; is_part = part }
+
+-- the first row of an entry, and the others
+pub first_row : {All : Type 0} {m : Moment} {line : Option ℕ} {text after : List ℕ} (x y : List ℕ)
+    → IsRow All m line text x → FollowsRows All m after y → LaysOut All m line (text ++ 10 ∷ after) (x ++ y)
+unfolding row_follows
+first_row x y one rest = record { follows = row_follows x y one rest; begins = refl }
+
+pub no_row : {All : Type 0} {m : Moment} {line : Option ℕ} (text : List ℕ) → IsPart text → LaysOut All m line text text
+unfolding part_follows
+no_row text part = record { follows = part_follows text part; begins = tt }
+
+-- rows that are laid out after others
+pub record Goes (All : Type 0) (m : Moment) (text rest before page : List ℕ) : Type 0 where
+  pub added : List ℕ
+  pub page_is : page ≡ before ++ added
+  pub then : (y : List ℕ) → FollowsRows All m rest y → FollowsRows All m text (added ++ y)
+
+-- none yet
+pub goes_begin : (All : Type 0) (m : Moment) (text page : List ℕ) → Goes All m text text page page
+goes_begin All m text page = record { added = []; page_is = sym (append-nil page); then = λ y h. h }
+
+-- one more
+pub goes_on : {All : Type 0} {m : Moment} {number : Option ℕ} {text rest line after before page next : List ℕ}
+    → Goes All m text rest before page → rest ≡ line ++ 10 ∷ after → Gains (IsRow All m number line) page next → Goes All m text after before next
+goes_on {All} {m} {number} {text} {rest} {line} {after} {before} {page} {next} goes cut gains = record {
+  added = goes.added ++ gains.bytes;
+  page_is = gains.added ∙ ap (λ (z : List ℕ). z ++ gains.bytes) goes.page_is ∙ append_assoc before goes.added gains.bytes;
+  then = λ y h. subst (λ (z : List ℕ). FollowsRows All m text z) (sym (append_assoc goes.added gains.bytes y))
+      (goes.then (gains.bytes ++ y) (subst (λ (r : List ℕ). FollowsRows All m r (gains.bytes ++ y)) (sym cut) (row_follows gains.bytes y gains.shows h)));
+}
+
+-- what is left after the last line feed
+pub goes_end : {All : Type 0} {m : Moment} {text rest before page next : List ℕ}
+    → Goes All m text rest before page → IsPart rest → next ≡ page ++ rest → Gains (FollowsRows All m text) before next
+goes_end {All} {m} {text} {rest} {before} {page} {next} goes part added = record {
+  bytes = goes.added ++ rest;
+  shows = goes.then rest (part_follows rest part);
+  added = added ∙ ap (λ (z : List ℕ). z ++ rest) goes.page_is ∙ append_assoc before goes.added rest;
+}
+
+-- the rows of an entry
+pub lays_rows : {All : Type 0} {m : Moment} {number : Option ℕ} {text line after page first next : List ℕ}
+    → text ≡ line ++ 10 ∷ after → Gains (IsRow All m number line) page first → Gains (FollowsRows All m after) first next
+    → Gains (LaysOut All m number text) page next
+lays_rows {All} {m} {number} {text} {line} {after} {page} {first} {next} cut one others = record {
+  bytes = one.bytes ++ others.bytes;
+  shows = subst (λ (t : List ℕ). LaysOut All m number t (one.bytes ++ others.bytes)) (sym cut) (first_row one.bytes others.bytes one.shows others.shows);
+  added = others.added ∙ ap (λ (z : List ℕ). z ++ others.bytes) one.added ∙ append_assoc page one.bytes others.bytes;
+}
+
+pub lays_none : {All : Type 0} {m : Moment} {number : Option ℕ} {text page next : List ℕ}
+    → IsPart text → next ≡ page ++ text → Gains (LaysOut All m number text) page next
+lays_none {All} {m} {number} {text} part added = record { bytes = text; shows = no_row text part; added = added }

@@ -1,0 +1,3 @@
+-- The lemma files of `logger`.
+pub mod Pages
+pub mod Turns

@@ -1,0 +1,247 @@
+//! The command line: options and two paths.
+
+use crate::failure::Failure;
+use crate::options::{Options, View, number_in};
+use clap::{Arg, ArgAction, ArgMatches, Command, Error};
+use std::alloc::{AllocError, Global};
+
+/// The paths of a command line.
+#[derive(Clone, Copy, Debug)]
+pub struct Paths<'a> {
+    /// Where the machine file is.
+    pub machine: &'a str,
+    /// Where the event text is.
+    pub events: &'a str,
+}
+
+/// Why a command line gives nothing to do.
+#[derive(Drop)]
+pub enum Refusal<'a> {
+    /// What `clap` says.
+    Words(Error),
+    /// What the command says.
+    Command(Failure<'a>),
+}
+
+impl From<AllocError> for Refusal<'_> {
+    fn from(_error: AllocError) -> Self {
+        Refusal::Command(Failure::NoMemory)
+    }
+}
+
+impl From<Error> for Refusal<'_> {
+    fn from(error: Error) -> Self {
+        Refusal::Words(error)
+    }
+}
+
+impl<'a> From<Failure<'a>> for Refusal<'a> {
+    fn from(failure: Failure<'a>) -> Self {
+        Refusal::Command(failure)
+    }
+}
+
+/// An option that takes a value.
+fn option<'a>(alloc: Global, name: &'a str, value: &'a str, help: &'a str) -> Arg<'a> {
+    Arg::new(alloc, name)
+        .long(name)
+        .value_name(value)
+        .allow_hyphen_values(true)
+        .action(ArgAction::Set)
+        .help(help)
+}
+
+/// An option that takes none.
+fn flag<'a>(alloc: Global, name: &'a str, help: &'a str) -> Arg<'a> {
+    Arg::new(alloc, name)
+        .long(name)
+        .action(ArgAction::SetTrue)
+        .help(help)
+}
+
+/// A path.
+fn path<'a>(alloc: Global, name: &'a str, help: &'a str) -> Arg<'a> {
+    Arg::new(alloc, name)
+        .required(true)
+        .action(ArgAction::Set)
+        .help(help)
+}
+
+/// The command without its options, whose words are given without its own name.
+fn bare_command<'a>(alloc: Global) -> Result<Command<'a>, AllocError> {
+    let machine = path(alloc, "MACHINE", "The machine file, in TOML");
+    let events = path(alloc, "EVENTS", "The event text, an event a line");
+    Command::new(alloc, "execlog")
+        .about(
+            "Runs a machine as execsim does, and prints each line of its trace with the step, the time, and the line and the text of its command",
+        )
+        .override_usage("execlog [OPTIONS] MACHINE EVENTS")
+        .after_help(
+            "Example: `execlog --task daemon --from 30 daemon.toml daemon.events` shows what daemon does from step 30 on, and\n`execlog --state 30 daemon.toml daemon.events` all that the machine shows after step 30.",
+        )
+        .no_binary_name(true)
+        .arg(machine)?
+        .arg(events)
+}
+
+/// The command with the options that choose a form.
+fn command_of_forms<'a>(alloc: Global) -> Result<Command<'a>, AllocError> {
+    bare_command(alloc)?
+        .arg(flag(
+            alloc,
+            "plain-words",
+            "Shows also the words that print nothing in a trace, each after a tilde",
+        ))?
+        .arg(flag(alloc, "json", "Prints one JSON object a line"))?
+        .arg(option(
+            alloc,
+            "state",
+            "N",
+            "Prints all that the machine shows after step N, and no log; step 0 is the start",
+        ))
+}
+
+/// The command.
+fn command<'a>(alloc: Global) -> Result<Command<'a>, AllocError> {
+    command_of_forms(alloc)?
+        .arg(option(
+            alloc,
+            "from",
+            "S",
+            "Shows the run from step S on [default: 0]",
+        ))?
+        .arg(option(
+            alloc,
+            "to",
+            "S",
+            "Shows the run up to step S [default: the last one]",
+        ))?
+        .arg(option(
+            alloc,
+            "at",
+            "LINE",
+            "Shows only what the commands in that line of MACHINE do",
+        ))?
+        .arg(option(
+            alloc,
+            "task",
+            "NAME",
+            "Shows only what that task, server or software interrupt does",
+        ))
+}
+
+/// The number that an option has, if it is given.
+fn number_given<'a>(
+    matches: &ArgMatches<'a>,
+    name: &str,
+    sentence: &'static str,
+) -> Result<Option<u64>, Failure<'a>> {
+    match matches.get_str(name) {
+        None => Ok(None),
+        Some(word) => match number_in(word) {
+            None => Err(Failure::Option(sentence)),
+            Some(number) => Ok(Some(number)),
+        },
+    }
+}
+
+/// How many forms are asked for.
+fn forms_given(matches: &ArgMatches<'_>, state: Option<u64>) -> u32 {
+    u32::from(matches.get_flag("json")).saturating_add(u32::from(state.is_some()))
+}
+
+/// What is asked for: the form.
+fn view_given<'a>(matches: &ArgMatches<'a>) -> Result<View, Failure<'a>> {
+    let state = number_given(
+        matches,
+        "state",
+        "--state takes the number of a step: 0 is the start, and a log has the others in its first column",
+    )?;
+    if forms_given(matches, state) > 1 {
+        return Err(Failure::Option("--json and --state are forms: give one of them"));
+    }
+    if let Some(number) = state {
+        return Ok(View::State(number));
+    }
+    if matches.get_flag("json") {
+        Ok(View::Json)
+    } else {
+        Ok(View::Rows)
+    }
+}
+
+/// Refuses options that a form does not take.
+fn check_options<'a>(options: &Options<'a>) -> Result<(), Failure<'a>> {
+    let selects = options.from.is_some() || options.to.is_some();
+    let picks = options.at.is_some() || options.task.is_some() || options.plain_words;
+    match options.view {
+        View::Rows | View::Json => Ok(()),
+        View::State(_) => {
+            if selects || picks {
+                Err(Failure::Option(
+                    "--state shows one point in time: it takes no --from, --to, --at, --task or --plain-words",
+                ))
+            } else {
+                Ok(())
+            }
+        }
+    }
+}
+
+/// What the options ask for.
+fn options_in<'a>(matches: &ArgMatches<'a>) -> Result<Options<'a>, Failure<'a>> {
+    let options = Options {
+        view: view_given(matches)?,
+        plain_words: matches.get_flag("plain-words"),
+        from: number_given(
+            matches,
+            "from",
+            "--from takes the number of a step: 0 is the start, and a log has the others in its first column",
+        )?,
+        to: number_given(
+            matches,
+            "to",
+            "--to takes the number of a step: 0 is the start, and a log has the others in its first column",
+        )?,
+        at: number_given(
+            matches,
+            "at",
+            "--at takes the number of a line of the machine file, from 1",
+        )?,
+        task: matches.get_str("task"),
+    };
+    check_options(&options)?;
+    Ok(options)
+}
+
+/// What the words of a command line ask for.
+///
+/// # Errors
+///
+/// What `clap` answers, and a value that an option does not take.
+///
+/// Source: project rule.
+pub fn asked_by<'a>(
+    alloc: Global,
+    words: &'a [&'a str],
+) -> Result<(Paths<'a>, Options<'a>), Refusal<'a>> {
+    let matches = command(alloc)?.try_get_matches_from(words)?;
+    let (Some(machine), Some(events)) = (matches.get_str("MACHINE"), matches.get_str("EVENTS"))
+    else {
+        return Err(Refusal::Command(Failure::Option(
+            "two paths are wanted, MACHINE and EVENTS; see execlog --help",
+        )));
+    };
+    let options = options_in(&matches)?;
+    Ok((Paths { machine, events }, options))
+}
+
+/// The error of a command line whose words are no text.
+///
+/// Source: project rule.
+pub fn not_text_error(alloc: Global) -> Result<Error, AllocError> {
+    command(alloc)?.error(
+        clap::error::ErrorKind::InvalidValue,
+        "invalid UTF-8 was detected in one or more arguments",
+    )
+}

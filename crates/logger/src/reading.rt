@@ -1,0 +1,60 @@
+//! The texts of a run, read and looked at.
+
+use crate::bookmaking::book_of;
+use crate::command_line::Paths;
+use crate::failure::Failure;
+use execlog::Book;
+use execrun::Texts;
+use execsim::{ReadFault, read_limited};
+use std::alloc::Global;
+use taskscript::{Events, Listed, read_events, read_listed};
+
+/// The texts of a run.
+#[derive(Drop)]
+pub struct Run {
+    /// The machine, the lines of its commands and the names of its variables.
+    pub listed: Listed,
+    /// The events.
+    pub events: Events,
+    /// What is written where in the machine file.
+    pub book: Book,
+}
+
+/// The bytes of the text at a path.
+fn read_text<'a, T: Texts>(
+    texts: &T,
+    alloc: Global,
+    path: &'a str,
+) -> Result<Vec<u8>, Failure<'a>> {
+    match texts.open_text(path) {
+        Err(error) => Err(Failure::at(path, ReadFault::from(error))),
+        Ok(mut text) => match read_limited(alloc, &mut text) {
+            Ok(bytes) => Ok(bytes),
+            Err(fault) => Err(Failure::at(path, fault)),
+        },
+    }
+}
+
+/// Reads the texts at two paths. Nothing is judged before both are read.
+///
+/// # Errors
+///
+/// If memory is refused, a text cannot be read, or one is refused.
+///
+/// Source: project rule.
+pub fn read_run<'a, T: Texts>(
+    texts: &T,
+    alloc: Global,
+    paths: Paths<'a>,
+) -> Result<Run, Failure<'a>> {
+    let machine = read_text(texts, alloc, paths.machine)?;
+    let script = read_text(texts, alloc, paths.events)?;
+    let listed = read_listed(alloc, &machine)?;
+    let events = read_events(alloc, &script)?;
+    let book = book_of(alloc, &machine, &listed)?;
+    Ok(Run {
+        listed,
+        events,
+        book,
+    })
+}

@@ -1,0 +1,279 @@
+//! The command over any words and writers, and on the arguments of its process.
+ghost use Rattle.std.specs.Prelude.{◌≤◌, IfOk, sum_by};
+ghost use Rattle.taskscript.specs.Events.{ticks as ticks_of};
+ghost use Rattle.execlog.specs.Log.{turns};
+
+use crate::choice::{Choice, chosen, number_within};
+use crate::command_line::{Paths, Refusal, asked_by, not_text_error};
+use crate::events::{ends_of, events_up_to, last_number};
+use crate::failure::{Failure, report};
+use crate::json::Json;
+use crate::making::run_events;
+use crate::options::{Options, View};
+use crate::reading::{Run, read_run};
+use crate::rows::Written;
+use crate::state::state_page;
+use crate::words::Words;
+use crate::writing::write_text;
+use clap::error::ErrorKind;
+use execlist::link::LinkSpace;
+use execlog::{Form, Plain};
+use execrun::{SystemTexts, Texts};
+use execsim::Machine;
+use exectrace::WriteSink;
+use std::alloc::Global;
+use std::env::Env;
+use std::io::{BufWriter, Write};
+use std::rt::Files;
+use std::{env, io};
+use taskscript::Event;
+
+/// How many bytes are kept before they are handed to standard output.
+const OUTPUT_BUFFER: usize = 65_536;
+
+/// The status if all was shown, or after the help.
+const DONE: u8 = 0;
+
+/// The status of a command line that is refused.
+const COMMAND_LINE_REFUSED: u8 = 2;
+
+/// The status if an alert has stopped the machine.
+const ALERTED: u8 = 3;
+
+/// What is above the rows.
+const HEAD: &[u8] = b" step       ms  line  trace                                        source\n";
+
+/// The status of a run.
+fn status_of(is_stopped: bool) -> u8
+    ensures { result ≤ 4 }
+{
+    if is_stopped { ALERTED } else { DONE }
+}
+
+/// Runs a machine over events, and writes its log in a form.
+fn write_form<'a, F: Form, W: Write>(
+    alloc: Global,
+    run: &Run,
+    events: &[Event],
+    form: &F,
+    out: &mut W,
+) -> Result<u8, Failure<'a>>
+    requires few { sum_by turns events.now ≤ 4000000 }
+    requires time { sum_by ticks_of events.now ≤ 1000000 }
+    ensures { IfOk result (λ status. status ≤ 4) }
+{
+    let mut machine: Machine<LinkSpace> = Machine::boot(alloc, &run.listed.machine)?;
+    let mut sink = WriteSink::new(&mut *out);
+    run_events(alloc, &mut machine, events, form, &mut sink)?;
+    Ok(status_of(machine.view().stopped))
+}
+
+/// The machine file as rows need it.
+fn written_of<'r>(run: &'r Run, options: &Options<'_>) -> Written<'r> {
+    Written {
+        book: &run.book,
+        listing: &run.listed.listing,
+        plain_words: options.plain_words,
+    }
+}
+
+/// Writes the log of a part of a run as rows.
+fn write_rows<'a, W: Write>(
+    alloc: Global,
+    run: &Run,
+    events: &[Event],
+    choice: Choice,
+    options: &Options<'a>,
+    out: &mut W,
+) -> Result<u8, Failure<'a>>
+    requires few { sum_by turns events.now ≤ 4000000 }
+    requires time { sum_by ticks_of events.now ≤ 1000000 }
+    ensures { IfOk result (λ status. status ≤ 4) }
+{
+    write_text(HEAD, out)?;
+    if options.plain_words {
+        let form = Words {
+            alloc,
+            written: written_of(run, options),
+            filter: choice.filter,
+        };
+        return write_form(alloc, run, events, &form, out);
+    }
+    let form = Plain {
+        book: &run.book,
+        filter: choice.filter,
+    };
+    write_form(alloc, run, events, &form, out)
+}
+
+/// Writes the log of a part of a run as JSON.
+fn write_json<'a, W: Write>(
+    alloc: Global,
+    run: &Run,
+    events: &[Event],
+    choice: Choice,
+    options: &Options<'a>,
+    out: &mut W,
+) -> Result<u8, Failure<'a>>
+    requires few { sum_by turns events.now ≤ 4000000 }
+    requires time { sum_by ticks_of events.now ≤ 1000000 }
+    ensures { IfOk result (λ status. status ≤ 4) }
+{
+    let ends = ends_of(alloc, run.events.list())?;
+    let form = Json {
+        alloc,
+        written: written_of(run, options),
+        filter: choice.filter,
+        ends: &ends,
+    };
+    write_form(alloc, run, events, &form, out)
+}
+
+/// Writes all that the machine shows after a step.
+fn write_state<'a, W: Write>(
+    alloc: Global,
+    run: &Run,
+    paths: Paths<'a>,
+    number: u64,
+    out: &mut W,
+) -> Result<u8, Failure<'a>>
+    ensures { IfOk result (λ status. status ≤ 4) }
+{
+    let last = last_number(run.events.list());
+    let number = number_within(alloc, "--state", number, last)?;
+    let events = events_up_to(alloc, run.events.list(), number)?;
+    let (page, is_stopped) = state_page(alloc, run, paths.machine, &events, number, last)?;
+    write_text(page.as_str().as_bytes(), out)?;
+    Ok(status_of(is_stopped))
+}
+
+/// Writes the log of a part of a run.
+fn write_part<'a, W: Write>(
+    alloc: Global,
+    run: &Run,
+    paths: Paths<'a>,
+    options: &Options<'a>,
+    out: &mut W,
+) -> Result<u8, Failure<'a>>
+    ensures { IfOk result (λ status. status ≤ 4) }
+{
+    let choice = chosen(alloc, run, paths, options)?;
+    let events = events_up_to(alloc, run.events.list(), choice.last)?;
+    if options.view == View::Json {
+        write_json(alloc, run, &events, choice, options, out)
+    } else {
+        write_rows(alloc, run, &events, choice, options, out)
+    }
+}
+
+/// Reads the texts and writes what is asked for.
+fn write_asked<'a, T: Texts, W: Write>(
+    texts: &T,
+    alloc: Global,
+    paths: Paths<'a>,
+    options: &Options<'a>,
+    out: &mut W,
+) -> Result<u8, Failure<'a>>
+    ensures { IfOk result (λ status. status ≤ 4) }
+{
+    let run = read_run(texts, alloc, paths)?;
+    let status = match options.view {
+        View::State(number) => write_state(alloc, &run, paths, number, out)?,
+        _ => write_part(alloc, &run, paths, options, out)?,
+    };
+    write_text(&[], out)?;
+    Ok(status)
+}
+
+/// Writes the help, and flushes it.
+fn write_help<W: Write>(error: &clap::Error, out: &mut W) -> io::Result<()> {
+    write!(out, "{error}")?;
+    out.flush()
+}
+
+/// Answers a command line that asks for nothing: the help, or why it is refused.
+fn answer_without_work<W: Write, E: Write>(error: &clap::Error, out: &mut W, err: &mut E) -> u8
+    ensures { result ≤ 4 }
+{
+    if error.kind() == ErrorKind::OutOfMemory {
+        return report(&Failure::NoMemory, err);
+    }
+    if error.use_stderr() {
+        let _ = write!(err, "{error}");
+        return COMMAND_LINE_REFUSED;
+    }
+    match write_help(error, out) {
+        Ok(()) => DONE,
+        Err(_) => report(&Failure::WriteFailed, err),
+    }
+}
+
+/// Does what the words of a command line ask for, over any texts, and answers the status: 0 if all was shown and after the help, 1 if a text is
+/// refused, 2 if the command line is, 3 if an alert has stopped the machine, and 4 if memory, reading or writing failed.
+///
+/// Source: project rule.
+pub fn run_on_texts<T: Texts, W: Write, E: Write>(
+    texts: &T,
+    alloc: Global,
+    words: &[&str],
+    out: &mut W,
+    err: &mut E,
+) -> u8
+    ensures { result ≤ 4 }
+{
+    let done = match asked_by(alloc, words) {
+        Err(Refusal::Words(error)) => return answer_without_work(&error, out, err),
+        Err(Refusal::Command(failure)) => Err(failure),
+        Ok((paths, options)) => write_asked(texts, alloc, paths, &options, out),
+    };
+    match done {
+        Ok(status) => status,
+        Err(failure) => report(&failure, err),
+    }
+}
+
+/// Runs the command on the process's arguments, with a buffer before `out`.
+fn run_buffered<R: Env + Files + AllocGlobal, W: Write + Drop, E: Write>(
+    rt: &R,
+    out: W,
+    err: &mut E,
+) -> io::Result<u8>
+    ensures { IfOk result (λ status. status ≤ 4) }
+{
+    let alloc = rt.alloc();
+    let arguments: Vec<String> = env::args(rt)?.skip(1).collect(alloc)?;
+    let words: Vec<&str> = arguments.iter().map(|word| word.as_str()).collect(alloc)?;
+    let mut out = BufWriter::with_capacity(alloc, OUTPUT_BUFFER, out)?;
+    let status = run_on_texts(&SystemTexts(rt), alloc, &words, &mut out, err);
+    // All was flushed by now, or a write failed: what is left then is not handed over once more.
+    let _unwritten = out.into_parts();
+    Ok(status)
+}
+
+/// Runs the command on the process's arguments, and answers the status with which it ends. Arguments that are no text are refused as a
+/// command line is.
+///
+/// Source: project rule.
+pub fn run_on_arguments<R: Env + Files + AllocGlobal, W: Write + Drop, E: Write>(
+    rt: &R,
+    out: W,
+    err: &mut E,
+) -> u8
+    ensures { result ≤ 4 }
+{
+    match run_buffered(rt, out, err) {
+        Ok(status) => status,
+        Err(error) => {
+            if error.kind() == io::ErrorKind::OutOfMemory {
+                return report(&Failure::NoMemory, err);
+            }
+            match not_text_error(rt.alloc()) {
+                Ok(error) => {
+                    let _ = write!(err, "{error}");
+                    COMMAND_LINE_REFUSED
+                }
+                Err(_) => report(&Failure::NoMemory, err),
+            }
+        }
+    }
+}

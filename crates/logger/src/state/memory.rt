@@ -1,0 +1,110 @@
+//! What a machine shows of its memory: the blocks and the gaps of each region, in order of address.
+
+use super::objects::push_object;
+use crate::reading::Run;
+use crate::values::{push_number, push_signed, push_word};
+use execlist::space::ListSpace;
+use execsim::{BlockView, Machine};
+use memlist::Region;
+use std::alloc::AllocError;
+
+/// The least size of a block or a gap.
+const GRAIN: u32 = 8;
+
+/// Adds the head of a region.
+fn push_head(page: &mut String, k: usize, region: &Region) -> Result<(), AllocError> {
+    page.push_str("\nregion ")?;
+    push_number(page, (k as u64).saturating_add(1))?;
+    page.push_str(": ")?;
+    push_number(page, u64::from(region.size))?;
+    page.push_str(" bytes from ")?;
+    push_word(page, region.base)?;
+    page.push_str(" on, attributes ")?;
+    push_word(page, region.attrs)?;
+    page.push_str(", priority ")?;
+    push_signed(page, i64::from(region.pri))?;
+    page.push('\n')
+}
+
+/// Adds what is before the words of a block or a gap.
+fn push_front(page: &mut String, address: u32, size: u32) -> Result<(), AllocError> {
+    page.push_str("  ")?;
+    push_word(page, address)?;
+    let mut digits = itoa::Buffer::new();
+    let text = digits.format(size);
+    for _space in text.len()..9 {
+        page.push(' ')?;
+    }
+    page.push_str(text)?;
+    page.push_str("  ")
+}
+
+/// Adds a block of memory with what begins there.
+fn push_block<S: ListSpace>(
+    page: &mut String,
+    machine: &Machine<S>,
+    run: &Run,
+    address: u32,
+    block: &BlockView,
+) -> Result<(), AllocError> {
+    push_front(page, address, block.size)?;
+    push_object(page, machine, run, address, &block.object)?;
+    page.push('\n')
+}
+
+/// Adds the free bytes between two addresses, if there are any.
+fn push_gap(page: &mut String, from: u32, to: u32) -> Result<(), AllocError> {
+    if from >= to {
+        return Ok(());
+    }
+    push_front(page, from, to.saturating_sub(from))?;
+    page.push_str("free\n")
+}
+
+/// Adds the blocks and the gaps of a region.
+fn push_map<S: ListSpace>(
+    page: &mut String,
+    machine: &Machine<S>,
+    run: &Run,
+    region: &Region,
+) -> Result<(), AllocError> {
+    let end = region.base.saturating_add(region.size);
+    let mut address = region.base;
+    let mut free_from = region.base;
+    for _grain in 0..region.size / GRAIN {
+        if address >= end {
+            break;
+        }
+        match machine.block(address) {
+            None => address = address.saturating_add(GRAIN),
+            Some(block) => {
+                push_gap(page, free_from, address)?;
+                push_block(page, machine, run, address, &block)?;
+                address = address.saturating_add(block.size.max(GRAIN));
+                free_from = address;
+            }
+        }
+    }
+    push_gap(page, free_from, end)
+}
+
+/// Adds what a machine shows of its memory.
+///
+/// # Errors
+///
+/// When memory is refused.
+///
+/// Source: project rule.
+pub fn push_memory<S: ListSpace>(
+    page: &mut String,
+    machine: &Machine<S>,
+    run: &Run,
+) -> Result<(), AllocError> {
+    for k in 0..run.listed.machine.regions().len() {
+        if let Some(region) = machine.region(k) {
+            push_head(page, k, &region)?;
+            push_map(page, machine, run, &region)?;
+        }
+    }
+    Ok(())
+}

@@ -1,0 +1,25 @@
+//! Writing a text whole.
+
+use crate::failure::Failure;
+use std::io;
+use std::io::Write;
+
+/// Writes bytes and flushes them.
+fn write_whole<W: Write>(bytes: &[u8], out: &mut W) -> io::Result<()> {
+    out.write_all(bytes)?;
+    out.flush()
+}
+
+/// Writes a text to its end.
+///
+/// # Errors
+///
+/// `WriteFailed`, if the writer did not take all of it.
+///
+/// Source: project rule.
+pub fn write_text<'a, W: Write>(bytes: &[u8], out: &mut W) -> Result<(), Failure<'a>> {
+    match write_whole(bytes, out) {
+        Ok(()) => Ok(()),
+        Err(_) => Err(Failure::WriteFailed),
+    }
+}

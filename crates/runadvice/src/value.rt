@@ -1,0 +1,45 @@
+//! What variables and arguments hold.
+use execlist::link::LinkSpace;
+use execsim::Machine;
+use taskscript::{Argument, Command, Variable};
+
+/// What a variable holds, as a task sees it; a body of an interrupt has shared variables alone, and no task.
+pub fn held_by(machine: &Machine<LinkSpace>, task: Option<usize>, variable: Variable) -> u32 {
+    match variable {
+        Variable::Shared(number) => machine
+            .shared_variables()
+            .get(number as usize)
+            .copied()
+            .unwrap_or(0),
+        Variable::Private(number) => match task {
+            None => 0,
+            Some(task) => machine
+                .variables(task)
+                .get(number as usize)
+                .copied()
+                .unwrap_or(0),
+        },
+    }
+}
+
+/// The value of an argument of a command, if it has one.
+pub fn value_of(
+    machine: &Machine<LinkSpace>,
+    task: Option<usize>,
+    command: &Command,
+    number: usize,
+) -> Option<u32> {
+    match command.arguments.get(number) {
+        Some(Argument::Number(value)) => Some(*value),
+        Some(Argument::Variable(variable)) => Some(held_by(machine, task, *variable)),
+        _ => None,
+    }
+}
+
+/// The variable that is an argument of a command, if one is.
+pub fn variable_at(command: &Command, number: usize) -> Option<Variable> {
+    match command.arguments.get(number) {
+        Some(Argument::Variable(variable)) => Some(*variable),
+        _ => None,
+    }
+}
