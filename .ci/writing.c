@@ -1,5 +1,5 @@
-/* Is in front of the C library's `write`, by LD_PRELOAD: counts the calls that a program makes to standard output, and takes of each what
-   the habit in WRITING_HABIT says. At its end the program writes to the file WRITING_COUNT how many calls there were, and how many of them took
+/* Is in front of the C library's `write`, by LD_PRELOAD: counts the calls that a program makes to standard output, or to the stream in
+   WRITING_STREAM, and takes of each what the habit in WRITING_HABIT says. At its end the program writes to the file WRITING_COUNT how many calls there were, and how many of them took
    nothing.
 
        all          takes all
@@ -19,10 +19,12 @@
 
 static unsigned long calls, idle, taken, most;
 static char habit[16];
+static int stream = STDOUT_FILENO;
 static ssize_t (*real)(int, const void *, size_t);
 
 __attribute__((constructor)) static void begin(void) {
-    const char *words = getenv("WRITING_HABIT");
+    const char *words = getenv("WRITING_HABIT"), *number = getenv("WRITING_STREAM");
+    if (number) stream = atoi(number);
     real = (ssize_t (*)(int, const void *, size_t))dlsym(RTLD_NEXT, "write");
     if (!real || !words || sscanf(words, "%15s %lu", habit, &most) < 1) _exit(98);
 }
@@ -50,7 +52,7 @@ static ssize_t taken_of(size_t count) {
 }
 
 ssize_t write(int file, const void *bytes, size_t count) {
-    if (file != STDOUT_FILENO) return real(file, bytes, count);
+    if (file != stream) return real(file, bytes, count);
     calls++;
     ssize_t wanted = taken_of(count);
     if (wanted <= 0) idle++;

@@ -1,5 +1,6 @@
-/* execsim.h: the proved simulator of the Amiga's Exec for C programs, in the library libexecsim.a. A run of two texts is one call, execsim_run. Or a
- * program keeps a machine, and asks for its events step by step: execsim_open, execsim_events, execsim_take, the readers, execsim_close.
+/* execsim.h: the proved simulator of the Amiga's Exec for C programs, in the library libexecsim.a. A run of two texts is one call, execsim_run; others
+ * give its log, its states, its picture, what a checker finds, and every way in which interrupts can come. Or a program keeps a machine, and asks
+ * for its events step by step: execsim_open, execsim_events, execsim_take, the readers, execsim_close.
  *
  * Link with no other library: it calls malloc, realloc and free alone, which are to be of one allocator, and to align a block to each power of two up
  * to 16 that divides its size. What a program keeps is all in its machines, so calls in several threads need not wait for one another if each has a
@@ -23,7 +24,8 @@ enum {
     EXECSIM_NO_MEMORY = 4,       /* memory was refused */
     EXECSIM_TOO_LONG = 5,        /* what is to be put into the buffer is longer than it */
     EXECSIM_NO_MACHINE = 6,      /* there is no machine: none was opened, or it was closed */
-    EXECSIM_NOT_THERE = 7        /* there is no such task, or no block at that address */
+    EXECSIM_NOT_THERE = 7,       /* there is no such task, step or outcome, or no block at that address; or a number is out of range */
+    EXECSIM_TOO_MANY = 8         /* a search has more ways than the limit, or more outcomes or ticks than it takes */
 };
 
 /* The most bytes that the program takes of a machine file or of an event text. Here a longer text is read too. */
@@ -45,6 +47,60 @@ enum {
  * *length overlap nothing else. The caller owns all memory, before and after; what the call allocates it frees. */
 uint32_t execsim_run(const uint8_t *machine, size_t machine_length, const uint8_t *events, size_t events_length, uint8_t *out,
                      size_t out_length, uint64_t *length);
+
+/* Of the calls below up to execsim_way each takes two texts and a buffer as execsim_run does, with the same answers and requirements, and puts what a
+ * command writes of the texts into the buffer, with a line feed at the end of each line. In it the machine file is called machine.toml and the
+ * event text run.events. What else they answer is said at each. */
+
+/* The last step of a run, whichever it is. */
+#define EXECSIM_LAST_STEP UINT64_MAX
+
+/* The log of a run from a step to a step, as `execlog --json` writes it: a JSON object a line. Steps, ticks and requests of interrupts are counted from
+ * 1; 0 is the start. With words that is not 0, words that print nothing have lines too, as by `--plain-words`.
+ * EXECSIM_ALERTED: an alert has stopped the machine by then. EXECSIM_NOT_THERE: the run has no such steps; the buffer begins with a sentence. */
+uint32_t execsim_log(const uint8_t *machine, size_t machine_length, const uint8_t *events, size_t events_length, uint64_t from, uint64_t to,
+                     uint32_t words, uint8_t *out, size_t out_length, uint64_t *length);
+
+/* All that the machine shows after a step, as `execlog --state` writes it: a page of text, whose first line says how many steps the run has.
+ * EXECSIM_ALERTED, EXECSIM_NOT_THERE: as execsim_log. */
+uint32_t execsim_state(const uint8_t *machine, size_t machine_length, const uint8_t *events, size_t events_length, uint64_t step, uint8_t *out,
+                       size_t out_length, uint64_t *length);
+
+/* A picture of a run from what the machine shows after a step to a step, as `execlog --svg` draws it: an SVG document.
+ * EXECSIM_ALERTED, EXECSIM_NOT_THERE: as execsim_log; EXECSIM_NOT_THERE also if there are more steps than a picture shows, as the sentence says. */
+uint32_t execsim_picture(const uint8_t *machine, size_t machine_length, const uint8_t *events, size_t events_length, uint64_t from, uint64_t to,
+                         uint8_t *out, size_t out_length, uint64_t *length);
+
+/* The same steps in the Trace Event Format, as `execlog --chrome` writes it: a JSON document, which Perfetto opens.
+ * EXECSIM_ALERTED, EXECSIM_NOT_THERE: as execsim_log. */
+uint32_t execsim_chrome(const uint8_t *machine, size_t machine_length, const uint8_t *events, size_t events_length, uint64_t from, uint64_t to,
+                        uint8_t *out, size_t out_length, uint64_t *length);
+
+/* What is wrong with the texts and how their run ends, as `execcheck` writes it: for each finding its place, a line with marks, and the reason.
+ * EXECSIM_RAN: nothing was found, or notes alone. EXECSIM_ALERTED: there are warnings, or an alert. EXECSIM_MACHINE_REFUSED,
+ * EXECSIM_EVENTS_REFUSED: the machine file is refused, or the event text alone is, and the buffer has what was found. It is proved that each is
+ * answered exactly if the text is refused, and EXECSIM_ALERTED if an alert ends the run. */
+uint32_t execsim_check(const uint8_t *machine, size_t machine_length, const uint8_t *events, size_t events_length, uint8_t *out, size_t out_length,
+                       uint64_t *length);
+
+/* Interrupts that a search inserts: a sum of these, or EXECSIM_SERVED for ticks and the sources that servers of the machine file serve. */
+enum { EXECSIM_SERVED = 0, EXECSIM_PORTS = 1, EXECSIM_VERTB = 2, EXECSIM_EXTER = 4 };
+
+/* What a search sees of a way: its end alone, also the lines of Print, or the whole trace. */
+enum { EXECSIM_SEE_END = 0, EXECSIM_SEE_PRINTS = 1, EXECSIM_SEE_TRACE = 2 };
+
+/* Every way to insert at most so many more interrupts (0 to 8) into the events, and what is seen of each, as `execexplore` writes it.
+ * limit: how many ways are tried at most; the program's own limit is 2^40.
+ * EXECSIM_RAN: there is one outcome and no alert. EXECSIM_ALERTED: there are more, or an alert. EXECSIM_TOO_MANY: nothing was searched, and the buffer
+ * begins with a sentence that has the number of ways; or there are more than 65,536 outcomes or 1,000,000 ticks. EXECSIM_NOT_THERE: a number is
+ * out of range. */
+uint32_t execsim_explore(const uint8_t *machine, size_t machine_length, const uint8_t *events, size_t events_length, uint32_t extra, uint32_t kinds,
+                         uint32_t see, uint64_t limit, uint8_t *out, size_t out_length, uint64_t *length);
+
+/* The same search, and of it the event text of the first way of an outcome, which are counted from 1.
+ * The answers are those of execsim_explore. EXECSIM_NOT_THERE: also if there is no such outcome. */
+uint32_t execsim_way(const uint8_t *machine, size_t machine_length, const uint8_t *events, size_t events_length, uint32_t extra, uint32_t kinds,
+                     uint32_t see, uint64_t limit, uint64_t outcome, uint8_t *out, size_t out_length, uint64_t *length);
 
 /* A machine that a program keeps. It has to be EXECSIM_NO_MACHINE_YET before it is first used, and is changed by the calls below alone. It may be
  * moved, but of two copies only one may be used. What it points to is the library's: execsim_close frees it. */

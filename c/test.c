@@ -1,6 +1,9 @@
 /* Runs examples through the library: test NAME.., each of which has NAME.toml, NAME.events and NAME.trace: whole, and event by event in a machine that
- * is kept. Then what is refused, buffers that are too short, and what is read of a machine. Its last line is 'N passed, M failed'. */
+ * is kept. If there is NAME.numbers (two steps, an outcome, and the statuses of the calls), what each command writes is in NAME.log and the like, and
+ * the library has to give the same; without NAME.trace that is all. Then what is refused, buffers that are too short, what is read of a machine, and, linked with
+ * --wrap=malloc, --wrap=realloc and --wrap=free, calls that are refused memory. Its last line is 'N passed, M failed'. */
 #include "execsim.h"
+#include <inttypes.h>
 #include <stdio.h>
 #include <stdlib.h>
 #include <string.h>
@@ -35,6 +38,16 @@ static Text read_text(const char *name, const char *ending) {
     return text;
 }
 
+static int has_trace(const char *name) {
+    char path[4096];
+    snprintf(path, sizeof path, "%s.trace", name);
+    FILE *file = fopen(path, "rb");
+    if (file) {
+        fclose(file);
+    }
+    return file != NULL;
+}
+
 /* The status of a trace: its last line is that of an alert, or it ran to its end. */
 static uint32_t status_of(Text trace) {
     size_t begins = trace.length ? trace.length - 1 : 0;
@@ -62,6 +75,108 @@ static void run_example(const char *name) {
     free(machine.bytes);
     free(events.bytes);
     free(trace.bytes);
+}
+
+/* An example as the commands saw it: parts of its run are from a step to a step. */
+typedef struct {
+    Text machine, events;
+    uint64_t from, to, outcome;
+} Example;
+
+#define TEXTS it->machine.bytes, it->machine.length, it->events.bytes, it->events.length
+
+static uint32_t log_of(const Example *it, uint8_t *out, size_t room, uint64_t *length) {
+    return execsim_log(TEXTS, 0, EXECSIM_LAST_STEP, 0, out, room, length);
+}
+
+static uint32_t words_of(const Example *it, uint8_t *out, size_t room, uint64_t *length) {
+    return execsim_log(TEXTS, it->from, it->to, 1, out, room, length);
+}
+
+static uint32_t state_of(const Example *it, uint8_t *out, size_t room, uint64_t *length) {
+    return execsim_state(TEXTS, it->from, out, room, length);
+}
+
+static uint32_t end_of(const Example *it, uint8_t *out, size_t room, uint64_t *length) {
+    return execsim_state(TEXTS, EXECSIM_LAST_STEP, out, room, length);
+}
+
+static uint32_t picture_of(const Example *it, uint8_t *out, size_t room, uint64_t *length) {
+    return execsim_picture(TEXTS, it->from, it->to, out, room, length);
+}
+
+static uint32_t chrome_of(const Example *it, uint8_t *out, size_t room, uint64_t *length) {
+    return execsim_chrome(TEXTS, 0, EXECSIM_LAST_STEP, out, room, length);
+}
+
+static uint32_t check_of(const Example *it, uint8_t *out, size_t room, uint64_t *length) {
+    return execsim_check(TEXTS, out, room, length);
+}
+
+static uint32_t report_of(const Example *it, uint8_t *out, size_t room, uint64_t *length) {
+    return execsim_explore(TEXTS, 1, EXECSIM_SERVED, EXECSIM_SEE_PRINTS, 100000, out, room, length);
+}
+
+static uint32_t ticks_of(const Example *it, uint8_t *out, size_t room, uint64_t *length) {
+    return execsim_explore(TEXTS, 2, EXECSIM_VERTB + EXECSIM_EXTER, EXECSIM_SEE_END, 100000, out, room, length);
+}
+
+static uint32_t way_of(const Example *it, uint8_t *out, size_t room, uint64_t *length) {
+    return execsim_way(TEXTS, 1, EXECSIM_SERVED, EXECSIM_SEE_PRINTS, 100000, it->outcome, out, room, length);
+}
+
+/* What is asked for of an example, each by the ending of the file that has what the command wrote. */
+typedef uint32_t Call(const Example *it, uint8_t *out, size_t room, uint64_t *length);
+static const struct {
+    const char *name;
+    Call *call;
+} CALLS[] = {{"log", log_of},         {"words", words_of},   {"state", state_of}, {"end", end_of},     {"picture", picture_of},
+             {"chrome", chrome_of},   {"check", check_of},   {"report", report_of}, {"ticks", ticks_of}, {"way", way_of}};
+
+enum { CALLS_MADE = sizeof CALLS / sizeof *CALLS };
+
+/* A call into a buffer of exactly the length of what is wanted, and into one that is a byte shorter: words of a refusal are cut off there. */
+static void try_call(const Example *it, Call *call, const char *title, uint32_t wanted, Text text) {
+    uint8_t *out = (uint8_t *)malloc(text.length + 1);
+    uint64_t length = 0;
+    uint32_t status = call(it, out, text.length, &length);
+    count(title, status == wanted && length == text.length && !memcmp(out, text.bytes, length));
+    if (text.length) {
+        memset(out, 'x', text.length + 1);
+        status = call(it, out, text.length - 1, &length);
+        int is_left = 1;
+        for (size_t at = 0; at <= text.length; at++) {
+            is_left &= out[at] == 'x';
+        }
+        int is_cut = status == wanted && length < text.length && !memcmp(out, text.bytes, length) && out[text.length] == 'x';
+        int is_shown = wanted == EXECSIM_RAN || wanted == EXECSIM_ALERTED || call == check_of;
+        count(title, is_shown ? status == EXECSIM_TOO_LONG && length == text.length && is_left : is_cut);
+    }
+    free(out);
+}
+
+/* What each command writes of an example. */
+static void show_example(const char *name) {
+    char path[4096], title[5000];
+    snprintf(path, sizeof path, "%s.numbers", name);
+    FILE *numbers = fopen(path, "r");
+    if (!numbers) {
+        return;
+    }
+    Example it = {read_text(name, "toml"), read_text(name, "events"), 0, 0, 0};
+    int is_read = fscanf(numbers, "%" SCNu64 " %" SCNu64 " %" SCNu64, &it.from, &it.to, &it.outcome) == 3;
+    for (unsigned at = 0; at < CALLS_MADE; at++) {
+        uint32_t wanted = 0;
+        is_read &= fscanf(numbers, "%" SCNu32, &wanted) == 1;
+        Text text = read_text(name, CALLS[at].name);
+        snprintf(title, sizeof title, "%s of %s", CALLS[at].name, name);
+        try_call(&it, CALLS[at].call, title, wanted, text);
+        free(text.bytes);
+    }
+    count(path, is_read);
+    fclose(numbers);
+    free(it.machine.bytes);
+    free(it.events.bytes);
 }
 
 static uint32_t open_text(execsim_machine *machine, const char *text) {
@@ -214,10 +329,137 @@ static void refuse(const char *machine, const char *events, uint32_t wanted, con
     count("words in a short buffer", status == wanted && length <= 3 && !memcmp(few, words, length) && few[3] == '.');
 }
 
+static Text text_of(const char *words) {
+    Text text = {(uint8_t *)words, strlen(words)};
+    return text;
+}
+
+/* What a call says of two texts, and its status. */
+static void say(Call *call, const char *machine, const char *events, uint64_t from, uint64_t to, uint32_t wanted, const char *words) {
+    Example it = {text_of(machine), text_of(events), from, to, to};
+    uint8_t out[512], few[4] = {'.', '.', '.', '.'};
+    uint64_t length = 0;
+    uint32_t status = call(&it, out, sizeof out, &length);
+    count(words, status == wanted && length == strlen(words) && !memcmp(out, words, length));
+    status = call(&it, few, 3, &length);
+    if (status == EXECSIM_TOO_LONG) {
+        count(words, length == strlen(words) && !memcmp(few, "....", 4));
+    } else {
+        count(words, status == wanted && length <= 3 && !memcmp(few, words, length) && few[3] == '.');
+    }
+}
+
+static const char *const TWO = "[[task]]\nname = \"a\"\ncode = [\"Print 1\", \"Print 2\"]\n";
+
+static uint32_t few_ways(const Example *it, uint8_t *out, size_t room, uint64_t *length) {
+    return execsim_explore(TEXTS, 1, 0, 0, 4, out, room, length);
+}
+
+static uint32_t many_extras(const Example *it, uint8_t *out, size_t room, uint64_t *length) {
+    return execsim_explore(TEXTS, 9, 0, 0, 4, out, room, length);
+}
+
+static uint32_t odd_kinds(const Example *it, uint8_t *out, size_t room, uint64_t *length) {
+    return execsim_explore(TEXTS, 1, 8, 0, 4, out, room, length);
+}
+
+static uint32_t odd_sight(const Example *it, uint8_t *out, size_t room, uint64_t *length) {
+    return execsim_way(TEXTS, 1, 1, 3, 4, 1, out, room, length);
+}
+
+/* Texts, steps and numbers that are refused. */
+static void refuse_calls(void) {
+    static Call *const both[] = {words_of, state_of, end_of, report_of, way_of};
+    for (unsigned at = 0; at < sizeof both / sizeof *both; at++) {
+        say(both[at], "?", "run 1\n", 0, 1, EXECSIM_MACHINE_REFUSED, "machine: NotToml");
+        say(both[at], "[[task]]\nname = \"a\"\ncode = [\"Pritn 1\"]\n", "tic", 0, 1, EXECSIM_MACHINE_REFUSED, "machine: BadCommand");
+        say(both[at], TWO, "run 1\n\ntic 1\n", 0, 1, EXECSIM_EVENTS_REFUSED, "events: BadLine 3");
+    }
+    say(words_of, TWO, "run 2\n", 0, 3, EXECSIM_NOT_THERE, "--to 3: the run ends with step 2; give a number from 0 to 2, or add events");
+    say(words_of, TWO, "run 2\n", 2, 1, EXECSIM_NOT_THERE, "--from 2 is after --to 1; give a --from that is not greater than --to");
+    say(state_of, TWO, "run 2\n", 3, 3, EXECSIM_NOT_THERE, "--state 3: the run ends with step 2; give a number from 0 to 2, or add events");
+    say(few_ways, TWO, "run 4\n", 0, 0, EXECSIM_TOO_MANY, "there are 6 ways, and at most 4 are tried; ask for fewer extras, or shorten the events");
+    say(many_extras, TWO, "run 4\n", 0, 0, EXECSIM_NOT_THERE, "extra is a number from 0 to 8");
+    say(odd_kinds, TWO, "run 4\n", 0, 0, EXECSIM_NOT_THERE, "kinds is a sum of 1 (PORTS), 2 (ticks) and 4 (EXTER), or 0");
+    say(odd_sight, TWO, "run 4\n", 0, 0, EXECSIM_NOT_THERE, "see is 0 (the end), 1 (the prints) or 2 (the trace)");
+    say(way_of, TWO, "run 4\n", 0, 2, EXECSIM_NOT_THERE, "--events 2: there are 1 outcomes");
+    say(way_of, TWO, "run 4\n", 0, 0, EXECSIM_NOT_THERE, "--events 0: there are 1 outcomes");
+}
+
+#ifdef WRAPPED
+/* The allocation, from 1, that is refused, and all after it; how many were asked for; how many blocks are not freed. */
+static unsigned long refused_from, asked, kept;
+
+#ifdef __cplusplus
+extern "C" {
+#endif
+void *__real_malloc(size_t length);
+void *__real_realloc(void *old, size_t length);
+void __real_free(void *block);
+
+void *__wrap_malloc(size_t length) {
+    void *block = ++asked >= refused_from && refused_from ? NULL : __real_malloc(length);
+    kept += block != NULL;
+    return block;
+}
+
+void *__wrap_realloc(void *old, size_t length) {
+    void *block = ++asked >= refused_from && refused_from ? NULL : __real_realloc(old, length);
+    kept += block && !old;
+    return block;
+}
+
+void __wrap_free(void *block) {
+    kept -= block != NULL;
+    __real_free(block);
+}
+#ifdef __cplusplus
+}
+#endif
+
+/* A call that is refused memory from its first allocation on, then from its second, and so on until it is refused none. */
+static void starve(Call *call, const char *title) {
+    Example it = {text_of(TWO), text_of("run 3\ntick 1\n"), 1, 3, 1};
+    static uint8_t out[1 << 16];
+    uint64_t length = 0;
+    uint32_t status = EXECSIM_NO_MEMORY;
+    unsigned long before = kept;
+    int is_well = 1;
+    refused_from = 0;
+    while (is_well && status == EXECSIM_NO_MEMORY) {
+        asked = 0;
+        refused_from++;
+        status = call(&it, out, sizeof out, &length);
+        is_well &= kept == before;
+        is_well &= status != EXECSIM_NO_MEMORY || (length == 9 && !memcmp(out, "no memory", 9));
+    }
+    is_well &= asked < refused_from;
+    printf("library: %s takes %lu allocations of a small run\n", title, refused_from - 1);
+    refused_from = 0;
+    count(title, is_well && status != EXECSIM_NO_MEMORY && refused_from == 0);
+}
+
+static uint32_t run_of(const Example *it, uint8_t *out, size_t room, uint64_t *length) {
+    return execsim_run(TEXTS, out, room, length);
+}
+
+static void starve_calls(void) {
+    starve(run_of, "run");
+    for (unsigned at = 0; at < CALLS_MADE; at++) {
+        starve(CALLS[at].call, CALLS[at].name);
+    }
+}
+#else
+static void starve_calls(void) {}
+#endif
+
 int main(int argc, char **names) {
     for (int at = 1; at < argc; at++) {
-        run_example(names[at]);
-        step_example(names[at]);
+        if (has_trace(names[at])) {
+            run_example(names[at]);
+            step_example(names[at]);
+        }
+        show_example(names[at]);
     }
     refuse("?", "run 1\n", EXECSIM_MACHINE_REFUSED, "machine: NotToml");
     refuse("[[task]]\nname = \"a\"\ncode = [\"Pritn 1\"]\n", "run 1\n", EXECSIM_MACHINE_REFUSED, "machine: BadCommand");
@@ -230,6 +472,8 @@ int main(int argc, char **names) {
     read_tasks();
     read_blocks();
     misuse();
+    refuse_calls();
+    starve_calls();
     printf("%u passed, %u failed\n", passed, failed);
     return failed != 0;
 }

@@ -49,6 +49,7 @@ fn command<'a>(alloc: Global) -> Result<Command<'a>, AllocError>
     let events = events_argument(alloc);
     Command::new(alloc, "execcheck")
         .about("Says what is wrong with the texts of a run of execsim, and where")
+        .after_help("execcheck --version, with nothing else, prints the version.")
         .no_binary_name(true)
         .arg(machine)?
         .arg(events)

@@ -1,12 +1,16 @@
 //! Why there is no answer, and what the program says of it.
 ghost use Rattle.std.specs.Prelude.{◌≡◌};
 
+use execadvice::shown;
 use execsim::ReadFault;
-use std::alloc::AllocError;
+use std::alloc::{AllocError, Global};
 use std::io::Write;
 
 /// The status with which the program ends if there is no answer.
 const FAILED: u8 = 4;
+
+/// What is said if memory was refused.
+const NO_MEMORY: &[u8] = b"execcheck: no memory\n";
 
 /// Why there is no answer. Its text is what the program says of it.
 #[derive(Debug, Drop)]
@@ -39,14 +43,24 @@ impl<'a> Failure<'a> {
     }
 }
 
-/// Says on standard error why there is no answer, and answers the status that represents that. A write that fails there changes nothing.
-pub fn report<E: Write>(failure: &Failure<'_>, err: &mut E) -> u8
+/// What is said of a file that could not be read. The path is shown with the characters escaped that a terminal obeys.
+fn cannot_read_text(alloc: Global, path: &str) -> Result<String, AllocError> {
+    let path = shown(alloc, path)?;
+    format!(in alloc; "execcheck: cannot read {path}\n")
+}
+
+/// Says on standard error, in one write, why there is no answer, and answers the status that represents that. A write that fails there changes
+/// nothing.
+pub fn report<E: Write>(alloc: Global, failure: &Failure<'_>, err: &mut E) -> u8
     ensures { result ≡ 4 }
 {
     let _ = match failure {
-        Failure::NoMemory => writeln!(err, "execcheck: no memory"),
-        Failure::CannotRead(path) => writeln!(err, "execcheck: cannot read {path}"),
-        Failure::WriteFailed => writeln!(err, "execcheck: write failed"),
+        Failure::NoMemory => err.write_all(NO_MEMORY),
+        Failure::WriteFailed => err.write_all(b"execcheck: write failed\n"),
+        Failure::CannotRead(path) => match cannot_read_text(alloc, path) {
+            Ok(text) => err.write_all(text.as_str().as_bytes()),
+            Err(_) => err.write_all(NO_MEMORY),
+        },
     };
     FAILED
 }

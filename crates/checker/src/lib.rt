@@ -2,10 +2,12 @@
 //! and where.
 #![tactic(auto)]
 
+mod arguments;
 mod checking;
 mod command_line;
 mod failure;
 mod running;
 
+pub use arguments::run_on_arguments;
 pub use command_line::Paths;
-pub use running::{run_on_arguments, run_on_texts};
+pub use running::run_on_texts;

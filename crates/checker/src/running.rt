@@ -10,21 +10,23 @@ use crate::checking::check_texts;
 use crate::command_line::paths_given;
 use crate::failure::{Failure, report};
 use clap::error::ErrorKind;
-use execrun::{SystemTexts, Texts};
+use execrun::Texts;
 use std::alloc::Global;
-use std::env::Env;
 use std::io::Write;
-use std::rt::Files;
-use std::{env, io};
 
 /// The status if the help was printed.
 const DONE: u8 = 0;
 
 /// The status if the command line is refused.
-const COMMAND_LINE_REFUSED: u8 = 2;
+pub const COMMAND_LINE_REFUSED: u8 = 2;
 
 /// Answers a command line that gives no paths: the help, or why it is refused.
-fn answer_without_paths<W: Write, E: Write>(error: clap::Error, out: &mut W, err: &mut E) -> u8
+fn answer_without_paths<W: Write, E: Write>(
+    alloc: Global,
+    error: clap::Error,
+    out: &mut W,
+    err: &mut E,
+) -> u8
     ensures status { (result ≡ 0) ⊎ (result ≡ 2) ⊎ (result ≡ 4) }
     ensures memory { kind_of error ≡ ErrorKind.OutOfMemory → result ≡ 4 }
     ensures refused { kind_of error ≢ ErrorKind.OutOfMemory → kind_of error ≢ ErrorKind.DisplayHelp
@@ -33,7 +35,7 @@ fn answer_without_paths<W: Write, E: Write>(error: clap::Error, out: &mut W, err
     ensures silent { result ≢ 2 → result ≢ 4 → err.new ≡ err.old }
 {
     if error.kind() == ErrorKind::OutOfMemory {
-        return report(&Failure::NoMemory, err);
+        return report(alloc, &Failure::NoMemory, err);
     }
     if error.use_stderr() {
         let _ = write!(err, "{error}");
@@ -41,7 +43,7 @@ fn answer_without_paths<W: Write, E: Write>(error: clap::Error, out: &mut W, err
     }
     match write!(out, "{error}") {
         Ok(()) => DONE,
-        Err(_) => report(&Failure::WriteFailed, err),
+        Err(_) => report(alloc, &Failure::WriteFailed, err),
     }
 }
 
@@ -66,42 +68,10 @@ pub fn run_on_texts<T: Texts, W: Write, E: Write>(
     ensures silent { result ≢ 2 → result ≢ 4 → err.new ≡ err.old }
 {
     match paths_given(alloc, words) {
-        Err(error) => answer_without_paths(error, out, err),
+        Err(error) => answer_without_paths(alloc, error, out, err),
         Ok(paths) => match check_texts(texts, alloc, paths, out) {
             Ok(status) => status,
-            Err(failure) => report(&failure, err),
+            Err(failure) => report(alloc, &failure, err),
         },
-    }
-}
-
-/// The words of the process's command line, without the program's own name.
-fn words_of<R: Env + AllocGlobal>(rt: &R) -> io::Result<Vec<String>> {
-    let words = env::args(rt)?.skip(1).collect(rt.alloc())?;
-    Ok(words)
-}
-
-/// Runs the program over the system's files on the process's arguments, and answers the status with which it ends.
-///
-/// Arguments that are no text are refused as a command line is.
-pub fn run_on_arguments<R: Env + Files + AllocGlobal, W: Write + Drop, E: Write>(
-    rt: &R,
-    mut out: W,
-    err: &mut E,
-) -> u8
-    ensures status { result ≤ 4 }
-    ensures silent { result ≢ 2 → result ≢ 4 → err.new ≡ err.old }
-{
-    let alloc = rt.alloc();
-    let Ok(arguments) = words_of(rt) else {
-        let _ = writeln!(err, "error: an argument is no text");
-        return COMMAND_LINE_REFUSED;
-    };
-    match arguments
-        .iter()
-        .map(|word| word.as_str())
-        .collect::<Vec<&str>>(alloc)
-    {
-        Err(_) => report(&Failure::NoMemory, err),
-        Ok(words) => run_on_texts(&SystemTexts(rt), alloc, &words, &mut out, err),
     }
 }

@@ -1,18 +1,23 @@
 //! Why a line says no command, in one sentence, with a proposal if one is near.
 
-use crate::near::{nearest, proposal};
-use crate::show::{Advice, field_span};
+use crate::assignments::{assignment_of_c, call_with_parentheses, missing_word};
+use crate::foreign::{equivalent_of, number_of_constants, written_number};
+use crate::members::name_of;
+use crate::mistake::{Mistake, is_variable, mistake_in};
+use crate::near::{lower_case, nearest, proposal};
+use crate::show::{Advice, Span, field_span, width_of};
 use crate::spacing::spacing_advice;
-use execcheck::{Mistake, fields_of, is_variable, mistake_in, name_of, quoted_in};
 use std::alloc::{AllocError, Global};
-use taskscript::{Kind, Word, is_identifier, is_name, number_of, word_of, words};
+use taskscript::{
+    Kind, Word, fields_of, is_identifier, is_name, number_of, quoted_in, word_of, words,
+};
 use toml::Value;
 
 /// Whether a part is a word, with a target and `=` that no spaces separate.
 fn is_assignment(field: &str) -> bool {
     match field.split_once("=") {
         None => false,
-        Some((target, _)) => is_variable(target.as_bytes()),
+        Some((target, _)) => is_variable(target),
     }
 }
 
@@ -23,17 +28,8 @@ fn label_reason(alloc: Global, field: &str) -> Result<String, AllocError> {
         return format!(in alloc; "a label has no capital letter; did you mean {lower}:?");
     }
     format!(in alloc;
-        "no label: it is a letter a to z, then letters, digits and _, 1 to 16 together, and a colon"
+        "expected a label: a letter a to z, then letters a to z, digits and _, 1 to 16 characters, and a colon"
     )
-}
-
-/// The text with small letters for capital ones.
-fn lower_case(alloc: Global, text: &str) -> Result<String, AllocError> {
-    let mut lower = String::new(alloc);
-    for c in text.chars() {
-        lower.push(c.to_ascii_lowercase())?;
-    }
-    Ok(lower)
 }
 
 /// The texts of all words.
@@ -45,6 +41,20 @@ fn word_texts(alloc: Global) -> Result<Vec<&'static str>, AllocError> {
     Ok(texts)
 }
 
+/// What is wrong with a text that is no word, if the characters at its end, or the part after it, show that.
+fn joint_reason(text: &str, fields: &[&str], at: usize) -> Option<&'static str> {
+    let next = fields.get(1).copied().unwrap_or("");
+    if at == 0 && (is_assignment(text) || is_variable(text) && next.starts_with("=")) {
+        Some("put one space before and one after the =")
+    } else if at == 0 && is_variable(text) && next == ":=" {
+        Some("put = in place of :=")
+    } else if text.ends_with(":") {
+        Some("a label has a line of its own")
+    } else {
+        None
+    }
+}
+
 /// Why a text is no word.
 fn word_reason(alloc: Global, fields: &[&str], at: usize) -> Result<String, AllocError> {
     let Some(text) = fields.get(at).copied() else {
@@ -53,21 +63,20 @@ fn word_reason(alloc: Global, fields: &[&str], at: usize) -> Result<String, Allo
     if at == 0 && fields.len() == 1 && text.ends_with(":") {
         return label_reason(alloc, text);
     }
-    if at == 0 && is_assignment(text) {
-        return format!(in alloc; "put one space before and one after the =");
+    if let Some(reason) = joint_reason(text, fields, at) {
+        return String::from_str(alloc, reason);
     }
-    if at == 0 && is_variable(text.as_bytes()) {
-        if let Some(word) = fields.get(1).copied() {
-            if word.starts_with("=") {
-                return format!(in alloc; "put one space before and one after the =");
-            }
-            if word_of(word).is_some() {
-                return format!(in alloc; "unknown word; did you mean {text} = {word}?");
-            }
+    if at == 0 && is_variable(text) {
+        let word = fields.get(1).copied().unwrap_or("");
+        if word_of(word).is_some() {
+            return format!(in alloc; "unknown word; did you mean {text} = {word}?");
         }
     }
-    if text.ends_with(":") {
-        return format!(in alloc; "a label has a line of its own");
+    if let Some(meant) = missing_word(alloc, fields)? {
+        return format!(in alloc; "a word is missing; did you mean {meant}?");
+    }
+    if let Some(equivalent) = equivalent_of(text) {
+        return format!(in alloc; "unknown word; write {equivalent}");
     }
     let texts = word_texts(alloc)?;
     let near = nearest(alloc, text, &texts)?;
@@ -82,11 +91,11 @@ fn word_reason(alloc: Global, fields: &[&str], at: usize) -> Result<String, Allo
 
 fn target_reason(alloc: Global, field: &str) -> Result<String, AllocError> {
     let lower = lower_case(alloc, field)?;
-    if is_variable(lower.as_str().as_bytes()) {
+    if is_variable(lower.as_str()) {
         return format!(in alloc; "a variable has no capital letter; did you mean {lower}?");
     }
     format!(in alloc;
-        "no variable: a letter a to z, then letters, digits and _, 1 to 16 together, with @ before it if it is shared"
+        "expected a variable: a letter a to z, then letters a to z, digits and _, 1 to 16 characters, with @ before it if it is shared"
     )
 }
 
@@ -102,13 +111,10 @@ fn without_zeros(field: &str) -> Option<&str> {
 
 /// The digits after `0x`, `0X` or `$`.
 fn base_sixteen(field: &str) -> Option<&str> {
-    if let Some(digits) = field.strip_prefix("0x") {
-        return Some(digits);
+    match (field.strip_prefix("0x"), field.strip_prefix("0X")) {
+        (Some(digits), _) | (None, Some(digits)) => Some(digits),
+        (None, None) => field.strip_prefix("$"),
     }
-    if let Some(digits) = field.strip_prefix("0X") {
-        return Some(digits);
-    }
-    field.strip_prefix("$")
 }
 
 fn base_sixteen_reason(alloc: Global, digits: &str) -> Result<String, AllocError> {
@@ -138,13 +144,22 @@ fn value_reason(alloc: Global, field: &str) -> Result<String, AllocError> {
     if field.starts_with("\"") {
         return format!(in alloc; "expected a number or a variable here, not a name");
     }
+    if let Some(number) = number_of_constants(field) {
+        let number = written_number(alloc, number)?;
+        return format!(in alloc; "constants are written as numbers; did you mean {number}?");
+    }
     let digits = field.trim_start_matches('-');
     if !digits.is_empty() && digits.as_bytes().iter().all(|b| b.is_ascii_digit()) {
         return format!(in alloc; "a number is from -2147483648 to 4294967295");
     }
     let lower = lower_case(alloc, field)?;
-    if is_variable(lower.as_str().as_bytes()) {
+    if is_variable(lower.as_str()) {
         return format!(in alloc; "a variable has no capital letter; did you mean {lower}?");
+    }
+    if lower.len() > 16 && is_identifier(lower.as_str().get(..16).unwrap_or("").as_bytes()) {
+        return format!(in alloc;
+            "expected a number or a variable here; a variable has at most 16 characters"
+        );
     }
     format!(in alloc; "expected a number or a variable here")
 }
@@ -188,7 +203,7 @@ fn quoted_reason(alloc: Global, field: &str, or_none: &str) -> Result<String, Al
 
 /// Why a name is none of the file's software interrupts.
 fn softint_reason(alloc: Global, softints: &[Value], field: &str) -> Result<String, AllocError> {
-    if quoted_in(field.as_bytes()).is_none() {
+    if quoted_in(field).is_none() {
         return quoted_reason(alloc, field, "");
     }
     if softints.is_empty() {
@@ -212,14 +227,24 @@ fn counted(alloc: Global, count: usize) -> Result<String, AllocError> {
     }
 }
 
-fn count_reason(alloc: Global, word: Word, given: usize) -> Result<String, AllocError> {
+/// Why a word has not as many arguments as it takes.
+fn count_reason(alloc: Global, word: Word, after: &[&str]) -> Result<String, AllocError> {
     let text = word.text();
+    let given = after.len();
     let wanted = counted(alloc, word.kinds().len())?;
     if given == 0 {
         return format!(in alloc; "{text} takes {wanted}, but none is given");
     }
     let verb = if given == 1 { "is" } else { "are" };
-    format!(in alloc; "{text} takes {wanted}, but {given} {verb} given")
+    match after {
+        [target, before @ ..]
+            if word.answers() && before.len() == word.kinds().len() && is_variable(target) => {
+            format!(in alloc;
+                "{text} takes {wanted}, but {given} {verb} given; the variable for its answer is before it, as in {target} = {text}"
+            )
+        }
+        _ => format!(in alloc; "{text} takes {wanted}, but {given} {verb} given"),
+    }
 }
 
 /// Why an argument is not right.
@@ -232,7 +257,7 @@ fn argument_reason(
 ) -> Result<String, AllocError> {
     let kinds = word.kinds();
     let (Some(kind), Some(field)) = (kinds.get(number).copied(), after.get(number).copied()) else {
-        return count_reason(alloc, word, after.len());
+        return count_reason(alloc, word, after);
     };
     match kind {
         Kind::Value => value_reason(alloc, field),
@@ -306,15 +331,25 @@ fn mistake_advice(
 ///
 /// A tab, a part that no line has or a space that separates nothing goes before the mistake in its words: a word that is wanted or is not
 /// known, a target, or an argument. In a line with no mistake it is the first part.
-///
-/// # Errors
-///
-/// If memory is refused.
 pub fn line_advice(alloc: Global, softints: &[Value], line: &str) -> Result<Advice, AllocError> {
     let fields = fields_of(alloc, line)?;
     let Some(mistake) = mistake_in(softints, &fields) else {
         return Advice::new(alloc, field_span(line, 0), "this line says no command");
     };
+    let span = Span {
+        start: 0,
+        width: width_of(line),
+    };
+    if let Some(meant) = call_with_parentheses(alloc, line)? {
+        let reason = format!(in alloc;
+            "arguments follow the word, with one space before each; did you mean {meant}?"
+        )?;
+        return Ok(Advice { span, reason });
+    }
+    if let Some(meant) = assignment_of_c(alloc, line)? {
+        let reason = format!(in alloc; "a word is missing; did you mean {meant}?")?;
+        return Ok(Advice { span, reason });
+    }
     match spacing_advice(alloc, line)? {
         Some(advice) => Ok(advice),
         None => mistake_advice(alloc, softints, line, &fields, mistake),

@@ -3,8 +3,11 @@ ghost use Rattle.std.specs.Prelude.{◌≡◌, Some, IfOk};
 ghost use Rattle.taskscript.specs.Events.{script_of};
 ghost use Rattle.execadvice.specs.Findings.{fault_of};
 
+use crate::escaped::{hidden_reason, is_hidden};
+use crate::finding::first_line;
 use crate::near::{nearest, proposal};
-use crate::show::{Advice, Span, field_span, push_marked};
+use crate::show::{Advice, Span, field_span, push_marked, width_of};
+use crate::written::FilePlace;
 use std::alloc::{AllocError, Global};
 use std::str::from_utf8;
 use taskscript::{EventFault, read_events};
@@ -69,14 +72,32 @@ fn spacing_reason(line: &str) -> Option<(usize, &'static str)> {
     None
 }
 
+/// Whether a line begins as an event does.
+pub fn is_event(line: &str) -> bool {
+    line.starts_with("run ") || line.starts_with("tick ") || line.starts_with("irq ")
+}
+
+/// Whether a line begins as one of a machine file does.
+fn is_of_machine_file(line: &str) -> bool {
+    line.starts_with("[[") || line.contains(" = ") || line.starts_with("version=")
+}
+
+/// What a line has that is not seen, beside a tab and a carriage return at its end.
+fn hidden_advice(alloc: Global, line: &str) -> Result<Option<Advice>, AllocError> {
+    for (start, c) in line.trim_end_matches('\r').chars().enumerate() {
+        if is_hidden(c) && c != '\t' {
+            let span = Span { start, width: 1 };
+            let reason = hidden_reason(alloc, c)?;
+            return Ok(Some(Advice { span, reason }));
+        }
+    }
+    Ok(None)
+}
+
 /// Why the first word of a line begins no event.
 fn word_advice(alloc: Global, line: &str, word: &str) -> Result<Advice, AllocError> {
-    let question = proposal(
-        alloc,
-        "",
-        nearest(alloc, word, &["run", "tick", "irq"])?,
-        "",
-    )?;
+    let near = nearest(alloc, word, &["run", "tick", "irq"])?;
+    let question = proposal(alloc, "", near, "")?;
     let reason = format!(in alloc; "a line is run N, tick N or irq S{question}")?;
     Ok(Advice {
         span: field_span(line, 0),
@@ -86,14 +107,22 @@ fn word_advice(alloc: Global, line: &str, word: &str) -> Result<Advice, AllocErr
 
 /// Why a line is no event.
 fn event_advice(alloc: Global, line: &str) -> Result<Advice, AllocError> {
+    if is_of_machine_file(line) {
+        let reason =
+            "this is a line of a machine file; the machine file is the first path, and the event text the second";
+        return Advice::new(alloc, field_span(line, 0), reason);
+    }
+    if let Some(advice) = hidden_advice(alloc, line)? {
+        return Ok(advice);
+    }
     if let Some((start, reason)) = spacing_reason(line) {
         return Advice::new(alloc, Span { start, width: 1 }, reason);
     }
     let (word, rest) = line.split_once(" ").unwrap_or((line, ""));
-    let argument = field_span(line, 1);
+    let span = field_span(line, 1);
     if rest.contains("#") {
         let reason = "a comment has a line of its own";
-        return Advice::new(alloc, argument, reason);
+        return Advice::new(alloc, span, reason);
     }
     if rest.contains(" ") {
         return Advice::new(
@@ -104,44 +133,39 @@ fn event_advice(alloc: Global, line: &str) -> Result<Advice, AllocError> {
     }
     if word == "run" || word == "tick" {
         let reason = number_reason(alloc, rest)?;
-        return Ok(Advice {
-            span: argument,
-            reason,
-        });
+        return Ok(Advice { span, reason });
     }
     if word == "irq" {
         let reason = source_reason(alloc, rest)?;
-        return Ok(Advice {
-            span: argument,
-            reason,
-        });
+        return Ok(Advice { span, reason });
     }
     word_advice(alloc, line, word)
 }
 
 /// Bytes as text; what is no text is shown as the empty line.
 pub fn text_or_nothing(line: &[u8]) -> &str {
-    match from_utf8(line) {
-        Ok(text) => text,
-        Err(_) => "",
-    }
+    from_utf8(line).unwrap_or("")
 }
 
-/// The line before which that many are, as text.
-fn line_after(bytes: &[u8], before: usize) -> &str {
-    match bytes.split(|b| *b == 10).nth(before) {
-        None => "",
-        Some(line) => text_or_nothing(line),
+/// Bytes that are no text as a text: a `?` for each byte that is not ASCII.
+pub fn lossy_line(alloc: Global, bytes: &[u8]) -> Result<String, AllocError> {
+    let mut line = String::new(alloc);
+    for byte in bytes {
+        line.push(if byte.is_ascii() {
+            char::from(*byte)
+        } else {
+            '?'
+        })?;
     }
+    Ok(line)
 }
 
-/// The line of a number, from 1, as text.
-fn line_numbered(bytes: &[u8], number: usize) -> &str {
-    if number == 0 {
-        ""
-    } else {
-        line_after(bytes, number - 1)
-    }
+/// The line of a number, from 1.
+pub fn line_numbered(bytes: &[u8], number: usize) -> &[u8] {
+    bytes
+        .split(|byte| *byte == b'\n')
+        .nth(number.saturating_sub(1))
+        .unwrap_or(&[])
 }
 
 /// The sums so far, and the first of the limits that they are past.
@@ -201,28 +225,56 @@ fn past_limit(bytes: &[u8]) -> Option<(usize, &'static str)> {
     None
 }
 
-/// What there is to say of a line of an event text: the line with what is wrong with it.
-fn line_text(
+/// What there is to say of a line of a text, of that number from 1: its place, and the line with what is wrong with it.
+pub fn line_text(
     alloc: Global,
     path: &str,
-    bytes: &[u8],
+    line: &str,
     number: usize,
     name: &str,
     advice: &Advice,
 ) -> Result<String, AllocError> {
-    let mut told = format!(in alloc; "{path}:{number}: {name}\n")?;
-    push_marked(&mut told, line_numbered(bytes, number), advice)?;
+    let column = advice.span.start.saturating_add(1);
+    let place = FilePlace {
+        line: number,
+        column,
+    };
+    let mut told = first_line(alloc, path, Some(place), "", name)?;
+    push_marked(alloc, &mut told, line, advice)?;
     Ok(told)
 }
 
 /// What there is to say if the events are too many.
 fn too_many_text(alloc: Global, path: &str, bytes: &[u8]) -> Result<String, AllocError> {
     match past_limit(bytes) {
-        None => format!(in alloc; "{path}: TooMany\n"),
+        None => first_line(alloc, path, None, "", "TooMany"),
         Some((number, reason)) => {
-            let width = line_numbered(bytes, number).chars().count();
+            let line = text_or_nothing(line_numbered(bytes, number));
+            let width = width_of(line);
             let advice = Advice::new(alloc, Span { start: 0, width }, reason)?;
-            line_text(alloc, path, bytes, number, "TooMany", &advice)
+            line_text(alloc, path, line, number, "TooMany", &advice)
+        }
+    }
+}
+
+/// What there is to say of a line that is no event.
+fn bad_line_text(
+    alloc: Global,
+    path: &str,
+    bytes: &[u8],
+    number: usize,
+) -> Result<String, AllocError> {
+    match from_utf8(bytes) {
+        Ok(line) => {
+            let advice = event_advice(alloc, line)?;
+            line_text(alloc, path, line, number, "BadLine", &advice)
+        }
+        Err(_) => {
+            let line = lossy_line(alloc, bytes)?;
+            let start = bytes.iter().position(|byte| !byte.is_ascii()).unwrap_or(0);
+            let span = Span { start, width: 1 };
+            let advice = Advice::new(alloc, span, "this is no UTF-8; save the file in UTF-8")?;
+            line_text(alloc, path, line.as_str(), number, "BadLine", &advice)
         }
     }
 }
@@ -236,8 +288,7 @@ fn fault_text(
 ) -> Result<String, AllocError> {
     match fault {
         EventFault::BadLine(number) => {
-            let advice = event_advice(alloc, line_numbered(bytes, number))?;
-            line_text(alloc, path, bytes, number, "BadLine", &advice)
+            bad_line_text(alloc, path, line_numbered(bytes, number), number)
         }
         EventFault::TooMany => too_many_text(alloc, path, bytes),
         EventFault::OutOfMemory => Err(AllocError),

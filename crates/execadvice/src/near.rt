@@ -6,18 +6,17 @@ use strsim::osa_distance;
 /// The length in bytes of the longest text for which a proposal is looked for.
 const LONGEST: usize = 40;
 
-/// The one of some texts that differs in upper and lower case alone.
-fn in_other_case<'a>(text: &str, among: &[&'a str]) -> Option<&'a str> {
-    for other in among {
-        if text.eq_ignore_ascii_case(*other) {
-            return Some(*other);
-        }
+/// A text with small letters for capital ones.
+pub fn lower_case(alloc: Global, text: &str) -> Result<String, AllocError> {
+    let mut lower = String::new(alloc);
+    for c in text.chars() {
+        lower.push(c.to_ascii_lowercase())?;
     }
-    None
+    Ok(lower)
 }
 
-/// The one of some texts that was likely meant: it differs in upper and lower case alone, or few edits lead to it, and to no other
-/// fewer. Two characters that changed places are one edit.
+/// The one of some texts that was likely meant: it differs in at most a third of its letters, and no other in fewer. Upper and lower case are
+/// the same, and two letters that changed places are one.
 pub fn nearest<'a>(
     alloc: Global,
     text: &str,
@@ -26,24 +25,24 @@ pub fn nearest<'a>(
     if text.len() > LONGEST {
         return Ok(None);
     }
-    if let Some(other) = in_other_case(text, among) {
-        return Ok(Some(other));
-    }
+    let text = lower_case(alloc, text)?;
     let mut found = None;
-    let mut least = 2 + text.len() / 4;
+    let mut least = LONGEST;
     for other in among {
-        let edits = osa_distance(alloc, text, *other)?;
-        if edits < least && edits < text.len() {
-            least = edits;
-            found = Some(*other);
+        let most = least.min(other.len() / 3);
+        if text.len().abs_diff(other.len()) <= most {
+            let lower = lower_case(alloc, *other)?;
+            let edits = osa_distance(alloc, text.as_str(), lower.as_str())?;
+            if edits == 0 {
+                return Ok(Some(*other));
+            }
+            if edits <= most {
+                least = edits.saturating_sub(1);
+                found = Some(*other);
+            }
         }
     }
     Ok(found)
-}
-
-/// The question that proposes a text, with what is before and after it.
-fn question(alloc: Global, before: &str, text: &str, after: &str) -> Result<String, AllocError> {
-    format!(in alloc; "; did you mean {before}{text}{after}?")
 }
 
 /// The question that proposes a text, with what is before and after it, or nothing.
@@ -55,6 +54,6 @@ pub fn proposal(
 ) -> Result<String, AllocError> {
     match near {
         None => Ok(String::new(alloc)),
-        Some(text) => question(alloc, before, text, after),
+        Some(text) => format!(in alloc; "; did you mean {before}{text}{after}?"),
     }
 }

@@ -1,12 +1,11 @@
 //! The variables that lines read and that no line sets.
 
-use crate::code::is_same_body;
-use crate::limits::is_shared;
+use crate::mistake::is_variable;
 use crate::show::{Span, field_span};
 use crate::spoken::Spoken;
-use execcheck::{LinePlace, is_variable};
 use std::alloc::{AllocError, Global};
 use std::collections::HashSet;
+use taskscript::LinePlace;
 
 /// A read of a variable, with the part of the line that reads it.
 #[derive(Drop)]
@@ -16,18 +15,32 @@ pub struct Read<'a> {
     pub name: &'a str,
 }
 
+/// Whether `@` is before the name of a variable.
+pub fn is_shared(name: &str) -> bool {
+    name.starts_with("@")
+}
+
+/// Whether two lines are of the same body.
+fn is_same_body(one: LinePlace, other: LinePlace) -> bool {
+    one.owner == other.owner && one.item == other.item
+}
+
 /// Some variables: private ones of one body, and shared ones of the file.
 #[derive(Drop)]
-struct Variables<'a> {
-    private: HashSet<&'a str>,
-    shared: HashSet<&'a str>,
+pub struct Variables<'a> {
+    pub private: HashSet<&'a str>,
+    pub shared: HashSet<&'a str>,
+    /// A line of the body, if one was entered.
+    last: Option<LinePlace>,
 }
 
 impl<'a> Variables<'a> {
-    fn new(alloc: Global) -> Variables<'a> {
+    /// No variable.
+    pub fn new(alloc: Global) -> Variables<'a> {
         Variables {
             private: HashSet::new(alloc),
             shared: HashSet::new(alloc),
+            last: None,
         }
     }
 
@@ -39,7 +52,8 @@ impl<'a> Variables<'a> {
         }
     }
 
-    fn add(&mut self, name: &'a str) -> Result<(), AllocError> {
+    /// Adds a variable.
+    pub fn add(&mut self, name: &'a str) -> Result<(), AllocError> {
         if is_shared(name) {
             self.shared.insert(name)?;
         } else {
@@ -48,14 +62,33 @@ impl<'a> Variables<'a> {
         Ok(())
     }
 
-    /// Forgets the private ones.
-    fn leave_body(&mut self, alloc: Global) {
-        self.private = HashSet::new(alloc);
+    /// Goes on to a line: whether another body begins with it. Then the private ones are forgotten.
+    pub fn enter(&mut self, alloc: Global, place: LinePlace) -> bool {
+        let is_same = self.last.is_some_and(|last| is_same_body(last, place));
+        if !is_same {
+            self.private = HashSet::new(alloc);
+        }
+        self.last = Some(place);
+        !is_same
+    }
+
+    /// Adds the variables that the first of some lines and those after it in the same body set.
+    fn add_body(&mut self, place: LinePlace, lines: &[Spoken<'a>]) -> Result<(), AllocError> {
+        for one in lines {
+            if !is_same_body(place, one.place) {
+                return Ok(());
+            }
+            if let Some(name) = one.said.target {
+                self.add(name)?;
+            }
+        }
+        Ok(())
     }
 }
 
-/// Adds the shared variables that some lines set.
-fn add_shared<'a>(set: &mut Variables<'a>, all: &[Spoken<'a>]) -> Result<(), AllocError> {
+/// The shared variables that some lines set.
+fn shared_in<'a>(alloc: Global, all: &[Spoken<'a>]) -> Result<Variables<'a>, AllocError> {
+    let mut set = Variables::new(alloc);
     for one in all {
         if let Some(name) = one.said.target {
             if is_shared(name) {
@@ -63,70 +96,31 @@ fn add_shared<'a>(set: &mut Variables<'a>, all: &[Spoken<'a>]) -> Result<(), All
             }
         }
     }
-    Ok(())
-}
-
-/// Adds the variables that the first of some lines and those after it in the same body set.
-fn add_body<'a>(
-    set: &mut Variables<'a>,
-    place: LinePlace,
-    lines: &[Spoken<'a>],
-) -> Result<(), AllocError> {
-    for one in lines {
-        if !is_same_body(place, one.place) {
-            return Ok(());
-        }
-        if let Some(name) = one.said.target {
-            set.add(name)?;
-        }
-    }
-    Ok(())
-}
-
-/// Adds those parts of a line that are variables which are neither set nor seen, and then were seen.
-fn push_unset<'a>(
-    alloc: Global,
-    one: &Spoken<'a>,
-    set: &Variables<'a>,
-    seen: &mut Variables<'a>,
-    reads: &mut Vec<Read<'a>>,
-) -> Result<(), AllocError> {
-    let parts = one.said.read_values(alloc)?;
-    for (part, field) in &parts {
-        let name = *field;
-        if is_variable(name.as_bytes()) && !set.has(name) && !seen.has(name) {
-            seen.add(name)?;
-            reads.push(Read {
-                place: one.place,
-                span: field_span(one.line, *part),
-                name,
-            })?;
-        }
-    }
-    Ok(())
+    Ok(set)
 }
 
 /// The first read of each variable that is never set, in the same body or, if it is shared, in any, in their order.
-///
-/// # Errors
-///
-/// When memory is refused.
-///
-/// Source: project rule.
 pub fn unset_reads<'a>(alloc: Global, all: &[Spoken<'a>]) -> Result<Vec<Read<'a>>, AllocError> {
-    let mut set = Variables::new(alloc);
+    let mut set = shared_in(alloc, all)?;
     let mut seen = Variables::new(alloc);
     let mut reads = Vec::new(alloc);
-    let mut last: Option<LinePlace> = None;
-    add_shared(&mut set, all)?;
     for (i, one) in all.iter().enumerate() {
-        if !last.is_some_and(|last| is_same_body(last, one.place)) {
-            set.leave_body(alloc);
-            seen.leave_body(alloc);
-            add_body(&mut set, one.place, &all[i..])?;
-            last = Some(one.place);
+        seen.enter(alloc, one.place);
+        if set.enter(alloc, one.place) {
+            set.add_body(one.place, &all[i..])?;
         }
-        push_unset(alloc, one, &set, &mut seen, &mut reads)?;
+        for (part, field) in &one.said.read_values(alloc)? {
+            let name = *field;
+            if is_variable(name) && !set.has(name) && !seen.has(name) {
+                seen.add(name)?;
+                let span = field_span(one.line, *part);
+                reads.push(Read {
+                    place: one.place,
+                    span,
+                    name,
+                })?;
+            }
+        }
     }
     Ok(reads)
 }

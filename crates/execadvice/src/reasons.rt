@@ -1,37 +1,19 @@
 //! Why a place of the tree is faulty, in one sentence.
 
+use crate::escaped::shown_name;
+use crate::keys::{keys_of, unknown_key, wanted_of};
+use crate::members::{name_of, text_at};
 use crate::near::{nearest, proposal};
 use crate::regions::regions_reason;
-use execcheck::{
-    Array, Key, Rule, TablePlace, TreePlace, Wanted, name_of, text_at, top_rules, unknown_key,
-};
 use std::alloc::{AllocError, Global};
-use taskscript::{FileFault, LINE_LIMIT, items_at, member};
+use taskscript::{Array, FileFault, Key, LINE_LIMIT, TablePlace, TreePlace, items_at, member};
 use toml::{Table, Value};
 
-/// The keys that hold a value in a table of that place.
-fn rules_of(place: TablePlace) -> &'static [Rule] {
-    match place {
-        TablePlace::Top => top_rules(),
-        TablePlace::Item(array, _) => array.rules(),
-    }
-}
-
-/// What a key of a table of that place may hold.
-fn rule_of(place: TablePlace, key: Key) -> Option<Rule> {
-    for rule in rules_of(place) {
-        if rule.key == key {
-            return Some(*rule);
-        }
-    }
-    None
-}
-
 /// The keys of a table.
-fn keys_of<'a>(alloc: Global, place: TablePlace) -> Result<Vec<&'a str>, AllocError> {
+fn key_texts<'a>(alloc: Global, place: TablePlace) -> Result<Vec<&'a str>, AllocError> {
     let mut keys = Vec::new(alloc);
-    for rule in rules_of(place) {
-        keys.push(rule.key.text())?;
+    for key in keys_of(place) {
+        keys.push(key.text())?;
     }
     if place == TablePlace::Top {
         for array in &Array::ALL {
@@ -41,9 +23,47 @@ fn keys_of<'a>(alloc: Global, place: TablePlace) -> Result<Vec<&'a str>, AllocEr
     Ok(keys)
 }
 
+/// Names that other systems have for keys, each with the keys that may be meant.
+const OTHER_KEYS: [(&str, &str); 16] = [
+    ("tasks", "task"),
+    ("process", "task"),
+    ("thread", "task"),
+    ("interrupt", "server"),
+    ("interrupt", "softint"),
+    ("irq", "server"),
+    ("memory", "region"),
+    ("mem", "region"),
+    ("priority", "pri"),
+    ("address", "base"),
+    ("length", "size"),
+    ("flags", "attrs"),
+    ("script", "code"),
+    ("lines", "code"),
+    ("commands", "code"),
+    ("tick", "tick_micros"),
+];
+
+/// The first of some keys that is likely meant by a name of another system.
+fn key_meant<'a>(name: &str, keys: &[&'a str]) -> Option<&'a str> {
+    for row in &OTHER_KEYS {
+        if name.eq_ignore_ascii_case(row.0) {
+            for key in keys {
+                if *key == row.1 {
+                    return Some(*key);
+                }
+            }
+        }
+    }
+    None
+}
+
 fn unknown_key_reason(alloc: Global, place: TablePlace, key: &str) -> Result<String, AllocError> {
-    let keys = keys_of(alloc, place)?;
-    let question = proposal(alloc, "", nearest(alloc, key, &keys)?, "")?;
+    let keys = key_texts(alloc, place)?;
+    let near = match key_meant(key, &keys) {
+        Some(meant) => Some(meant),
+        None => nearest(alloc, key, &keys)?,
+    };
+    let question = proposal(alloc, "", near, "")?;
     let mut reason = format!(in alloc; "unknown key in this table{question}")?;
     let mut before = " Its keys are ";
     if question.as_str().is_empty() {
@@ -57,28 +77,14 @@ fn unknown_key_reason(alloc: Global, place: TablePlace, key: &str) -> Result<Str
     Ok(reason)
 }
 
-/// What a key may hold.
-fn wanted_text(alloc: Global, wanted: Wanted) -> Result<String, AllocError> {
-    match wanted {
-        Wanted::Integer(low, high) => format!(in alloc; "an integer from {low} to {high}"),
-        Wanted::SoftintPri => format!(in alloc; "one of the priorities -32, -16, 0, 16 and 32"),
-        Wanted::Source => format!(in alloc; "one of \"PORTS\", \"VERTB\" and \"EXTER\""),
-        Wanted::Boolean => format!(in alloc; "true or false"),
-        Wanted::Name => { format!(in alloc; "a name of 1 to 31 letters, digits, dots, _ and -") }
-        Wanted::Code => format!(in alloc; "an array of strings"),
-    }
-}
-
 /// What is at a place.
 fn held_text(alloc: Global, value: &Value) -> Result<String, AllocError> {
     if let Some(z) = value.as_integer() {
         return format!(in alloc; "{z}");
     }
     if let Some(text) = value.as_str() {
-        if text.len() <= 40 && !text.chars().any(|c| c.is_control()) {
-            return format!(in alloc; "\"{text}\"");
-        }
-        return format!(in alloc; "another string");
+        let text = shown_name(alloc, text)?;
+        return format!(in alloc; "\"{text}\"");
     }
     match value.as_bool() {
         Some(true) => format!(in alloc; "true"),
@@ -95,26 +101,28 @@ fn held_text(alloc: Global, value: &Value) -> Result<String, AllocError> {
     }
 }
 
-/// The number, from 1, of the first item that is no string.
-fn first_no_string(items: &[Value]) -> Option<usize> {
-    for (i, item) in items.iter().enumerate() {
-        if !item.is_str() {
-            return Some(i.saturating_add(1));
-        }
-    }
-    None
+/// The number, from 0, of the first item of the code of a table that is no string.
+pub fn line_without_string(of: TablePlace, table: &Table) -> Option<usize> {
+    items_at(table_at(table, of), "code")
+        .iter()
+        .position(|item| !item.is_str())
 }
 
-fn bad_value_reason(alloc: Global, rule: Rule, table: &Table) -> Result<String, AllocError> {
-    let wanted = wanted_text(alloc, rule.wanted)?;
-    let Some(value) = member(table, rule.key.text()) else {
+/// Why a value of a key is not one that the key may have.
+fn bad_value_reason(
+    alloc: Global,
+    of: TablePlace,
+    key: Key,
+    table: &Table,
+) -> Result<String, AllocError> {
+    let wanted = wanted_of(of, key);
+    let Some(value) = member(table_at(table, of), key.text()) else {
         return format!(in alloc; "expected {wanted}");
     };
-    if let Some(items) = value.as_array() {
-        if let Some(number) = first_no_string(items) {
-            if rule.wanted == Wanted::Code {
-                return format!(in alloc; "expected {wanted}, but line {number} is not a string");
-            }
+    if key == Key::Code {
+        if let Some(line) = line_without_string(of, table) {
+            let number = line.saturating_add(1);
+            return format!(in alloc; "expected {wanted}, but line {number} is not a string");
         }
     }
     let held = held_text(alloc, value)?;
@@ -123,12 +131,9 @@ fn bad_value_reason(alloc: Global, rule: Rule, table: &Table) -> Result<String, 
 
 /// The first item of an array that has that name.
 fn item_named(table: &Table, array: Array, name: &str) -> Option<usize> {
-    for (i, item) in items_at(table, array.key()).iter().enumerate() {
-        if name_of(item) == name {
-            return Some(i);
-        }
-    }
-    None
+    items_at(table, array.key())
+        .iter()
+        .position(|item| name == name_of(item))
 }
 
 /// The arrays in which a name may be before that of an item.
@@ -149,11 +154,12 @@ fn twice_reason(
     for array in named_arrays(place) {
         if let Some(item) = item_named(table, *array, name) {
             let key = array.key();
+            let name = shown_name(alloc, name)?;
             let number = item.saturating_add(1);
             return format!(in alloc; "the name \"{name}\" is already used, in {key} {number}");
         }
     }
-    format!(in alloc; "the name \"{name}\" is already used")
+    format!(in alloc; "this name is already used")
 }
 
 /// The table of a place; if the item is no table, the top table.
@@ -163,10 +169,7 @@ fn table_at<'a>(table: &'a Table, place: TablePlace) -> &'a Table {
     };
     match items_at(table, array.key()).get(item) {
         None => table,
-        Some(value) => match value.as_table() {
-            None => table,
-            Some(own) => own,
-        },
+        Some(value) => value.as_table().unwrap_or(table),
     }
 }
 
@@ -178,13 +181,10 @@ fn key_reason(
     fault: FileFault,
     table: &Table,
 ) -> Result<String, AllocError> {
-    let Some(rule) = rule_of(place, key) else {
-        return format!(in alloc; "the file is refused here");
-    };
     let own = table_at(table, place);
     match fault {
         FileFault::MissingKey => {
-            let wanted = wanted_text(alloc, rule.wanted)?;
+            let wanted = wanted_of(place, key);
             format!(in alloc; "the key is missing; expected {wanted}")
         }
         FileFault::NameTwice => twice_reason(alloc, place, text_at(own, "name"), table),
@@ -192,7 +192,7 @@ fn key_reason(
             let count = items_at(own, "code").len();
             format!(in alloc; "{count} lines; a body has at most {LINE_LIMIT}")
         }
-        _ => bad_value_reason(alloc, rule, own),
+        _ => bad_value_reason(alloc, place, key, table),
     }
 }
 
@@ -211,9 +211,10 @@ fn array_reason(
             let key = array.key();
             format!(in alloc; "{count} tables; there are at most {limit} of {key}")
         }
-        _ => format!(in alloc;
-            "expected an array of tables, each of which begins with two brackets on each side"
-        ),
+        _ => {
+            let key = array.key();
+            format!(in alloc; "expected an array of tables, each of which begins with [[{key}]]")
+        }
     }
 }
 

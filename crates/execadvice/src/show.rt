@@ -1,6 +1,13 @@
 //! A line of a text, with marks below the part that is wrong.
 
+use crate::escaped::push_character;
 use std::alloc::{AllocError, Global};
+
+/// The most characters of a line that are shown.
+const WIDEST: usize = 160;
+
+/// The most characters that are shown before the marked part of a longer line.
+const BEFORE: usize = 60;
 
 /// A part of a line, in characters from 0.
 #[derive(Clone, Copy, Debug, PartialEq, Eq)]
@@ -21,7 +28,7 @@ impl Advice {
     pub fn new(alloc: Global, span: Span, reason: &str) -> Result<Advice, AllocError> {
         Ok(Advice {
             span,
-            reason: format!(in alloc; "{reason}")?,
+            reason: String::from_str(alloc, reason)?,
         })
     }
 }
@@ -46,18 +53,6 @@ pub fn field_span(line: &str, number: usize) -> Span {
     Span { start, width: 1 }
 }
 
-fn shown_character(c: char) -> char {
-    if c.is_control() { ' ' } else { c }
-}
-
-/// Adds a line as it is shown: what is no visible character is as a space.
-fn push_shown(out: &mut String, line: &str) -> Result<(), AllocError> {
-    for c in line.chars() {
-        out.push(shown_character(c))?;
-    }
-    Ok(())
-}
-
 /// Adds a character as often as that.
 fn push_times(out: &mut String, c: char, count: usize) -> Result<(), AllocError> {
     for i in 0..count {
@@ -66,22 +61,66 @@ fn push_times(out: &mut String, c: char, count: usize) -> Result<(), AllocError>
     Ok(())
 }
 
-/// Adds marks under a part, with the reason.
-fn push_marks(out: &mut String, advice: &Advice) -> Result<(), AllocError> {
+/// The number of the first character of a line that is shown: 0 if the whole line is short enough, or the marked part is near its start.
+fn first_shown(length: usize, start: usize) -> usize {
+    if length <= WIDEST || start <= BEFORE {
+        0
+    } else {
+        start.saturating_sub(BEFORE)
+    }
+}
+
+/// Adds the part of a line that is shown, and a line feed. The answer is the number of columns before the marked part, and that of its own.
+fn push_window(
+    alloc: Global,
+    out: &mut String,
+    line: &str,
+    span: Span,
+) -> Result<(usize, usize), AllocError> {
+    let first = first_shown(width_of(line), span.start);
+    let end = span.start.saturating_add(span.width);
+    let mut at = first;
+    let mut before = 0usize;
+    let mut width = 0usize;
+    if first > 0 {
+        out.push_str("..")?;
+        before = 2;
+    }
+    for c in line.chars().skip(first).take(WIDEST) {
+        let columns = push_character(alloc, out, c)?;
+        if at < span.start {
+            before = before.saturating_add(columns);
+        } else if at < end {
+            width = width.saturating_add(columns);
+        }
+        at = at.saturating_add(1);
+    }
+    if line.chars().skip(at).next().is_some() {
+        out.push_str("..")?;
+    }
+    out.push_str("\n")?;
+    if at < span.start {
+        before = before.saturating_add(span.start.saturating_sub(at));
+    }
+    Ok((before, width))
+}
+
+/// Adds the line, and below it marks under the part that is wrong, with the reason. Of a line of more than 160 characters only those near
+/// the part are shown.
+pub fn push_marked(
+    alloc: Global,
+    out: &mut String,
+    line: &str,
+    advice: &Advice,
+) -> Result<(), AllocError> {
     out.push_str("    ")?;
-    push_times(out, ' ', advice.span.start)?;
-    push_times(out, '^', advice.span.width.max(1))?;
+    let (before, width) = push_window(alloc, out, line, advice.span)?;
+    out.push_str("    ")?;
+    push_times(out, ' ', before)?;
+    push_times(out, '^', width.max(1))?;
     out.push_str(" ")?;
     out.push_str(advice.reason.as_str())?;
     out.push_str("\n")
-}
-
-/// Adds the line, and below it marks under the part that is wrong, with the reason.
-pub fn push_marked(out: &mut String, line: &str, advice: &Advice) -> Result<(), AllocError> {
-    out.push_str("    ")?;
-    push_shown(out, line)?;
-    out.push_str("\n")?;
-    push_marks(out, advice)
 }
 
 /// Adds a reason on a line of its own.

@@ -1,16 +1,21 @@
 //! What an accepted file most likely does not mean: it refuses nothing.
 
 use crate::labels::labels_of;
+use crate::members::name_of;
 use crate::near::{nearest, proposal};
 use crate::reads::unset_reads;
-use crate::said::{Said, said_by};
-use crate::show::{Advice, Span, field_span, width_of};
+use crate::said::said_by;
+use crate::show::{Advice, Span, field_span};
 use crate::spoken::{Spoken, spoken_in};
-use execcheck::{LinePlace, Owner, has_named, name_of, quoted_in};
 use std::alloc::{AllocError, Global};
 use std::collections::HashSet;
-use taskscript::{PortWord, TaskWord, Word, items_at, line_in, lines_of, member};
+use taskscript::{
+    LinePlace, Owner, PortWord, TaskWord, Word, items_at, line_in, lines_of, member, quoted_in,
+};
 use toml::{Table, Value};
+
+/// The most pairs of names that are compared for the proposals of a file.
+const MOST_PAIRS: usize = 500_000;
 
 /// A line that is worth a warning.
 #[derive(Drop)]
@@ -19,32 +24,62 @@ pub struct Warning {
     pub advice: Advice,
 }
 
-/// Adds a warning for each variable that is read and never set, at the part of the first line that reads it.
-fn add_unset(
+/// The warnings so far.
+#[derive(Drop)]
+struct Warnings {
     alloc: Global,
-    all: &[Spoken<'_>],
-    warnings: &mut Vec<Warning>,
-) -> Result<(), AllocError> {
-    for read in &unset_reads(alloc, all)? {
-        let name = read.name;
-        let reason = format!(in alloc; "{name} is read and never set, so it is 0")?;
-        warnings.push(Warning {
-            place: read.place,
-            advice: Advice {
-                span: read.span,
-                reason,
-            },
-        })?;
-    }
-    Ok(())
+    list: Vec<Warning>,
 }
 
-/// Adds the labels to which a line jumps.
-fn add_jumps<'a>(labels: &mut HashSet<&'a str>, said: &Said<'a>) -> Result<(), AllocError> {
-    for (i, field) in said.arguments.iter().enumerate() {
-        if said.is_label(i) {
-            labels.insert(*field)?;
+impl Warnings {
+    fn push(&mut self, place: LinePlace, span: Span, reason: &str) -> Result<(), AllocError> {
+        let advice = Advice::new(self.alloc, span, reason)?;
+        self.list.push(Warning { place, advice })?;
+        Ok(())
+    }
+}
+
+/// The names among which one is looked for, and how many pairs may still be compared.
+#[derive(Drop)]
+struct Names<'a> {
+    names: Vec<&'a str>,
+    known: HashSet<&'a str>,
+    pairs: usize,
+}
+
+impl<'a> Names<'a> {
+    fn new(alloc: Global) -> Names<'a> {
+        Names {
+            names: Vec::new(alloc),
+            known: HashSet::new(alloc),
+            pairs: MOST_PAIRS,
         }
+    }
+
+    fn add(&mut self, name: &'a str) -> Result<(), AllocError> {
+        if self.known.insert(name)? {
+            self.names.push(name)?;
+        }
+        Ok(())
+    }
+
+    /// The nearest to a name; none if too many pairs were compared.
+    fn nearest(&mut self, alloc: Global, name: &str) -> Result<Option<&'a str>, AllocError> {
+        let pairs = self.names.len();
+        if pairs > self.pairs {
+            return Ok(None);
+        }
+        self.pairs = self.pairs.saturating_sub(pairs);
+        nearest(alloc, name, &self.names)
+    }
+}
+
+/// Adds a warning for each variable that is read and never set, at the part of the first line that reads it.
+fn add_unset(out: &mut Warnings, all: &[Spoken<'_>]) -> Result<(), AllocError> {
+    for read in &unset_reads(out.alloc, all)? {
+        let name = read.name;
+        let reason = format!(in out.alloc; "{name} is read and never set, so it is 0")?;
+        out.push(read.place, read.span, reason.as_str())?;
     }
     Ok(())
 }
@@ -54,303 +89,108 @@ fn jumps_of(alloc: Global, lines: &[Value]) -> Result<HashSet<&str>, AllocError>
     let mut labels = HashSet::new(alloc);
     for item in lines {
         if let Some(said) = said_by(alloc, line_in(item))? {
-            add_jumps(&mut labels, &said)?;
+            if let Some((_, name)) = said.jump() {
+                labels.insert(name)?;
+            }
         }
     }
     Ok(labels)
 }
 
 /// Adds a warning for each label of a task to which nothing jumps.
-fn push_unused(
-    alloc: Global,
-    task: usize,
-    lines: &[Value],
-    warnings: &mut Vec<Warning>,
-) -> Result<(), AllocError> {
-    let jumps = jumps_of(alloc, lines)?;
-    for (name, line) in &labels_of(alloc, lines)? {
-        if !jumps.contains(*name) {
-            let place = LinePlace {
-                owner: Owner::Task,
-                item: task,
-                line: *line,
-            };
-            let width = width_of(*name).saturating_add(1);
-            let span = Span { start: 0, width };
-            let advice = Advice::new(alloc, span, "nothing jumps to this label")?;
-            warnings.push(Warning { place, advice })?;
+fn add_unused(out: &mut Warnings, item: usize, lines: &[Value]) -> Result<(), AllocError> {
+    let jumps = jumps_of(out.alloc, lines)?;
+    for label in &labels_of(out.alloc, lines)? {
+        if !jumps.contains(label.name) {
+            let (owner, line) = (Owner::Task, label.line);
+            let reason = "nothing jumps to this label";
+            out.push(LinePlace { owner, item, line }, label.span(), reason)?;
         }
     }
     Ok(())
 }
 
-/// Adds a warning for each label that nothing jumps to.
-fn add_unused_labels(
-    alloc: Global,
-    tasks: &[Value],
-    warnings: &mut Vec<Warning>,
-) -> Result<(), AllocError> {
-    for (task, value) in tasks.iter().enumerate() {
-        push_unused(alloc, task, lines_of(value), warnings)?;
-    }
-    Ok(())
-}
-
-/// Whether a task is added at the start: if its key `start` is not false.
-fn is_started(task: &Value) -> bool {
-    match task.as_table() {
-        None => true,
-        Some(table) => match member(table, "start") {
-            None => true,
-            Some(value) => value.as_bool().unwrap_or(true),
-        },
-    }
-}
-
-/// Whether a word adds a task.
-fn is_add_task(word: Word) -> bool {
-    match word {
-        Word::Tasks(word) => match word {
-            TaskWord::AddTask => true,
-            _ => false,
-        },
-        _ => false,
-    }
-}
-
-/// Whether one of some lines adds a task.
-fn adds_task(all: &[Spoken<'_>]) -> bool {
-    for one in all {
-        if is_add_task(one.said.word) {
-            return true;
-        }
-    }
-    false
-}
-
-/// Adds a warning of a task, if it is not added at the start.
-fn push_never(
-    alloc: Global,
-    task: usize,
-    value: &Value,
-    warnings: &mut Vec<Warning>,
-) -> Result<(), AllocError> {
-    if is_started(value) {
-        return Ok(());
-    }
-    let place = LinePlace {
-        owner: Owner::Task,
-        item: task,
-        line: 0,
-    };
-    let advice = Advice::new(
-        alloc,
-        Span { start: 0, width: 1 },
-        "this task never runs: its start is false, and no line has AddTask",
-    )?;
-    warnings.push(Warning { place, advice })?;
-    Ok(())
-}
-
-/// Adds a warning for each task that is not added at the start.
-fn push_not_started(
-    alloc: Global,
-    tasks: &[Value],
-    warnings: &mut Vec<Warning>,
-) -> Result<(), AllocError> {
-    for (task, value) in tasks.iter().enumerate() {
-        push_never(alloc, task, value, warnings)?;
-    }
-    Ok(())
+/// The value of the key `start` of a task, if it has one.
+fn start_of(task: &Value) -> Option<bool> {
+    member(task.as_table()?, "start")?.as_bool()
 }
 
 /// Adds a warning for each task that is not added at the start, if no line adds a task.
 fn add_never_run(
-    alloc: Global,
+    out: &mut Warnings,
     tasks: &[Value],
     all: &[Spoken<'_>],
-    warnings: &mut Vec<Warning>,
 ) -> Result<(), AllocError> {
-    if adds_task(all) {
+    if all
+        .iter()
+        .any(|one| one.said.word == Word::Tasks(TaskWord::AddTask))
+    {
         return Ok(());
     }
-    push_not_started(alloc, tasks, warnings)
+    let reason = "this task never runs: its start is false, and no line has AddTask";
+    for (item, task) in tasks.iter().enumerate() {
+        if start_of(task) == Some(false) {
+            let (owner, line) = (Owner::Task, 0);
+            out.push(
+                LinePlace { owner, item, line },
+                Span { start: 0, width: 1 },
+                reason,
+            )?;
+        }
+    }
+    Ok(())
 }
 
 /// The name between double quotes that is an argument of a line, by its number.
-fn name_at<'a>(one: &Spoken<'a>, number: usize) -> Option<&'a [u8]> {
-    match one.said.arguments.get(number) {
-        None => None,
-        Some(field) => quoted_in((*field).as_bytes()),
-    }
-}
-
-/// Whether a word adds a port.
-fn is_add_port(word: Word) -> bool {
-    match word {
-        Word::Ports(word) => match word {
-            PortWord::AddPort => true,
-            _ => false,
-        },
-        _ => false,
-    }
+fn name_at<'a>(one: &Spoken<'a>, number: usize) -> Option<&'a str> {
+    let field = one.said.arguments.get(number).copied()?;
+    quoted_in(field)?;
+    Some(field.trim_matches('"'))
 }
 
 /// The names that lines give to ports.
-fn ports_in<'a>(alloc: Global, all: &[Spoken<'a>]) -> Result<HashSet<&'a [u8]>, AllocError> {
-    let mut names = HashSet::new(alloc);
+fn ports_in<'a>(alloc: Global, all: &[Spoken<'a>]) -> Result<Names<'a>, AllocError> {
+    let mut names = Names::new(alloc);
     for one in all {
-        if is_add_port(one.said.word) {
+        if one.said.word == Word::Ports(PortWord::AddPort) {
             if let Some(name) = name_at(one, 1) {
-                names.insert(name)?;
+                names.add(name)?;
             }
         }
     }
     Ok(names)
-}
-
-/// Whether a word asks for a port.
-fn is_find_port(word: Word) -> bool {
-    match word {
-        Word::Ports(word) => match word {
-            PortWord::FindPort => true,
-            _ => false,
-        },
-        _ => false,
-    }
-}
-
-/// Whether a word asks for a task.
-fn is_find_task(word: Word) -> bool {
-    match word {
-        Word::Tasks(word) => match word {
-            TaskWord::FindTask => true,
-            _ => false,
-        },
-        _ => false,
-    }
-}
-
-/// Whether a line asks for a port whose name is none of these.
-fn is_unknown_port(ports: &HashSet<&[u8]>, one: &Spoken<'_>) -> bool {
-    if !is_find_port(one.said.word) {
-        return false;
-    }
-    match name_at(one, 0) {
-        None => false,
-        Some(name) => !ports.contains(name),
-    }
-}
-
-/// Whether a line asks for a task, and none of these has its name.
-fn is_unknown_task(tasks: &[Value], one: &Spoken<'_>) -> bool {
-    if !is_find_task(one.said.word) {
-        return false;
-    }
-    match name_at(one, 0) {
-        None => false,
-        Some(name) => !has_named(tasks, name),
-    }
-}
-
-/// The argument of a line of that number without double quotes.
-fn unquoted<'a>(one: &Spoken<'a>, number: usize) -> &'a str {
-    one.said
-        .arguments
-        .get(number)
-        .copied()
-        .unwrap_or("")
-        .trim_matches('"')
-}
-
-/// Adds a warning of the name for which a line asks, with the nearest of some names.
-fn push_unknown(
-    alloc: Global,
-    one: &Spoken<'_>,
-    what: &str,
-    names: &[&str],
-    warnings: &mut Vec<Warning>,
-) -> Result<(), AllocError> {
-    let near = nearest(alloc, unquoted(one, 0), names)?;
-    let question = proposal(alloc, "\"", near, "\"")?;
-    let reason = format!(in alloc; "{what} of this name{question}")?;
-    let span = field_span(one.line, one.said.place_of(0));
-    warnings.push(Warning {
-        place: one.place,
-        advice: Advice { span, reason },
-    })?;
-    Ok(())
-}
-
-/// The texts of the names that lines give to ports, each once.
-fn names_of_ports<'a>(alloc: Global, all: &[Spoken<'a>]) -> Result<Vec<&'a str>, AllocError> {
-    let mut names = Vec::new(alloc);
-    let mut seen = HashSet::new(alloc);
-    for one in all {
-        if is_add_port(one.said.word) {
-            let name = unquoted(one, 1);
-            if seen.insert(name)? {
-                names.push(name)?;
-            }
-        }
-    }
-    Ok(names)
-}
-
-/// Adds a warning for each line that asks for a port whose name no line gives.
-fn add_unknown_ports(
-    alloc: Global,
-    all: &[Spoken<'_>],
-    warnings: &mut Vec<Warning>,
-) -> Result<(), AllocError> {
-    let ports = ports_in(alloc, all)?;
-    let names = names_of_ports(alloc, all)?;
-    for one in all {
-        if is_unknown_port(&ports, one) {
-            push_unknown(alloc, one, "no line adds a port", &names, warnings)?;
-        }
-    }
-    Ok(())
 }
 
 /// The names of the tasks.
-fn names_of_tasks(alloc: Global, tasks: &[Value]) -> Result<Vec<&str>, AllocError> {
-    let mut names = Vec::new(alloc);
+fn tasks_in(alloc: Global, tasks: &[Value]) -> Result<Names<'_>, AllocError> {
+    let mut names = Names::new(alloc);
     for task in tasks {
-        names.push(name_of(task))?;
+        names.add(name_of(task))?;
     }
     Ok(names)
 }
 
-/// Adds a warning for each line that asks for a task, if none of these has its name.
-fn add_unknown_tasks(
-    alloc: Global,
-    tasks: &[Value],
+/// Adds a warning for each line of a word that asks for a name which is none of these, with the nearest of them.
+fn add_unknown(
+    out: &mut Warnings,
     all: &[Spoken<'_>],
-    warnings: &mut Vec<Warning>,
+    word: Word,
+    what: &str,
+    names: &mut Names<'_>,
 ) -> Result<(), AllocError> {
-    let names = names_of_tasks(alloc, tasks)?;
     for one in all {
-        if is_unknown_task(tasks, one) {
-            push_unknown(alloc, one, "the file has no task", &names, warnings)?;
+        match name_at(one, 0) {
+            Some(name) if one.said.word == word && !names.known.contains(name) => {
+                let near = names.nearest(out.alloc, name)?;
+                let question = proposal(out.alloc, "\"", near, "\"")?;
+                let reason = format!(in out.alloc; "{what} of this name{question}")?;
+                let span = field_span(one.line, one.said.place_of(0));
+                out.push(one.place, span, reason.as_str())?;
+            }
+            _ => {}
         }
     }
     Ok(())
-}
-
-/// The warnings of some lines and tasks, in their order.
-fn warnings_among(
-    alloc: Global,
-    tasks: &[Value],
-    all: &[Spoken<'_>],
-) -> Result<Vec<Warning>, AllocError> {
-    let mut warnings = Vec::new(alloc);
-    add_unset(alloc, all, &mut warnings)?;
-    add_unused_labels(alloc, tasks, &mut warnings)?;
-    add_never_run(alloc, tasks, all, &mut warnings)?;
-    add_unknown_ports(alloc, all, &mut warnings)?;
-    add_unknown_tasks(alloc, tasks, all, &mut warnings)?;
-    Ok(warnings)
 }
 
 /// What is worth a warning in a file that is accepted, each by the line, the part of it, and why; in this order:
@@ -360,11 +200,29 @@ fn warnings_among(
 /// - labels that no line of their task jumps to;
 /// - tasks that never run: they are not added at the start, and no line has AddTask;
 /// - names that FindPort asks for, and no AddPort gives, and names that FindTask asks for, and no task has.
-///
-/// # Errors
-///
-/// If memory is refused.
 pub fn warnings_of(alloc: Global, table: &Table) -> Result<Vec<Warning>, AllocError> {
     let all = spoken_in(alloc, table)?;
-    warnings_among(alloc, items_at(table, "task"), &all)
+    let tasks = items_at(table, "task");
+    let mut out = Warnings {
+        alloc,
+        list: Vec::new(alloc),
+    };
+    add_unset(&mut out, &all)?;
+    for (item, task) in tasks.iter().enumerate() {
+        add_unused(&mut out, item, lines_of(task))?;
+    }
+    add_never_run(&mut out, tasks, &all)?;
+    let find_port = Word::Ports(PortWord::FindPort);
+    let mut ports = ports_in(alloc, &all)?;
+    add_unknown(&mut out, &all, find_port, "no line adds a port", &mut ports)?;
+    let find_task = Word::Tasks(TaskWord::FindTask);
+    let mut names = tasks_in(alloc, tasks)?;
+    add_unknown(
+        &mut out,
+        &all,
+        find_task,
+        "the file has no task",
+        &mut names,
+    )?;
+    Ok(out.list)
 }

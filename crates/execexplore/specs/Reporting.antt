@@ -12,7 +12,7 @@ use Rattle.ways.specs.declared.visiting.Window.{Window}
 use Rattle.wayrun.specs.Seen.{is_alerted, seen_of}
 use Rattle.wayrun.specs.Words.{see_text}
 use Rattle.wayrun.specs.declared.see.See.{See}
-use Rattle.wayreport.specs.Reports.{ReportData, told}
+use Rattle.wayreport.specs.Reports.{ReportData, told, ways_text}
 use Rattle.wayreport.specs.declared.report.Part.{Part}
 use Rattle.execexplore.specs.declared.stretch.Stretch.{Stretch}
 use Rattle.execexplore.specs.declared.frame.Frame.{Frame}
@@ -39,7 +39,7 @@ abbrev pub limits_text : (actions extra : ℕ) → List ℕ
 limits_text actions extra = decimal actions ++ (codes " actions, at most " ++ (decimal extra ++ codes " more of "))
 
 abbrev pub number_text : ℕ → List ℕ
-number_text ways = codes ": " ++ (decimal ways ++ codes " ways")
+number_text ways = codes ": " ++ ways_text ways
 
 abbrev pub title_text : Paths → (extra : ℕ) → Frame → List ℕ
 title_text names extra f =

@@ -64,7 +64,7 @@ fn write_search<'a, T: Texts, C: Clock, W: Write, E: Write + IsTerminal>(
     let frame = frame_of(texts, alloc, paths, options)?;
     let window = window_of(&frame, options);
     let is_on = options.progress || err.is_terminal();
-    let watcher = Progress::new(clock, err, window.left, is_on);
+    let watcher = Progress::new(alloc, clock, err, window.left, is_on);
     let answer = searched(alloc, paths.names(), options, &frame, window, watcher)?;
     end_with(&answer, out)
 }

@@ -3,6 +3,7 @@ ghost use Rattle.std.specs.Prelude.{◌≤◌};
 
 use execsim::ReadFault;
 use std::alloc::{AllocError, AllocFailed};
+use std::fmt;
 use std::io::Write;
 use taskscript::{EventFault, FileFault};
 use wayreport::SumFault;
@@ -23,8 +24,8 @@ pub enum Failure<'a> {
     Events(EventFault),
     /// This option has a value that it does not take; the sentence says which it takes.
     Option(&'static str),
-    /// There are more than 2^40 ways: their number, if it fits 64 bits.
-    TooManyWays(Option<u64>),
+    /// There are more ways than are tried: their number, if it fits 64 bits, and how many are tried at most.
+    TooManyWays(Option<u64>, u64),
     /// There are more than 65,536 outcomes.
     TooManyOutcomes,
     /// There are ways with more than 1,000,000 ticks: the number of ticks.
@@ -84,81 +85,79 @@ impl<'a> Failure<'a> {
     }
 }
 
-/// Says on standard error why reports have no sum.
-fn say_no_sum<E: Write>(fault: SumFault, path: Option<&str>, err: &mut E) {
+/// Writes why reports have no sum.
+fn show_no_sum<W: fmt::Write>(
+    fault: SumFault,
+    path: Option<&str>,
+    f: &mut fmt::Formatter<W>,
+) -> fmt::Result {
     let path = path.unwrap_or("a report");
-    let _ = match fault {
-        SumFault::OutOfMemory => writeln!(err, "execexplore: no memory"),
-        SumFault::NoReport => writeln!(
-            err,
-            "execexplore: no report is given; --sum takes the reports of all parts"
-        ),
-        SumFault::IsWhole(_) => writeln!(
-            err,
-            "execexplore: {path}: this report is of all ways; --sum takes the reports of parts"
-        ),
-        SumFault::IsOther(_) => writeln!(
-            err,
-            "execexplore: {path}: this report is of other texts, other options or another number of parts than the first; give the reports of one search"
-        ),
-        SumFault::IsMissing(number) => writeln!(
-            err,
-            "execexplore: part {number} is missing; make it with --part and give its report too"
-        ),
-        SumFault::IsRepeated(_) => writeln!(
-            err,
-            "execexplore: {path}: this report is of a part that was given before; give each part once"
-        ),
-        SumFault::TooManyWays => writeln!(err, "execexplore: {path}: the counts are too large"),
-    };
-}
-
-/// Says on standard error what is wrong with a text or an option.
-fn say_refusal<E: Write>(failure: &Failure<'_>, err: &mut E) {
-    let _ = match failure {
-        Failure::Machine(fault) => {
-            let name = fault.name();
-            writeln!(err, "execexplore: machine: {name}")
+    match fault {
+        SumFault::OutOfMemory => f.write_str("no memory"),
+        SumFault::NoReport => {
+            f.write_str("no report is given; --sum takes the reports of all parts")
         }
-        Failure::Events(EventFault::BadLine(line)) => writeln!(
-            err,
-            "execexplore: events: BadLine {line}"
+        SumFault::IsWhole(_) => write!(
+            f,
+            "{path}: this report is of all ways; --sum takes the reports of parts"
         ),
-        Failure::Events(_) => writeln!(err, "execexplore: events: TooMany"),
-        Failure::Option(sentence) => writeln!(err, "execexplore: {sentence}"),
-        Failure::NoOutcome(number, outcomes) => writeln!(
-            err,
-            "execexplore: --events {number}: there are {outcomes} outcomes"
+        SumFault::IsOther(_) => write!(
+            f,
+            "{path}: this report is of other texts, other options or another number of parts than the first; give the reports of one search"
         ),
-        Failure::NotAReport(path) => writeln!(
-            err,
-            "execexplore: {path}: this is no report of execexplore"
+        SumFault::IsMissing(number) => write!(
+            f,
+            "part {number} is missing; make it with --part and give its report too"
         ),
-        _ => Ok(()),
-    };
+        SumFault::IsRepeated(_) => write!(
+            f,
+            "{path}: this report is of a part that was given before; give each part once"
+        ),
+        SumFault::TooManyWays => write!(f, "{path}: the counts are too large"),
+    }
 }
 
-/// Says on standard error that a search is too large.
-fn say_too_large<E: Write>(failure: &Failure<'_>, err: &mut E) {
-    let _ = match failure {
-        Failure::TooManyWays(Some(ways)) => writeln!(
-            err,
-            "execexplore: there are {ways} ways, and at most 1099511627776 are tried; ask for fewer extras, or shorten the events"
-        ),
-        Failure::TooManyWays(None) => writeln!(
-            err,
-            "execexplore: there are more than 18446744073709551615 ways, and at most 1099511627776 are tried; ask for fewer extras, or shorten the events"
-        ),
-        Failure::TooManyOutcomes => writeln!(
-            err,
-            "execexplore: there are more than 65536 outcomes; ask for fewer extras, for --part, or for --see prints or end"
-        ),
-        Failure::TooManyTicks(ticks) => writeln!(
-            err,
-            "execexplore: there are ways with {ticks} ticks, and at most 1000000 are run; ask for fewer extras, or shorten the events"
-        ),
-        _ => Ok(()),
-    };
+/// Writes for what an event text is refused.
+fn show_event_fault<W: fmt::Write>(fault: EventFault, f: &mut fmt::Formatter<W>) -> fmt::Result {
+    match fault {
+        EventFault::BadLine(line) => write!(f, "events: BadLine {line}"),
+        EventFault::TooMany => f.write_str("events: TooMany"),
+        EventFault::OutOfMemory => f.write_str("no memory"),
+    }
+}
+
+/// What the command says after its name.
+impl fmt::Display for Failure<'_> {
+    fn fmt<W: fmt::Write>(&self, f: &mut fmt::Formatter<W>) -> fmt::Result {
+        match self {
+            Failure::NoMemory => f.write_str("no memory"),
+            Failure::CannotRead(path) => write!(f, "cannot read {path}"),
+            Failure::WriteFailed => f.write_str("write failed"),
+            Failure::Machine(fault) => write!(f, "machine: {}", fault.name()),
+            Failure::Events(fault) => show_event_fault(*fault, f),
+            Failure::Option(sentence) => f.write_str(sentence),
+            Failure::TooManyWays(Some(ways), most) => write!(
+                f,
+                "there are {ways} ways, and at most {most} are tried; ask for fewer extras, or shorten the events"
+            ),
+            Failure::TooManyWays(None, most) => write!(
+                f,
+                "there are more than 18446744073709551615 ways, and at most {most} are tried; ask for fewer extras, or shorten the events"
+            ),
+            Failure::TooManyOutcomes => f.write_str(
+                "there are more than 65536 outcomes; ask for fewer extras, for --part, or for --see prints or end",
+            ),
+            Failure::TooManyTicks(ticks) => write!(
+                f,
+                "there are ways with {ticks} ticks, and at most 1000000 are run; ask for fewer extras, or shorten the events"
+            ),
+            Failure::NoOutcome(number, outcomes) => {
+                write!(f, "--events {number}: there are {outcomes} outcomes")
+            }
+            Failure::NotAReport(path) => { write!(f, "{path}: this is no report of execexplore") }
+            Failure::NoSum(fault, path) => show_no_sum(*fault, *path, f),
+        }
+    }
 }
 
 /// Says on standard error why there is no answer, and answers the status. A write that fails there changes nothing.
@@ -167,21 +166,6 @@ fn say_too_large<E: Write>(failure: &Failure<'_>, err: &mut E) {
 pub fn report<E: Write>(failure: &Failure<'_>, err: &mut E) -> u8
     ensures { result ≤ 4 }
 {
-    match failure {
-        Failure::NoMemory => {
-            let _ = writeln!(err, "execexplore: no memory");
-        }
-        Failure::CannotRead(path) => {
-            let _ = writeln!(err, "execexplore: cannot read {path}");
-        }
-        Failure::WriteFailed => {
-            let _ = writeln!(err, "execexplore: write failed");
-        }
-        Failure::NoSum(fault, path) => say_no_sum(*fault, *path, err),
-        Failure::TooManyWays(_) | Failure::TooManyOutcomes | Failure::TooManyTicks(_) => {
-            say_too_large(failure, err)
-        }
-        _ => say_refusal(failure, err),
-    }
+    let _ = writeln!(err, "execexplore: {failure}");
     failure.status()
 }

@@ -9,7 +9,7 @@ use taskscript::{Event, MachineFile};
 use ways::Sizes;
 
 /// How many ways are tried at most.
-const MOST_WAYS: u64 = 1_099_511_627_776;
+pub const MOST_WAYS: u64 = 1_099_511_627_776;
 
 /// How many actions a frame may have: those of every event text that is accepted.
 pub const MOST_ACTIONS: usize = 2_100_000;
@@ -89,8 +89,8 @@ pub fn number_of<'a>(sizes: &Sizes, actions: usize) -> Result<u64, Failure<'a>>
     ensures few { IfOk result (λ ways. ways ≤ 1099511627776) }
 {
     match sizes.all(actions) {
-        None => Err(Failure::TooManyWays(None)),
-        Some(ways) if ways > MOST_WAYS => Err(Failure::TooManyWays(Some(ways))),
+        None => Err(Failure::TooManyWays(None, MOST_WAYS)),
+        Some(ways) if ways > MOST_WAYS => Err(Failure::TooManyWays(Some(ways), MOST_WAYS)),
         Some(ways) => Ok(ways),
     }
 }

@@ -12,3 +12,7 @@ mod summing;
 mod whole;
 
 pub use arguments::{run, run_on_arguments};
+pub use failure::Failure;
+pub use frame::Frame;
+pub use options::{MOST_EXTRAS, Options};
+pub use whole::{Answer, Paths, frame_in, searched, window_of};

@@ -1,4 +1,5 @@
 //! How far a long search is, on standard error.
+use std::alloc::{AllocError, Global};
 use std::io::Write;
 use std::rt::Clock;
 use std::time::{Duration, Instant};
@@ -7,6 +8,7 @@ use ways::Watcher;
 /// Reports, at most once a second, the ways tried of the total, the outcomes found, and the time that the rest may take.
 #[derive(Drop)]
 pub struct Progress<'a, R, E> {
+    alloc: Global,
     clock: &'a R,
     err: &'a mut E,
     /// The number of ways that are searched.
@@ -19,7 +21,13 @@ impl<'a, R: Clock, E: Write> Progress<'a, R, E> {
     /// Reports a search of this number of ways, or nothing.
     ///
     /// Source: project rule.
-    pub fn new(clock: &'a R, err: &'a mut E, total: u64, is_on: bool) -> Progress<'a, R, E> {
+    pub fn new(
+        alloc: Global,
+        clock: &'a R,
+        err: &'a mut E,
+        total: u64,
+        is_on: bool,
+    ) -> Progress<'a, R, E> {
         let times = if is_on {
             match Instant::now(clock) {
                 Ok(now) => Some((now, now)),
@@ -29,6 +37,7 @@ impl<'a, R: Clock, E: Write> Progress<'a, R, E> {
             None
         };
         Progress {
+            alloc,
             clock,
             err,
             total,
@@ -45,6 +54,41 @@ fn seconds_left(seconds: u64, tried: u64, total: u64) -> u64 {
     } else {
         seconds.saturating_mul(rest) / tried
     }
+}
+
+/// A number of what a noun names, as `1 minute` and `27 minutes`.
+fn counted(alloc: Global, number: u64, noun: &str) -> Result<String, AllocError> {
+    if number == 1 {
+        format!(in alloc; "{number} {noun}")
+    } else {
+        format!(in alloc; "{number} {noun}s")
+    }
+}
+
+/// A time in words: in seconds below two minutes, in minutes below two hours, and else in hours.
+fn time_text(alloc: Global, seconds: u64) -> Result<String, AllocError> {
+    if seconds < 120 {
+        counted(alloc, seconds, "second")
+    } else if seconds < 7200 {
+        counted(alloc, seconds / 60, "minute")
+    } else {
+        counted(alloc, seconds / 3600, "hour")
+    }
+}
+
+/// What is reported: the ways tried of the total, the outcomes found, and the time that the rest may take.
+fn report_line(
+    alloc: Global,
+    tried: u64,
+    total: u64,
+    outcomes: usize,
+    seconds: u64,
+) -> Result<String, AllocError> {
+    let found = counted(alloc, outcomes as u64, "outcome")?;
+    let left = time_text(alloc, seconds)?;
+    let found = found.as_str();
+    let left = left.as_str();
+    format!(in alloc; "execexplore: {tried} of {total} ways, {found}, about {left} left\n")
 }
 
 impl<R: Clock, E: Write> Watcher for Progress<'_, R, E> {
@@ -64,9 +108,8 @@ impl<R: Clock, E: Write> Watcher for Progress<'_, R, E> {
         self.times = Some((begun, now));
         let total = self.total;
         let left = seconds_left(all.as_secs(), tried, total);
-        let _ = writeln!(
-            self.err,
-            "execexplore: {tried} of {total} ways, {outcomes} outcomes, some {left} seconds left"
-        );
+        if let Ok(line) = report_line(self.alloc, tried, total, outcomes, left) {
+            let _ = self.err.write_all(line.as_bytes());
+        }
     }
 }

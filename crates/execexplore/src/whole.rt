@@ -8,7 +8,7 @@ ghost use Rattle.wayreport.specs.Reports.{report_view, text_of};
 ghost use Rattle.execexplore.specs.Reporting.{limits_text, names_text, number_text, part_in, report_in, report_with, title_text};
 
 use crate::failure::Failure;
-use crate::frame::{Frame, MOST_ACTIONS, check_ticks, kinds_for, number_of};
+use crate::frame::{Frame, MOST_ACTIONS, MOST_WAYS, check_ticks, kinds_for, number_of};
 use crate::options::{Options, kinds_text};
 use crate::stretch::{Stretch, stretch_window};
 use execrun::Texts;
@@ -16,7 +16,7 @@ use execsim::{ReadFault, read_limited};
 use sha2::{Digest, Sha256};
 use std::alloc::{AllocError, Global};
 use taskscript::{Event, EventFault, Events, FileFault, MachineFile, read_events, read_machine};
-use wayreport::{Part, Report, found_of, lines_of, report_text};
+use wayreport::{Part, Report, found_of, lines_of, report_text, ways_text};
 use wayrun::search;
 use ways::{Outcome, Sizes, Watcher, Window, actions_of};
 
@@ -85,17 +85,21 @@ fn events_of<'a>(alloc: Global, bytes: &[u8]) -> Result<Events, Failure<'a>> {
     }
 }
 
-/// What is searched, by both texts and the options.
-pub fn frame_of<'a, T: Texts>(
-    texts: &T,
+/// What is searched, by the bytes of both texts and the options.
+///
+/// # Errors
+///
+/// If memory is refused, a text is, the options have a value that they do not take, or there are too many ways.
+///
+/// Source: project rule.
+pub fn frame_in<'a>(
     alloc: Global,
-    paths: Paths<'a>,
+    machine: &[u8],
+    events: &[u8],
     options: &Options<'a>,
 ) -> Result<Frame, Failure<'a>> {
-    let machine = read_text(texts, alloc, paths.machine)?;
-    let events = read_text(texts, alloc, paths.events)?;
-    let file = file_of(alloc, &machine)?;
-    let script = events_of(alloc, &events)?;
+    let file = file_of(alloc, machine)?;
+    let script = events_of(alloc, events)?;
     let actions = actions_of(alloc, script.list())?;
     let kinds = kinds_for(alloc, options.of, &file)?;
     check_ticks(&actions, &kinds, options.extra)?;
@@ -103,11 +107,11 @@ pub fn frame_of<'a, T: Texts>(
         return Err(Failure::Events(EventFault::TooMany));
     }
     let Some(sizes) = Sizes::new(alloc, kinds.len(), options.extra, actions.len())? else {
-        return Err(Failure::TooManyWays(None));
+        return Err(Failure::TooManyWays(None, MOST_WAYS));
     };
     let ways = number_of(&sizes, actions.len())?;
-    let machine = digest(alloc, &machine)?;
-    let events = digest(alloc, &events)?;
+    let machine = digest(alloc, machine)?;
+    let events = digest(alloc, events)?;
     Ok(Frame {
         file,
         actions,
@@ -117,6 +121,18 @@ pub fn frame_of<'a, T: Texts>(
         machine,
         events,
     })
+}
+
+/// What is searched, by the texts at both paths and the options. Nothing is judged before both are read.
+pub fn frame_of<'a, T: Texts>(
+    texts: &T,
+    alloc: Global,
+    paths: Paths<'a>,
+    options: &Options<'a>,
+) -> Result<Frame, Failure<'a>> {
+    let machine = read_text(texts, alloc, paths.machine)?;
+    let events = read_text(texts, alloc, paths.events)?;
+    frame_in(alloc, &machine, &events, options)
 }
 
 /// The ways that are searched.
@@ -150,7 +166,9 @@ fn limits_text(alloc: Global, actions: usize, extra: usize) -> Result<String, Al
 fn number_text(alloc: Global, ways: u64) -> Result<String, AllocError>
     ensures { IfOk result (λ text. string_bytes text ≡ number_text ways) }
 {
-    format!(in alloc; ": {ways} ways")
+    let counted = ways_text(alloc, ways)?;
+    let number = counted.as_str();
+    format!(in alloc; ": {number}")
 }
 
 /// What a report says of what was searched.

@@ -1,5 +1,6 @@
 -- The lemma files of `execheap`.
 pub mod Alerts
+pub mod Alike
 pub mod Asked
 pub mod Asking
 pub mod AwaitedPorts
@@ -9,6 +10,7 @@ pub mod Counting
 pub mod Dropping
 pub mod Empty
 pub mod Entries
+pub mod Freed
 pub mod Front
 pub mod InTime
 pub mod Keeping

@@ -1,5 +1,5 @@
 -- Queues, read one after another: what is read by number is what is shown by address.
-use Rattle.std.proofs.Common.{◌≡◌, ◌≢◌, ℕ, suc, ◌-◌, ◌<◌, ◌≤◌, List, [], ◌∷◌, Bool, true, false, map, length, refl, ap, sym, ◌∙◌, arith}
+use Rattle.std.proofs.Common.{◌≡◌, ◌≢◌, ℕ, suc, ◌-◌, ◌≤◌, List, [], ◌∷◌, Bool, true, false, map, length, refl, ap, sym, ◌∙◌, arith}
 use Rattle.std.specs.Prelude.{Some, None, Option, find, is_some, nat_eq, ◌==◌, ◌||◌, if◌then◌else◌, unwrap_or, option_map, IfSome, IsSome}
 use Rattle.std.specs.List.{AllByRecursion, list_any}
 use Rattle.std.proofs.lemmas.Bool.{ne_eqb}
@@ -8,14 +8,13 @@ use Rattle.execlist.specs.Order.{first}
 use Rattle.execlist.specs.Pool.{slot}
 use Rattle.memlist.specs.Blocks.{Blocks}
 use Rattle.memlist.specs.Memory.{IsWellFormed}
-use Rattle.memlist.proofs.Answered.{nat_eq-same}
 use Rattle.memlist.proofs.Headers.{from_eq}
 use Rattle.msgport.specs.Ports as ports
 use Rattle.msgport.specs.Ports.{messages_of}
 use Rattle.sigsem.specs.Semaphores as sems
 use Rattle.sigsem.specs.Semaphores.{Semaphores, waiters_of, waits_at}
 use Rattle.timerdev.specs.DueTimes.{due_of}
-use Rattle.timerdev.specs.Timing.{Due, Waiting}
+use Rattle.timerdev.specs.Timing.{Waiting}
 use Rattle.execmodel.specs.Lists.{is_list, is_list_at, nodes_of, nodes_of_object}
 use Rattle.execmodel.specs.Objects.{is_kind, object_at}
 use Rattle.execmodel.specs.Ports.{has_message, is_called, is_port, is_port_at, is_queued, messages_of_object}
@@ -23,7 +22,6 @@ use Rattle.execmodel.specs.Ports as model
 use Rattle.execmodel.specs.Semaphores.{is_semaphore, is_semaphore_at, waiters_of_object}
 use Rattle.execmodel.specs.Semaphores as semaphores
 use Rattle.execmodel.specs.State.{Block, ListHead, MsgPort, Object, PublicPort, Semaphore}
-use Rattle.execheap.specs.declared.tag.Kind.{Kind}
 use Rattle.execheap.specs.declared.tag.Kind.TheVariants as variant
 use Rattle.execheap.specs.declared.tag.Tagged.{Tagged}
 use Rattle.execheap.specs.declared.tag.Tagged.TheVariants as tag

@@ -1,6 +1,6 @@
 -- A table at first: nothing lives.
-use Rattle.std.proofs.Common.{◌≡◌, ℕ, ◌≤◌, List, Bool, true, false, length, refl, ap, sym, ◌∙◌}
-use Rattle.std.specs.Prelude.{None, Option, is_some}
+use Rattle.std.proofs.Common.{◌≡◌, ℕ, ◌≤◌, List, [], ◌∷◌, Bool, map, arith, true, false, length, refl, ap, sym, ◌∙◌}
+use Rattle.std.specs.Prelude.{None, Option, is_some, slice_index_or}
 use Rattle.std.specs.Option.{option_map}
 use Rattle.std.proofs.lemmas.List.{length-replicate}
 use Rattle.execlib.specs.declared.library.Loaded.{Loaded}
@@ -10,7 +10,8 @@ use Rattle.execlist.specs.Pool.{Pooled, all_free, slot, taken}
 use Rattle.execlist.proofs.Pools.{slot_new, taken_new}
 use Rattle.execheap.specs.declared.tag.Kind.{Kind}
 use Rattle.execheap.specs.declared.tag.Kind.TheVariants as kind
-use Rattle.execheap.specs.Table.{IsSound, pool_of, unused}
+use Rattle.execheap.specs.Tags.{kind_code}
+use Rattle.execheap.specs.Table.{IsSound, emptied, free_pools, pool_of, unused}
 
 pub pool_unused : (kind : Kind) (regions : List Region) (pool : ℕ) (known : List Description) (asks : Bool) → pool_of kind (unused regions pool known asks) ≡ all_free pool
 pool_unused kind.List regions pool known asks = refl
@@ -34,3 +35,15 @@ sound_unused regions pool known asks small = record {
   each_library = length-replicate {A = Option Loaded} (length known) None;
   small = small;
 }
+
+-- each pool, one for each kind, is emptied
+pub pools_emptied : (pools : List (Pooled ℕ)) (pool : ℕ) → length pools ≡ 6 → ((k : Kind) → length (slice_index_or pools (kind_code k) (all_free 0)).slots ≡ pool) → map emptied pools ≡ free_pools pool
+pools_emptied (a ∷ b ∷ c ∷ d ∷ e ∷ f ∷ []) pool six each = λ i.
+    all_free (each kind.List i) ∷ all_free (each kind.Node i) ∷ all_free (each kind.Port i) ∷ all_free (each kind.Message i) ∷ all_free (each kind.Semaphore i) ∷ all_free (each kind.Request i) ∷ []
+pools_emptied [] pool six each = absurd (omega (arith, six))
+pools_emptied (a ∷ []) pool six each = absurd (omega (arith, six))
+pools_emptied (a ∷ b ∷ []) pool six each = absurd (omega (arith, six))
+pools_emptied (a ∷ b ∷ c ∷ []) pool six each = absurd (omega (arith, six))
+pools_emptied (a ∷ b ∷ c ∷ d ∷ []) pool six each = absurd (omega (arith, six))
+pools_emptied (a ∷ b ∷ c ∷ d ∷ e ∷ []) pool six each = absurd (omega (arith, six))
+pools_emptied (a ∷ b ∷ c ∷ d ∷ e ∷ f ∷ g ∷ more) pool six each = absurd (omega (arith, six))

@@ -1,5 +1,4 @@
 -- What is seen of a block and of the object that begins there.
-use Rattle.std.specs.Prelude.{ℕ}
 use Rattle.msgport.specs.Port.{Port}
 use Rattle.execmodel.specs.State as model
 use Rattle.execmodel.specs.State.{Block, ListHead, MsgPort, Node, Object}

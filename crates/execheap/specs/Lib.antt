@@ -7,3 +7,4 @@ pub mod Listing
 pub mod Requesting
 pub mod BlockViews
 pub mod Queues
+pub mod Resetting

@@ -51,6 +51,10 @@ abbrev pub free_pools : ℕ → List (Pooled ℕ)
 free_pools pool =
     all_free pool ∷ all_free pool ∷ all_free pool ∷ all_free pool ∷ all_free pool ∷ all_free pool ∷ []
 
+-- a pool of which no number is given any more
+abbrev pub emptied : Pooled ℕ → Pooled ℕ
+emptied p = all_free (length p.slots)
+
 -- nothing is allocated, of each kind that many objects may live, and none of these libraries is loaded, which are expunged under low memory or not
 abbrev pub unused : List Region → ℕ → List Description → Bool → Tabled
 unused regions pool known asks = record {

@@ -4,6 +4,7 @@
 ghost use Rattle.std.specs.Prelude.{◌≡◌, ◌≤◌, [], true, false, length, map, IfOk};
 ghost use Rattle.execlib.specs.Libraries.{description_of};
 ghost use Rattle.memlist.specs.Fit.{avail};
+ghost use Rattle.taskscript.specs.Records.{library_view};
 ghost use Rattle.execmodel.specs.State.{Plain};
 ghost use Rattle.execmodel.specs.Memory.{block_at, can_be_asked, extents, freed, is_named, place_for, placed};
 ghost use Rattle.execmodel.specs.GivingWay.{after_asking};
@@ -16,6 +17,7 @@ use execlist::space::ListSpace;
 use memlist::Region;
 use std::alloc::{AllocError, Global};
 use std::marker::Model;
+use taskscript::LibraryRecord;
 
 /// The memory of a machine and the objects that live in it: lists and nodes, ports and messages, semaphores, the libraries that are
 /// loaded, and requests with the timer that finishes them, over list spaces of the type S.
@@ -57,6 +59,29 @@ impl<S: ListSpace> Heap<S> {
     {
         let objects = Objects::new(alloc, regions, pool, tasks, libraries, asks, tick_micros)?;
         Ok(Heap { objects })
+    }
+
+    /// Makes the memory as `new` makes it of these, if it has the same regions, libraries and numbers of objects and tasks, and answers whether it has;
+    /// otherwise nothing changes. It takes no memory of the host, and the time grows with what was used, not with `pool`.
+    ///
+    /// Source: project rule.
+    pub fn reset(
+        &mut self,
+        regions: &[Region],
+        pool: u32,
+        tasks: usize,
+        libraries: &[LibraryRecord],
+        asks: bool,
+        tick_micros: u32,
+    ) -> bool
+        ensures same { result ≡ true → self.new ≡ record { regions = regions.now; libraries = map library_view libraries.now; asks = asks; pool = pool; tasks = tasks; heap = []; public = []; timer = new_timer tick_micros } }
+        ensures kept { result ≡ false → self.new ≡ self.old }
+    {
+        if !self.objects.is_as_large(regions, pool, tasks, libraries) {
+            return false;
+        }
+        self.objects.reset(asks, tick_micros);
+        true
     }
 
     // ---- memory

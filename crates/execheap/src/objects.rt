@@ -18,6 +18,7 @@ mod ports;
 mod queues;
 mod readers;
 mod requests;
+mod reset;
 mod room;
 mod semaphores;
 

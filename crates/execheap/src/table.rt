@@ -6,7 +6,9 @@ ghost use Rattle.memlist.specs.Memory.{IsWellFormed, allocated, can_free, untouc
 ghost use Rattle.memlist.specs.Readers.{gap_from, gaps_in};
 ghost use Rattle.execlist.specs.Pool.{IsStocked, all_free, slot};
 ghost use Rattle.execlib.specs.Libraries.{close_fault, count_of, description_of, is_loaded, loaded_at, library_to_open, no_library_loaded, opened_base};
-ghost use Rattle.execheap.specs.Table.{IsSound, after_asking, base_at, begins_at, free_pools, library_at, library_closed, library_opened, library_removed, next_object, number_at, pool_of, ready_for, ready_to_open, slots_of, unused, with_object, without_object};
+ghost use Rattle.taskscript.specs.Records.{library_view};
+ghost use Rattle.execheap.specs.Numbered.{shown_library};
+ghost use Rattle.execheap.specs.Table.{IsSound, after_asking, base_at, begins_at, emptied, free_pools, library_at, library_closed, library_opened, library_removed, next_object, number_at, pool_of, ready_for, ready_to_open, slots_of, unused, with_object, without_object};
 
 use crate::tag::{Kind, Tagged, library_in, number_in, read, tag_of};
 use execlib::library::{LibInit, Loaded};
@@ -16,6 +18,7 @@ use execlist::space::ListSpace;
 use memlist::{Gap, MEMF_PUBLIC, MemList, Region};
 use std::alloc::{AllocError, Global};
 use std::marker::Model;
+use taskscript::LibraryRecord;
 
 /// The blocks of a memory, for each kind the addresses of its objects, by number, and the libraries.
 #[derive(Drop)]
@@ -59,6 +62,40 @@ impl<S: ListSpace> Table<S> {
             pool,
             libs,
         })
+    }
+
+    /// Frees all, as `new` makes it: nothing is allocated, no object lives, and no library is loaded; libraries are expunged under low memory or not.
+    ///
+    /// Source: project rule.
+    pub fn reset(&mut self, asks: bool)
+        ensures { self.new ≡ unused self.old.memory.regions self.old.pool self.old.libs.known asks }
+    {
+        self.memory.reset();
+        reset_pools(&mut self.pools);
+        self.libs.reset(asks);
+    }
+
+    /// Whether memory has these regions and no other.
+    ///
+    /// Source: project rule.
+    pub fn has_regions(&self, regions: &[Region]) -> bool
+        ensures { result ≡ true → self.now.memory.regions ≡ regions.now }
+    {
+        for k in 0..regions.len() {
+            if !is_region(self.memory.region(k), regions[k]) {
+                return false;
+            }
+        }
+        self.memory.region(regions.len()).is_none()
+    }
+
+    /// Whether these libraries are known and no other, by their names, versions and sizes.
+    ///
+    /// Source: project rule.
+    pub fn knows(&self, libraries: &[LibraryRecord]) -> bool
+        ensures { result ≡ true → map shown_library self.now.libs.known ≡ map library_view libraries.now }
+    {
+        are_libraries(self.libs.libraries(), libraries)
     }
 
     /// What always holds of the table. It costs nothing.
@@ -299,4 +336,47 @@ fn two_pools(alloc: Global, pool: usize) -> Result<(Pool<u32>, Pool<u32>), Alloc
     let one = Pool::new(alloc, pool)?;
     let other = Pool::new(alloc, pool)?;
     Ok((one, other))
+}
+
+/// Makes each number of the pools free.
+fn reset_pools(pools: &mut [Pool<u32>; 6])
+    ensures { pools.new ≡ map emptied pools.old }
+{
+    for kind in 0..6 {
+        pools[kind].reset();
+    }
+}
+
+/// Whether a region, if there is one, is that one.
+fn is_region(known: Option<Region>, region: Region) -> bool
+    ensures { result ≡ true → known ≡ Some region }
+{
+    match known {
+        None => false,
+        Some(known) => known == region,
+    }
+}
+
+/// Whether a library is that of a file.
+fn is_library(known: &LibInit, library: &LibraryRecord) -> bool
+    ensures { result ≡ true → shown_library (description_of known.now) ≡ library_view library.now }
+{
+    known.name.as_str() == library.name.as_str()
+        && known.version == library.version
+        && known.size == library.size
+}
+
+/// Whether some libraries are those of a file, in its order.
+fn are_libraries(known: &[LibInit], libraries: &[LibraryRecord]) -> bool
+    ensures { result ≡ true → map shown_library (map description_of known.now) ≡ map library_view libraries.now }
+{
+    if known.len() != libraries.len() {
+        return false;
+    }
+    for i in 0..libraries.len() {
+        if !is_library(&known[i], &libraries[i]) {
+            return false;
+        }
+    }
+    true
 }

@@ -68,6 +68,17 @@ impl<S: ListSpace> Libs<S> {
         })
     }
 
+    /// Leaves no library loaded, as `new` did, and the loaded ones are expunged under low memory or not, as `asks` says. The blocks of those
+    /// that were loaded are left to the caller.
+    ///
+    /// Source: project rule.
+    pub fn reset(&mut self, asks: bool)
+        ensures { self.new ≡ no_library_loaded self.old.known asks }
+    {
+        self.loaded.fill(None);
+        self.asks = asks;
+    }
+
     // ---- taking memory
 
     /// Takes a block of a size in bytes with those requirements and that tag, as `MemList::alloc_mem` does, and answers its address.
@@ -165,6 +176,15 @@ impl<S: ListSpace> Libs<S> {
     }
 
     // ---- reading
+
+    /// Lends the libraries as they were given to `new`, in their order.
+    ///
+    /// Source: project rule.
+    pub fn libraries(&self) -> &[LibInit]
+        ensures { map description_of result.now ≡ self.now.known }
+    {
+        &self.known
+    }
 
     /// Answers how often a loaded library is open, 0 to 65,535. RKM Libraries, Exec Libraries: `lib_OpenCnt`.
     pub fn count(&self, i: LibId) -> u32

@@ -19,3 +19,4 @@ pub mod Empty
 pub mod LinkLemmas
 pub mod KeyLemmas
 pub mod Fresh
+pub mod PoolResets

@@ -84,7 +84,7 @@ taken_written (Some c ∷ xs) (suc n) a b e = ap suc (taken_written xs n a b e)
 
 -- How often a number is.
 
-times-append : (n : ℕ) (xs ys : List ℕ) → times n (xs ++ ys) ≡ times n xs + times n ys
+pub times-append : (n : ℕ) (xs ys : List ℕ) → times n (xs ++ ys) ≡ times n xs + times n ys
 times-append n [] ys = omega arith
 times-append n (x ∷ xs) ys = by_case (eqb x n) (times-append n xs ys) where
   by_case : (b : Bool) → times n (xs ++ ys) ≡ times n xs + times n ys → cond b (suc (times n (xs ++ ys))) (times n (xs ++ ys)) ≡ cond b (suc (times n xs)) (times n xs) + times n ys
@@ -119,7 +119,7 @@ vacant : {A : Type 0} (o : Option A) → 0 < cond (not (is_some o)) 1 0 → o �
 vacant None l = refl
 vacant (Some a) l = absurd (omega arith)
 
-free_known : {A : Type 0} (xs : List (Option A)) (n : ℕ) → 0 < cond (is_free xs n) 1 0 → (n < length xs) × (slot xs n ≡ None)
+pub free_known : {A : Type 0} (xs : List (Option A)) (n : ℕ) → 0 < cond (is_free xs n) 1 0 → (n < length xs) × (slot xs n ≡ None)
 free_known xs n l = elim (cases_lt n (length xs)) [
   | inl known ↦ (known, vacant (slot xs n) (rw (lt-ltb n (length xs) known) at l))
   | inr past ↦ absurd (let none = rw (le-ltb n (length xs) past) at l in omega arith)
@@ -143,7 +143,7 @@ range_in n from (suc count) l h = by_case (cases_eq from n) (λ ne. range_in n (
   by_case (inl e) later = cond-true _ _ _ (eq-eqb from n e) ∙ ap suc (range_below n (from + 1) count (omega arith))
   by_case (inr ne) later = cond-false _ _ _ (ne_eqb from n ne) ∙ later ne
 
-times_range : (n count : ℕ) → times n (range_with_len 0 count) ≡ cond (nat_lt n count) 1 0
+pub times_range : (n count : ℕ) → times n (range_with_len 0 count) ≡ cond (nat_lt n count) 1 0
 times_range n count = by_case (cases_lt n count) where
   by_case : (n < count) ⊎ (count ≤ n) → times n (range_with_len 0 count) ≡ cond (nat_lt n count) 1 0
   by_case (inl l) = range_in n 0 count (omega arith) (omega arith) ∙ sym (cond-true _ _ _ (lt-ltb n count l))

@@ -1,5 +1,5 @@
 -- How a pool represents its items: for each number the item that it holds, none if the number is free.
-use Rattle.std.specs.Prelude.{◌≡◌, ℕ, suc, ◌+◌, ◌-◌, ◌<◌, ◌≤◌, nat_lt, IfSome, Bool, ◌&&◌, not, is_some, if◌then◌else◌, List, [], ◌∷◌, ◌++◌, length, replicate, slice_set, take, Option, Some, None, slice_index_or}
+use Rattle.std.specs.Prelude.{◌≡◌, ℕ, suc, ◌+◌, ◌-◌, ◌<◌, ◌≤◌, nat_lt, IfSome, Bool, ◌&&◌, not, is_some, if◌then◌else◌, List, [], ◌∷◌, ◌++◌, length, replicate, slice_set, take, drop, Option, Some, None, slice_index_or}
 use Rattle.std.specs.List.{range_with_len}
 use Rattle.execlist.specs.Lists.{last, times}
 
@@ -27,6 +27,11 @@ pub record IsPool {A : Type 0} (slots : List (Option A)) (free : List ℕ) (capa
   pub counted : length free + taken slots ≡ length slots
   pub stands : (n : ℕ) → times n free ≡ (if is_free slots n then 1 else 0)
   pub room : length slots ≤ capacity
+
+-- the lowest places of the stack, that many, are as they were in a new pool
+pub record IsFresh (low : ℕ) (free : List ℕ) : Type 0 where
+  pub inside : low ≤ length free
+  pub rising : take low free ≡ range_with_len 0 low
 
 -- that many numbers, all of them free
 abbrev pub all_free : {A : Type 0} → ℕ → Pooled A
@@ -57,3 +62,7 @@ released n pool = record { slots = slice_set pool.slots n None; free = pool.free
 -- number n holds another item
 abbrev pub written : {A : Type 0} → ℕ → A → Pooled A → Pooled A
 written n item pool = record { slots = slice_set pool.slots n (Some item); free = pool.free }
+
+-- the numbers below count are free, in the order of a new pool, and the others hold what they held
+abbrev pub free_below : {A : Type 0} → ℕ → Pooled A → Pooled A
+free_below count pool = record { slots = replicate count None ++ drop count pool.slots; free = range_with_len 0 count }

@@ -1,16 +1,56 @@
 -- How rows follow one another.
-use Rattle.std.proofs.Common.{◌≡◌, ◌≤◌, ℕ, take, replicate, Bool, true, List, [], ◌∷◌, ◌++◌, refl, ap, sym, ◌∙◌, subst, append-nil, append_assoc}
-use Rattle.std.specs.Prelude.{◌&&◌, Option}
+use Rattle.std.proofs.Common.{◌≡◌, ◌≤◌, ◌<◌, ◌-◌, ◌^◌, ℕ, take, drop, length, replicate, Bool, true, List, [], ◌∷◌, ◌++◌, refl, ap, sym, ◌∙◌, subst, append-nil, append_assoc, arith}
+use Rattle.std.specs.Prelude.{◌&&◌, decimal, Option}
 use Rattle.std.specs.List.{flat_map, list_all}
-use Rattle.std.proofs.lemmas.List.{take-replicate}
+use Rattle.std.proofs.lemmas.Fmt.{length-decimal-le}
+use Rattle.std.proofs.lemmas.List.{drop-append-le, drop-replicate, length-replicate, nil_from_length, take-append-drop, take-replicate, take-take}
 use Rattle.execlog.specs.declared.moment.Moment.{Moment}
 use Rattle.execlog.specs.Log.{Gains}
-use Rattle.execlog.specs.Rows.{FollowsRows, IsPart, IsRow, LaysOut, Row, laid, traced}
+use Rattle.execlog.specs.Rows.{FollowsRows, IsBlank, IsPart, IsRow, LaysOut, Row, laid, padded, traced}
 
 -- ---- spaces
 
 pub spaces_taken : (n m : ℕ) → n ≤ m → take {A = ℕ} n (replicate {A = ℕ} m 32) ≡ replicate {A = ℕ} n 32
 spaces_taken n m few = take-replicate n m 32 few
+
+-- ---- room that is blank up to a place
+
+-- it is blank up to an earlier one
+pub blank_before : (a b : ℕ) (old new : List ℕ) → a ≤ b → take a new ≡ take a old → IsBlank b old → IsBlank a new
+blank_before a b old new le same blank =
+    same ∙ sym (take-take a b old le) ∙ ap (λ (l : List ℕ). take a l) blank ∙ spaces_taken a b le
+
+-- the last of its spaces
+pub blank_end : (k start : ℕ) (room : List ℕ) → k ≤ start → IsBlank start room → drop (start - k) room ≡ replicate {A = ℕ} k 32 ++ drop start room
+blank_end k start room le blank =
+    let long : start - k ≤ length (replicate {A = ℕ} start 32) = omega (arith, length-replicate {A = ℕ} start 32) in
+    let many : start - (start - k) ≡ k = omega (arith, le) in
+    ap (λ (l : List ℕ). drop (start - k) l) (sym (take-append-drop start room) ∙ ap (λ (l : List ℕ). l ++ drop start room) blank)
+    ∙ drop-append-le (start - k) (replicate {A = ℕ} start 32) (drop start room) long
+    ∙ ap (λ (l : List ℕ). l ++ drop start room) (drop-replicate (start - k) start 32 ∙ ap (λ (n : ℕ). replicate {A = ℕ} n 32) many)
+
+-- a text at the right of a column
+pub column_put : (k start width : ℕ) (text rest room : List ℕ) → k ≡ width - length text → k ≤ start → IsBlank start room
+    → drop start room ≡ text ++ rest → drop (start - k) room ≡ padded width text ++ rest
+column_put k start width text rest room is le blank put =
+    blank_end k start room le blank
+    ∙ ap (λ (l : List ℕ). replicate {A = ℕ} k 32 ++ l) put
+    ∙ ap (λ (n : ℕ). replicate {A = ℕ} n 32 ++ (text ++ rest)) is
+    ∙ sym (append_assoc (replicate {A = ℕ} (width - length text) 32) text rest)
+
+-- a number after a colon at the right of a column
+pub colon_put : (k colon start : ℕ) (text rest mid room : List ℕ) → k ≡ 5 - length text → k ≤ colon → IsBlank colon room
+    → drop colon room ≡ 58 ∷ drop start mid → drop start mid ≡ text ++ rest
+    → drop (colon - k) room ≡ replicate {A = ℕ} (5 - length text) 32 ++ 58 ∷ text ++ rest
+colon_put k colon start text rest mid room is le blank first then =
+    blank_end k colon room le blank
+    ∙ ap (λ (l : List ℕ). replicate {A = ℕ} k 32 ++ l) (first ∙ ap (λ (l : List ℕ). 58 ∷ l) then)
+    ∙ ap (λ (n : ℕ). replicate {A = ℕ} n 32 ++ (58 ∷ (text ++ rest))) is
+    ∙ sym (append_assoc (replicate {A = ℕ} (5 - length text) 32) (58 ∷ text) rest)
+
+-- the digits of a number
+pub digits_fit : (n : ℕ) → n < 2 ^ 64 → length (decimal n) ≤ 20
+digits_fit n small = length-decimal-le 20 n (omega arith) (omega arith) small
 
 -- ---- rows one after another
 
@@ -87,3 +127,9 @@ lays_rows {All} {m} {number} {text} {line} {after} {page} {first} {next} cut one
 pub lays_none : {All : Type 0} {m : Moment} {number : Option ℕ} {text page next : List ℕ}
     → IsPart text → next ≡ page ++ text → Gains (LaysOut All m number text) page next
 lays_none {All} {m} {number} {text} part added = record { bytes = text; shows = no_row text part; added = added }
+
+-- a text with no byte has no row
+pub lays_nothing : {All : Type 0} {m : Moment} {number : Option ℕ} {text page : List ℕ} → length text ≡ 0 → Gains (LaysOut All m number text) page page
+lays_nothing {All} {m} {number} {text} {page} none =
+    subst (λ (t : List ℕ). Gains (LaysOut All m number t) page page) (sym (nil_from_length text none))
+    (lays_none (λ k within. absurd (omega (arith, within))) (sym (append-nil page)))

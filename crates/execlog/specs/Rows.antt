@@ -1,5 +1,5 @@
 -- The plain form of the entries of a log: a row for each line of the trace, with columns before it and after it.
-use Rattle.std.specs.Prelude.{◌≡◌, ◌≢◌, ⊤, ℕ, ◌+◌, ◌-◌, ◌/◌, ◌%◌, ◌<◌, if◌then◌else◌, Bool, true, codes, decimal, length, replicate, slice_index, List, [], ◌∷◌, ◌++◌, Option, None, Some}
+use Rattle.std.specs.Prelude.{◌≡◌, ◌≢◌, ⊤, ℕ, ◌+◌, ◌-◌, ◌/◌, ◌%◌, ◌<◌, if◌then◌else◌, Bool, true, codes, decimal, length, replicate, slice_index, take, List, [], ◌∷◌, ◌++◌, Option, None, Some}
 use Rattle.std.specs.Borrow.{Bor}
 use Rattle.std.specs.List.{flat_map, list_all}
 use Rattle.execlog.specs.declared.moment.Moment.{Moment}
@@ -34,6 +34,10 @@ front line m = time_columns m ++ line_column line ++ codes "  "
 abbrev pub source_column : ℕ → List ℕ → List ℕ
 source_column taken [] = []
 source_column taken (c ∷ source) = replicate (43 - taken) 32 ++ codes "  " ++ c ∷ source
+
+-- the bytes are spaces up to a place
+abbrev pub IsBlank : ℕ → List ℕ → Type 0
+IsBlank place room = take place room ≡ replicate {A = ℕ} place 32
 
 -- ---- rows
 

@@ -69,6 +69,7 @@ impl Cursor {
     /// Whose the next line is.
     ///
     /// Source: project rule.
+    #[inline(always)]
     pub fn next(&mut self, book: &Book, line: &[u8]) -> Spot {
         if let Some(spot) = self.of_task(book) {
             return spot;

@@ -47,6 +47,15 @@ struct Log<'a, F> {
     page: Vec<u8>,
 }
 
+/// Puts the bytes that show an entry, of which there are often none.
+fn put_page<W: Sink>(page: &[u8], out: &mut W)
+    ensures { Puts (W.tape out.old) (W.tape out.new) page.now }
+{
+    if !page.is_empty() {
+        put(page, out);
+    }
+}
+
 impl<'a, F: Form> Log<'a, F> {
     /// Adds the entry of what the machine has printed, with what the clock shows after it.
     fn enter<W: Sink>(
@@ -73,7 +82,7 @@ impl<'a, F: Form> Log<'a, F> {
         self.page.clear();
         self.form
             .push_entry(&self.before, &moment, &self.text.bytes, &mut self.page)?;
-        put(&self.page, out);
+        put_page(&self.page, out);
         Ok(())
     }
 }

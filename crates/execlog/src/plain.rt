@@ -1,5 +1,5 @@
 //! The plain form of a log: a row for each line of the trace, with the number of the step, the time, the line of the command and its text.
-ghost use Rattle.std.specs.Prelude.{List, OnOk, ℕ};
+ghost use Rattle.std.specs.Prelude.{◌≡◌, ◌++◌, List, OnOk, ℕ};
 ghost use Rattle.execlog.specs.Books.{ShowsAll, line_at};
 ghost use Rattle.execlog.specs.Log.{Entry, Gains};
 ghost use Rattle.execlog.specs.Rows.{FollowsRows, IsCutAt, IsRow, LaysOut};
@@ -30,6 +30,9 @@ pub struct Plain<'a> {
 pub fn cut_line(text: &[u8]) -> Option<(&[u8], &[u8])>
     ensures { IsCutAt text.now result }
 {
+    if text.is_empty() {
+        return None;
+    }
     match memchr(b'\n', text) {
         None => None,
         Some(end) => Some((&text[..end], &text[end + 1..])),
@@ -56,8 +59,19 @@ pub fn line_of(book: &Book, spot: Spot) -> Option<u32> {
     }
 }
 
+/// Adds what is after the last line feed, which is mostly nothing.
+fn push_rest(page: &mut Vec<u8>, rest: &[u8]) -> Result<(), AllocError>
+    ensures { OnOk result (page.new.items ≡ page.old.items ++ rest.now) }
+{
+    if rest.is_empty() {
+        return Ok(());
+    }
+    page.extend_from_slice(rest)
+}
+
 impl Plain<'_> {
     /// Adds the row of a line of the trace, if it is shown.
+    #[inline(always)]
     fn push_line(
         &self,
         moment: &Moment,
@@ -93,7 +107,24 @@ impl Plain<'_> {
             self.push_line(moment, spot, line_of(self.book, spot), line, page)?;
             rest = after;
         }
-        page.extend_from_slice(rest)
+        push_rest(page, rest)
+    }
+
+    /// Adds the rows of the lines of a text.
+    #[inline(never)]
+    fn push_rows(&self, moment: &Moment, text: &[u8], page: &mut Vec<u8>) -> Result<(), AllocError>
+        ensures { OnOk result (Gains (LaysOut (ShowsAll self.now.filter) moment.now (line_at self.now.book.now moment.now.actor) text.now) page.old.items page.new.items) }
+    {
+        match cut_line(text) {
+            None => push_rest(page, text),
+            Some((line, rest)) => {
+                let mut cursor = Cursor::new(moment.actor);
+                let spot = cursor.next(self.book, line);
+                let number = self.book.line_at(moment.actor);
+                self.push_line(moment, spot, number, line, page)?;
+                self.push_lines(moment, cursor, rest, page)
+            }
+        }
     }
 }
 
@@ -117,15 +148,9 @@ impl Form for Plain<'_> {
         text: &[u8],
         page: &mut Vec<u8>,
     ) -> Result<(), AllocError> {
-        match cut_line(text) {
-            None => page.extend_from_slice(text),
-            Some((line, rest)) => {
-                let mut cursor = Cursor::new(moment.actor);
-                let spot = cursor.next(self.book, line);
-                let number = self.book.line_at(moment.actor);
-                self.push_line(moment, spot, number, line, page)?;
-                self.push_lines(moment, cursor, rest, page)
-            }
+        if text.is_empty() {
+            return Ok(());
         }
+        self.push_rows(moment, text, page)
     }
 }

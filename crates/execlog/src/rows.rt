@@ -1,38 +1,55 @@
-//! The rows of a log: columns before and after a line of the trace.
-ghost use Rattle.std.specs.Prelude.{◌≡◌, ◌≤◌, ◌++◌, ◌-◌, decimal, replicate, OnOk};
-ghost use Rattle.execlog.specs.Rows.{digit, front, line_column, millis, padded, row_with, source_column, time_columns};
+//! The rows of a log: columns before and after a line of the trace. The columns before it are put into room of a fixed size, the last one first.
+ghost use Rattle.std.specs.Prelude.{◌≡◌, ◌∷◌, ◌≤◌, ◌<◌, ◌++◌, ◌+◌, ◌-◌, ◌/◌, codes, decimal, drop, length, replicate, take, OnOk};
+ghost use Rattle.execlog.specs.Rows.{IsBlank, digit, front, line_column, millis, padded, row_with, source_column};
 
 use crate::moment::Moment;
-use itoa::Buffer as Digits;
+use itoa::write_digits;
 use std::alloc::AllocError;
 
-/// The most spaces of a column.
-const SPACES: [u8; 48] = [b' '; 48];
+/// How many bytes there is room for before a line of the trace, which is enough for all numbers.
+const ROOM: usize = 96;
 
-/// Adds the spaces before a text of that length at the right of a column.
-fn push_spaces(page: &mut Vec<u8>, width: usize, taken: usize) -> Result<(), AllocError>
-    requires { width ≤ 48 }
-    ensures { OnOk result (page.new.items ≡ page.old.items ++ replicate (width - taken) 32) }
+/// The most spaces between a line of the trace and the text of its command.
+const SPACES: [u8; 45] = [b' '; 45];
+
+/// Puts a byte before a place in room that is blank up to there, and answers where it is.
+fn put_byte(room: &mut [u8], end: usize, byte: u8) -> usize
+    requires within { (0 < end) × (end ≤ length room.old) }
+    requires blank { IsBlank end room.old }
+    ensures at { result + 1 ≡ end }
+    ensures put { drop result room.new ≡ byte ∷ drop end room.old }
+    ensures blank { IsBlank result room.new }
+    ensures room { length room.new ≡ length room.old }
 {
-    page.extend_from_slice(&SPACES[..width.saturating_sub(taken)])
+    let at = end - 1;
+    room[at] = byte;
+    at
 }
 
-/// Adds a text at the right of a column.
-fn push_padded(page: &mut Vec<u8>, width: usize, text: &[u8]) -> Result<(), AllocError>
-    requires { width ≤ 48 }
-    ensures { OnOk result (page.new.items ≡ page.old.items ++ padded width text.now) }
+/// Puts a number before a place in room that is blank up to there, and answers where it begins.
+fn put_digits(room: &mut [u8], end: usize, n: u64) -> usize
+    requires within { (20 ≤ end) × (end ≤ length room.old) }
+    requires blank { IsBlank end room.old }
+    ensures at { result + length (decimal n) ≡ end }
+    ensures few { end ≤ result + 20 }
+    ensures put { drop result room.new ≡ decimal n ++ drop end room.old }
+    ensures blank { IsBlank result room.new }
+    ensures room { length room.new ≡ length room.old }
 {
-    push_spaces(page, width, text.len())?;
-    page.extend_from_slice(text)
+    write_digits(n, room, end)
 }
 
-/// Adds a number at the right of a column.
-fn push_number(page: &mut Vec<u8>, width: usize, n: u64) -> Result<(), AllocError>
-    requires { width ≤ 48 }
-    ensures { OnOk result (page.new.items ≡ page.old.items ++ padded width (decimal n)) }
+/// Puts a number at the right of a column that ends at a place in room that is blank up to there, and answers where the column begins.
+fn put_column(room: &mut [u8], end: usize, n: u64) -> usize
+    requires within { (25 ≤ end) × (end ≤ length room.old) }
+    requires blank { IsBlank end room.old }
+    ensures few { end ≤ result + 25 }
+    ensures put { drop result room.new ≡ padded 5 (decimal n) ++ drop end room.old }
+    ensures blank { IsBlank result room.new }
+    ensures room { length room.new ≡ length room.old }
 {
-    let mut digits = Digits::new();
-    push_padded(page, width, digits.format(n).as_bytes())
+    let start = put_digits(room, end, n);
+    start - 5usize.saturating_sub(end - start)
 }
 
 /// The last digit of a number.
@@ -42,45 +59,89 @@ fn digit(n: u64) -> u8
     b'0' + (n % 10) as u8
 }
 
-/// Adds microseconds as milliseconds.
-fn push_millis(page: &mut Vec<u8>, micros: u64) -> Result<(), AllocError>
-    ensures { OnOk result (page.new.items ≡ page.old.items ++ millis micros) }
+/// Puts a point and three places of milliseconds before a place in room that is blank up to there, and answers where they begin.
+fn put_places(room: &mut [u8], end: usize, micros: u64) -> usize
+    requires within { (4 ≤ end) × (end ≤ length room.old) }
+    requires blank { IsBlank end room.old }
+    ensures few { end ≡ result + 4 }
+    ensures put { drop result room.new ≡ 46 ∷ digit (micros / 100) ∷ digit (micros / 10) ∷ digit micros ∷ drop end room.old }
+    ensures blank { IsBlank result room.new }
+    ensures room { length room.new ≡ length room.old }
 {
-    push_number(page, 5, micros / 1000)?;
-    page.extend_from_slice(&[b'.', digit(micros / 100), digit(micros / 10), digit(micros)])
+    let last = put_byte(room, end, digit(micros));
+    let middle = put_byte(room, last, digit(micros / 10));
+    let first = put_byte(room, middle, digit(micros / 100));
+    put_byte(room, first, b'.')
 }
 
-/// Adds the number and the time.
-fn push_time(page: &mut Vec<u8>, moment: &Moment) -> Result<(), AllocError>
-    ensures { OnOk result (page.new.items ≡ page.old.items ++ time_columns moment.now) }
+/// Puts microseconds as milliseconds.
+fn put_millis(room: &mut [u8], end: usize, micros: u64) -> usize
+    requires within { (29 ≤ end) × (end ≤ length room.old) }
+    requires blank { IsBlank end room.old }
+    ensures few { end ≤ result + 29 }
+    ensures put { drop result room.new ≡ millis micros ++ drop end room.old }
+    ensures blank { IsBlank result room.new }
+    ensures room { length room.new ≡ length room.old }
 {
-    push_number(page, 5, moment.number)?;
-    push_millis(page, moment.clock)
+    let point = put_places(room, end, micros);
+    put_column(room, point, micros / 1000)
 }
 
-/// Adds the column of a line.
-fn push_line(page: &mut Vec<u8>, line: Option<u32>) -> Result<(), AllocError>
-    ensures { OnOk result (page.new.items ≡ page.old.items ++ line_column line) }
+/// Puts the column of a line that is known.
+fn put_known_line(room: &mut [u8], end: usize, line: u64) -> usize
+    requires within { (26 ≤ end) × (end ≤ length room.old) }
+    requires blank { IsBlank end room.old }
+    ensures few { end ≤ result + 26 }
+    ensures put { drop result room.new ≡ replicate (5 - length (decimal line)) 32 ++ 58 ∷ decimal line ++ drop end room.old }
+    ensures blank { IsBlank result room.new }
+    ensures room { length room.new ≡ length room.old }
+{
+    let start = put_digits(room, end, line);
+    let colon = put_byte(room, start, b':');
+    colon - 5usize.saturating_sub(end - start)
+}
+
+/// Puts the column of a line.
+fn put_line(room: &mut [u8], end: usize, line: Option<u32>) -> usize
+    requires within { (26 ≤ end) × (end ≤ length room.old) }
+    requires blank { IsBlank end room.old }
+    ensures few { end ≤ result + 26 }
+    ensures put { drop result room.new ≡ line_column line ++ drop end room.old }
+    ensures blank { IsBlank result room.new }
+    ensures room { length room.new ≡ length room.old }
 {
     match line {
-        None => page.extend_from_slice(b"      "),
-        Some(line) => {
-            let mut digits = Digits::new();
-            let text = digits.format(line).as_bytes();
-            push_spaces(page, 5, text.len())?;
-            page.push(b':')?;
-            page.extend_from_slice(text)
-        }
+        None => end - 6,
+        Some(line) => put_known_line(room, end, u64::from(line)),
     }
 }
 
-/// Adds all that is before a row.
+/// Puts all that is before a line of the trace at the end of blank room, and answers where it begins.
+fn put_front(room: &mut [u8], line: Option<u32>, moment: &Moment) -> usize
+    requires { room.old ≡ replicate 96 32 }
+    ensures within { result ≤ 96 }
+    ensures put { drop result room.new ≡ front line moment.now }
+    ensures room { length room.new ≡ 96 }
+{
+    let from_line = put_line(room, ROOM - 2, line);
+    let from_time = put_millis(room, from_line, moment.clock);
+    put_column(room, from_time, moment.number)
+}
+
+/// Adds all that is before a line of the trace.
 fn push_front(page: &mut Vec<u8>, line: Option<u32>, moment: &Moment) -> Result<(), AllocError>
     ensures { OnOk result (page.new.items ≡ page.old.items ++ front line moment.now) }
 {
-    push_time(page, moment)?;
-    push_line(page, line)?;
-    page.extend_from_slice(b"  ")
+    let mut room = [b' '; ROOM];
+    let start = put_front(&mut room, line, moment);
+    page.extend_from_slice(&room[start..])
+}
+
+/// Adds the spaces after that many bytes of a line.
+fn push_gap(page: &mut Vec<u8>, taken: usize) -> Result<(), AllocError>
+    ensures { OnOk result (page.new.items ≡ page.old.items ++ (replicate (43 - taken) 32 ++ codes "  ")) }
+{
+    page.extend_from_slice(&SPACES[..43usize.saturating_sub(taken) + 2])
 }
 
 /// Adds the column of the text of a command, after that many bytes of a line; nothing if there is no text.
@@ -90,8 +151,7 @@ fn push_source(page: &mut Vec<u8>, taken: usize, source: &[u8]) -> Result<(), Al
     if source.is_empty() {
         return Ok(());
     }
-    push_spaces(page, 43, taken)?;
-    page.extend_from_slice(b"  ")?;
+    push_gap(page, taken)?;
     page.extend_from_slice(source)
 }
 

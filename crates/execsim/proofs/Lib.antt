@@ -27,6 +27,8 @@ pub mod ReadLemmas
 pub mod Requesting
 pub mod ServerChains
 pub mod Serving
+pub mod Settling
 pub mod Signalling
 pub mod Stepping
 pub mod Tasking
+pub mod Written

@@ -7,6 +7,7 @@ pub mod Headline
 pub mod Reached
 pub mod Readers
 pub mod Reading
+pub mod Resting
 pub mod Standing
 pub mod Time
 pub mod Views

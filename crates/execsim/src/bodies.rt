@@ -1,5 +1,5 @@
-//! What the software interrupts and the servers execute. Nothing changes it once the machine is made.
-ghost use Rattle.std.specs.Prelude.{◌≡◌, ◌≢◌, All, IfOk, length, map, slice_index_or};
+//! What the software interrupts and the servers execute. Nothing changes it once the machine is made, until it is reset.
+ghost use Rattle.std.specs.Prelude.{◌≡◌, ◌≢◌, All, IfOk, length, map, slice_index_or, true};
 ghost use Rattle.std.specs.List.{AllPairs};
 ghost use Rattle.taskscript.specs.Commands.{command_view};
 ghost use Rattle.taskscript.specs.Machines.{softint_names};
@@ -7,9 +7,9 @@ ghost use Rattle.taskscript.specs.Numbering.{texts};
 ghost use Rattle.taskscript.specs.Records as records;
 ghost use Rattle.execmodel.specs.Interrupts.{no_server, no_softint, server_at};
 ghost use Rattle.execmodel.specs.Pending.{softint_named};
-ghost use Rattle.execsim.specs.Views.{code_of_body, name_of_body, server_view, softint_view};
+ghost use Rattle.execsim.specs.Views.{code_of_body, interrupting, name_of_body, server_view, softint_view};
 
-use crate::code::copied_code;
+use crate::code::{copied_code, copy_code};
 use exectrace::Name;
 use indexmap::IndexSet;
 use std::alloc::{AllocError, Global};
@@ -126,6 +126,63 @@ fn names_of(alloc: Global, softints: &[SoftintRecord]) -> Result<IndexSet<Name>,
     Ok(names)
 }
 
+/// Gives a software interrupt the commands of one of a file, if it has its name, its priority and as many commands, and answers whether it has.
+fn reset_softint(softint: &mut Softint, record: &SoftintRecord) -> bool
+    ensures same { result ≡ true → softint_view softint.new ≡ records.softint_view record.now }
+    ensures name { softint.new.name ≡ softint.old.name }
+    ensures pri { softint.new.pri ≡ softint.old.pri }
+{
+    softint.name.as_str() == record.name.as_str()
+        && softint.pri == record.pri
+        && copy_code(&record.code, &mut softint.code)
+}
+
+/// Gives the software interrupts the commands of those of a file, if all else is the same, and answers whether it is.
+fn reset_softints(softints: &mut Vec<Softint>, file: &[SoftintRecord]) -> bool
+    ensures same { result ≡ true → map softint_view softints.new.items ≡ map records.softint_view file.now }
+    ensures names { softint_names (map softint_view softints.new.items) ≡ softint_names (map softint_view softints.old.items) }
+    ensures pris { map (λ s. s.pri) (map softint_view softints.new.items) ≡ map (λ s. s.pri) (map softint_view softints.old.items) }
+{
+    if softints.len() != file.len() {
+        return false;
+    }
+    for i in 0..file.len() {
+        if !reset_softint(&mut softints[i], &file[i]) {
+            return false;
+        }
+    }
+    true
+}
+
+/// Gives a server the commands of one of a file, if all else is the same and it has as many commands, and answers whether it is.
+fn reset_server(server: &mut Server, record: &ServerRecord) -> bool
+    ensures same { result ≡ true → server_view server.new ≡ records.server_view record.now }
+    ensures source { server.new.source ≡ server.old.source }
+    ensures pri { server.new.pri ≡ server.old.pri }
+{
+    server.name.as_str() == record.name.as_str()
+        && server.source == record.source
+        && server.pri == record.pri
+        && server.claim == record.claim
+        && copy_code(&record.code, &mut server.code)
+}
+
+/// Gives the servers the commands of those of a file, if all else is the same, and answers whether it is.
+fn reset_servers(servers: &mut Vec<Server>, file: &[ServerRecord]) -> bool
+    ensures same { result ≡ true → map server_view servers.new.items ≡ map records.server_view file.now }
+    ensures kept { map interrupting (map server_view servers.new.items) ≡ map interrupting (map server_view servers.old.items) }
+{
+    if servers.len() != file.len() {
+        return false;
+    }
+    for k in 0..file.len() {
+        if !reset_server(&mut servers[k], &file[k]) {
+            return false;
+        }
+    }
+    true
+}
+
 fn softint_name(softints: &[Softint], i: usize) -> Name
     ensures { result.bytes ≡ (slice_index_or (map softint_view softints.now) i no_softint).name }
 {
@@ -192,6 +249,21 @@ impl Bodies {
             servers,
             names,
         })
+    }
+
+    /// Makes the software interrupts and the servers those of a file, if they have its names, sources, priorities and numbers of commands, and
+    /// answers whether they have. The sources and priorities stay as they are.
+    ///
+    /// Source: project rule.
+    pub fn reset(&mut self, softints: &[SoftintRecord], servers: &[ServerRecord]) -> bool
+        ensures same { result ≡ true → self.new ≡ record {
+          softints = map records.softint_view softints.now;
+          servers = map records.server_view servers.now;
+        } }
+        ensures pris { map (λ s. s.pri) self.new.softints ≡ map (λ s. s.pri) self.old.softints }
+        ensures sources { map interrupting self.new.servers ≡ map interrupting self.old.servers }
+    {
+        reset_softints(&mut self.softints, softints) && reset_servers(&mut self.servers, servers)
     }
 
     /// The number of the software interrupt of a name; if none has it, the number of all of them.

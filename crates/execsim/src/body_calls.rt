@@ -32,7 +32,7 @@ use taskscript::{
 };
 
 impl<S: ListSpace> Kernel<S> {
-    // ---- the call that a command is
+    // ---- the values of arguments
 
     /// The value of an argument in a body.
     fn evaluate_in_body(&self, argument: Argument) -> ShortArg
@@ -64,24 +64,6 @@ impl<S: ListSpace> Kernel<S> {
         for k in 0..count {
             values[k] = self.evaluate_in_body(arguments[k]);
         }
-    }
-
-    /// The call that a command of a body is.
-    fn call_in_body(&self, command: &Command) -> Call
-        ensures { call_view result ≡ call_in_body (command_view command.now) self.now.scripts }
-    {
-        let count = command.count as usize;
-        let mut call = Call {
-            word: command.word,
-            target: command.target,
-            arguments: [ShortArg::Value(0); 4],
-            count,
-            quoted: command.name,
-            next: 0,
-            awaited: 0,
-        };
-        self.evaluate_all_in_body(&command.arguments, count, &mut call.arguments);
-        call
     }
 
     // ---- a plain word that prints nothing
@@ -213,13 +195,12 @@ impl<S: ListSpace> Kernel<S> {
     )
         ensures { Follows (does_plain_by word (ByBody name.now.bytes) (call_view call.now)) self.old self.new (W.tape out.old) (W.tape out.new) }
     {
-        let caller = Caller::Body(*name);
         match word {
-            PlainWord::Set => self.set(&caller, call),
-            PlainWord::Add => self.add_words(&caller, call),
-            PlainWord::Sub => self.sub_words(&caller, call),
-            PlainWord::And => self.and_words(&caller, call),
-            PlainWord::Or => self.or_words(&caller, call),
+            PlainWord::Set => self.set(&Caller::Body(*name), call),
+            PlainWord::Add => self.add_words(&Caller::Body(*name), call),
+            PlainWord::Sub => self.sub_words(&Caller::Body(*name), call),
+            PlainWord::And => self.and_words(&Caller::Body(*name), call),
+            PlainWord::Or => self.or_words(&Caller::Body(*name), call),
             PlainWord::Print => self.done_in_body(name, call, out),
             PlainWord::Jump | PlainWord::JumpZ | PlainWord::JumpNZ => {}
         }
@@ -298,7 +279,17 @@ impl<S: ListSpace> Kernel<S> {
                     self.silent_in_body(target, value);
                 }
                 None => {
-                    let call = self.call_in_body(command);
+                    let count = command.count as usize;
+                    let mut call = Call {
+                        word: command.word,
+                        target: command.target,
+                        arguments: [ShortArg::Value(0); 4],
+                        count,
+                        quoted: command.name,
+                        next: 0,
+                        awaited: 0,
+                    };
+                    self.evaluate_all_in_body(&command.arguments, count, &mut call.arguments);
                     self.does_in_body(name, &call, out);
                 }
             },

@@ -46,7 +46,7 @@ pub(crate) fn kernel_of<S: ListSpace>(
 }
 
 /// The names and priorities of the tasks, in the order of the file.
-fn inits_of(alloc: Global, tasks: &[TaskRecord]) -> Result<Vec<TaskInit>, AllocError>
+pub(crate) fn inits_of(alloc: Global, tasks: &[TaskRecord]) -> Result<Vec<TaskInit>, AllocError>
     ensures names { IfOk result (λ v. map (λ t. t.name.bytes) v.items ≡ map (λ t. t.name.bytes) tasks.now) }
     ensures pris { IfOk result (λ v. map (λ t. t.pri) v.items ≡ map (λ t. t.pri) tasks.now) }
     ensures count { IfOk result (λ v. length v.items ≡ length tasks.now) }

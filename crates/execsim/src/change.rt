@@ -3,7 +3,7 @@ ghost use Rattle.std.specs.Prelude.{◌≡◌, ℕ, List, IfSome, Some, option_c
 ghost use Rattle.exectrace.specs.Sink.{Tape};
 ghost use Rattle.taskscript.specs.declared.word.Word.TheVariants.{Plain};
 ghost use Rattle.execmodel.specs.State.{State};
-ghost use Rattle.execmodel.specs.Calls.{argument, call_of, evaluated, next_call, number_in};
+ghost use Rattle.execmodel.specs.Calls.{argument, call_of, evaluated, goes_on, next_call, number_in, stored};
 ghost use Rattle.execmodel.specs.Step.{call_step, does};
 ghost use Rattle.execsim.specs.Callers.{HasTask};
 ghost use Rattle.execsim.specs.Changes.{changes};
@@ -124,6 +124,7 @@ impl<S: ListSpace> Kernel<S> {
     }
 
     /// What task t changes by what it does next, if that is a plain word that prints nothing.
+    #[inline(always)]
     pub(crate) fn next_change(&self, t: TaskId) -> Option<Change>
         requires { HasTask t self.now }
         ensures { IfSome result (λ change. (s : State) → call_step t (next_call t self.now.scripts) s ≡ changes t change s) }
@@ -145,7 +146,8 @@ impl<S: ListSpace> Kernel<S> {
     /// Task t changes what its command says, and goes on.
     pub(crate) fn change(&mut self, t: TaskId, change: Change)
         requires { HasTask t self.old }
-        ensures { (tape : Tape) → Follows (changes t change) self.old self.new tape tape }
+        ensures follows { (tape : Tape) → Follows (changes t change) self.old self.new tape tape }
+        ensures next { self.new ≡ record self.old { scripts = goes_on t change.next (stored t change.target change.value self.old.scripts) } }
     {
         self.store(t, change.target, change.value);
         self.go_on(t, change.next);

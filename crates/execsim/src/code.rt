@@ -1,5 +1,5 @@
-//! The commands of the bodies are copied from the file once, when the machine is made.
-ghost use Rattle.std.specs.Prelude.{◌≡◌, IfOk};
+//! The commands of the bodies are copied from the file when the machine is made, and when it is reset.
+ghost use Rattle.std.specs.Prelude.{◌≡◌, true, false, IfOk};
 
 use std::alloc::{AllocError, Global};
 use taskscript::Command;
@@ -11,4 +11,16 @@ pub fn copied_code(alloc: Global, code: &[Command]) -> Result<Vec<Command>, Allo
     let mut copied = Vec::with_capacity(alloc, code.len())?;
     copied.extend_from_slice(code)?;
     Ok(copied)
+}
+
+/// Copies the commands of a body over others, if they are as many, and answers whether they are.
+pub fn copy_code(code: &[Command], copied: &mut Vec<Command>) -> bool
+    ensures same { result ≡ true → copied.new.items ≡ code.now }
+    ensures kept { result ≡ false → copied.new.items ≡ copied.old.items }
+{
+    if copied.len() != code.len() {
+        return false;
+    }
+    copied.copy_from_slice(code);
+    true
 }

@@ -165,7 +165,7 @@ impl<S: ListSpace> Kernel<S> {
     }
 
     /// Whether any source asks to be served.
-    fn any_asks(&self) -> bool
+    pub(crate) fn any_asks(&self) -> bool
         ensures { result ≡ is_some (highest self.now.pending.latches) }
     {
         self.ints.any_raised()

@@ -3,24 +3,28 @@ ghost use Rattle.std.specs.Prelude.{◌≡◌, ◌≤◌, ℕ, List, length, tru
 ghost use Rattle.std.specs.Option.{option_map};
 ghost use Rattle.exectrace.specs.Short.{short_argument};
 ghost use Rattle.scheduler.specs.Schedule.{name_of, task_count};
-ghost use Rattle.execmodel.specs.State.{program_of, shared_variables};
+ghost use Rattle.execmodel.specs.State.{booted, program_of, shared_variables};
 ghost use Rattle.execmodel.specs.Calls.{content, evaluated, stored, goes_on, keeps};
 ghost use Rattle.execmodel.specs.Signals.{is_task};
 ghost use Rattle.taskscript.specs.Commands.{argument_view};
+ghost use Rattle.taskscript.specs.Machines.{IsMachine};
+ghost use Rattle.execsim.specs.Agreement.{Agrees};
 ghost use Rattle.execsim.specs.Callers.{HasTask};
+ghost use Rattle.execsim.specs.Time.{HasTimeFor};
 ghost use Rattle.execsim.specs.Views.{IsFor, call_view};
 
 use crate::bodies::Bodies;
 use crate::call::Call;
 use crate::program::Program;
+use crate::reset::{reset_heap, reset_programs, reset_sched};
 use execheap::Heap;
 use execlist::space::ListSpace;
 use exectrace::{Name, ShortArg};
 use scheduler::Sched;
 use softint::ints::Ints;
 use std::marker::Model;
-use taskq::TaskId;
-use taskscript::{Argument, Variable};
+use taskq::{TaskId, TaskInit};
+use taskscript::{Argument, MachineFile, Variable};
 
 /// How many variables all bodies share.
 const SHARED_VARIABLES: usize = 64;
@@ -87,6 +91,27 @@ impl<S: ListSpace> Kernel<S> {
             ints,
             stopped: false,
         }
+    }
+
+    /// Makes the machine that of a file before its start, if it is as large, and answers whether it is. The names and priorities of the tasks are put
+    /// together in `inits`.
+    pub(crate) fn reset(&mut self, inits: &mut Vec<TaskInit>, file: &MachineFile) -> bool
+        ensures agrees { result ≡ true → Agrees self.new (booted file.now) }
+        ensures time { result ≡ true → HasTimeFor 1000000 self.new }
+        ensures machine { IsMachine file.now }
+    {
+        let tasks = file.tasks();
+        if !reset_sched(&mut self.sched, inits, tasks, file.quantum())
+            || !reset_programs(&mut self.programs, tasks)
+            || !reset_heap(&mut self.memory, file)
+            || !self.bodies.reset(file.softints(), file.servers())
+        {
+            return false;
+        }
+        self.ints.reset();
+        self.shared = [0; SHARED_VARIABLES];
+        self.stopped = false;
+        true
     }
 
     /// The program of task t.

@@ -23,6 +23,8 @@ mod ports;
 mod program;
 mod reading;
 mod requests;
+mod reset;
+mod resting;
 mod semaphores;
 mod simulation;
 mod standing;

@@ -15,7 +15,7 @@ mod queues;
 mod readers;
 mod standing;
 
-use crate::boot::kernel_of;
+use crate::boot::{inits_of, kernel_of};
 use crate::kernel::Kernel;
 use execlist::space::ListSpace;
 use exectrace::sinks::written;
@@ -23,6 +23,7 @@ use exectrace::{Sink, WriteFault};
 pub use readers::{MachineView, TaskView};
 use std::alloc::{AllocError, Global};
 use std::marker::Model;
+use taskq::TaskInit;
 use taskscript::{Event, MachineFile};
 
 /// Whether a machine goes on.
@@ -38,6 +39,8 @@ pub enum Flow {
 #[derive(Drop)]
 pub struct Machine<S: ListSpace> {
     kernel: Kernel<S>,
+    // Room for the names and priorities of the tasks, for `reset`.
+    inits: Vec<TaskInit>,
     failed: bool,
 }
 
@@ -87,14 +90,36 @@ impl<S: ListSpace> Machine<S> {
         ensures whole { IfOk result (λ m. m.failed ≡ false) }
         ensures time { IfOk result (λ m. HasTimeFor 1000000 m.seen) }
     {
+        let inits = inits_of(alloc, file.tasks())?;
         let kernel = kernel_of(alloc, file)?;
         Ok(Machine {
             kernel,
+            inits,
             failed: false,
         })
     }
 
-    /// Starts the machine: its tasks are added in the order of the file, and it settles once. It is called once, before the first event.
+    /// Puts the machine back to its first state, that of a file before its start, if it was made of a file that is as large, and answers whether it
+    /// was. No memory is taken, and the time grows with what the machine used, not with `pool`.
+    ///
+    /// A machine is as large if the file has the same regions and libraries, the same number of objects of each kind, as many tasks, software interrupts
+    /// and servers, each with as many commands, and the same names, sources, priorities and claims of the interrupts. Of the same file it always is.
+    /// If it is not, the machine has failed. A machine that has failed can be reset too.
+    ///
+    /// Source: project rule.
+    pub fn reset(&mut self, file: &MachineFile) -> bool
+        ensures agrees { result ≡ true → Agrees self.new.seen (booted file.now) }
+        ensures whole { result ≡ true → self.new.failed ≡ false }
+        ensures time { result ≡ true → HasTimeFor 1000000 self.new.seen }
+        ensures other { result ≡ false → self.new.failed ≡ true }
+    {
+        let is_reset = self.kernel.reset(&mut self.inits, file);
+        self.failed = !is_reset;
+        is_reset
+    }
+
+    /// Starts the machine: its tasks are added in the order of the file, and it settles once. It is called once, before the first event, and once after
+    /// each `reset`.
     ///
     /// The lines that the start prints are written to `out`, which is good unless the machine has failed.
     ///

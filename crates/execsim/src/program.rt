@@ -1,5 +1,5 @@
 //! What a task executes: its commands, its own variables, and the call that it waits in.
-ghost use Rattle.std.specs.Prelude.{◌≡◌, ◌<◌, ◌≤◌, ◌+◌, map, length, Some, None, slice_get, slice_set, slice_index_or, option_copied};
+ghost use Rattle.std.specs.Prelude.{◌≡◌, ◌<◌, ◌≤◌, ◌+◌, map, length, true, Some, None, slice_get, slice_set, slice_index_or, option_copied};
 ghost use Rattle.std.specs.Option.{option_map};
 ghost use Rattle.exectrace.specs.Short.{short_argument};
 ghost use Rattle.execmodel.specs.Calls.{argument, name_argument};
@@ -8,6 +8,7 @@ ghost use Rattle.taskscript.specs.Commands.{command_view};
 ghost use Rattle.execsim.specs.Views.{call_view};
 
 use crate::call::Call;
+use crate::code::copy_code;
 use exectrace::{Name, ShortArg};
 use std::marker::Model;
 use taskscript::{Command, PlainWord, Word};
@@ -115,6 +116,22 @@ impl Program {
             waits: false,
             starts,
         }
+    }
+
+    /// Makes the program as `new` makes it of these commands, if it has as many, and answers whether it has.
+    ///
+    /// Source: project rule.
+    pub fn reset(&mut self, code: &[Command], starts: bool) -> bool
+        ensures { result ≡ true → self.new ≡ begun_with (map command_view code.now) starts }
+    {
+        if !copy_code(code, &mut self.code) {
+            return false;
+        }
+        self.place = 0;
+        self.variables = [0; PRIVATE_VARIABLES];
+        self.waits = false;
+        self.starts = starts;
+        true
     }
 
     /// Whether the task starts with the machine.

@@ -1,11 +1,12 @@
 //! Steps and settling: all interleaving comes from the list of events.
-ghost use Rattle.std.specs.Prelude.{◌≡◌, length, sum_by, Some, None, IfSome, if◌then◌else◌};
+ghost use Rattle.std.specs.Prelude.{◌≡◌, ◌<◌, ◌≤◌, false, is_some, length, sum_by, Some, None, IfSome, IsTrue, if◌then◌else◌};
 ghost use Rattle.execlist.specs.Disciplines.{by_priority};
 ghost use Rattle.exectrace.specs.Sink.{Puts};
 ghost use Rattle.exectrace.specs.Trace.{printed_line};
 ghost use Rattle.exectrace.specs.declared.sinks.SinkState.{SinkState};
 ghost use Rattle.taskscript.specs.Events.{ticks as ticks_of};
 ghost use Rattle.scheduler.specs.Schedule.{IsToOneOf};
+ghost use Rattle.softint.specs.Sources.{highest};
 ghost use Rattle.scheduler.specs.Dispatch.{switch_of, rescheduled, added};
 ghost use Rattle.execmodel.specs.State.{andthen, on_schedule, program_of, unless_stopped};
 ghost use Rattle.execmodel.specs.Calls.{next_call};
@@ -15,6 +16,7 @@ ghost use Rattle.execsim.specs.Callers.{HasTask, Runs};
 ghost use Rattle.execsim.specs.Actions.{running_task_step};
 ghost use Rattle.execsim.specs.Agreement.{Follows, FollowsWhileGood, Moves};
 ghost use Rattle.execsim.specs.Reached.{IsInOrder};
+ghost use Rattle.execsim.specs.Resting.{IsSettled};
 ghost use Rattle.execsim.specs.Time.{HasTimeFor, IsInTime, IsKnown};
 ghost use Rattle.execsim.specs.Views.{call_view};
 
@@ -86,6 +88,38 @@ impl<S: ListSpace> Kernel<S> {
     {
         if !self.stopped {
             self.serve_and_switch(out);
+        }
+    }
+
+    /// What follows each step, as `settle`. The answer is whether nothing was due, so that the machine is settled.
+    #[inline(always)]
+    fn settle_again<W: Sink>(&mut self, out: &mut W) -> bool
+        ensures follows { Follows settle self.old self.new (W.tape out.old) (W.tape out.new) }
+        ensures settled { IsTrue result → IsSettled self.new }
+    {
+        if self.stopped {
+            return false;
+        }
+        if self.any_asks() {
+            self.settle(out);
+            return false;
+        }
+        self.switch_again(out)
+    }
+
+    /// The switch of a machine that goes on and in which no source asks. The answer is whether none was due.
+    #[inline(always)]
+    fn switch_again<W: Sink>(&mut self, out: &mut W) -> bool
+        requires going { self.old.stopped ≡ false }
+        requires unasked { is_some (highest self.old.pending.latches) ≡ false }
+        ensures follows { Follows settle self.old self.new (W.tape out.old) (W.tape out.new) }
+        ensures settled { IsTrue result → IsSettled self.new }
+    {
+        let choice = self.reschedule();
+        self.announce(choice, out);
+        match choice {
+            None => true,
+            Some(_) => false,
         }
     }
 
@@ -239,23 +273,42 @@ impl<S: ListSpace> Kernel<S> {
         }
     }
 
-    /// One step.
-    fn step<W: Sink>(&mut self, out: &mut W)
+    /// One step. The answer is whether nothing was due after it, so that the machine is settled.
+    fn step<W: Sink>(&mut self, out: &mut W) -> bool
         requires { IsInOrder self.old }
-        ensures { Follows step self.old self.new (W.tape out.old) (W.tape out.new) }
+        ensures follows { Follows step self.old self.new (W.tape out.old) (W.tape out.new) }
+        ensures settled { IsTrue result → IsSettled self.new }
     {
         self.act(out);
-        self.settle(out);
+        self.settle_again(out)
     }
 
-    /// One step, as long as the sink is good; after a failed write nothing more is simulated.
-    fn step_while_good<W: Sink>(&mut self, out: &mut W)
-        requires { (W.tape out.old).state ≡ SinkState.Good → IsInOrder self.old }
-        ensures { FollowsWhileGood step self.old self.new (W.tape out.old) (W.tape out.new) }
+    /// One step, and those after it that ask nothing of Exec; at most that many, of which there is one. The answer is how many.
+    fn some_steps<W: Sink>(&mut self, most: u32, out: &mut W) -> u32
+        requires one { 0 < most }
+        requires agree { IsInOrder self.old }
+        ensures some { 0 < result }
+        ensures within { result ≤ most }
+        ensures follows { Follows (steps result) self.old self.new (W.tape out.old) (W.tape out.new) }
+    {
+        if self.step(out) {
+            self.quiet_steps(most - 1) + 1
+        } else {
+            1
+        }
+    }
+
+    /// Some steps, as long as the sink is good; after a failed write nothing more is simulated, and all of them are done.
+    fn some_steps_while_good<W: Sink>(&mut self, most: u32, out: &mut W) -> u32
+        requires one { 0 < most }
+        requires agree { (W.tape out.old).state ≡ SinkState.Good → IsInOrder self.old }
+        ensures some { 0 < result }
+        ensures within { result ≤ most }
+        ensures follows { FollowsWhileGood (steps result) self.old self.new (W.tape out.old) (W.tape out.new) }
     {
         match written(out) {
-            Ok(()) => self.step(out),
-            Err(_) => {}
+            Ok(()) => self.some_steps(most, out),
+            Err(_) => most,
         }
     }
 
@@ -264,8 +317,9 @@ impl<S: ListSpace> Kernel<S> {
         requires { (W.tape out.old).state ≡ SinkState.Good → IsKnown self.old }
         ensures { FollowsWhileGood (steps n) self.old self.new (W.tape out.old) (W.tape out.new) }
     {
-        for _done in 0..n {
-            self.step_while_good(out);
+        let mut done = 0;
+        while done < n {
+            done += self.some_steps_while_good(n - done, out);
         }
     }
 

@@ -1,11 +1,18 @@
-//! What a C program calls, by the header `execsim.h`: two texts in, the trace of their run out; and a machine that is kept between calls
-//! (`stepping`), whose tasks and blocks are read between any two events (`reading`).
+//! What a C program calls, by the header `execsim.h`: two texts in, the trace of their run out, or its log and its states (`logging`), its picture (`drawing`),
+//! what is found in them (`checking`), or a search (`exploring`); and a machine that is kept between calls (`stepping`), whose tasks and blocks are read
+//! between any two events (`reading`).
 #![tactic(auto)]
 
+mod checking;
+mod drawing;
+mod exploring;
 mod handle;
+mod logging;
 mod loose;
+mod names;
 mod put;
 mod reading;
+mod refusal;
 mod run;
 mod session;
 mod shown;
@@ -18,9 +25,10 @@ ghost use Rattle.taskscript.specs.Events.{script_of};
 ghost use Rattle.execsim.specs.declared.simulation.End.{End};
 ghost use Rattle.execsim_c.specs.Buffers.{Holds, Exceeds, RefusesEvents, RefusesFile};
 
-use crate::put::{put, put_fault};
+use crate::put::put;
+use crate::refusal::refuse;
 use crate::run::run_of;
-use crate::status::{TOO_LONG, status_of, status_of_fault};
+use crate::status::{TOO_LONG, status_of};
 use std::alloc::Global;
 
 /// Runs a machine file over an event text, and puts the trace at the front of `out`, and its length in bytes in `length`.
@@ -57,10 +65,6 @@ pub extern "C" fn execsim_run(
                 TOO_LONG
             }
         }
-        Err(fault) => {
-            let status = status_of_fault(fault);
-            *length = put_fault(fault, status, out);
-            status
-        }
+        Err(fault) => refuse(fault, out, length),
     }
 }

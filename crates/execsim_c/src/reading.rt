@@ -6,9 +6,9 @@ ghost use Rattle.execsim_c.specs.Handles.{Sees};
 ghost use Rattle.execsim_c.specs.Shown.{machine_shown, task_shown};
 
 use crate::handle::MachineHandle;
-use crate::put::put;
+use crate::put::hand_over;
 use crate::shown::{BlockShown, MachineShown, TaskShown, block_of, machine_of, task_of};
-use crate::status::{NO_MACHINE, NOT_THERE, RAN, TOO_LONG};
+use crate::status::{NO_MACHINE, NOT_THERE, RAN};
 use std::alloc::Global;
 
 /// Puts what is seen of the machine beside its tasks and its memory in `view`.
@@ -85,16 +85,7 @@ pub extern "C" fn execsim_task_name(
         None => return NO_MACHINE,
     };
     let status = match session.machine.task_name(number) {
-        Some(name) => {
-            let name = name.as_bytes();
-            *length = name.len() as u64;
-            if name.len() <= out.len() {
-                put(name, out);
-                RAN
-            } else {
-                TOO_LONG
-            }
-        }
+        Some(name) => hand_over(name.as_bytes(), RAN, out, length),
         None => NOT_THERE,
     };
     handle.put(session);

@@ -10,11 +10,10 @@ ghost use Rattle.execsim_c.specs.Handles.{Goes, Opens, Takes};
 ghost use Rattle.execsim_c.specs.Stepping.{Does, IsStarted};
 
 use crate::handle::MachineHandle;
-use crate::put::{put, put_fault};
+use crate::put::put;
+use crate::refusal::refuse;
 use crate::session::Session;
-use crate::status::{
-    EVENTS_REFUSED, NO_MACHINE, NO_MEMORY, RAN, TOO_LONG, status_if, status_of_fault,
-};
+use crate::status::{EVENTS_REFUSED, NO_MACHINE, NO_MEMORY, RAN, TOO_LONG, status_if};
 use execsim::SimFault;
 use std::alloc::{AllocError, Global};
 use taskscript::{Event, EventFault, Events, FileFault, read_events, read_machine};
@@ -91,12 +90,7 @@ pub extern "C" fn execsim_open(
             handle.put(session);
             status_if(stopped)
         }
-        Err(why) => {
-            let fault = SimFault::File(why);
-            let status = status_of_fault(fault);
-            *length = put_fault(fault, status, out);
-            status
-        }
+        Err(why) => refuse(SimFault::File(why), out, length),
     }
 }
 
@@ -134,9 +128,7 @@ pub extern "C" fn execsim_events(
             Err(_) => NO_MEMORY,
         },
         Err(why) => {
-            let fault = SimFault::Events(why);
-            let status = status_of_fault(fault);
-            *length = put_fault(fault, status, out);
+            let status = refuse(SimFault::Events(why), out, length);
             if status == EVENTS_REFUSED {
                 handle.put(session);
             }

@@ -25,8 +25,8 @@ const UNIT_VBLANK: u32 = 1;
 
 /// Timer requests.
 ///
-/// All room is made by `new`; no other call takes memory. `under_way` alone looks at all requests, and only if one is under way whose
-/// reply port has the same key.
+/// All room is made by `new`; no other call takes memory. `under_way` and `reset` alone look at all requests, and `under_way` only if one
+/// is under way whose reply port has the same key.
 /// RKM Devices, Timer Device.
 #[derive(Drop)]
 pub struct Requests {
@@ -63,6 +63,16 @@ impl Requests {
             room: n,
             counts,
         })
+    }
+
+    /// Frees every request, as `new` made them.
+    ///
+    /// Source: project rule.
+    pub fn reset(&mut self)
+        ensures { self.new ≡ all_free (length self.old.slots) }
+    {
+        self.requests.reset();
+        self.counts.fill(0);
     }
 
     // ---- making and freeing

@@ -169,8 +169,14 @@ fn who_asked<'a>(
     }
 }
 
-/// The number that an option gives, or another if the option is not given.
-fn number_or<'a>(
+/// The number that an option gives, if the run has a step of that number, or another if the option is not given.
+///
+/// # Errors
+///
+/// `Absent` if the run ends before it.
+///
+/// Source: project rule.
+pub fn number_or<'a>(
     alloc: Global,
     option: &str,
     number: Option<u64>,

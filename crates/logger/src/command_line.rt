@@ -93,6 +93,12 @@ fn command_of_forms<'a>(alloc: Global) -> Result<Command<'a>, AllocError> {
             "Shows also the words that print nothing in a trace, each after a tilde",
         ))?
         .arg(flag(alloc, "json", "Prints one JSON object a line"))?
+        .arg(flag(alloc, "svg", "Prints a picture of the run"))?
+        .arg(flag(
+            alloc,
+            "chrome",
+            "Prints the run in the Trace Event Format, for Perfetto",
+        ))?
         .arg(option(
             alloc,
             "state",
@@ -147,7 +153,10 @@ fn number_given<'a>(
 
 /// How many forms are asked for.
 fn forms_given(matches: &ArgMatches<'_>, state: Option<u64>) -> u32 {
-    u32::from(matches.get_flag("json")).saturating_add(u32::from(state.is_some()))
+    u32::from(matches.get_flag("json"))
+        .saturating_add(u32::from(matches.get_flag("svg")))
+        .saturating_add(u32::from(matches.get_flag("chrome")))
+        .saturating_add(u32::from(state.is_some()))
 }
 
 /// What is asked for: the form.
@@ -158,13 +167,19 @@ fn view_given<'a>(matches: &ArgMatches<'a>) -> Result<View, Failure<'a>> {
         "--state takes the number of a step: 0 is the start, and a log has the others in its first column",
     )?;
     if forms_given(matches, state) > 1 {
-        return Err(Failure::Option("--json and --state are forms: give one of them"));
+        return Err(Failure::Option(
+            "--json, --svg, --chrome and --state are forms: give one of them",
+        ));
     }
     if let Some(number) = state {
         return Ok(View::State(number));
     }
     if matches.get_flag("json") {
         Ok(View::Json)
+    } else if matches.get_flag("svg") {
+        Ok(View::Svg)
+    } else if matches.get_flag("chrome") {
+        Ok(View::Chrome)
     } else {
         Ok(View::Rows)
     }
@@ -180,6 +195,15 @@ fn check_options<'a>(options: &Options<'a>) -> Result<(), Failure<'a>> {
             if selects || picks {
                 Err(Failure::Option(
                     "--state shows one point in time: it takes no --from, --to, --at, --task or --plain-words",
+                ))
+            } else {
+                Ok(())
+            }
+        }
+        View::Svg | View::Chrome => {
+            if picks {
+                Err(Failure::Option(
+                    "--svg and --chrome show all tasks: they take --from and --to, and no --at, --task or --plain-words",
                 ))
             } else {
                 Ok(())

@@ -1,9 +1,11 @@
-//! Why there is no log, what the command says of it, and the status that it ends with.
+//! Why the command does not show what is asked for, what it says of it, and the status that it ends with.
 ghost use Rattle.std.specs.Prelude.{◌≤◌};
 
 use execlog::LogFault;
+use execpicture::PictureFault;
 use execsim::ReadFault;
 use std::alloc::{AllocError, AllocFailed};
+use std::fmt;
 use std::io::Write;
 use taskscript::{EventFault, FileFault};
 
@@ -16,7 +18,7 @@ const COMMAND_LINE_REFUSED: u8 = 2;
 /// The status if memory, reading or writing failed.
 const FAILED: u8 = 4;
 
-/// Why there is no log, or no whole one.
+/// Why what is asked for is not shown, or not all of it.
 #[derive(Debug, Drop)]
 pub enum Failure<'a> {
     /// Memory was refused.
@@ -33,6 +35,8 @@ pub enum Failure<'a> {
     Option(&'static str),
     /// The options ask for what the texts do not have; the sentence says what they have.
     Absent(String),
+    /// The part of the run that is asked for is empty, or too long for a picture, or begins after the end of the run.
+    Picture(PictureFault),
 }
 
 impl From<AllocError> for Failure<'_> {
@@ -52,6 +56,16 @@ impl From<LogFault> for Failure<'_> {
         match fault {
             LogFault::Memory => Failure::NoMemory,
             LogFault::Write => Failure::WriteFailed,
+        }
+    }
+}
+
+impl From<PictureFault> for Failure<'_> {
+    fn from(fault: PictureFault) -> Self {
+        match fault {
+            PictureFault::Memory => Failure::NoMemory,
+            PictureFault::Write => Failure::WriteFailed,
+            other => Failure::Picture(other),
         }
     }
 }
@@ -94,37 +108,43 @@ impl<'a> Failure<'a> {
         match self {
             Failure::Machine(_) | Failure::Events(_) => TEXT_REFUSED,
             Failure::NoMemory | Failure::CannotRead(_) | Failure::WriteFailed => FAILED,
-            Failure::Option(_) | Failure::Absent(_) => COMMAND_LINE_REFUSED,
+            Failure::Option(_) | Failure::Absent(_) | Failure::Picture(_) => COMMAND_LINE_REFUSED,
         }
     }
 }
 
-/// Says on standard error why a text is refused.
-fn say_fault<E: Write>(fault: EventFault, err: &mut E) {
-    let _ = match fault {
-        EventFault::BadLine(line) => writeln!(err, "execlog: events: BadLine {line}"),
-        EventFault::TooMany => writeln!(err, "execlog: events: TooMany"),
-        EventFault::OutOfMemory => writeln!(err, "execlog: no memory"),
-    };
+/// Writes why an event text is refused.
+fn show_event_fault<W: fmt::Write>(fault: EventFault, f: &mut fmt::Formatter<W>) -> fmt::Result {
+    match fault {
+        EventFault::BadLine(line) => write!(f, "events: BadLine {line}"),
+        EventFault::TooMany => f.write_str("events: TooMany"),
+        EventFault::OutOfMemory => f.write_str("no memory"),
+    }
 }
 
-/// Says on standard error why there is no log, and answers the status that the command ends with. A write that fails there changes nothing.
+/// What the command says after its name.
+impl fmt::Display for Failure<'_> {
+    fn fmt<W: fmt::Write>(&self, f: &mut fmt::Formatter<W>) -> fmt::Result {
+        match self {
+            Failure::NoMemory => f.write_str("no memory"),
+            Failure::CannotRead(path) => write!(f, "cannot read {path}"),
+            Failure::WriteFailed => f.write_str("write failed"),
+            Failure::Machine(fault) => write!(f, "machine: {}", fault.name()),
+            Failure::Events(fault) => show_event_fault(*fault, f),
+            Failure::Option(sentence) => f.write_str(sentence),
+            Failure::Absent(sentence) => f.write_str(sentence.as_str()),
+            Failure::Picture(fault) => write!(f, "{fault}"),
+        }
+    }
+}
+
+/// Says on standard error why what is asked for is not shown, and answers the status that the command ends with. A write that fails there
+/// changes nothing.
 ///
 /// Source: project rule.
 pub fn report<E: Write>(failure: &Failure<'_>, err: &mut E) -> u8
     ensures { result ≤ 4 }
 {
-    let _ = match failure {
-        Failure::NoMemory => writeln!(err, "execlog: no memory"),
-        Failure::CannotRead(path) => writeln!(err, "execlog: cannot read {path}"),
-        Failure::WriteFailed => writeln!(err, "execlog: write failed"),
-        Failure::Machine(fault) => writeln!(err, "execlog: machine: {}", fault.name()),
-        Failure::Events(fault) => {
-            say_fault(*fault, err);
-            Ok(())
-        }
-        Failure::Option(sentence) => writeln!(err, "execlog: {sentence}"),
-        Failure::Absent(sentence) => writeln!(err, "execlog: {sentence}"),
-    };
+    let _ = writeln!(err, "execlog: {failure}");
     failure.status()
 }

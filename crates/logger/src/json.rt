@@ -78,6 +78,20 @@ impl Json<'_> {
         put_text(object, self.alloc, "source", source)
     }
 
+    /// The rows of an entry, or none if it is of a step before the first one that is shown.
+    fn rows_shown(
+        &self,
+        before: &Before,
+        moment: &Moment,
+        text: &[u8],
+    ) -> Result<Vec<Row>, AllocError> {
+        if moment.number < self.filter.from {
+            Ok(Vec::new(self.alloc))
+        } else {
+            rows_of(self.alloc, self.written, before, moment, text)
+        }
+    }
+
     /// Adds a row, if it is shown.
     fn push(&self, moment: &Moment, row: &Row, page: &mut Vec<u8>) -> Result<(), AllocError> {
         let line = line_of(self.written.book, row.spot);
@@ -116,7 +130,7 @@ impl Form for Json<'_> {
         text: &[u8],
         page: &mut Vec<u8>,
     ) -> Result<(), AllocError> {
-        let rows = rows_of(self.alloc, self.written, before, moment, text)?;
+        let rows = self.rows_shown(before, moment, text)?;
         let mut shown = Vec::new(self.alloc);
         for row in &rows {
             self.push(moment, row, &mut shown)?;

@@ -1,5 +1,5 @@
-//! The command `execlog`: a run with the number of each step, its time, and the line and the text of its command; or what a machine shows after
-//! some steps.
+//! The command `execlog`: a run with the number of each step, its time, and the line and the text of its command; its picture; or what a machine
+//! shows after some steps.
 #![tactic(auto)]
 
 mod bookmaking;
@@ -11,6 +11,7 @@ mod json;
 mod lines;
 mod making;
 mod options;
+mod pictures;
 mod plain_words;
 mod reading;
 mod replay;
@@ -22,6 +23,8 @@ mod words;
 mod writing;
 
 pub use command_line::Paths;
+pub use events::last_number;
 pub use failure::Failure;
 pub use options::{Options, View};
-pub use running::{run_on_arguments, run_on_texts};
+pub use reading::{Run, run_of};
+pub use running::{run_on_arguments, run_on_texts, write_run};

@@ -7,6 +7,10 @@ pub enum View {
     Rows,
     /// A JSON object for each line of the trace.
     Json,
+    /// A picture of the run, as an SVG document.
+    Svg,
+    /// The run in the Trace Event Format.
+    Chrome,
     /// All that the machine shows after the step of a number.
     State(u64),
 }

@@ -35,6 +35,24 @@ fn read_text<'a, T: Texts>(
     }
 }
 
+/// The run of the bytes of a machine file and of an event text.
+///
+/// # Errors
+///
+/// `NoMemory` if memory is refused, `Machine` or `Events` if a text is refused: the machine file if both are.
+///
+/// Source: project rule.
+pub fn run_of<'a>(alloc: Global, machine: &[u8], script: &[u8]) -> Result<Run, Failure<'a>> {
+    let listed = read_listed(alloc, machine)?;
+    let events = read_events(alloc, script)?;
+    let book = book_of(alloc, machine, &listed)?;
+    Ok(Run {
+        listed,
+        events,
+        book,
+    })
+}
+
 /// Reads the texts at two paths. Nothing is judged before both are read.
 ///
 /// # Errors
@@ -49,12 +67,5 @@ pub fn read_run<'a, T: Texts>(
 ) -> Result<Run, Failure<'a>> {
     let machine = read_text(texts, alloc, paths.machine)?;
     let script = read_text(texts, alloc, paths.events)?;
-    let listed = read_listed(alloc, &machine)?;
-    let events = read_events(alloc, &script)?;
-    let book = book_of(alloc, &machine, &listed)?;
-    Ok(Run {
-        listed,
-        events,
-        book,
-    })
+    run_of(alloc, &machine, &script)
 }

@@ -10,6 +10,7 @@ use crate::failure::{Failure, report};
 use crate::json::Json;
 use crate::making::run_events;
 use crate::options::{Options, View};
+use crate::pictures::write_picture;
 use crate::reading::{Run, read_run};
 use crate::rows::Written;
 use crate::state::state_page;
@@ -166,6 +167,33 @@ fn write_part<'a, W: Write>(
     }
 }
 
+/// Writes what is asked for of a run, and answers the status: 0 if all was shown, and 3 if an alert has stopped the machine by then. `paths` names
+/// the texts in sentences and titles. Options that the view does not take are ignored.
+///
+/// # Errors
+///
+/// `NoMemory` if memory is refused, `Absent` if the run does not have what is asked for, `Picture` if the part cannot be drawn, and `WriteFailed`
+/// if the writer does not take all.
+///
+/// Source: project rule.
+pub fn write_run<'a, W: Write>(
+    alloc: Global,
+    run: &Run,
+    paths: Paths<'a>,
+    options: &Options<'a>,
+    out: &mut W,
+) -> Result<u8, Failure<'a>>
+    ensures { IfOk result (λ status. status ≤ 4) }
+{
+    let status = match options.view {
+        View::State(number) => write_state(alloc, run, paths, number, out)?,
+        View::Svg | View::Chrome => status_of(write_picture(alloc, run, paths, options, out)?),
+        _ => write_part(alloc, run, paths, options, out)?,
+    };
+    write_text(&[], out)?;
+    Ok(status)
+}
+
 /// Reads the texts and writes what is asked for.
 fn write_asked<'a, T: Texts, W: Write>(
     texts: &T,
@@ -177,12 +205,7 @@ fn write_asked<'a, T: Texts, W: Write>(
     ensures { IfOk result (λ status. status ≤ 4) }
 {
     let run = read_run(texts, alloc, paths)?;
-    let status = match options.view {
-        View::State(number) => write_state(alloc, &run, paths, number, out)?,
-        _ => write_part(alloc, &run, paths, options, out)?,
-    };
-    write_text(&[], out)?;
-    Ok(status)
+    write_run(alloc, &run, paths, options, out)
 }
 
 /// Writes the help, and flushes it.

@@ -1,4 +1,4 @@
-//! Tests of the whole machine that no table of runs can hold.
+//! Tests of readers, and of machines that are reset, which no table of runs can hold.
 #![tactic(auto)]
 
 #[cfg(test)]

@@ -1,5 +1,3 @@
-//! Texts that are read up to a limit, a machine that gets its events one by one, and the program from its words to its status, over texts in
-//! memory.
+//! Texts that are read up to a limit, and machines that are reset.
 mod reading;
-mod running;
-mod stepping;
+mod resetting;

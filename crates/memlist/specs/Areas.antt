@@ -1,5 +1,5 @@
 -- One region at a time: the value that a `MemHeader` is seen as, and how the headers of a memory show its blocks.
-use Rattle.std.specs.Prelude.{◌≡◌, ℕ, ◌+◌, ◌*◌, nat_eq, if◌then◌else◌, IsTrue, List, [], ◌∷◌, length, map, Option, None, Some}
+use Rattle.std.specs.Prelude.{◌≡◌, ℕ, ◌+◌, ◌*◌, ◌≤◌, nat_eq, slice_index_or, if◌then◌else◌, IsTrue, List, [], ◌∷◌, length, map, Option, None, Some}
 use Rattle.std.specs.List.{AllByRecursion}
 use Rattle.std.specs.Ordering.{nat_cmp}
 use Rattle.std.specs.FinMap.{put}
@@ -34,6 +34,15 @@ abbrev pub entries : ℕ → List Slot → Blocks
 entries from [] = []
 entries from (slot ∷ rest) =
     if nat_eq slot.size 0 then entries (from + 8) rest else (from, (slot.size, slot.tag)) ∷ entries (from + 8) rest
+
+-- a slot at whose unit no block begins
+abbrev pub empty_slot : Slot
+empty_slot = record { size = 0; tag = 0 }
+
+-- no block begins at the unit of that place, or of a later one
+pub record IsUnused (unused : ℕ) (slots : List Slot) : Type 0 where
+  pub inside : unused ≤ length slots
+  pub empty : (place : ℕ) → unused ≤ place → slice_index_or slots place empty_slot ≡ empty_slot
 
 -- what a header keeps true of its fields: the chunks are the gaps that the blocks leave
 pub record IsHeader (region : Region) (slots : List Slot) (space : Space) : Type 0 where

@@ -2,13 +2,13 @@
 //!
 //! The blocks are in a table with a slot for each unit of 8 bytes, so that a look-up is an index; the gaps are chunks in
 //! the region's own words.
-ghost use Rattle.std.specs.Prelude.{◌≡◌, ◌-◌, ◌*◌, ◌/◌, ◌%◌, ◌<◌, ◌≤◌, [], IsTrue, IsSome, IfOk, IfSome, int_lt, length, map};
+ghost use Rattle.std.specs.Prelude.{◌≡◌, ◌-◌, ◌*◌, ◌/◌, ◌%◌, ◌<◌, ◌≤◌, ◌++◌, drop, replicate, [], IsTrue, IsSome, IfOk, IfSome, int_lt, length, map};
 ghost use Rattle.std.specs.List.{sum_by};
 ghost use Rattle.memlist.specs.Regions.{is_aligned, is_in_reach};
 ghost use Rattle.memlist.specs.Blocks.{block_at, freed, is_in, with_block};
 ghost use Rattle.memlist.specs.Fit.{greatest, is_suitable, lowest_gap};
 ghost use Rattle.memlist.specs.Chain.{IsLinked, IsSpot, first_or};
-ghost use Rattle.memlist.specs.Areas.{Area, IsLaidArea, area_gaps};
+ghost use Rattle.memlist.specs.Areas.{Area, IsLaidArea, area_gaps, empty_slot};
 ghost use Rattle.memlist.specs.Choice.{IsLowest};
 ghost use Rattle.memlist.specs.Readers.{gap_from};
 ghost use Rattle.memlist.specs.declared.gap.Gap.{Gap};
@@ -28,16 +28,18 @@ pub struct MemHeader {
     region: Region,
     slots: Vec<Slot>,
     space: FreeSpace,
+    // No block began at the unit of this place, or of a later one, since the region was made or reset.
+    unused: usize,
 }
 
 impl Model for MemHeader {
-    ghost use Rattle.memlist.specs.Areas.{Area, IsHeader, entries};
+    ghost use Rattle.memlist.specs.Areas.{Area, IsHeader, IsUnused, entries};
 
     ghost Value = { Area };
 
     ghost view = { λ h. record { region = h.region; blocks = entries h.region.base h.slots.items } };
 
-    ghost invariant = { λ h. IsHeader h.region h.slots.items h.space };
+    ghost invariant = { λ h. IsHeader h.region h.slots.items h.space × IsUnused h.unused h.slots.items };
 }
 
 impl MemHeader {
@@ -55,7 +57,22 @@ impl MemHeader {
             region,
             slots,
             space,
+            unused: 0,
         })
+    }
+
+    /// Frees every block. It looks at those units alone at which a block may have begun.
+    ///
+    /// Source: project rule.
+    pub fn reset(&mut self)
+        ensures value { self.new ≡ record self.old { blocks = [] } }
+        ensures laid { IsLaidArea self.new }
+    {
+        let unused = self.unused;
+        let size = self.region.size;
+        empty(&mut self.slots, unused);
+        self.unused = 0;
+        self.space.reset(size);
     }
 
     /// The region that it manages.
@@ -153,7 +170,10 @@ impl MemHeader {
         let region = self.region;
         let size = size as u32;
         let address = self.space.take(before, size);
-        self.slots[place_of(region, address)] = Slot { size, tag };
+        let place = place_of(region, address);
+        self.slots[place] = Slot { size, tag };
+        let unused = self.unused.max(place + 1);
+        self.unused = unused;
         address
     }
 
@@ -198,6 +218,16 @@ fn place_of(region: Region, address: u32) -> usize
     ensures { result ≡ (address - region.base) / MEM_BLOCKSIZE }
 {
     ((address - region.base) / MEM_BLOCKSIZE) as usize
+}
+
+/// Empties the first slots of a table, that many.
+fn empty(slots: &mut Vec<Slot>, count: usize)
+    requires { count ≤ length slots.old.items }
+    ensures { slots.new.items ≡ replicate count empty_slot ++ drop count slots.old.items }
+{
+    for place in 0..count {
+        slots[place] = Slot::EMPTY;
+    }
 }
 
 /// The bits of a requirement that name attributes of regions.

@@ -6,7 +6,7 @@ ghost use Rattle.memlist.specs.Blocks.{block_at, gaps};
 ghost use Rattle.memlist.specs.Chain.{first_or};
 ghost use Rattle.memlist.specs.Fit.{asks, avail, fit, round};
 ghost use Rattle.memlist.specs.Memory.{IsWellFormed, Memory, allocated, can_free, names, untouched, without_block};
-ghost use Rattle.memlist.specs.Areas.{Area, IsFreeChain, empty_area};
+ghost use Rattle.memlist.specs.Areas.{Area, IsFreeChain, empty_area, regions_of};
 ghost use Rattle.memlist.specs.Readers.{gap_from, gaps_in};
 ghost use Rattle.memlist.specs.Choice.{IsHome, IsOffer, free_of, installed_of, is_outranked, largest_of};
 
@@ -65,6 +65,15 @@ impl MemList {
             Ok(headers) => Ok(MemList { headers }),
             Err(_) => Err(MemFault::OutOfMemory),
         }
+    }
+
+    /// Frees every block, as `new` made the memory. It looks at those units alone at which a block may have begun.
+    ///
+    /// Source: project rule.
+    pub fn reset(&mut self)
+        ensures { self.new ≡ untouched self.old.regions }
+    {
+        reset_all(&mut self.headers);
     }
 
     /// The law of every memory list: its blocks lie in its regions, in order and beside one another. It costs nothing.
@@ -223,6 +232,15 @@ fn headers(alloc: Global, regions: &[Region]) -> Result<Vec<MemHeader>, AllocErr
         headers.push(MemHeader::new(alloc, *region)?)?;
     }
     Ok(headers)
+}
+
+/// Frees every block of each header.
+fn reset_all(headers: &mut Vec<MemHeader>)
+    ensures { headers.new.items ≡ map empty_area (regions_of headers.old.items) }
+{
+    for place in 0..headers.len() {
+        headers[place].reset();
+    }
 }
 
 /// The least multiple of 8 that is at least a size. It may be one more than a u32 holds.

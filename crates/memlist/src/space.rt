@@ -57,6 +57,17 @@ impl FreeSpace {
         })
     }
 
+    /// Makes all bytes free, which are that many, as `new` did.
+    pub fn reset(&mut self, size: u32)
+        requires all { self.old.base + size ≡ self.old.end }
+        requires some { 0 < size }
+        requires whole { size % MEM_BLOCKSIZE ≡ 0 }
+        ensures { self.new ≡ record self.old { gaps = stretch self.old.base self.old.end } }
+    {
+        write(&mut self.words, 0, Chunk { next: 0, size });
+        self.head = self.base;
+    }
+
     /// The words, the first of which represents the lowest address.
     pub fn words(&self) -> &[u32]
         ensures len { self.now.base + WORD * length result.now ≡ self.now.end }

@@ -6,7 +6,7 @@ use Rattle.execlist.specs.Lists.{Key, blank, sequence, home, is_at, pri_of, time
 use Rattle.msgport.specs.declared.fault.PortFault.{PortFault}
 use Rattle.msgport.specs.declared.fault.PortFault.TheVariants.{NotEmpty, Link, Unknown}
 use Rattle.msgport.specs.declared.message.Message.{Message}
-use Rattle.execlist.specs.Pool.{Pooled, all_free, given, released, slot, written}
+use Rattle.execlist.specs.Pool.{Pooled, all_free, free_below, given, released, slot, written}
 use Rattle.msgport.specs.Port.{Port, new_port}
 
 -- the ports, the messages, and how they are linked
@@ -136,6 +136,10 @@ no_ports ports messages = record {
   public = [];
   keys = replicate ports blank;
 }
+
+-- every port is free, and so is each message below that number; each other message stays, and none is linked
+abbrev pub all_freed : ℕ → MessagePorts → MessagePorts
+all_freed count s = record (no_ports (length s.ports.slots) (length s.messages.slots)) { messages = free_below count s.messages }
 
 -- the next number, if there is one, is that of a new port or of a new message
 abbrev pub port_made : (task bit : ℕ) → MessagePorts → MessagePorts

@@ -1,5 +1,5 @@
 //! The ports and the messages of a machine, by number.
-ghost use Rattle.std.specs.Prelude.{◌≡◌, ◌<◌, ◌≤◌, [], length, replicate, false, not, find, is_ok, Some, None, IfOk, IfSome, IsSome, IsTrue};
+ghost use Rattle.std.specs.Prelude.{◌≡◌, ℕ, ◌<◌, ◌≤◌, [], length, replicate, false, not, find, is_ok, Some, None, IfOk, IfSome, IsSome, IsTrue};
 ghost use Rattle.execlist.specs.Order.{first};
 ghost use Rattle.execlist.specs.Lists.{blank, home, is_named};
 ghost use Rattle.execlist.specs.Pool.{IsStocked, all_free, next_number};
@@ -8,7 +8,7 @@ ghost use Rattle.msgport.specs.Ports.{IsSound, is_port, is_message, is_queued, i
 ghost use Rattle.std.specs.Option.{ok_or};
 ghost use Rattle.execlist.specs.Answers.{fault_or, kept_or};
 ghost use Rattle.msgport.specs.Ports.{loose_fault, post_fault, reply_fault, queued_fault, private_fault, public_fault, delete_fault};
-ghost use Rattle.msgport.specs.Ports.{no_ports, port_made, message_made, port_freed, message_freed, with_port, with_message, typed, appended, posted, held, let_go, taken_out, taken_off, made_public, made_private, nt_message, nt_freemsg, nt_replymsg};
+ghost use Rattle.msgport.specs.Ports.{no_ports, all_freed, port_made, message_made, port_freed, message_freed, with_port, with_message, typed, appended, posted, held, let_go, taken_out, taken_off, made_public, made_private, nt_message, nt_freemsg, nt_replymsg};
 
 mod readers;
 
@@ -36,7 +36,7 @@ const HELD: usize = 0;
 
 /// Message ports and messages, and how they are linked. A message is nowhere, in one port, or held.
 ///
-/// All room is made by `new`; no other call takes memory, and none looks at all ports or all messages.
+/// All room is made by `new`; no other call takes memory, and none but `reset` looks at all ports or all messages.
 /// RKM Libraries, Exec Messages and Ports.
 #[derive(Drop)]
 pub struct Ports<S: ListSpace> {
@@ -123,6 +123,21 @@ impl<S: ListSpace> Ports<S> {
             held,
             public,
         })
+    }
+
+    /// Frees every port and each message below `messages`, as `new` made them; each message from there on stays, in no port and not held.
+    ///
+    /// Source: project rule.
+    pub fn reset(&mut self, messages: usize)
+        requires known { messages ≤ length self.old.messages.slots }
+        requires live { (m : ℕ) → messages ≤ m → m < length self.old.messages.slots → IsTrue (is_message m self.old) }
+        ensures { self.new ≡ all_freed messages self.old }
+    {
+        self.ports.reset();
+        self.messages.reset_below(messages);
+        self.queues.reset();
+        self.held.reset();
+        self.public.reset();
     }
 
     // ---- making and freeing

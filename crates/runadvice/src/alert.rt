@@ -1,24 +1,26 @@
 //! The alert that has stopped a machine: whose call it refused, which line that is, and the values of its arguments.
+ghost use Rattle.std.specs.Prelude.{◌≡◌, IfSome, Some};
+ghost use Rattle.std.specs.Option.{option_map};
+ghost use Rattle.taskscript.specs.declared.place.Owner.{Owner};
+ghost use Rattle.execsim.specs.Readers.{task_seen};
+
+use crate::bodies::{Begun, last_begun};
 use crate::course::Course;
+use crate::page::{Spot, name_of};
 use crate::room::Room;
-use crate::step::prints;
+use crate::scene::Linked;
+use crate::step::Turn;
 use crate::value::value_of;
-use execcheck::Owner;
-use execlist::link::LinkSpace;
-use execsim::Machine;
 use std::str::from_utf8;
-use taskscript::Command;
+use taskscript::{Command, Owner};
 
 /// A call that an alert has refused.
 #[derive(Clone, Copy)]
 pub struct Refused<'a> {
     /// The code of the alert.
     pub code: &'a str,
-    /// What has the body, and its number among all that are of its kind, from 0.
-    pub owner: Owner,
-    pub item: usize,
-    /// The place of the command in the code, from 0.
-    pub place: usize,
+    /// Which command it is.
+    pub spot: Spot,
     pub command: &'a Command,
     /// The values of its arguments; 0 for what has none.
     pub values: [u32; 4],
@@ -27,8 +29,8 @@ pub struct Refused<'a> {
 impl Refused<'_> {
     /// The number of the task, if the call is one of a task.
     pub fn task(&self) -> Option<usize> {
-        match self.owner {
-            Owner::Task => Some(self.item),
+        match self.spot.owner {
+            Owner::Task => Some(self.spot.item),
             Owner::Softint | Owner::Server => None,
         }
     }
@@ -39,35 +41,8 @@ impl Refused<'_> {
     }
 }
 
-/// The place of the command of some code that prints its line after that many others.
-fn printing_place(code: &[Command], lines: usize) -> usize {
-    let mut left = lines;
-    for (place, command) in code.iter().enumerate() {
-        if prints(command.word) {
-            if left == 0 {
-                return place;
-            }
-            left = left.saturating_sub(1);
-        }
-    }
-    code.len()
-}
-
-/// How many lines a body has printed before its alert: those after the last line that says that it begins.
-fn lines_of_body(text: &str, kind: &str, name: &str) -> usize {
-    let mut count = 0usize;
-    for line in text.lines() {
-        let begins = match line.split_once(" ") {
-            None => false,
-            Some((word, rest)) => word == kind && rest == name,
-        };
-        count = if begins { 0 } else { count.saturating_add(1) };
-    }
-    count.saturating_sub(1)
-}
-
 /// The values of the arguments of a command.
-fn values_of(machine: &Machine<LinkSpace>, task: Option<usize>, command: &Command) -> [u32; 4] {
+fn values_of(machine: &Linked, task: Option<usize>, command: &Command) -> [u32; 4] {
     [
         value_of(machine, task, command, 0).unwrap_or(0),
         value_of(machine, task, command, 1).unwrap_or(0),
@@ -77,7 +52,7 @@ fn values_of(machine: &Machine<LinkSpace>, task: Option<usize>, command: &Comman
 }
 
 /// The values of the arguments of the call that a task makes: those that it kept, if it has waited.
-fn values_of_task(machine: &Machine<LinkSpace>, task: usize, command: &Command) -> [u32; 4] {
+fn values_of_task(machine: &Linked, task: usize, command: &Command) -> [u32; 4] {
     match machine.call(task) {
         None => values_of(machine, Some(task), command),
         Some(call) => [
@@ -91,39 +66,40 @@ fn values_of_task(machine: &Machine<LinkSpace>, task: usize, command: &Command) 
 
 /// The refused call of a task.
 fn of_task<'a>(
-    machine: &Machine<LinkSpace>,
+    machine: &Linked,
     course: &Course<'a>,
     code: &'a str,
     task: usize,
-) -> Option<Refused<'a>> {
+) -> Option<Refused<'a>>
+    ensures owner { IfSome result (λ refused. refused.spot.owner ≡ Owner.Task) }
+    ensures item { IfSome result (λ refused. refused.spot.item ≡ task) }
+    ensures place { IfSome result (λ refused. option_map (λ view. view.place) (task_seen task machine.now.seen) ≡ Some refused.spot.place) }
+{
     let place = machine.task(task)?.place;
-    let command = course.command(task, place)?;
+    let command = course.command(Turn { task, place })?;
     Some(Refused {
         code,
-        owner: Owner::Task,
-        item: task,
-        place,
+        spot: Spot {
+            owner: Owner::Task,
+            item: task,
+            place,
+        },
         command,
         values: values_of_task(machine, task, command),
     })
 }
 
 /// The refused call of the body of an interrupt.
-fn of_body<'a>(
-    machine: &Machine<LinkSpace>,
-    code: &'a str,
-    owner: Owner,
-    item: usize,
-    commands: &'a [Command],
-    lines: usize,
-) -> Option<Refused<'a>> {
-    let place = printing_place(commands, lines);
-    let command = commands.get(place)?;
+fn of_body<'a>(machine: &Linked, code: &'a str, body: Begun<'a>) -> Option<Refused<'a>> {
+    let place = body.alerted_place();
+    let command = body.code.get(place)?;
     Some(Refused {
         code,
-        owner,
-        item,
-        place,
+        spot: Spot {
+            owner: body.owner,
+            item: body.item,
+            place,
+        },
         command,
         values: values_of(machine, None, command),
     })
@@ -131,48 +107,37 @@ fn of_body<'a>(
 
 /// The refused call of what has that name. The names of a file are distinct.
 fn of_name<'a>(
-    machine: &Machine<LinkSpace>,
+    machine: &Linked,
     course: &Course<'a>,
     text: &str,
     code: &'a str,
     name: &str,
 ) -> Option<Refused<'a>> {
     let file = course.file;
-    if let Some(item) = file
+    if let Some(task) = file
         .tasks()
         .iter()
         .position(|task| name == task.name.as_str())
     {
-        return of_task(machine, course, code, item);
+        return of_task(machine, course, code, task);
     }
-    if let Some(item) = file
-        .servers()
-        .iter()
-        .position(|server| name == server.name.as_str())
-    {
-        let lines = lines_of_body(text, "server", name);
-        let body = file.servers().get(item)?;
-        return of_body(machine, code, Owner::Server, item, &body.code, lines);
+    let body = last_begun(file, text)?;
+    if name == name_of(file, body.owner, body.item).unwrap_or("") {
+        of_body(machine, code, body)
+    } else {
+        None
     }
-    let item = file
-        .softints()
-        .iter()
-        .position(|softint| name == softint.name.as_str())?;
-    let lines = lines_of_body(text, "softint", name);
-    let body = file.softints().get(item)?;
-    of_body(machine, code, Owner::Softint, item, &body.code, lines)
 }
 
 /// The call that the alert has refused whose line is the last that the machine has printed, `alert CODE NAME WORD`; none if no alert has
 /// stopped it.
 pub fn refused_call<'a>(
-    machine: &Machine<LinkSpace>,
+    machine: &Linked,
     course: &Course<'a>,
     room: &'a Room,
 ) -> Option<Refused<'a>> {
-    let text = match from_utf8(&room.bytes) {
-        Ok(text) => text,
-        Err(_) => return None,
+    let Ok(text) = from_utf8(&room.bytes) else {
+        return None
     };
     let line = text.lines().last()?;
     let (begin, rest) = line.split_once(" ")?;

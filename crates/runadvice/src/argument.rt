@@ -1,16 +1,12 @@
 //! Values and what they name, in words.
-use execlist::link::LinkSpace;
-use execsim::{Machine, ObjectView};
+use crate::scene::Linked;
+use execsim::ObjectView;
 use std::alloc::{AllocError, Global};
 
 /// The least word that is read as a negative number of 16 bits.
 const LEAST_NEGATIVE: u32 = 0xFFFF_7FFF;
 
 /// A value as a reader knows it: small ones in base 10, negative ones with their sign, others as the trace prints them.
-///
-/// # Errors
-///
-/// When memory is refused.
 pub fn shown(alloc: Global, value: u32) -> Result<String, AllocError> {
     if value >= LEAST_NEGATIVE {
         let size = (!value).saturating_add(1);
@@ -24,10 +20,6 @@ pub fn shown(alloc: Global, value: u32) -> Result<String, AllocError> {
 }
 
 /// A value as the trace prints it.
-///
-/// # Errors
-///
-/// When memory is refused.
 pub fn hex(alloc: Global, value: u32) -> Result<String, AllocError> {
     format!(in alloc; "${value:08X}")
 }
@@ -47,9 +39,20 @@ pub fn kind_of(object: ObjectView) -> &'static str {
 }
 
 /// What begins at an address, if a block does.
-pub fn object_at(machine: &Machine<LinkSpace>, address: u32) -> Option<ObjectView> {
-    match machine.block(address) {
-        None => None,
-        Some(block) => Some(block.object),
+pub fn object_at(machine: &Linked, address: u32) -> Option<ObjectView> {
+    Some(machine.block(address)?.object)
+}
+
+/// A number with a comma between its thousands.
+pub fn grouped(alloc: Global, number: u64) -> Result<String, AllocError> {
+    let digits = format!(in alloc; "{number}")?;
+    let count = digits.len();
+    let mut text = String::new(alloc);
+    for (i, digit) in digits.as_str().chars().enumerate() {
+        if i > 0 && count.saturating_sub(i) % 3 == 0 {
+            text.push_str(",")?;
+        }
+        text.push(digit)?;
     }
+    Ok(text)
 }

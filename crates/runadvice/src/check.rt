@@ -1,20 +1,22 @@
 //! What the run of two texts comes to.
-ghost use Rattle.std.specs.Prelude.{◌≡◌, false, IfOk};
+ghost use Rattle.std.specs.Prelude.{◌≡◌, false, IfOk, OnOk};
 ghost use Rattle.exectrace.specs.declared.sinks.SinkState.{SinkState};
 ghost use Rattle.taskscript.specs.Events.{script_of};
 ghost use Rattle.taskscript.specs.File.{file_of};
 ghost use Rattle.execmodel.specs.Step.{run};
 ghost use Rattle.execsim.specs.Agreement.{Agrees};
+ghost use Rattle.execsim.specs.Time.{HasTimeFor};
 ghost use Rattle.runadvice.specs.Ends.{ends_by_alert};
 
 use crate::alert::refused_call;
 use crate::course::Course;
 use crate::ending::add_alert;
 use crate::following::follow;
+use crate::lap::lap_of;
 use crate::page::Page;
 use crate::room::Room;
-use crate::running::add_running;
-use crate::waiting::add_waits;
+use crate::running::Running;
+use crate::scene::{Linked, Scene};
 use execlist::link::LinkSpace;
 use execsim::Machine;
 use std::alloc::{AllocError, Global};
@@ -42,29 +44,61 @@ fn machine_at_end(
     room: &mut Room,
 ) -> Result<Machine<LinkSpace>, AllocError>
     requires { room.old.state ≡ SinkState.Good }
-    ensures { IfOk result (λ machine. Agrees machine.seen (run file.now events.now).state) }
+    ensures agrees { IfOk result (λ machine. Agrees machine.seen (run file.now events.now).state) }
+    ensures going { IfOk result (λ machine. machine.failed ≡ false) }
+    ensures time { IfOk result (λ machine. HasTimeFor 0 machine.seen) }
+    ensures good { OnOk result (room.new.state ≡ SinkState.Good) }
 {
     let mut machine: Machine<LinkSpace> = Machine::boot(alloc, file)?;
     follow(&mut machine, events.list(), course, room)?;
     Ok(machine)
 }
 
-/// Adds what there is to say of a machine at the end of its run.
-fn add_end<'a>(
-    alloc: Global,
+/// Adds what there is to say of a machine at the end of its run, up to the task that runs there, which is answered.
+fn add_stop<'a>(
     page: &mut Page<'a>,
-    machine: &Machine<LinkSpace>,
+    machine: &Linked,
     course: &Course<'_>,
     room: &Room,
-) -> Result<(), AllocError> {
+) -> Result<Option<Running>, AllocError> {
+    let alloc = page.alloc;
     if is_stopped(machine) {
-        return match refused_call(machine, course, room) {
-            None => Ok(()),
-            Some(refused) => add_alert(alloc, page, machine, course, &refused),
-        };
+        if let Some(refused) = refused_call(machine, course, room) {
+            add_alert(page, machine, course, &refused)?;
+        }
+        return Ok(None);
     }
-    add_waits(alloc, page, machine, course)?;
-    add_running(alloc, page, machine, course)
+    let scene = Scene {
+        alloc,
+        machine,
+        course,
+    };
+    scene.add_waits(page)?;
+    scene.running_at_end()
+}
+
+/// Adds what there is to say of a machine at the end of its run. If a task runs, the machine goes on for some steps more.
+fn add_end<'a>(
+    page: &mut Page<'a>,
+    machine: &mut Linked,
+    course: &Course<'_>,
+    room: &mut Room,
+) -> Result<(), AllocError>
+    requires going { machine.old.failed ≡ false }
+    requires good { room.old.state ≡ SinkState.Good }
+    requires time { HasTimeFor 0 machine.old.seen }
+{
+    let alloc = page.alloc;
+    let Some(running) = add_stop(page, machine, course, room)? else {
+        return Ok(());
+    };
+    let lap = lap_of(alloc, machine, course, room)?;
+    let scene = Scene {
+        alloc,
+        machine,
+        course,
+    };
+    scene.add_running(page, &running, lap)
 }
 
 /// Whether an alert has stopped a machine.
@@ -88,14 +122,14 @@ fn report_on(
     let file = &listed.machine;
     let mut course = Course::new(alloc, file)?;
     let mut room = Room::new(alloc);
-    let machine = machine_at_end(alloc, file, events, &mut course, &mut room)?;
+    let mut machine = machine_at_end(alloc, file, events, &mut course, &mut room)?;
     if !course.is_whole {
         return Err(AllocError);
     }
-    let mut page = Page::new(alloc, path, text, table, &listed.listing, file)?;
-    add_end(alloc, &mut page, &machine, &course, &room)?;
     let is_alerted = is_stopped(&machine);
-    let (text, warns) = page.into_text();
+    let mut page = Page::new(alloc, path, text, table, listed)?;
+    add_end(&mut page, &mut machine, &course, &mut room)?;
+    let Page { text, warns, .. } = page;
     Ok(Report {
         text,
         warns,

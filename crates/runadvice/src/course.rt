@@ -1,16 +1,19 @@
-//! What is noted of each step of a run: which lines were done, what set each variable, what was freed, and who ran last.
+//! What is noted of each step of a run: which lines were done, what set each variable, what was freed, and what the last steps were.
 ghost use Rattle.std.specs.Prelude.{◌≡◌};
 
+use crate::bodies::{Begun, after_line, begun_by, command_at};
+use crate::page::Spot;
 use crate::room::Room;
-use crate::step::{Setting, Site, Turn};
+use crate::scene::Linked;
+use crate::step::{Setting, Site, Turn, When, prints};
 use crate::value::{held_by, value_of};
-use execlist::link::LinkSpace;
-use execsim::{Flow, Machine};
+use execsim::Flow;
 use std::alloc::{AllocError, Global};
 use std::collections::HashMap;
+use std::str::from_utf8;
 use taskscript::{
-    Command, Event, LibraryWord, ListWord, MachineFile, MemoryWord, PlainWord, PortWord,
-    RequestWord, SemaphoreWord, TaskWord, Variable, Word,
+    Command, Event, LibraryWord, ListWord, MachineFile, MemoryWord, Owner, PortWord, RequestWord,
+    SemaphoreWord, Variable, Word,
 };
 
 /// How many of the last steps are kept.
@@ -23,11 +26,27 @@ const VARIABLES: usize = 64;
 #[derive(Drop)]
 pub struct TaskPast {
     /// Whether each of its commands was done once.
-    pub done: Vec<bool>,
+    done: Vec<bool>,
     /// What has set each of its variables.
-    pub settings: Vec<Option<Setting>>,
+    settings: Vec<Option<Setting>>,
     /// Whether it has done a step.
     pub has_run: bool,
+}
+
+/// A step that a task has done, or in which it went on to wait.
+#[derive(Clone, Copy, Debug)]
+pub struct Visit {
+    pub turn: Turn,
+    /// The number of the step, from 1; 0 for none.
+    pub step: u64,
+}
+
+impl Visit {
+    /// No step.
+    const NONE: Visit = Visit {
+        turn: Turn { task: 0, place: 0 },
+        step: 0,
+    };
 }
 
 /// What is noted of a run.
@@ -36,99 +55,48 @@ pub struct Course<'a> {
     pub file: &'a MachineFile,
     pub tasks: Vec<TaskPast>,
     /// What has set each shared variable.
-    pub shared: Vec<Option<Setting>>,
+    shared: Vec<Option<Setting>>,
     /// What has freed the object or the block at an address.
     pub freed: HashMap<u32, (Site, Word)>,
-    /// The last commands that were done; that of step `n` is at `n` modulo their number.
-    pub recent: Vec<Site>,
+    /// The last steps of tasks; that of step `n` is at `n` modulo their number.
+    recent: Vec<Visit>,
     /// How many steps and ticks were done.
     pub steps: u64,
     pub ticks: u64,
-    /// The task of the last step, and the first step since which no other one ran.
-    pub last: Option<usize>,
-    pub alone_since: u64,
-    /// The first step since which, besides, nothing was changed.
-    pub still_since: u64,
-    /// Whether a request of the timer was begun.
-    pub has_requests: bool,
+    /// The last step that did a command for the first time, that ended a task, or that did nothing.
+    pub fresh: u64,
+    /// Whether a body of an interrupt may set a shared variable.
+    has_setters: bool,
     /// The event in which an alert stopped the machine.
     pub stopped_in: Option<Event>,
     /// Whether nothing was lost when memory was refused.
     pub is_whole: bool,
 }
 
-fn no_settings(alloc: Global) -> Result<Vec<Option<Setting>>, AllocError> {
-    let mut settings = Vec::with_capacity(alloc, VARIABLES)?;
-    for _number in 0..VARIABLES {
-        settings.push(None)?;
-    }
-    Ok(settings)
-}
-
-fn none_done(alloc: Global, count: usize) -> Result<Vec<bool>, AllocError> {
-    let mut done = Vec::with_capacity(alloc, count)?;
-    for _place in 0..count {
-        done.push(false)?;
-    }
-    Ok(done)
-}
-
-fn no_recent(alloc: Global) -> Result<Vec<Site>, AllocError> {
-    let mut recent = Vec::with_capacity(alloc, RECENT)?;
-    for _step in 0..RECENT {
-        recent.push(Site {
-            task: 0,
-            place: 0,
-            step: 0,
-        })?;
-    }
-    Ok(recent)
-}
-
 fn no_past(alloc: Global, file: &MachineFile) -> Result<Vec<TaskPast>, AllocError> {
     let mut tasks = Vec::new(alloc);
     for task in file.tasks() {
         tasks.push(TaskPast {
-            done: none_done(alloc, task.code.len())?,
-            settings: no_settings(alloc)?,
+            done: vec![in alloc; false; task.code.len()]?,
+            settings: vec![in alloc; None; VARIABLES]?,
             has_run: false,
         })?;
     }
     Ok(tasks)
 }
 
-/// Whether a word that has answered this has changed nothing of the machine.
-fn only_reads(word: Word, answer: u32) -> bool {
-    match word {
-        Word::Plain(word) => !matches!(word, PlainWord::Print),
-        Word::Tasks(word) => matches!(word, TaskWord::FindTask),
-        Word::Ports(word) => match word {
-            PortWord::FindPort | PortWord::MsgWord | PortWord::MsgType => true,
-            PortWord::GetMsg => answer == 0,
-            _ => false,
-        },
-        Word::Lists(word) => match word {
-            ListWord::First
-            | ListWord::Last
-            | ListWord::Succ
-            | ListWord::Pred
-            | ListWord::FindName => true,
-            ListWord::RemHead | ListWord::RemTail => answer == 0,
-            _ => false,
-        },
-        Word::Memory(word) => matches!(word, MemoryWord::AvailMem),
-        Word::Semaphores(word) => matches!(word, SemaphoreWord::AttemptSemaphore) && answer == 0,
-        Word::Libraries(word) => matches!(word, LibraryWord::LibOpenCnt),
-        Word::Requests(word) => match word {
-            RequestWord::CheckIO
-            | RequestWord::IOSecs
-            | RequestWord::IOMicros
-            | RequestWord::IOError
-            | RequestWord::IOFlags => true,
-            _ => false,
-        },
-        _ => false,
-    }
+/// Whether a command of some code sets a variable.
+fn any_target(code: &[Command]) -> bool {
+    code.iter().any(|command| command.target.is_some())
+}
+
+/// Whether a body of an interrupt of a file sets a variable.
+fn any_setter(file: &MachineFile) -> bool {
+    file.servers().iter().any(|server| any_target(&server.code))
+        || file
+            .softints()
+            .iter()
+            .any(|softint| any_target(&softint.code))
 }
 
 /// Whether a word ends the object or the block that its first argument names.
@@ -146,227 +114,255 @@ fn frees(word: Word) -> bool {
     }
 }
 
-/// Whether a word begins a request of the timer.
-fn begins_request(word: Word) -> bool {
-    match word {
-        Word::Requests(word) => matches!(word, RequestWord::SendIO | RequestWord::DoIO),
-        _ => false,
-    }
-}
-
-/// What the target of a command holds, as a task sees it; 0 if it has none.
-fn target_value(machine: &Machine<LinkSpace>, task: usize, command: &Command) -> u32 {
-    match command.target {
-        None => 0,
-        Some(target) => held_by(machine, Some(task), target),
-    }
-}
-
-/// Whether a server has run in what was printed.
-fn has_served(room: &Room) -> bool {
-    match std::str::from_utf8(&room.bytes) {
-        Err(_) => true,
-        Ok(text) => text.contains("server "),
+/// Notes what has set the variable of a number.
+fn set_at(settings: &mut Vec<Option<Setting>>, number: usize, setting: Setting) {
+    if let Some(place) = settings.get_mut(number) {
+        *place = Some(setting);
     }
 }
 
 impl<'a> Course<'a> {
     /// Nothing is noted of the run of a machine yet.
-    ///
-    /// # Errors
-    ///
-    /// When memory is refused.
     pub fn new(alloc: Global, file: &'a MachineFile) -> Result<Course<'a>, AllocError> {
         Ok(Course {
             file,
             tasks: no_past(alloc, file)?,
-            shared: no_settings(alloc)?,
+            shared: vec![in alloc; None; VARIABLES]?,
             freed: HashMap::new(alloc),
-            recent: no_recent(alloc)?,
+            recent: vec![in alloc; Visit::NONE; RECENT]?,
             steps: 0,
             ticks: 0,
-            last: None,
-            alone_since: 1,
-            still_since: 1,
-            has_requests: false,
+            fresh: 0,
+            has_setters: any_setter(file),
             stopped_in: None,
             is_whole: true,
         })
     }
 
     /// The command of a task at a place of its code.
-    pub fn command(&self, task: usize, place: usize) -> Option<&'a Command> {
-        match self.file.tasks().get(task) {
-            None => None,
-            Some(task) => task.code.get(place),
-        }
+    pub fn command(&self, turn: Turn) -> Option<&'a Command> {
+        command_at(self.file, Spot::of_task(turn.task, turn.place))
     }
 
     /// What the next step is to do, if it is a command of a task.
-    pub fn turn(&self, machine: &Machine<LinkSpace>) -> Option<Turn> {
+    pub fn turn(&self, machine: &Linked) -> Option<Turn> {
         let task = machine.next_actor()?;
         let place = machine.task(task)?.place;
-        let held = match self.command(task, place) {
-            None => 0,
-            Some(command) => target_value(machine, task, command),
-        };
-        Some(Turn { task, place, held })
+        Some(Turn { task, place })
     }
 
-    /// Notes that the step that was counted last is that of a task, or of none.
-    fn note_actor(&mut self, task: Option<usize>) {
-        if self.last != task {
-            self.last = task;
-            self.alone_since = self.steps;
-            self.still_since = self.steps;
-        }
-    }
-
-    /// Notes what has set a variable, if it is known.
-    fn note_setting(&mut self, task: usize, variable: Variable, setting: Option<Setting>) {
+    /// Notes what has set a variable.
+    fn note_setting(&mut self, task: usize, variable: Variable, setting: Setting) {
         match variable {
-            Variable::Shared(number) => {
-                if let Some(place) = self.shared.get_mut(number as usize) {
-                    *place = setting;
-                }
-            }
+            Variable::Shared(number) => set_at(&mut self.shared, number as usize, setting),
             Variable::Private(number) => {
                 if let Some(past) = self.tasks.get_mut(task) {
-                    if let Some(place) = past.settings.get_mut(number as usize) {
-                        *place = setting;
-                    }
+                    set_at(&mut past.settings, number as usize, setting);
                 }
             }
         }
     }
 
     /// Notes that a command of a task was done.
-    fn note_done(&mut self, site: Site) {
-        if let Some(past) = self.tasks.get_mut(site.task) {
-            past.has_run = true;
-            if let Some(done) = past.done.get_mut(site.place) {
-                *done = true;
+    fn note_done(&mut self, turn: Turn) {
+        let steps = self.steps;
+        if let Some(past) = self.tasks.get_mut(turn.task) {
+            if let Some(done) = past.done.get_mut(turn.place) {
+                if !*done {
+                    *done = true;
+                    past.has_run = true;
+                    self.fresh = steps;
+                }
             }
         }
+    }
+
+    /// Notes that a task went on to wait in its call.
+    fn note_waiting(&mut self, turn: Turn) {
+        if let Some(past) = self.tasks.get_mut(turn.task) {
+            past.has_run = true;
+        }
+    }
+
+    /// Notes which task did the last step, or went on to wait in it.
+    fn note_visit(&mut self, turn: Turn) {
         let at = (self.steps % 1000) as usize;
         if let Some(place) = self.recent.get_mut(at) {
-            *place = site;
+            *place = Visit {
+                turn,
+                step: self.steps,
+            };
         }
     }
 
-    /// Notes what a command has set, whose target held that before.
-    fn note_target(
-        &mut self,
-        machine: &Machine<LinkSpace>,
-        room: &Room,
-        site: Site,
-        command: &Command,
-        held: u32,
-    ) {
-        let value = target_value(machine, site.task, command);
-        if value != held || !only_reads(command.word, value) {
-            self.still_since = self.steps.saturating_add(1);
-        }
+    /// Notes what a command of a task has set.
+    fn note_target(&mut self, machine: &Linked, turn: Turn, command: &Command) {
         let Some(target) = command.target else { return };
-        // A server that ran in the same step may have set a shared variable after the command.
-        let is_known = matches!(target, Variable::Private(_)) || !has_served(room);
         let setting = Setting {
-            site,
+            site: self.site(turn),
             word: command.word,
-            value,
+            value: held_by(machine, Some(turn.task), target),
         };
-        self.note_setting(
-            site.task,
-            target,
-            if is_known { Some(setting) } else { None },
-        );
+        self.note_setting(turn.task, target, setting);
     }
 
-    /// Notes what a command has freed and begun.
-    fn note_deed(&mut self, machine: &Machine<LinkSpace>, site: Site, command: &Command) {
+    /// The command of a task that the last step did.
+    fn site(&self, turn: Turn) -> Site {
+        Site {
+            spot: Spot::of_task(turn.task, turn.place),
+            when: When::Step(self.steps),
+        }
+    }
+
+    /// Notes what a command has freed.
+    fn note_freed(&mut self, machine: &Linked, turn: Turn, command: &Command) {
         if frees(command.word) {
-            if let Some(address) = value_of(machine, Some(site.task), command, 0) {
+            let site = self.site(turn);
+            if let Some(address) = value_of(machine, Some(turn.task), command, 0) {
                 if self.freed.insert(address, (site, command.word)).is_err() {
                     self.is_whole = false;
                 }
             }
         }
-        if begins_request(command.word) {
-            self.has_requests = true;
-        }
     }
 
-    /// Notes a step that is over.
-    fn note_step(&mut self, machine: &Machine<LinkSpace>, turn: Option<Turn>, room: &Room) {
-        self.steps = self.steps.saturating_add(1);
+    /// Notes the command of a task that a step has done.
+    fn note_step(&mut self, machine: &Linked, turn: Option<Turn>) {
         let Some(turn) = turn else {
-            self.note_actor(None);
-            return;
-        };
-        self.note_actor(Some(turn.task));
-        let site = Site {
-            task: turn.task,
-            place: turn.place,
-            step: self.steps,
-        };
-        let Some(command) = self.command(turn.task, turn.place) else {
-            return;
-        };
-        if machine.call(turn.task).is_some() {
-            self.note_waiting(turn.task);
-            if begins_request(command.word) {
-                self.has_requests = true;
+            if machine.view().running.is_none() {
+                self.fresh = self.steps;
             }
             return;
+        };
+        let Some(command) = self.command(turn) else {
+            self.fresh = self.steps;
+            return;
+        };
+        self.note_visit(turn);
+        if prints(command.word) {
+            if machine.call(turn.task).is_some() {
+                self.note_waiting(turn);
+                return;
+            }
+            self.note_freed(machine, turn, command);
         }
-        self.note_done(site);
-        self.note_target(machine, room, site, command, turn.held);
-        self.note_deed(machine, site, command);
+        self.note_done(turn);
+        self.note_target(machine, turn, command);
     }
 
-    /// Notes that a task waits in its call.
-    fn note_waiting(&mut self, task: usize) {
-        self.still_since = self.steps.saturating_add(1);
-        if let Some(past) = self.tasks.get_mut(task) {
-            past.has_run = true;
+    /// Notes what a body of an interrupt has set; one that an alert has ended has done the commands before that of the alert.
+    fn note_body(&mut self, machine: &Linked, body: Begun<'a>, when: When, is_stopped: bool) {
+        let end = if is_stopped {
+            body.alerted_place()
+        } else {
+            body.code.len()
+        };
+        for (place, command) in body.code.iter().enumerate().take(end) {
+            if let Some(target) = command.target {
+                let spot = Spot {
+                    owner: body.owner,
+                    item: body.item,
+                    place,
+                };
+                let setting = Setting {
+                    site: Site { spot, when },
+                    word: command.word,
+                    value: held_by(machine, None, target),
+                };
+                self.note_setting(0, target, setting);
+            }
         }
     }
 
-    /// Notes a tick that is over.
-    fn note_tick(&mut self) {
-        self.ticks = self.ticks.saturating_add(1);
+    /// Notes what bodies of interrupts have set in an event, by its lines after the first few.
+    fn note_bodies(
+        &mut self,
+        machine: &Linked,
+        room: &Room,
+        when: When,
+        skipped: usize,
+        is_stopped: bool,
+    ) {
+        let Ok(text) = from_utf8(&room.bytes) else {
+            return
+        };
+        let mut last: Option<Begun<'a>> = None;
+        for line in text.lines().skip(skipped) {
+            let next = begun_by(self.file, line);
+            if let (Some(body), Some(_)) = (last, next) {
+                self.note_body(machine, body, when, false);
+            }
+            last = after_line(last, next);
+        }
+        if let Some(body) = last {
+            self.note_body(machine, body, when, is_stopped);
+        }
     }
 
-    /// Notes that an alert has stopped the machine in a step, a tick or a request.
-    fn note_stop(&mut self, one: Event) {
-        if self.stopped_in.is_some() {
+    /// Counts an event, and answers when it was.
+    fn count(&mut self, one: Event) -> When {
+        match one {
+            Event::Run(_) => {
+                self.steps = self.steps.saturating_add(1);
+                When::Step(self.steps)
+            }
+            Event::Tick(_) => {
+                self.ticks = self.ticks.saturating_add(1);
+                When::Tick(self.ticks)
+            }
+            Event::Irq(_) => When::Request(self.steps),
+        }
+    }
+
+    /// Notes what bodies of interrupts have set in an event, if any may have.
+    fn note_interrupts(
+        &mut self,
+        machine: &Linked,
+        turn: Option<Turn>,
+        when: When,
+        is_stopped: bool,
+        room: &Room,
+    ) {
+        if !self.has_setters || room.bytes.is_empty() {
             return;
         }
-        self.stopped_in = Some(one);
-        match one {
-            Event::Run(_) => self.steps = self.steps.saturating_add(1),
-            Event::Tick(_) => self.note_tick(),
-            Event::Irq(_) => {}
-        }
+        // The line of a task's command or of its end comes first.
+        let skipped = match turn {
+            None => 0,
+            Some(turn) => match self.command(turn) {
+                None => 1,
+                Some(command) => prints(command.word) as usize,
+            },
+        };
+        self.note_bodies(machine, room, when, skipped, is_stopped);
     }
 
-    /// Notes a step, a tick or a request that is over, whose lines are in the room.
+    /// Notes a step, a tick or a request that is over, whose lines are in the room. Nothing is noted after an alert.
     pub fn note(
         &mut self,
-        machine: &Machine<LinkSpace>,
+        machine: &Linked,
         one: Event,
         turn: Option<Turn>,
         flow: Flow,
         room: &Room,
     ) {
-        if flow == Flow::Alerted {
-            self.note_stop(one);
+        if self.stopped_in.is_some() {
             return;
         }
-        match one {
-            Event::Run(_) => self.note_step(machine, turn, room),
-            Event::Tick(_) => self.note_tick(),
-            Event::Irq(_) => {}
+        let when = self.count(one);
+        let is_stopped = flow == Flow::Alerted;
+        if is_stopped {
+            self.stopped_in = Some(one);
+            // The line of the alert of the task's own call comes first, and alone.
+            if room.bytes.starts_with(b"alert ") {
+                return;
+            }
+        }
+        if matches!(one, Event::Run(_)) {
+            self.note_step(machine, turn);
+            self.note_interrupts(machine, turn, when, is_stopped, room);
+        } else {
+            self.note_interrupts(machine, None, when, is_stopped, room);
         }
     }
 
@@ -380,14 +376,24 @@ impl<'a> Course<'a> {
     }
 
     /// Whether a task has done its command at a place once.
-    pub fn has_done(&self, task: usize, place: usize) -> bool {
-        match self.tasks.get(task) {
+    pub fn has_done(&self, turn: Turn) -> bool {
+        match self.tasks.get(turn.task) {
             None => false,
-            Some(past) => past.done.get(place).copied().unwrap_or(false),
+            Some(past) => past.done.get(turn.place).copied().unwrap_or(false),
         }
     }
 
-    /// What has set a variable last, as a task sees it, if that is known.
+    /// What a task did in a step, if it is one of the last steps and was a task's.
+    pub fn visit_at(&self, step: u64) -> Option<Turn> {
+        let visit = self.recent.get((step % 1000) as usize)?;
+        if visit.step == step && step > 0 {
+            Some(visit.turn)
+        } else {
+            None
+        }
+    }
+
+    /// What has set a variable last, as a task sees it.
     pub fn setting_of(&self, task: Option<usize>, variable: Variable) -> Option<Setting> {
         let settings = match variable {
             Variable::Shared(_) => &self.shared,

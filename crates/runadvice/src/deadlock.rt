@@ -1,92 +1,60 @@
 //! Tasks that wait for each other's semaphores in a circle.
-use crate::page::{Mark, Page, Spot};
+use crate::page::{Page, Spot};
+use crate::scene::Scene;
 use crate::wait::{Waiter, awaited_text, owner_awaited};
-use execcheck::Owner;
-use execlist::link::LinkSpace;
-use execsim::Machine;
-use std::alloc::{AllocError, Global};
+use std::alloc::AllocError;
 
-/// The tasks of the circle that a task is in, from that task on; none if it is in no circle.
-///
-/// # Errors
-///
-/// When memory is refused.
-pub fn circle_of(
-    alloc: Global,
-    machine: &Machine<LinkSpace>,
-    task: usize,
-) -> Result<Option<Vec<usize>>, AllocError> {
-    let mut circle = Vec::new(alloc);
-    let mut at = task;
-    for _turn in 0..machine.view().tasks {
-        circle.push(at)?;
-        match owner_awaited(machine, at) {
-            None => return Ok(None),
-            Some(owner) => {
-                if owner == task {
-                    return Ok(Some(circle));
-                }
-                at = owner;
+impl Scene<'_, '_> {
+    /// The tasks of the circle that a task is in, from that task on; none if it is in no circle.
+    pub fn circle_of(&self, task: usize) -> Result<Option<Vec<usize>>, AllocError> {
+        let mut circle = Vec::new(self.alloc);
+        let mut at = task;
+        for _turn in 0..self.machine.view().tasks {
+            circle.push(at)?;
+            match owner_awaited(self.machine, at) {
+                None => return Ok(None),
+                Some(owner) if owner == task => return Ok(Some(circle)),
+                Some(owner) => at = owner,
             }
         }
+        Ok(None)
     }
-    Ok(None)
-}
 
-/// The names of the tasks of a circle.
-fn names_of(
-    alloc: Global,
-    machine: &Machine<LinkSpace>,
-    circle: &[usize],
-) -> Result<String, AllocError> {
-    let mut names = String::new(alloc);
-    let last = circle.len().saturating_sub(1);
-    for (i, task) in circle.iter().enumerate() {
-        if i > 0 {
-            names.push_str(if i == last { " and " } else { ", " })?;
+    /// The names of the tasks of a circle, in the order of the file.
+    fn names_of(&self, circle: &[usize]) -> Result<String, AllocError> {
+        let mut tasks = Vec::from_slice(self.alloc, circle)?;
+        tasks.sort()?;
+        let mut names = String::new(self.alloc);
+        let last = tasks.len().saturating_sub(1);
+        for (i, task) in tasks.iter().enumerate() {
+            if i > 0 {
+                names.push_str(if i == last { " and " } else { ", " })?;
+            }
+            names.push_str("\"")?;
+            names.push_str(self.name(*task))?;
+            names.push_str("\"")?;
         }
-        let name = machine.task_name(*task).unwrap_or("");
-        names.push_str("\"")?;
-        names.push_str(name)?;
-        names.push_str("\"")?;
+        Ok(names)
     }
-    Ok(names)
-}
 
-/// The tasks of a circle in the order of the file.
-fn in_order(alloc: Global, circle: &[usize]) -> Result<Vec<usize>, AllocError> {
-    let mut tasks = Vec::from_slice(alloc, circle)?;
-    tasks.sort()?;
-    Ok(tasks)
-}
-
-/// Adds that a task of a circle waits for the next one.
-///
-/// # Errors
-///
-/// When memory is refused.
-pub fn add_deadlock<'a>(
-    alloc: Global,
-    page: &mut Page<'a>,
-    machine: &Machine<LinkSpace>,
-    circle: &[usize],
-    waiter: &Waiter,
-) -> Result<(), AllocError> {
-    let names = names_of(alloc, machine, &in_order(alloc, circle)?)?;
-    let header = if circle.len() == 1 {
-        format!(in alloc; "warning: deadlock: task {names} waits for itself")?
-    } else {
-        format!(in alloc; "warning: deadlock: tasks {names} wait for each other")?
-    };
-    let owner = owner_awaited(machine, waiter.task).unwrap_or(0);
-    let owner = machine.task_name(owner).unwrap_or("");
-    let awaited = awaited_text(alloc, waiter.awaited)?;
-    let reason = format!(in alloc; "waits for {awaited}, which task \"{owner}\" owns")?;
-    let spot = Spot {
-        owner: Owner::Task,
-        item: waiter.task,
-        place: waiter.place,
-    };
-    page.warns = true;
-    page.add(alloc, spot, Mark::Word, header.as_str(), reason.as_str())
+    /// Adds that a task of a circle waits for the next one.
+    pub fn add_deadlock<'a>(
+        &self,
+        page: &mut Page<'a>,
+        circle: &[usize],
+        waiter: &Waiter,
+    ) -> Result<(), AllocError> {
+        let alloc = self.alloc;
+        let names = self.names_of(circle)?;
+        let header = if circle.len() == 1 {
+            format!(in alloc; "warning: deadlock: task {names} waits for itself")?
+        } else {
+            format!(in alloc; "warning: deadlock: tasks {names} wait for each other")?
+        };
+        let owner = self.name(owner_awaited(self.machine, waiter.task).unwrap_or(0));
+        let awaited = awaited_text(alloc, waiter.awaited)?;
+        let reason = format!(in alloc; "waits for {awaited}, which task \"{owner}\" owns")?;
+        let spot = Spot::of_task(waiter.task, waiter.place);
+        page.warn(spot, header.as_str(), reason.as_str())
+    }
 }

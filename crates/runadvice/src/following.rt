@@ -12,14 +12,13 @@ ghost use Rattle.runadvice.specs.Going.{Goes};
 
 use crate::course::Course;
 use crate::room::Room;
-use execlist::link::LinkSpace;
-use execsim::Machine;
+use crate::scene::Linked;
 use std::alloc::AllocError;
 use taskscript::Event;
 
 /// Does one step, tick or request, and notes it. What it prints is in the room; after an alert the room is as the alert left it.
 fn advance(
-    machine: &mut Machine<LinkSpace>,
+    machine: &mut Linked,
     one: Event,
     course: &mut Course<'_>,
     room: &mut Room,
@@ -45,7 +44,7 @@ fn advance(
 
 /// Does one step, tick or request that many times.
 fn advance_many(
-    machine: &mut Machine<LinkSpace>,
+    machine: &mut Linked,
     one: Event,
     many: u32,
     course: &mut Course<'_>,
@@ -67,7 +66,7 @@ fn advance_many(
 
 /// Does one event, one step and one tick at a time.
 fn advance_event(
-    machine: &mut Machine<LinkSpace>,
+    machine: &mut Linked,
     one: Event,
     course: &mut Course<'_>,
     room: &mut Room,
@@ -89,7 +88,7 @@ fn advance_event(
 
 /// Does some events, one step and one tick at a time.
 fn advance_all(
-    machine: &mut Machine<LinkSpace>,
+    machine: &mut Linked,
     list: &[Event],
     course: &mut Course<'_>,
     room: &mut Room,
@@ -97,7 +96,10 @@ fn advance_all(
     requires going { machine.old.failed ≡ false }
     requires good { room.old.state ≡ SinkState.Good }
     requires time { HasTimeFor (sum_by ticks_of list.now) machine.old.seen }
-    ensures { OnOk result (Goes (units list.now) machine.old.seen machine.new.seen) }
+    ensures goes { OnOk result (Goes (units list.now) machine.old.seen machine.new.seen) }
+    ensures going { OnOk result (machine.new.failed ≡ false) }
+    ensures good { OnOk result (room.new.state ≡ SinkState.Good) }
+    ensures time { OnOk result (HasTimeFor 0 machine.new.seen) }
 {
     for one in list {
         advance_event(machine, *one, course, room)?;
@@ -106,7 +108,7 @@ fn advance_all(
 }
 
 /// Starts a machine.
-fn begin(machine: &mut Machine<LinkSpace>, room: &mut Room) -> Result<(), AllocError>
+fn begin(machine: &mut Linked, room: &mut Room) -> Result<(), AllocError>
     requires going { machine.old.failed ≡ false }
     requires good { room.old.state ≡ SinkState.Good }
     ensures agrees { OnOk result ((m : MachineData) → Agrees machine.old.seen (booted m) → Agrees machine.new.seen (starts (booted m)).state) }
@@ -122,12 +124,8 @@ fn begin(machine: &mut Machine<LinkSpace>, room: &mut Room) -> Result<(), AllocE
 
 /// Starts a machine that was made and not started yet, and does some events. What each step did is noted, and the room holds what the last
 /// step, tick or request printed.
-///
-/// # Errors
-///
-/// When memory is refused.
 pub fn follow(
-    machine: &mut Machine<LinkSpace>,
+    machine: &mut Linked,
     list: &[Event],
     course: &mut Course<'_>,
     room: &mut Room,
@@ -135,7 +133,10 @@ pub fn follow(
     requires going { machine.old.failed ≡ false }
     requires good { room.old.state ≡ SinkState.Good }
     requires time { HasTimeFor (sum_by ticks_of list.now) machine.old.seen }
-    ensures { OnOk result ((m : MachineData) → Agrees machine.old.seen (booted m) → Agrees machine.new.seen (run m list.now).state) }
+    ensures agrees { OnOk result ((m : MachineData) → Agrees machine.old.seen (booted m) → Agrees machine.new.seen (run m list.now).state) }
+    ensures going { OnOk result (machine.new.failed ≡ false) }
+    ensures good { OnOk result (room.new.state ≡ SinkState.Good) }
+    ensures time { OnOk result (HasTimeFor 0 machine.new.seen) }
 {
     begin(machine, room)?;
     advance_all(machine, list, course, room)

@@ -2,10 +2,10 @@
 use crate::alert::Refused;
 use crate::argument::{hex, kind_of, object_at};
 use crate::course::Course;
-use crate::origin::freed_text;
+use crate::memory::block_around;
 use crate::rules::Fault;
-use execlist::link::LinkSpace;
-use execsim::{Machine, ObjectView};
+use crate::scene::Linked;
+use execsim::ObjectView;
 use std::alloc::{AllocError, Global};
 use taskq::TaskState;
 use taskscript::Listing;
@@ -107,138 +107,118 @@ fn may_be_none(wanted: Wanted) -> bool {
     )
 }
 
-/// What asks for what a value names.
+/// What is asked when something is said of a refused call.
 #[derive(Clone, Copy)]
 pub struct Asking<'a, 'b> {
-    pub machine: &'b Machine<LinkSpace>,
+    pub alloc: Global,
+    pub machine: &'b Linked,
     pub course: &'b Course<'a>,
     pub listing: &'b Listing,
     pub refused: &'b Refused<'a>,
 }
 
-/// Why a number is not that of a task that is wanted.
-fn task_fault(
-    alloc: Global,
-    asking: &Asking<'_, '_>,
-    wanted: Wanted,
-    value: u32,
-) -> Result<Option<String>, AllocError> {
-    let count = asking.machine.view().tasks;
-    let number = (value as usize).saturating_sub(1);
-    if value == 0 || number >= count {
-        let range = if count == 1 {
-            format!(in alloc; "the only task of this file has the number 1")?
-        } else {
-            format!(in alloc; "the tasks of this file have the numbers 1 to {count}")?
+impl Asking<'_, '_> {
+    /// Why a number is not that of a task that is wanted.
+    fn task_fault(&self, wanted: Wanted, value: u32) -> Result<Option<String>, AllocError> {
+        let alloc = self.alloc;
+        let count = self.machine.view().tasks;
+        let number = (value as usize).saturating_sub(1);
+        if value == 0 || number >= count {
+            let range = if count == 1 {
+                format!(in alloc; "the only task of this file has the number 1")?
+            } else {
+                format!(in alloc; "the tasks of this file have the numbers 1 to {count}")?
+            };
+            return Ok(Some(format!(in alloc; "is not the number of a task; {range}")?));
+        }
+        let state = match self.machine.task(number) {
+            Some(task) if wanted != Wanted::Task => task.state,
+            _ => return Ok(None),
         };
-        return Ok(Some(format!(in alloc; "is not the number of a task; {range}")?));
+        let end = match state {
+            TaskState::Absent => "was not added yet",
+            TaskState::Removed => "has ended",
+            _ => return Ok(None),
+        };
+        let name = self.machine.task_name(number).unwrap_or("");
+        Ok(Some(format!(in alloc; "is the number of task \"{name}\", which {end}")?))
     }
-    if matches!(wanted, Wanted::Task) {
-        return Ok(None);
-    }
-    let Some(task) = asking.machine.task(number) else {
-        return Ok(None);
-    };
-    let name = asking.machine.task_name(number).unwrap_or("");
-    match task.state {
-        TaskState::Absent => Ok(Some(format!(in alloc;
-            "is the number of task \"{name}\", which was not added yet"
-        )?)),
-        TaskState::Removed => Ok(Some(format!(in alloc;
-            "is the number of task \"{name}\", which has ended"
-        )?)),
-        _ => Ok(None),
-    }
-}
 
-/// Why an address is not that of an object that is wanted.
-fn object_fault(
-    alloc: Global,
-    asking: &Asking<'_, '_>,
-    wanted: Wanted,
-    value: u32,
-) -> Result<Option<String>, AllocError> {
-    let name = wanted_text(wanted);
-    let freed = freed_text(
-        alloc,
-        asking.course,
-        asking.listing,
-        asking.refused.task(),
-        value,
-    )?;
-    match object_at(asking.machine, value) {
-        None => Ok(Some(format!(in alloc; "is not {name}{freed}")?)),
-        Some(object) => {
-            if is_of(wanted, object) {
-                return Ok(None);
+    /// Which block an address is in, if it is in one and does not begin it, as the end of a sentence.
+    pub fn inside_text(&self, address: u32) -> Result<String, AllocError> {
+        match block_around(self.alloc, self.machine, address)? {
+            None => Ok(String::new(self.alloc)),
+            Some(block) => {
+                let kind = kind_of(block.view.object);
+                let begin = hex(self.alloc, block.address)?;
+                format!(in self.alloc; ": it is inside {kind}, which begins at {begin}")
             }
-            let kind = kind_of(object);
-            Ok(Some(format!(in alloc; "is {kind}, not {name}{freed}")?))
         }
     }
-}
 
-/// Why an argument does not name what is wanted, if it does not.
-fn fault_of(
-    alloc: Global,
-    asking: &Asking<'_, '_>,
-    wanted: Wanted,
-    value: u32,
-) -> Result<Option<String>, AllocError> {
-    if value == 0 && may_be_none(wanted) {
-        return Ok(None);
-    }
-    match wanted {
-        Wanted::Nothing => Ok(None),
-        Wanted::Task | Wanted::LiveTask | Wanted::LiveTaskOrCaller => {
-            task_fault(alloc, asking, wanted, value)
-        }
-        _ => object_fault(alloc, asking, wanted, value),
-    }
-}
-
-/// The reply port of a message or of a request, if its address is that of one.
-fn reply_port(machine: &Machine<LinkSpace>, address: u32) -> Option<u32> {
-    match object_at(machine, address) {
-        Some(ObjectView::Message(message)) => Some(message.reply),
-        Some(ObjectView::Request(request)) => Some(request.port),
-        _ => None,
-    }
-}
-
-/// Why the reply port of a message or of a request is none.
-fn reply_fault(alloc: Global, asking: &Asking<'_, '_>) -> Result<Fault, AllocError> {
-    match reply_port(asking.machine, asking.refused.value(0)) {
-        None => Fault::new(alloc, None, "a handle of this call names nothing live"),
-        Some(port) => {
-            let address = hex(alloc, port)?;
-            let freed = freed_text(
-                alloc,
-                asking.course,
-                asking.listing,
-                asking.refused.task(),
-                port,
-            )?;
-            let why = format!(in alloc;
-                "has the reply port {address}, which is not a port any more{freed}"
-            )?;
-            Ok(Fault::whole(Some(0), why))
+    /// Why an address is not that of an object that is wanted.
+    fn object_fault(&self, wanted: Wanted, value: u32) -> Result<Option<String>, AllocError> {
+        let name = wanted_text(wanted);
+        match object_at(self.machine, value) {
+            None => {
+                let freed = self.freed_text(value)?;
+                let inside = self.inside_text(value)?;
+                Ok(Some(format!(in self.alloc; "is not {name}{inside}{freed}")?))
+            }
+            Some(object) if is_of(wanted, object) => Ok(None),
+            Some(object) => {
+                let kind = kind_of(object);
+                Ok(Some(format!(in self.alloc; "is {kind}, not {name}")?))
+            }
         }
     }
-}
 
-/// The first argument of a call that names nothing of the kind that the call wants, and why.
-///
-/// # Errors
-///
-/// When memory is refused.
-pub fn handle_fault(alloc: Global, asking: &Asking<'_, '_>) -> Result<Fault, AllocError> {
-    let wanted = wanted_by(asking.refused.command.word.text());
-    for (number, kind) in wanted.iter().enumerate() {
-        let value = asking.refused.value(number);
-        if let Some(why) = fault_of(alloc, asking, *kind, value)? {
-            return Ok(Fault::of(Some(number), why, value == 0));
+    /// Why an argument does not name what is wanted, if it does not.
+    fn fault_of(&self, wanted: Wanted, value: u32) -> Result<Option<String>, AllocError> {
+        if value == 0 && may_be_none(wanted) {
+            return Ok(None);
+        }
+        match wanted {
+            Wanted::Nothing => Ok(None),
+            Wanted::Task | Wanted::LiveTask | Wanted::LiveTaskOrCaller => {
+                self.task_fault(wanted, value)
+            }
+            _ => self.object_fault(wanted, value),
         }
     }
-    reply_fault(alloc, asking)
+
+    /// Why the reply port of a message or of a request is none.
+    fn reply_fault(&self) -> Result<Fault, AllocError> {
+        let port = match object_at(self.machine, self.refused.value(0)) {
+            Some(ObjectView::Message(message)) => message.reply,
+            Some(ObjectView::Request(request)) => request.port,
+            _ => return Fault::new(self.alloc, None, "a handle of this call names nothing live"),
+        };
+        let address = hex(self.alloc, port)?;
+        let freed = self.freed_text(port)?;
+        let why = format!(in self.alloc;
+            "has the reply port {address}, which is not a port any more{freed}"
+        )?;
+        Ok(Fault::whole(Some(0), why))
+    }
+
+    /// Whether it is worth saying where a value comes from: it is 0, or the address of an object of another kind.
+    fn asks_origin(&self, wanted: Wanted, value: u32) -> bool {
+        match wanted {
+            Wanted::Task | Wanted::LiveTask | Wanted::LiveTaskOrCaller => true,
+            _ => value == 0 || object_at(self.machine, value).is_some(),
+        }
+    }
+
+    /// The first argument of a call that names nothing of the kind that the call wants, and why.
+    pub fn handle_fault(&self) -> Result<Fault, AllocError> {
+        let wanted = wanted_by(self.refused.command.word.text());
+        for (number, kind) in wanted.iter().enumerate() {
+            let value = self.refused.value(number);
+            if let Some(why) = self.fault_of(*kind, value)? {
+                return Ok(Fault::of(Some(number), why, self.asks_origin(*kind, value)));
+            }
+        }
+        self.reply_fault()
+    }
 }

@@ -1,24 +1,30 @@
 //! Explains how a run ends: the alert that stopped it, each task that still waits, a deadlock, and a task that runs without end.
-//! `course` notes what each step did, `following` makes the run, and the other files ask the machine at its end.
+//! `course` notes what each step did, `following` makes the run, `lap` goes on from its end, and the other files ask the machine there.
 #![tactic(auto)]
 
 mod alert;
 mod argument;
+mod bodies;
 mod check;
 mod course;
 mod deadlock;
 mod ending;
 mod following;
 mod handles;
+mod lap;
+mod memory;
 mod origin;
 mod page;
 mod ready;
 mod room;
 mod rules;
 mod running;
+mod scene;
+mod snapshot;
 mod step;
 mod value;
 mod wait;
 mod waiting;
+mod wakers;
 
 pub use check::{Report, check_run};

@@ -1,42 +1,22 @@
 //! Where a value comes from: the command that set a variable, or freed what is at an address.
-use crate::course::Course;
-use crate::step::{Setting, Site};
+use crate::bodies::command_at;
+use crate::handles::Asking;
+use crate::page::name_of;
+use crate::step::{Setting, Site, when_text};
 use std::alloc::{AllocError, Global};
-use taskscript::{Command, Listing, Variable, Word};
+use taskscript::{Argument, Command, Owner, Variable, Word};
 
-/// The line of the code of a task at which a command is written, from 1.
-fn line_number(listing: &Listing, site: Site) -> usize {
-    match listing.tasks().get(site.task) {
-        None => 0,
-        Some(body) => match body.line_of(site.place) {
-            None => 0,
-            Some(line) => (line as usize).saturating_add(1),
-        },
+/// What has a body, in words.
+fn kind_of_owner(owner: Owner) -> &'static str {
+    match owner {
+        Owner::Task => "task",
+        Owner::Server => "server",
+        Owner::Softint => "software interrupt",
     }
 }
 
-/// The place of a command: its line, and its task if that is not the one that is spoken of.
-///
-/// # Errors
-///
-/// When memory is refused.
-pub fn site_text(
-    alloc: Global,
-    course: &Course<'_>,
-    listing: &Listing,
-    site: Site,
-    task: Option<usize>,
-) -> Result<String, AllocError> {
-    let line = line_number(listing, site);
-    if task == Some(site.task) {
-        return format!(in alloc; "in line {line}");
-    }
-    let name = match course.file.tasks().get(site.task) {
-        None => "",
-        Some(task) => task.name.as_str(),
-    };
-    format!(in alloc; "in line {line} of task \"{name}\"")
-}
+/// Why a word has answered 0 that takes memory of a machine that has none.
+const NO_REGION: &str = ", since there is no memory: the file has no [[region]]";
 
 /// Why a word has answered 0, if there is one reason.
 fn reason_of_zero(word: &str) -> &'static str {
@@ -65,6 +45,15 @@ fn reason_of_zero(word: &str) -> &'static str {
     }
 }
 
+/// Whether one of the arguments of a command is a name.
+fn has_name(command: &Command) -> bool {
+    command
+        .arguments
+        .iter()
+        .take(command.count as usize)
+        .any(|argument| matches!(argument, Argument::Quoted))
+}
+
 /// The word of a command with the name between double quotes, if it has one.
 fn call_text(alloc: Global, command: Option<&Command>, word: Word) -> Result<String, AllocError> {
     let text = word.text();
@@ -77,97 +66,60 @@ fn call_text(alloc: Global, command: Option<&Command>, word: Word) -> Result<Str
     }
 }
 
-/// Whether one of the arguments of a command is a name.
-fn has_name(command: &Command) -> bool {
-    command.arguments.iter().take(command.count as usize).any(|argument| matches!(
-        argument,
-        taskscript::Argument::Quoted
-    ))
-}
-
-/// What has set a variable to its value.
-fn setting_text(
-    alloc: Global,
-    course: &Course<'_>,
-    listing: &Listing,
-    setting: Setting,
-    task: Option<usize>,
-) -> Result<String, AllocError> {
-    let site = setting.site;
-    let place = site_text(alloc, course, listing, site, task)?;
-    let step = site.step;
-    let call = call_text(alloc, course.command(site.task, site.place), setting.word)?;
-    if setting.value == 0 {
-        let reason = reason_of_zero(setting.word.text());
-        return format!(in alloc; ": {call} {place} returned 0 at step {step}{reason}");
+impl Asking<'_, '_> {
+    /// The place of a command: its line, and its body if that is not the one of the refused call.
+    fn site_text(&self, site: Site) -> Result<String, AllocError> {
+        let (spot, who) = (site.spot, self.refused.spot);
+        let line = spot.number_in(self.listing);
+        if who.owner == spot.owner && who.item == spot.item {
+            return format!(in self.alloc; "in line {line}");
+        }
+        let kind = kind_of_owner(spot.owner);
+        let name = name_of(self.course.file, spot.owner, spot.item).unwrap_or("");
+        format!(in self.alloc; "in line {line} of {kind} \"{name}\"")
     }
-    let verb = match setting.word {
-        Word::Plain(_) => "gave",
-        _ => "returned",
-    };
-    format!(in alloc; ": {call} {place} {verb} it at step {step}")
-}
 
-/// Whether a variable that no command of a task has set is known to be set by nothing: no body of an interrupt can set it.
-fn is_known_unset(course: &Course<'_>, variable: Variable) -> bool {
-    match variable {
-        Variable::Private(_) => true,
-        Variable::Shared(_) => {
-            course.file.servers().is_empty() && course.file.softints().is_empty()
+    /// What has set a variable to its value.
+    fn setting_text(&self, setting: Setting) -> Result<String, AllocError> {
+        let spot = setting.site.spot;
+        let place = self.site_text(setting.site)?;
+        let time = when_text(self.alloc, setting.site.when)?;
+        let command = command_at(self.course.file, spot);
+        let call = call_text(self.alloc, command, setting.word)?;
+        let verb = match setting.word {
+            Word::Plain(_) => "gave",
+            _ => "returned",
+        };
+        if setting.value == 0 {
+            let reason = match setting.word.text() {
+                "NewList" | "NewNode" | "NewMsg" | "NewSem" | "CreateMsgPort" | "AllocMem"
+                    if self.machine.region(0).is_none() => NO_REGION,
+                word => reason_of_zero(word),
+            };
+            return format!(in self.alloc; ": {call} {place} {verb} 0 {time}{reason}");
+        }
+        format!(in self.alloc; ": {call} {place} {verb} it {time}")
+    }
+
+    /// Where the value of a variable comes from, as the end of a sentence; nothing if that is not known.
+    pub fn origin(&self, variable: Variable, value: u32) -> Result<String, AllocError> {
+        match self.course.setting_of(self.refused.task(), variable) {
+            Some(setting) if setting.value == value => self.setting_text(setting),
+            None if value == 0 => format!(in self.alloc; ": nothing has set it"),
+            _ => Ok(String::new(self.alloc)),
         }
     }
-}
 
-/// Where the value of a variable comes from, as the end of a sentence; nothing if that is not known.
-///
-/// # Errors
-///
-/// When memory is refused.
-pub fn origin(
-    alloc: Global,
-    course: &Course<'_>,
-    listing: &Listing,
-    task: Option<usize>,
-    variable: Variable,
-    value: u32,
-) -> Result<String, AllocError> {
-    match course.setting_of(task, variable) {
-        None => {
-            if value == 0 && is_known_unset(course, variable) {
-                format!(in alloc; ": nothing has set it")
-            } else {
-                Ok(String::new(alloc))
+    /// What has freed the object or the block at an address, as the end of a sentence; nothing if nothing has.
+    pub fn freed_text(&self, address: u32) -> Result<String, AllocError> {
+        match self.course.freed.get(&address).copied() {
+            None => Ok(String::new(self.alloc)),
+            Some((site, word)) => {
+                let word = word.text();
+                let place = self.site_text(site)?;
+                let time = when_text(self.alloc, site.when)?;
+                format!(in self.alloc; ": {word} {place} freed it {time}")
             }
-        }
-        Some(setting) => {
-            if setting.value == value {
-                setting_text(alloc, course, listing, setting, task)
-            } else {
-                Ok(String::new(alloc))
-            }
-        }
-    }
-}
-
-/// What has freed the object or the block at an address, as the end of a sentence; nothing if nothing has.
-///
-/// # Errors
-///
-/// When memory is refused.
-pub fn freed_text(
-    alloc: Global,
-    course: &Course<'_>,
-    listing: &Listing,
-    task: Option<usize>,
-    address: u32,
-) -> Result<String, AllocError> {
-    match course.freed.get(&address).copied() {
-        None => Ok(String::new(alloc)),
-        Some((site, word)) => {
-            let word = word.text();
-            let place = site_text(alloc, course, listing, site, task)?;
-            let step = site.step;
-            format!(in alloc; ": {word} {place} freed it at step {step}")
         }
     }
 }

@@ -1,8 +1,7 @@
 //! The text that is made of what was found: each finding with its place in the file, the line and marks.
-use execadvice::{Advice, Span, Written, field_span, line_at, line_text, said_by};
-use execcheck::{LinePlace, Owner};
+use execadvice::{Advice, Span, Written, field_span, line_at, line_text, said_by, shown};
 use std::alloc::{AllocError, Global};
-use taskscript::{BodyListing, Listing, MachineFile};
+use taskscript::{Array, LinePlace, Listed, Listing, MachineFile, Owner};
 use toml::Table;
 
 /// What of a line has marks below it.
@@ -24,9 +23,39 @@ pub struct Spot {
     pub place: usize,
 }
 
+impl Spot {
+    /// The command of a task at a place of its code.
+    pub fn of_task(task: usize, place: usize) -> Spot {
+        Spot {
+            owner: Owner::Task,
+            item: task,
+            place,
+        }
+    }
+
+    /// The line of its code in which it is written, from 0, if it has one: the end of the code has none.
+    pub fn line_in(self, listing: &Listing) -> Option<usize> {
+        let body = match self.owner {
+            Owner::Task => listing.tasks().get(self.item)?,
+            Owner::Server => listing.servers().get(self.item)?,
+            Owner::Softint => listing.softints().get(self.item)?,
+        };
+        Some(body.line_of(self.place)? as usize)
+    }
+
+    /// The number, from 1, of the line of its code in which it is written; 0 if it has none.
+    pub fn number_in(self, listing: &Listing) -> usize {
+        match self.line_in(listing) {
+            None => 0,
+            Some(line) => line.saturating_add(1),
+        }
+    }
+}
+
 /// What was found so far.
 #[derive(Drop)]
 pub struct Page<'a> {
+    pub alloc: Global,
     /// The path that is before each place.
     path: &'a str,
     table: &'a Table,
@@ -39,30 +68,12 @@ pub struct Page<'a> {
 }
 
 /// The name of what has a body.
-fn name_of<'a>(file: &'a MachineFile, owner: Owner, item: usize) -> &'a str {
-    match owner {
-        Owner::Task => match file.tasks().get(item) {
-            None => "",
-            Some(task) => task.name.as_str(),
-        },
-        Owner::Server => match file.servers().get(item) {
-            None => "",
-            Some(server) => server.name.as_str(),
-        },
-        Owner::Softint => match file.softints().get(item) {
-            None => "",
-            Some(softint) => softint.name.as_str(),
-        },
-    }
-}
-
-/// The lines of the commands of a body.
-fn body_of(listing: &Listing, owner: Owner, item: usize) -> Option<&BodyListing> {
-    match owner {
-        Owner::Task => listing.tasks().get(item),
-        Owner::Server => listing.servers().get(item),
-        Owner::Softint => listing.softints().get(item),
-    }
+pub fn name_of<'a>(file: &'a MachineFile, owner: Owner, item: usize) -> Option<&'a str> {
+    Some(match owner {
+        Owner::Task => file.tasks().get(item)?.name.as_str(),
+        Owner::Server => file.servers().get(item)?.name.as_str(),
+        Owner::Softint => file.softints().get(item)?.name.as_str(),
+    })
 }
 
 /// The part of a line that has marks.
@@ -78,10 +89,6 @@ fn span_of(alloc: Global, line: &str, mark: Mark) -> Result<Span, AllocError> {
 }
 
 /// The field of a line that is an argument.
-///
-/// # Errors
-///
-/// When memory is refused.
 pub fn argument_text(alloc: Global, line: &str, number: usize) -> Result<String, AllocError> {
     let text = match said_by(alloc, line)? {
         None => "",
@@ -92,45 +99,33 @@ pub fn argument_text(alloc: Global, line: &str, number: usize) -> Result<String,
 
 impl<'a> Page<'a> {
     /// Nothing was found yet.
-    ///
-    /// # Errors
-    ///
-    /// When memory is refused.
     pub fn new(
         alloc: Global,
         path: &'a str,
         text: &'a str,
         table: &'a Table,
-        listing: &'a Listing,
-        file: &'a MachineFile,
+        listed: &'a Listed,
     ) -> Result<Page<'a>, AllocError> {
         Ok(Page {
+            alloc,
             path,
             table,
             written: Written::new(alloc, text)?,
-            listing,
-            file,
+            listing: &listed.listing,
+            file: &listed.machine,
             text: String::new(alloc),
             warns: false,
         })
     }
 
-    /// The place of a line of code, if the command has one: the end of the code has none.
+    /// The place of the line of a command, if it has one.
     fn line_place(&self, spot: Spot) -> Option<LinePlace> {
-        let line = body_of(self.listing, spot.owner, spot.item)?.line_of(spot.place)?;
+        let line = spot.line_in(self.listing)?;
         Some(LinePlace {
             owner: spot.owner,
             item: spot.item,
-            line: line as usize,
+            line,
         })
-    }
-
-    /// The number, from 1, of the line of a command in its code; 0 if it has none.
-    pub fn line_number(&self, spot: Spot) -> usize {
-        match self.line_place(spot) {
-            None => 0,
-            Some(place) => place.line.saturating_add(1),
-        }
     }
 
     /// The line of a command.
@@ -141,42 +136,38 @@ impl<'a> Page<'a> {
         }
     }
 
-    /// Adds what was found in some code at a place that has no line.
-    fn add_without_line(
-        &mut self,
-        alloc: Global,
-        spot: Spot,
-        header: &str,
-        reason: &str,
-    ) -> Result<(), AllocError> {
-        let path = self.path;
-        let name = name_of(self.file, spot.owner, spot.item);
-        let text = format!(in alloc; "{path}: in \"{name}\": {header}\n    {reason}\n")?;
+    /// Adds what was found at a task whose code has no command.
+    fn add_to_empty(&mut self, task: usize, header: &str, reason: &str) -> Result<(), AllocError> {
+        let path = shown(self.alloc, self.path)?;
+        let name = name_of(self.file, Owner::Task, task).unwrap_or("");
+        let (line, column) = match self.written.head(Array::Task, task) {
+            None => (1, 1),
+            Some(head) => (head.place.line, head.place.column),
+        };
+        let text = format!(in self.alloc;
+            "{path}:{line}:{column}: in task \"{name}\": {header}\n    {reason}\n"
+        )?;
         self.text.push_str(text.as_str())
     }
 
     /// Adds what was found at a command.
-    ///
-    /// # Errors
-    ///
-    /// When memory is refused.
     pub fn add(
         &mut self,
-        alloc: Global,
         spot: Spot,
         mark: Mark,
         header: &str,
         reason: &str,
     ) -> Result<(), AllocError> {
+        let (alloc, path) = (self.alloc, self.path);
         let Some(place) = self.line_place(spot) else {
-            return self.add_without_line(alloc, spot, header, reason);
+            return self.add_to_empty(spot.item, header, reason);
         };
         let span = span_of(alloc, line_at(self.table, place), mark)?;
         let advice = Advice::new(alloc, span, reason)?;
         let text = line_text(
             alloc,
-            self.path,
-            &mut self.written,
+            path,
+            &self.written,
             self.table,
             place,
             header,
@@ -185,9 +176,9 @@ impl<'a> Page<'a> {
         self.text.push_str(text.as_str())
     }
 
-    /// The text, and whether there is more than notes.
-    pub fn into_text(self) -> (String, bool) {
-        let Page { text, warns, .. } = self;
-        (text, warns)
+    /// Adds a warning at the word of a command.
+    pub fn warn(&mut self, spot: Spot, header: &str, reason: &str) -> Result<(), AllocError> {
+        self.warns = true;
+        self.add(spot, Mark::Word, header, reason)
     }
 }

@@ -15,8 +15,6 @@ pub struct Room {
 
 impl Room {
     /// Room with no line in it.
-    ///
-    /// Source: project rule.
     pub fn new(alloc: Global) -> Room
         ensures bytes { result.bytes.items ≡ [] }
         ensures state { result.state ≡ SinkState.Good }

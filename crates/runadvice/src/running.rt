@@ -1,107 +1,30 @@
-//! What is said of a task that runs when the events end: that it runs without end, or that the events end too early.
-use crate::course::{Course, RECENT};
-use crate::page::{Mark, Page, Spot};
-use crate::ready::ready_text;
-use crate::step::prints;
-use execcheck::Owner;
-use execlist::link::LinkSpace;
-use execsim::Machine;
-use std::alloc::{AllocError, Global};
+//! What is said of a task that runs when the events end: that it runs without end, alone or with others, or that the events end too early.
+use crate::argument::grouped;
+use crate::course::RECENT;
+use crate::lap::{Lap, Stretch, turn_of};
+use crate::page::{Page, Spot};
+use crate::scene::{Linked, Scene};
+use crate::step::Turn;
+use std::alloc::AllocError;
 use taskq::TaskState;
 
-/// The last steps of a task, among which no other one ran.
-#[derive(Clone, Copy, Debug)]
-struct Lap {
-    task: usize,
-    /// How many steps there are.
-    steps: u64,
-    /// The first and the last place in its code that they did.
-    first: usize,
-    last: usize,
-    /// Whether the task is again at a place that one of them did.
-    comes_back: bool,
-    /// Whether one of them was a call.
-    has_call: bool,
-}
+/// How many tasks are named at most.
+const MOST_NAMED: usize = 4;
 
-/// Whether the command of a task at a place is a call.
-fn is_call_at(course: &Course<'_>, task: usize, place: usize) -> bool {
-    match course.command(task, place) {
-        None => false,
-        Some(command) => prints(command.word),
-    }
-}
-
-/// The last steps of a task since a step.
-fn lap_since(course: &Course<'_>, task: usize, place: usize, since: u64) -> Lap {
-    let mut lap = Lap {
-        task,
-        steps: 0,
-        first: place,
-        last: place,
-        comes_back: false,
-        has_call: false,
-    };
-    for site in course.recent.iter() {
-        if site.step >= since && site.step > 0 && site.task == task {
-            lap.steps = lap.steps.saturating_add(1);
-            lap.first = lap.first.min(site.place);
-            lap.last = lap.last.max(site.place);
-            lap.comes_back = lap.comes_back || site.place == place;
-            lap.has_call = lap.has_call || is_call_at(course, task, site.place);
-        }
-    }
-    lap
-}
-
-/// A number with a comma between its thousands.
-fn grouped(alloc: Global, number: u64) -> Result<String, AllocError> {
-    if number < 1000 {
-        return format!(in alloc; "{number}");
-    }
-    let (thousands, rest) = (number / 1000, number % 1000);
-    format!(in alloc; "{thousands},{rest:03}")
-}
-
-/// Adds that a task runs without end, or seems to.
-fn add_loop<'a>(
-    alloc: Global,
-    page: &mut Page<'a>,
-    machine: &Machine<LinkSpace>,
-    course: &Course<'_>,
-    spot: Spot,
-    lap: &Lap,
-    header: &str,
-    change: &str,
-) -> Result<(), AllocError> {
-    let name = machine.task_name(lap.task).unwrap_or("");
-    let steps = grouped(alloc, lap.steps)?;
-    let first = page.line_number(Spot {
-        owner: Owner::Task,
-        item: lap.task,
-        place: lap.first,
-    });
-    let last = page.line_number(Spot {
-        owner: Owner::Task,
-        item: lap.task,
-        place: lap.last,
-    });
-    let lines = if first == last {
-        format!(in alloc; "line {first}")?
-    } else {
-        format!(in alloc; "lines {first} to {last}")?
-    };
-    let call = if lap.has_call { "" } else { ", without a call" };
-    let ready = ready_text(alloc, machine, course, lap.task)?;
-    let reason = format!(in alloc;
-        "the last {steps} steps were all in \"{name}\", {lines}{call}{change}{ready}"
-    )?;
-    page.warns = true;
-    page.add(alloc, spot, Mark::Word, header, reason.as_str())
+/// What the machine shows of the task that runs at the end.
+#[derive(Drop)]
+pub struct Running {
+    turn: Turn,
+    /// The tasks that are ready and never ran, as the end of a sentence.
+    ready: String,
+    /// What of the interrupts may change what the tasks do; nothing if nothing may.
+    changers: String,
+    /// Whether a task has ended.
+    is_one_over: bool,
 }
 
 /// Whether a task has ended.
-fn any_ended(machine: &Machine<LinkSpace>) -> bool {
+fn any_ended(machine: &Linked) -> bool {
     for task in 0..machine.view().tasks {
         if let Some(view) = machine.task(task) {
             if matches!(view.state, TaskState::Removed) {
@@ -112,78 +35,210 @@ fn any_ended(machine: &Machine<LinkSpace>) -> bool {
     false
 }
 
-/// Adds that the events end while a task runs, if no task has ended.
-fn add_early_end<'a>(
-    alloc: Global,
-    page: &mut Page<'a>,
-    machine: &Machine<LinkSpace>,
-    course: &Course<'_>,
-    spot: Spot,
-) -> Result<(), AllocError> {
-    if any_ended(machine) {
-        return Ok(());
-    }
-    let steps = grouped(alloc, course.steps)?;
-    let unit = if course.steps == 1 { "step" } else { "steps" };
-    let ready = ready_text(alloc, machine, course, spot.item)?;
-    let is_over = course.command(spot.item, spot.place).is_none();
-    let state = if is_over {
-        "was its last command, and the task ends at its next step"
-    } else if course.has_done(spot.item, spot.place) {
-        "comes next once more"
+/// What is between a part and the one before it.
+fn joint(number: usize, last: usize) -> &'static str {
+    if number == 0 {
+        ""
+    } else if number == last {
+        ", and "
     } else {
-        "comes next"
-    };
-    let reason = format!(in alloc;
-        "{state}, but the events end after {steps} {unit}, and no task has ended; ask for more{ready}"
-    )?;
-    page.warns = true;
-    let at = Spot {
-        owner: spot.owner,
-        item: spot.item,
-        place: if is_over {
-            spot.place.saturating_sub(1)
-        } else {
-            spot.place
-        },
-    };
-    let header = "warning: the events end while the task runs";
-    page.add(alloc, at, Mark::Word, header, reason.as_str())
+        ", "
+    }
 }
 
-/// Adds what there is to say of the task that runs, if one does.
-///
-/// # Errors
-///
-/// When memory is refused.
-pub fn add_running<'a>(
-    alloc: Global,
-    page: &mut Page<'a>,
-    machine: &Machine<LinkSpace>,
-    course: &Course<'_>,
-) -> Result<(), AllocError> {
-    let Some(task) = machine.view().running else {
-        return Ok(());
-    };
-    let place = match machine.task(task) {
-        None => return Ok(()),
-        Some(view) => view.place,
-    };
-    let spot = Spot {
-        owner: Owner::Task,
-        item: task,
-        place,
-    };
-    let still = lap_since(course, task, place, course.still_since);
-    if still.comes_back {
-        let header = "warning: the task runs without end";
-        let change = ", and changed nothing";
-        return add_loop(alloc, page, machine, course, spot, &still, header, change);
+/// What the steps of a lap come to, which brings the machine back to what it showed.
+fn effect_of(lap: &Lap) -> &'static str {
+    if lap.stretches.len() > 1 {
+        return match (lap.waits, lap.prints) {
+            (true, false) => "; they only wake each other, and nothing else changes",
+            (true, true) => "; they wake each other and print the same again and again",
+            (false, false) => "; they only take turns, and nothing changes",
+            (false, true) => "; they take turns and print the same again and again",
+        };
     }
-    let alone = lap_since(course, task, place, course.alone_since);
-    if alone.steps >= RECENT as u64 {
-        let header = "warning: the task may run without end";
-        return add_loop(alloc, page, machine, course, spot, &alone, header, "");
+    match (lap.has_call, lap.prints) {
+        (false, _) => ", without a call, and changed nothing",
+        (true, false) => ", and changed nothing",
+        (true, true) => ", and printed the same again and again",
     }
-    add_early_end(alloc, page, machine, course, spot)
+}
+
+/// That the tasks of a lap run without end, or may.
+fn header_of(lap: &Lap, is_sure: bool) -> &'static str {
+    match (lap.stretches.len() > 1, is_sure) {
+        (true, true) => "warning: the tasks run without end",
+        (true, false) => "warning: the tasks may run without end",
+        (false, true) => "warning: the task runs without end",
+        (false, false) => "warning: the task may run without end",
+    }
+}
+
+impl Scene<'_, '_> {
+    /// What the machine shows of the task that runs, if one does.
+    pub fn running_at_end(&self) -> Result<Option<Running>, AllocError> {
+        let Some(turn) = turn_of(self.machine) else {
+            return Ok(None);
+        };
+        Ok(Some(Running {
+            turn,
+            ready: self.ready_text(turn.task)?,
+            changers: self.changers_text()?,
+            is_one_over: any_ended(self.machine),
+        }))
+    }
+
+    /// How many of the last steps were in a part of the code.
+    fn steps_in(&self, lap: &Lap) -> u64 {
+        let mut steps = 0u64;
+        for back in 0..RECENT {
+            let step = self.course.steps.saturating_sub(back as u64);
+            let is_in = match self.course.visit_at(step) {
+                None => lap.has_softint && step > 0,
+                Some(turn) => lap.has(turn),
+            };
+            if !is_in {
+                return steps;
+            }
+            steps = steps.saturating_add(1);
+        }
+        steps
+    }
+
+    /// What the last steps did, each of which was one of a task or a software interrupt.
+    fn recent_lap(&self) -> Result<Lap, AllocError> {
+        let mut lap = Lap::new(self.alloc);
+        for back in 0..RECENT {
+            match self
+                .course
+                .visit_at(self.course.steps.saturating_sub(back as u64))
+            {
+                None => lap.has_softint = true,
+                Some(turn) => {
+                    if let Some(command) = self.course.command(turn) {
+                        lap.add(turn, command.word)?;
+                    }
+                }
+            }
+        }
+        Ok(lap)
+    }
+
+    /// The part of a task's code that was run, in words.
+    fn stretch_text(&self, page: &Page<'_>, stretch: &Stretch) -> Result<String, AllocError> {
+        let name = self.name(stretch.task);
+        let first = Spot::of_task(stretch.task, stretch.first).number_in(page.listing);
+        let last = Spot::of_task(stretch.task, stretch.last).number_in(page.listing);
+        if first == last {
+            return format!(in self.alloc; "\"{name}\", line {first}");
+        }
+        format!(in self.alloc; "\"{name}\", lines {first} to {last}")
+    }
+
+    /// The parts of the tasks' code that were run, in words, in the order of the tasks.
+    fn stretches_text(&self, page: &Page<'_>, lap: &Lap) -> Result<String, AllocError> {
+        let mut text = String::new(self.alloc);
+        let count = lap.stretches.len();
+        let last = if count > MOST_NAMED {
+            MOST_NAMED
+        } else {
+            count.saturating_sub(1)
+        };
+        let mut number = 0usize;
+        for task in 0..self.machine.view().tasks {
+            for stretch in lap.stretches.iter() {
+                if stretch.task == task && number < MOST_NAMED {
+                    text.push_str(joint(number, last))?;
+                    text.push_str(self.stretch_text(page, stretch)?.as_str())?;
+                    number = number.saturating_add(1);
+                }
+            }
+        }
+        if count > MOST_NAMED {
+            let more = count.saturating_sub(MOST_NAMED);
+            let unit = if more == 1 { "task" } else { "tasks" };
+            text.push_str(format!(in self.alloc; ", and {more} more {unit}")?.as_str())?;
+        }
+        if lap.has_softint {
+            text.push_str(", and in software interrupts")?;
+        }
+        Ok(text)
+    }
+
+    /// Adds that tasks run without end, if that many steps were all in a lap, or else that they may.
+    fn add_loop<'a>(
+        &self,
+        page: &mut Page<'a>,
+        running: &Running,
+        lap: &Lap,
+        sure: Option<u64>,
+    ) -> Result<(), AllocError> {
+        let alloc = self.alloc;
+        let effect = match sure {
+            None => "",
+            Some(_) => effect_of(lap),
+        };
+        let steps = grouped(alloc, sure.unwrap_or(RECENT as u64))?;
+        let parts = self.stretches_text(page, lap)?;
+        let (parts, ready) = (parts.as_str(), running.ready.as_str());
+        let changers = running.changers.as_str();
+        let until = if changers.is_empty() {
+            String::new(alloc)
+        } else {
+            format!(in alloc; "; only {changers} may change that")?
+        };
+        let reason = format!(in alloc;
+            "the last {steps} steps were all in {parts}{effect}{until}{ready}"
+        )?;
+        let spot = Spot::of_task(running.turn.task, running.turn.place);
+        page.warn(spot, header_of(lap, sure.is_some()), reason.as_str())
+    }
+
+    /// Adds that the events end while a task runs, if no task has ended.
+    fn add_early_end<'a>(&self, page: &mut Page<'a>, running: &Running) -> Result<(), AllocError> {
+        if running.is_one_over {
+            return Ok(());
+        }
+        let turn = running.turn;
+        let count = self.course.steps;
+        let steps = grouped(self.alloc, count)?;
+        let unit = if count == 1 { "step" } else { "steps" };
+        let ready = running.ready.as_str();
+        let (place, state) = if self.course.command(turn).is_none() && turn.place == 0 {
+            (0, "its code has no command, and it ends at its next step")
+        } else if self.course.command(turn).is_none() {
+            (
+                turn.place.saturating_sub(1),
+                "was its last command, and the task ends at its next step",
+            )
+        } else if self.course.has_done(turn) {
+            (turn.place, "comes next once more")
+        } else {
+            (turn.place, "comes next")
+        };
+        let reason = format!(in self.alloc;
+            "{state}, but the events end after {steps} {unit}, and no task has ended; ask for more{ready}"
+        )?;
+        let header = "warning: the events end while the task runs";
+        page.warn(Spot::of_task(turn.task, place), header, reason.as_str())
+    }
+
+    /// Adds what there is to say of the task that runs, and of the steps that bring the machine back to what it shows, if some do.
+    pub fn add_running<'a>(
+        &self,
+        page: &mut Page<'a>,
+        running: &Running,
+        lap: Option<Lap>,
+    ) -> Result<(), AllocError> {
+        if let Some(lap) = lap {
+            let steps = self.steps_in(&lap);
+            if steps > 0 {
+                return self.add_loop(page, running, &lap, Some(steps));
+            }
+        }
+        if self.course.steps.saturating_sub(self.course.fresh) >= RECENT as u64 {
+            let lap = self.recent_lap()?;
+            return self.add_loop(page, running, &lap, None);
+        }
+        self.add_early_end(page, running)
+    }
 }

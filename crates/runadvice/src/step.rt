@@ -1,15 +1,24 @@
-//! Which command a step is, and what it set.
+//! Which command was done, when, and what it set.
+use crate::page::Spot;
+use std::alloc::{AllocError, Global};
 use taskscript::{PlainWord, Word};
 
-/// A command that a task has done.
+/// When something was done in a run.
+#[derive(Clone, Copy, Debug, PartialEq, Eq)]
+pub enum When {
+    /// In the step of this number, from 1.
+    Step(u64),
+    /// In the tick of this number, from 1.
+    Tick(u64),
+    /// In a request of an interrupt, after that many steps.
+    Request(u64),
+}
+
+/// A command that was done.
 #[derive(Clone, Copy, Debug, PartialEq, Eq)]
 pub struct Site {
-    /// The number of the task, from 0.
-    pub task: usize,
-    /// The place of the command in its code, from 0.
-    pub place: usize,
-    /// The number of the step, from 1.
-    pub step: u64,
+    pub spot: Spot,
+    pub when: When,
 }
 
 /// What a command has set a variable to.
@@ -20,12 +29,20 @@ pub struct Setting {
     pub value: u32,
 }
 
-/// What is about to be done: the next command of a task, and what its target holds before.
-#[derive(Clone, Copy, Debug)]
+/// What is about to be done: the next command of a task.
+#[derive(Clone, Copy, Debug, PartialEq, Eq)]
 pub struct Turn {
     pub task: usize,
     pub place: usize,
-    pub held: u32,
+}
+
+/// When something was done, in words.
+pub fn when_text(alloc: Global, when: When) -> Result<String, AllocError> {
+    match when {
+        When::Step(step) => format!(in alloc; "at step {step}"),
+        When::Tick(tick) => format!(in alloc; "at tick {tick}"),
+        When::Request(step) => format!(in alloc; "at a request of an interrupt after step {step}"),
+    }
 }
 
 /// Whether a word is a call, which prints a line.

@@ -1,10 +1,9 @@
 //! What variables and arguments hold.
-use execlist::link::LinkSpace;
-use execsim::Machine;
+use crate::scene::Linked;
 use taskscript::{Argument, Command, Variable};
 
 /// What a variable holds, as a task sees it; a body of an interrupt has shared variables alone, and no task.
-pub fn held_by(machine: &Machine<LinkSpace>, task: Option<usize>, variable: Variable) -> u32 {
+pub fn held_by(machine: &Linked, task: Option<usize>, variable: Variable) -> u32 {
     match variable {
         Variable::Shared(number) => machine
             .shared_variables()
@@ -24,7 +23,7 @@ pub fn held_by(machine: &Machine<LinkSpace>, task: Option<usize>, variable: Vari
 
 /// The value of an argument of a command, if it has one.
 pub fn value_of(
-    machine: &Machine<LinkSpace>,
+    machine: &Linked,
     task: Option<usize>,
     command: &Command,
     number: usize,

@@ -1,7 +1,7 @@
 //! What a task waits for, as the machine shows it.
-use crate::argument::{hex, object_at};
-use execlist::link::LinkSpace;
-use execsim::{Machine, ObjectView};
+use crate::argument::object_at;
+use crate::scene::Linked;
+use execsim::ObjectView;
 use std::alloc::{AllocError, Global};
 use taskq::{TaskState, Why};
 use taskscript::{PortWord, RequestWord, Word};
@@ -36,15 +36,14 @@ fn awaited_by(word: Word, value: u32, why: Why) -> Awaited {
         Why::Sem => Awaited::Semaphore(value),
         Why::Signals(mask) => match word {
             Word::Ports(PortWord::WaitPort) => Awaited::Message(value),
-            Word::Requests(RequestWord::DoIO) => Awaited::Request(value),
-            Word::Requests(RequestWord::WaitIO) => Awaited::Request(value),
+            Word::Requests(RequestWord::DoIO | RequestWord::WaitIO) => Awaited::Request(value),
             _ => Awaited::Signals(mask),
         },
     }
 }
 
 /// What a task waits for, if it does.
-pub fn wait_of(machine: &Machine<LinkSpace>, task: usize) -> Option<Waiter> {
+pub fn wait_of(machine: &Linked, task: usize) -> Option<Waiter> {
     let view = machine.task(task)?;
     let why = match view.state {
         TaskState::Waiting(why) => why,
@@ -60,7 +59,7 @@ pub fn wait_of(machine: &Machine<LinkSpace>, task: usize) -> Option<Waiter> {
 }
 
 /// The semaphore's owner, if a task waits for one that is owned.
-pub fn owner_awaited(machine: &Machine<LinkSpace>, task: usize) -> Option<usize> {
+pub fn owner_awaited(machine: &Linked, task: usize) -> Option<usize> {
     match wait_of(machine, task)?.awaited {
         Awaited::Semaphore(address) => match object_at(machine, address)? {
             ObjectView::Semaphore(semaphore) => semaphore.owner,
@@ -77,32 +76,17 @@ fn signals_text(alloc: Global, mask: u32) -> Result<String, AllocError> {
     }
     if mask.count_ones() == 1 {
         let number = mask.trailing_zeros();
-        let shown = hex(alloc, mask)?;
-        return format!(in alloc; "signal {number} ({shown})");
+        return format!(in alloc; "signal {number} (${mask:08X})");
     }
-    let shown = hex(alloc, mask)?;
-    format!(in alloc; "a signal of {shown}")
+    format!(in alloc; "a signal of ${mask:08X}")
 }
 
 /// What a task waits for in words.
-///
-/// # Errors
-///
-/// When memory is refused.
 pub fn awaited_text(alloc: Global, awaited: Awaited) -> Result<String, AllocError> {
     match awaited {
         Awaited::Signals(mask) => signals_text(alloc, mask),
-        Awaited::Message(address) => {
-            let shown = hex(alloc, address)?;
-            format!(in alloc; "a message at port {shown}")
-        }
-        Awaited::Semaphore(address) => {
-            let shown = hex(alloc, address)?;
-            format!(in alloc; "semaphore {shown}")
-        }
-        Awaited::Request(address) => {
-            let shown = hex(alloc, address)?;
-            format!(in alloc; "request {shown}")
-        }
+        Awaited::Message(address) => format!(in alloc; "a message at port ${address:08X}"),
+        Awaited::Semaphore(address) => format!(in alloc; "semaphore ${address:08X}"),
+        Awaited::Request(address) => format!(in alloc; "request ${address:08X}"),
     }
 }

@@ -1,14 +1,17 @@
 //! What is said of each task that waits when the events end.
-use crate::argument::hex;
-use crate::course::Course;
-use crate::deadlock::{add_deadlock, circle_of};
+use crate::argument::{grouped, hex, object_at};
 use crate::page::{Mark, Page, Spot};
+use crate::scene::{Linked, Scene};
+use crate::step::Turn;
 use crate::wait::{Awaited, Waiter, awaited_text, owner_awaited, wait_of};
-use execcheck::Owner;
-use execlist::link::LinkSpace;
-use execsim::Machine;
+use crate::wakers::ticks_text;
+use execsim::ObjectView;
+use msgport::action::PortAction;
 use std::alloc::{AllocError, Global};
 use taskq::TaskState;
+
+/// How many ticks an event text has at most.
+const MOST_TICKS: u64 = 1_000_000;
 
 /// How sure it is that a wait is not meant.
 #[derive(Clone, Copy, Debug, PartialEq, Eq)]
@@ -29,106 +32,55 @@ struct Verdict {
     end: String,
 }
 
-/// Whether no task runs and none is ready.
-pub fn is_idle(machine: &Machine<LinkSpace>) -> bool {
-    machine.view().running.is_none() && machine.ready_after(None).is_none()
-}
-
-/// Whether nothing but a task can wake another one: no interrupt has code, and no request was begun.
-fn is_alone(course: &Course<'_>) -> bool {
-    course.file.servers().is_empty() && course.file.softints().is_empty() && !course.has_requests
-}
-
-/// Of a wait for a semaphore.
-fn of_semaphore(
-    alloc: Global,
-    machine: &Machine<LinkSpace>,
-    waiter: &Waiter,
-) -> Result<Verdict, AllocError> {
-    let Some(owner) = owner_awaited(machine, waiter.task) else {
-        let end = format!(in alloc; ", which is free")?;
-        return Ok(Verdict {
-            level: Level::Noted,
-            end,
-        });
-    };
-    let name = machine.task_name(owner).unwrap_or("");
-    let state = match machine.task(owner) {
-        None => TaskState::Absent,
-        Some(view) => view.state,
-    };
-    match state {
-        TaskState::Removed => Ok(Verdict {
-            level: Level::Forever,
-            end: format!(in alloc; ", whose owner, task \"{name}\", has ended")?,
-        }),
-        TaskState::Waiting(_) => Ok(Verdict {
-            level: if is_idle(machine) {
-                Level::Warned
-            } else {
-                Level::Noted
-            },
-            end: format!(in alloc; ", whose owner, task \"{name}\", waits too")?,
-        }),
-        _ => Ok(Verdict {
-            level: Level::Noted,
-            end: format!(in alloc; ", which task \"{name}\" owns")?,
-        }),
+impl Verdict {
+    fn new(alloc: Global, level: Level, end: &str) -> Result<Verdict, AllocError> {
+        let end = String::from_str(alloc, end)?;
+        Ok(Verdict { level, end })
     }
 }
 
-/// What would end a wait while no task runs.
-fn idle_end(course: &Course<'_>, awaited: Awaited) -> &'static str {
-    match awaited {
-        Awaited::Request(_) => "; only a tick ends it, and the events have no more",
-        _ => {
-            if is_alone(course) {
-                "; no task is left that can run, and no interrupt does anything"
-            } else {
-                "; no task is left that can run, so only an interrupt can end it"
+/// Why no message and no reply wakes a task that waits at a port, if none does.
+fn mute_text(machine: &Linked, awaited: Awaited) -> &'static str {
+    let port = match awaited {
+        Awaited::Message(port) => port,
+        Awaited::Request(request) => match object_at(machine, request) {
+            Some(ObjectView::Request(request)) => request.port,
+            _ => 0,
+        },
+        _ => 0,
+    };
+    match object_at(machine, port) {
+        Some(ObjectView::Port(port)) => match port.action {
+            PortAction::Signal => "",
+            PortAction::Ignore => "; PortIgnore has set its port to wake nobody",
+            PortAction::Cause(_) => {
+                "; PortCause has set its port to cause a software interrupt, and to wake nobody"
             }
-        }
+        },
+        _ => "",
     }
 }
 
-/// Of a wait for a signal, a message or a request.
-fn of_signal(
-    alloc: Global,
-    machine: &Machine<LinkSpace>,
-    course: &Course<'_>,
-    waiter: &Waiter,
-) -> Result<Verdict, AllocError> {
-    if waiter.awaited == Awaited::Signals(0) {
-        return Ok(Verdict {
-            level: Level::Forever,
-            end: format!(in alloc; ", so nothing ends it")?,
-        });
+/// Of a wait that only an interrupt could end, since no task is left that can run.
+fn of_idle(alloc: Global, wakers: &str) -> Result<Verdict, AllocError> {
+    if wakers.is_empty() {
+        let end =
+            "; nothing can end it: no task is left that can run, and no interrupt and no request can wake one";
+        return Verdict::new(alloc, Level::Forever, end);
     }
-    if !is_idle(machine) {
-        return Ok(Verdict {
-            level: Level::Noted,
-            end: String::new(alloc),
-        });
-    }
-    if course.has_done(waiter.task, waiter.place) {
-        return Ok(Verdict {
-            level: Level::Noted,
-            end: format!(in alloc;
-                "; the task was here before, went on and came back, so it may serve others"
-            )?,
-        });
-    }
-    let is_request = matches!(waiter.awaited, Awaited::Request(_));
-    let level = if is_alone(course) && !is_request {
-        Level::Forever
+    let end = format!(in alloc; "; no task is left that can run, so only {wakers} can end it")?;
+    let level = Level::Warned;
+    Ok(Verdict { level, end })
+}
+
+/// Of a wait in a call that the task has done before, as one does that serves others.
+fn of_server(alloc: Global, awaited: Awaited, wakers: &str) -> Result<Verdict, AllocError> {
+    let end = if wakers.is_empty() && !matches!(awaited, Awaited::Request(_)) {
+        "; the task was here before, went on and came back, so it may serve others; nothing is left that can wake it"
     } else {
-        Level::Warned
+        "; the task was here before, went on and came back, so it may serve others"
     };
-    let end = idle_end(course, waiter.awaited);
-    Ok(Verdict {
-        level,
-        end: format!(in alloc; "{end}")?,
-    })
+    Verdict::new(alloc, Level::Noted, end)
 }
 
 /// The signals that a task has received and does not wait for, as the end of a sentence.
@@ -149,52 +101,125 @@ fn header_of(level: Level) -> &'static str {
     }
 }
 
-/// Adds what there is to say of a task that waits and is in no circle.
-fn add_waiter<'a>(
-    alloc: Global,
-    page: &mut Page<'a>,
-    machine: &Machine<LinkSpace>,
-    course: &Course<'_>,
-    waiter: &Waiter,
-) -> Result<(), AllocError> {
-    let verdict = match waiter.awaited {
-        Awaited::Semaphore(_) => of_semaphore(alloc, machine, waiter)?,
-        _ => of_signal(alloc, machine, course, waiter)?,
-    };
-    let awaited = awaited_text(alloc, waiter.awaited)?;
-    let received = received_text(alloc, waiter)?;
-    let end = verdict.end.as_str();
-    let reason = format!(in alloc; "waits for {awaited}{end}{received}")?;
-    let spot = Spot {
-        owner: Owner::Task,
-        item: waiter.task,
-        place: waiter.place,
-    };
-    if verdict.level != Level::Noted {
-        page.warns = true;
+impl Scene<'_, '_> {
+    /// Whether no task runs and none is ready.
+    fn is_idle(&self) -> bool {
+        self.machine.view().running.is_none() && self.machine.ready_after(None).is_none()
     }
-    let header = header_of(verdict.level);
-    page.add(alloc, spot, Mark::Word, header, reason.as_str())
-}
 
-/// Adds what there is to say of each task that waits.
-///
-/// # Errors
-///
-/// When memory is refused.
-pub fn add_waits<'a>(
-    alloc: Global,
-    page: &mut Page<'a>,
-    machine: &Machine<LinkSpace>,
-    course: &Course<'_>,
-) -> Result<(), AllocError> {
-    for task in 0..machine.view().tasks {
-        if let Some(waiter) = wait_of(machine, task) {
-            match circle_of(alloc, machine, task)? {
-                None => add_waiter(alloc, page, machine, course, &waiter)?,
-                Some(circle) => add_deadlock(alloc, page, machine, &circle, &waiter)?,
-            }
+    /// Warned if no task runs and none is ready.
+    fn level(&self) -> Level {
+        if self.is_idle() {
+            Level::Warned
+        } else {
+            Level::Noted
         }
     }
-    Ok(())
+
+    /// Of a wait for a semaphore.
+    fn of_semaphore(&self, waiter: &Waiter) -> Result<Verdict, AllocError> {
+        let Some(owner) = owner_awaited(self.machine, waiter.task) else {
+            return Verdict::new(self.alloc, Level::Noted, ", which is free");
+        };
+        let name = self.name(owner);
+        let state = match self.machine.task(owner) {
+            None => TaskState::Absent,
+            Some(view) => view.state,
+        };
+        let (level, end) = match state {
+            TaskState::Removed => (Level::Forever, "has ended"),
+            TaskState::Waiting(_) => (self.level(), "waits too"),
+            _ => {
+                let end = format!(in self.alloc; ", which task \"{name}\" owns")?;
+                let level = Level::Noted;
+                return Ok(Verdict { level, end });
+            }
+        };
+        let end = format!(in self.alloc; ", whose owner, task \"{name}\", {end}")?;
+        Ok(Verdict { level, end })
+    }
+
+    /// When a request is done that a task waits for, as the end of a sentence.
+    fn request_end(&self, request: u32) -> Result<String, AllocError> {
+        let alloc = self.alloc;
+        let Some(ticks) = self.ticks_left(request) else {
+            return format!(in alloc; ", which a tick ends");
+        };
+        let shown = ticks_text(alloc, ticks)?;
+        let more = if ticks > MOST_TICKS {
+            let most = grouped(alloc, MOST_TICKS)?;
+            format!(in alloc; ", and an event text has at most {most}")?
+        } else if self.is_idle() {
+            format!(in alloc; "; the events have no more ticks")?
+        } else {
+            String::new(alloc)
+        };
+        format!(in alloc; ", which is done in {shown}{more}")
+    }
+
+    /// Of a wait for a signal, a message or a request.
+    fn of_signal(&self, waiter: &Waiter, wakers: &str) -> Result<Verdict, AllocError> {
+        if waiter.awaited == Awaited::Signals(0) {
+            return Verdict::new(self.alloc, Level::Forever, ", so nothing ends it");
+        }
+        let turn = Turn {
+            task: waiter.task,
+            place: waiter.place,
+        };
+        let is_idle = self.is_idle();
+        if is_idle && self.course.has_done(turn) {
+            return of_server(self.alloc, waiter.awaited, wakers);
+        }
+        if let Awaited::Request(request) = waiter.awaited {
+            let end = self.request_end(request)?;
+            let level = self.level();
+            return Ok(Verdict { level, end });
+        }
+        if is_idle {
+            return of_idle(self.alloc, wakers);
+        }
+        Verdict::new(self.alloc, Level::Noted, "")
+    }
+
+    /// Adds what there is to say of a task that waits and is in no circle.
+    fn add_waiter<'a>(
+        &self,
+        page: &mut Page<'a>,
+        waiter: &Waiter,
+        wakers: &str,
+    ) -> Result<(), AllocError> {
+        let alloc = self.alloc;
+        let verdict = match waiter.awaited {
+            Awaited::Semaphore(_) => self.of_semaphore(waiter)?,
+            _ => self.of_signal(waiter, wakers)?,
+        };
+        let awaited = awaited_text(alloc, waiter.awaited)?;
+        let received = received_text(alloc, waiter)?;
+        let end = verdict.end.as_str();
+        let mute = mute_text(self.machine, waiter.awaited);
+        let reason = format!(in alloc; "waits for {awaited}{mute}{end}{received}")?;
+        if verdict.level != Level::Noted {
+            page.warns = true;
+        }
+        let spot = Spot::of_task(waiter.task, waiter.place);
+        page.add(spot, Mark::Word, header_of(verdict.level), reason.as_str())
+    }
+
+    /// Adds what there is to say of each task that waits.
+    pub fn add_waits<'a>(&self, page: &mut Page<'a>) -> Result<(), AllocError> {
+        let wakers = if self.is_idle() {
+            self.wakers_text()?
+        } else {
+            String::new(self.alloc)
+        };
+        for task in 0..self.machine.view().tasks {
+            if let Some(waiter) = wait_of(self.machine, task) {
+                match self.circle_of(task)? {
+                    None => self.add_waiter(page, &waiter, wakers.as_str())?,
+                    Some(circle) => self.add_deadlock(page, &circle, &waiter)?,
+                }
+            }
+        }
+        Ok(())
+    }
 }

@@ -1,5 +1,5 @@
 -- What follows from a schedule's being sound, and the schedules that calls on the tasks lead to.
-use Rattle.std.proofs.Common.{◌≡◌, ℕ, ◌<◌, zero, suc, Bool, true, false, cond, not, eqb, List, [], ◌∷◌, Option, Some, None, IfSome, length, slice_set, refl, sym, ap, ◌∙◌, arith}
+use Rattle.std.proofs.Common.{◌≡◌, ◌≢◌, ℕ, ◌<◌, zero, suc, Bool, true, false, cond, not, eqb, List, [], ◌∷◌, Option, Some, None, IfSome, length, slice_set, refl, sym, ap, ◌∙◌, arith}
 use Rattle.std.specs.Prelude.{ℤ, ◌&&◌}
 use Rattle.std.proofs.lemmas.Bool.{eq-eqb}
 use Rattle.std.proofs.lemmas.List.{set-get_or}
@@ -20,11 +20,11 @@ use Rattle.scheduler.specs.Sound.{IsSound, IsToReady, is_running, is_task}
 
 -- ---- the running task
 
--- a task in the state of running is one of the file
-known : (states : List TaskState) (t : ℕ) → is_running (state_at states t) ≡ true → t < length states
-known [] t e = cc
-known (x ∷ xs) zero e = omega arith
-known (x ∷ xs) (suc t) e = omega (arith, known xs t e)
+-- a task that is not absent is one of the file
+pub is_known : (states : List TaskState) (t : ℕ) → state_at states t ≢ Absent → t < length states
+is_known [] t present = absurd (present refl)
+is_known (x ∷ xs) zero present = omega arith
+is_known (x ∷ xs) (suc t) present = omega (arith, is_known xs t present)
 
 -- the test of the state of running
 runs : (v : TaskState) → is_running v ≡ true → v ≡ Running
@@ -40,17 +40,18 @@ is_running-runner : (states : List TaskState) (running : Option ℕ) (signals : 
 is_running-runner states running signals nestings r sound e =
     sound.one_runs r ∙ ap (λ o. is_task o r) e ∙ eq-eqb r r refl
 
--- the running task is one of the file
-pub runner_known : (states : List TaskState) (running : Option ℕ) (signals : List SignalSets) (nestings : List Nesting) (r : ℕ)
-    → IsSound states running signals nestings → running ≡ Some r → r < length states
-runner_known states running signals nestings r sound e =
-    known states r (is_running-runner states running signals nestings r sound e)
-
 -- the running task is in the state of running
 pub runner_runs : (states : List TaskState) (running : Option ℕ) (signals : List SignalSets) (nestings : List Nesting) (r : ℕ)
     → IsSound states running signals nestings → running ≡ Some r → state_at states r ≡ Running
 runner_runs states running signals nestings r sound e =
     runs (state_at states r) (is_running-runner states running signals nestings r sound e)
+
+-- the running task is one of the file
+pub runner_known : (states : List TaskState) (running : Option ℕ) (signals : List SignalSets) (nestings : List Nesting) (r : ℕ)
+    → IsSound states running signals nestings → running ≡ Some r → r < length states
+runner_known states running signals nestings r sound e =
+    let runs = runner_runs states running signals nestings r sound e in
+    is_known states r (λ absent. cc)
 
 -- the running task, if any, is one of the file
 pub running_known : (states : List TaskState) (running : Option ℕ) (signals : List SignalSets) (nestings : List Nesting)
@@ -83,17 +84,11 @@ switch_of-is s choice e = ap (λ o. switch_for s.running o s) e
 pub to_ready : (w : Option Switch) (t : ℕ) (states : List TaskState) → w ≡ Some (To t) → IsToReady w states → state_at states t ≡ Ready
 to_ready w t states e ready = rw e at ready
 
--- a ready task is one of the file
-ready_known : (states : List TaskState) (t : ℕ) → state_at states t ≡ Ready → t < length states
-ready_known [] t e = cc
-ready_known (x ∷ xs) zero e = omega arith
-ready_known (x ∷ xs) (suc t) e = omega (arith, ready_known xs t e)
-
 -- the task of a switch is one of the file
 pub to_known : (w : Option Switch) (states : List TaskState) → IsToReady w states → IsToOneOf w (length states)
 to_known None states ready = tt
 to_known (Some Idle) states ready = tt
-to_known (Some (To t)) states ready = ready_known states t ready
+to_known (Some (To t)) states ready = is_known states t (λ absent. cc)
 
 -- a task that begins to run takes the place of the running one
 pub begins-vacant : (t : ℕ) (s : Schedule) → begins t (record s { running = None }) ≡ begins t s
@@ -156,11 +151,12 @@ slept_at_semaphore s q t a b c d = ap (λ queue. record s { queue = queue; runni
 
 -- the tasks with the running one ready
 pub displaced_is : (s : Schedule) (q : Tasks) (r : ℕ) → s.running ≡ Some r
-    → q.ready ≡ enqueue (pri_at s.queue.pris) s.queue.ready r → q.states ≡ slice_set s.queue.states r Ready
-    → q.pris ≡ s.queue.pris → q.names ≡ s.queue.names
+    → q ≡ record s.queue { ready = enqueue (pri_at s.queue.pris) s.queue.ready r; states = slice_set s.queue.states r Ready }
     → record s { queue = q; running = None } ≡ record (displaced by_priority s.running s) { running = None }
-displaced_is s q r e a b c d =
-    ap (λ (x : Schedule). record x { running = None }) (arrived s q r a b c d ∙ ap (λ o. displaced by_priority o s) (sym e))
+unfolding arrives
+displaced_is s q r e put_back =
+    ap (λ queue. record s { queue = queue; running = None }) put_back
+    ∙ ap (λ (o : Option ℕ). record (displaced by_priority o s) { running = None }) (sym e)
 
 -- a task that is not among the ready ones leaves them as they are
 without_absent : (t : ℕ) (xs : List ℕ) → times t xs ≡ 0 → without t xs ≡ xs

@@ -3,10 +3,11 @@
 //! those of Forbid and Disable in `nesting`.
 #![tactic(auto)]
 
-ghost use Rattle.std.specs.Prelude.{◌≡◌, ◌≢◌, ℕ, ◌<◌, ◌≤◌, length, map, if◌then◌else◌, Some, None, IsTrue, IsSome, IfSome, IfOk};
+ghost use Rattle.std.specs.Prelude.{◌≡◌, ◌≢◌, ℕ, ◌<◌, ◌≤◌, length, slice_set, map, if◌then◌else◌, Some, None, IsTrue, IsSome, IfSome, IfOk};
 ghost use Rattle.execlist.specs.Lists.{times};
-ghost use Rattle.execlist.specs.Disciplines.{by_priority};
-ghost use Rattle.taskq.specs.Tasks.{is_live, is_ready};
+ghost use Rattle.execlist.specs.Order.{enqueue};
+ghost use Rattle.execlist.specs.Disciplines.{by_priority, pri_at};
+ghost use Rattle.taskq.specs.Tasks.{state_at, is_live, is_ready};
 ghost use Rattle.scheduler.specs.Schedule.{task_count, name_of, priority_of, status_of, unstarted, is_absent, leaves, removed, found};
 ghost use Rattle.scheduler.specs.Schedule.{switch_for, IsToOneOf, takes_over, begins, renewed, ticked};
 ghost use Rattle.scheduler.specs.Schedule.{waits_at_semaphore, is_at_semaphore};
@@ -108,6 +109,24 @@ impl<S: ListSpace> Sched<S> {
             idle: false,
             settled: false,
         })
+    }
+
+    /// Makes the schedule as `new` made it, with these names, first priorities and full quantum: of as many tasks as there are.
+    ///
+    /// Source: project rule.
+    pub fn reset(&mut self, tasks: &[TaskInit], quantum: u8)
+        requires { length tasks.now ≡ task_count self.old }
+        ensures { self.new ≡ unstarted (length tasks.now) (map (λ t. t.pri) tasks.now)
+            (map (λ t. t.name.bytes) tasks.now) quantum }
+    {
+        self.queue.reset(tasks);
+        self.running = None;
+        self.signals.fill(SigState::new());
+        self.nests.fill(Nest::new());
+        self.quantum = quantum;
+        self.left = 0;
+        self.idle = false;
+        self.settled = false;
     }
 
     /// Answers the running task, or none.
@@ -277,9 +296,9 @@ impl<S: ListSpace> Sched<S> {
     /// to.
     ///
     /// If no task runs, the first ready task does, and if there is none the machine is idle, which is
-    /// answered once. A running task that allows switching is expunged under low memory to a ready one of higher priority, and to
-    /// one of equal priority if its quantum has ended; it then is ready, after those of its priority. A
-    /// quantum that has ended otherwise begins anew. A task that begins to run has a full quantum.
+    /// answered once. A running task that allows switching is pre-empted by a ready one of higher priority, and by one of equal
+    /// priority if its quantum has ended; it then is ready, after those of its priority. A quantum that has ended
+    /// otherwise begins anew. A task that begins to run has a full quantum.
     ///
     /// Source: RKM Libraries, Exec Tasks: task scheduling. Project rule: when a quantum begins.
     pub fn reschedule(&mut self) -> Option<Switch>
@@ -414,7 +433,7 @@ impl<S: ListSpace> Sched<S> {
     {
         if let Some(r) = self.running {
             self.settled = false;
-            self.queue.make_ready(r);
+            put_back(&mut self.queue, r);
             self.running = None;
         }
     }
@@ -510,4 +529,16 @@ impl<S: ListSpace> Sched<S> {
             _ => false,
         }
     }
+}
+
+// Makes a running task ready, as one that arrives: after the ready ones of its priority.
+#[tactic(auto, using(crate::proofs::ScheduleLemmas::is_known))]
+fn put_back<S: ListSpace>(queue: &mut TaskQ<S>, r: TaskId)
+    requires { state_at queue.old.states r ≡ TaskState.Running }
+    ensures { queue.new ≡ record queue.old {
+      ready = enqueue (pri_at queue.old.pris) queue.old.ready r;
+      states = slice_set queue.old.states r TaskState.Ready;
+    } }
+{
+    queue.make_ready(r);
 }

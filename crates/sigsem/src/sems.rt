@@ -31,7 +31,7 @@ const FREE: Sem = Sem {
 
 /// Signal semaphores, and the tasks that wait at them.
 ///
-/// All room is made by `new`; no other call takes memory, and none looks at all semaphores or all tasks.
+/// All room is made by `new`; no other call takes memory, and none but `reset` looks at all semaphores or all tasks.
 /// RKM Libraries, Exec Semaphores.
 #[derive(Drop)]
 pub struct Sems<S: ListSpace> {
@@ -64,6 +64,16 @@ impl<S: ListSpace> Sems<S> {
             sems: numbers,
             waiters,
         })
+    }
+
+    /// Frees every semaphore, and no task waits, as `new` made them.
+    ///
+    /// Source: project rule.
+    pub fn reset(&mut self)
+        ensures { self.new ≡ no_sems (length self.old.sems.slots) (length self.old.places) }
+    {
+        self.sems.reset();
+        self.waiters.reset();
     }
 
     // ---- making and freeing

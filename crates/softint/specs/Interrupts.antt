@@ -74,6 +74,10 @@ chain source servers = order (server_pri servers) (filter (serves source servers
 abbrev pub quiet : List Soft → List Server → Interrupts
 quiet softs servers = record { priorities = map (λ (s : Soft). s.pri) softs; caused = []; latches = no_latches; servers = servers }
 
+-- no software interrupt is caused, and no source asks to be served
+abbrev pub hushed : Interrupts → Interrupts
+hushed m = record m { caused = []; latches = no_latches }
+
 -- ---- what the code keeps
 
 -- the items of some lists, one list after another

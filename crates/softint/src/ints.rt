@@ -3,7 +3,7 @@ ghost use Rattle.std.specs.Prelude.{◌≡◌, ◌<◌, ◌≤◌, length, slice
 ghost use Rattle.execlist.specs.Order.{first};
 ghost use Rattle.execlist.specs.Lists.{part_from};
 ghost use Rattle.softint.specs.Sources.{highest};
-ghost use Rattle.softint.specs.Interrupts.{IsPriority, quiet, causes, taken_off, raised, served, chain, header_pri};
+ghost use Rattle.softint.specs.Interrupts.{IsPriority, quiet, hushed, causes, taken_off, raised, served, chain, header_pri};
 ghost use Rattle.execlist.specs.Disciplines.{pri_at};
 
 use crate::caused::{IntId, PRIORITIES, caused_behind, first_caused, header_of};
@@ -17,7 +17,7 @@ use std::marker::Model;
 
 /// Which software interrupts are caused, which sources ask to be served, and which servers each source has.
 ///
-/// All room is made by `new`; no other call takes memory, and none looks at all software interrupts or all servers.
+/// All room is made by `new`; no other call takes memory, and none but `reset` looks at all software interrupts or all servers.
 /// RKM Libraries, Exec Interrupts.
 #[derive(Drop)]
 pub struct Ints<S: ListSpace> {
@@ -71,6 +71,17 @@ impl<S: ListSpace> Ints<S> {
             servers: own_servers,
             chains,
         })
+    }
+
+    /// Takes off every software interrupt that is caused and clears the latch of each source, as `new` made them.
+    ///
+    /// Source: project rule.
+    pub fn reset(&mut self)
+        ensures { self.new ≡ hushed self.old }
+    {
+        self.caused.reset();
+        self.some_caused = false;
+        self.latches = Latches::new();
     }
 
     // ---- software interrupts

@@ -130,6 +130,11 @@ pris_set keys ps t k lk lp e p =
     ap (take (t + 1)) (pris_written keys t k) ∙ take_more_set (pris_of keys) t k.pri (omega (arith, length-map keys (λ x. x.pri)))
     ∙ ap (λ l. l ++ k.pri ∷ []) e ∙ ap (λ x. take t ps ++ x ∷ []) p ∙ sym (take_more ps t (pos 0) lp)
 
+-- one more of a list is as in another one
+pub set_more : {A : Type 0} (xs ys : List A) (t : ℕ) (x d : A) → t < length xs → t < length ys → take t xs ≡ take t ys → x ≡ slice_index_or ys t d → take (t + 1) (slice_set xs t x) ≡ take (t + 1) ys
+set_more xs ys t x d lx ly e p =
+    take_more_set xs t x lx ∙ ap (λ l. l ++ x ∷ []) e ∙ ap (λ z. take t ys ++ z ∷ []) p ∙ sym (take_more ys t d ly)
+
 -- The first task that passes a test.
 
 find_from : (p : ℕ → Bool) (a n t : ℕ) → t < n → ((k : ℕ) → k < t → p (a + k) ≡ false) → p (a + t) ≡ true → find p (range_with_len a n) ≡ Some (a + t)

@@ -2,11 +2,11 @@
 //! A `TaskQ` knows the state, the priority and the name of each task, and which ready task is to run next.
 #![tactic(auto)]
 
-ghost use Rattle.std.specs.Prelude.{◌≡◌, ◌≢◌, ℕ, ◌<◌, ◌≤◌, List, [], Option, Some, None, length, replicate, slice_set, map, find, true, IfOk, IfSome, IsTrue, if◌then◌else◌};
+ghost use Rattle.std.specs.Prelude.{◌≡◌, ◌≢◌, ℕ, ◌<◌, ◌≤◌, List, [], ◌∷◌, Option, Some, None, length, replicate, slice_set, map, find, true, IfOk, IfSome, IsTrue, if◌then◌else◌};
 ghost use Rattle.std.specs.List.{range_with_len};
 ghost use Rattle.execlist.specs.Order.{enqueue, first, without};
 ghost use Rattle.execlist.specs.Lists.{part_after, part_from, times};
-ghost use Rattle.taskq.specs.Tasks.{state_at, name_at, is_ready, is_live, is_live_named};
+ghost use Rattle.taskq.specs.Tasks.{state_at, name_at, is_ready, is_live, is_live_named, pris_of};
 ghost use Rattle.execlist.specs.Disciplines.{pri_at};
 
 use execlist::key::Name;
@@ -91,14 +91,28 @@ impl<S: ListSpace> TaskQ<S> {
         let mut space = S::new(alloc, 1, tasks.len())?;
         let states = Vec::from_elem(alloc, TaskState::Absent, tasks.len())?;
         let names = names_of(alloc, tasks)?;
-        for t in 0..tasks.len() {
-            space.set_key(t, tasks[t].pri, None);
-        }
+        set_pris(&mut space, tasks);
         Ok(TaskQ {
             space,
             states,
             names,
         })
+    }
+
+    /// Makes the tasks absent, with these names and priorities, as `new` made them: as many as there are, in the order given.
+    ///
+    /// Source: project rule.
+    pub fn reset(&mut self, tasks: &[TaskInit])
+        requires { length tasks.now ≡ length self.old.states }
+        ensures ready { self.new.ready ≡ [] }
+        ensures states { self.new.states ≡ replicate (length tasks.now) TaskState.Absent }
+        ensures pris { self.new.pris ≡ map (λ t. t.pri) tasks.now }
+        ensures names { self.new.names ≡ map (λ t. t.name.bytes) tasks.now }
+    {
+        self.space.reset();
+        set_pris(&mut self.space, tasks);
+        self.states.fill(TaskState::Absent);
+        set_names(&mut self.names, tasks);
     }
 
     /// Answers the task that is to run next, which stays ready, or none if no task is ready.
@@ -287,4 +301,27 @@ fn names_of(alloc: Global, tasks: &[TaskInit]) -> Result<Vec<Name>, AllocError>
         names.push(task.name)?;
     }
     Ok(names)
+}
+
+/// Gives the tasks, none of which is ready, their priorities.
+fn set_pris<S: ListSpace>(space: &mut S, tasks: &[TaskInit])
+    requires empty { S.sequences space.old ≡ [] ∷ [] }
+    requires unlinked { S.homes space.old ≡ replicate (length tasks.now) None }
+    ensures empty { S.sequences space.new ≡ [] ∷ [] }
+    ensures unlinked { S.homes space.new ≡ replicate (length tasks.now) None }
+    ensures pris { pris_of (S.keys space.new) ≡ map (λ t. t.pri) tasks.now }
+{
+    for t in 0..tasks.len() {
+        space.set_key(t, tasks[t].pri, None);
+    }
+}
+
+/// Gives the tasks other names.
+fn set_names(names: &mut Vec<Name>, tasks: &[TaskInit])
+    requires { length tasks.now ≡ length names.old.items }
+    ensures { names.new.items ≡ map (λ t. t.name) tasks.now }
+{
+    for t in 0..tasks.len() {
+        names[t] = tasks[t].name;
+    }
 }

@@ -7,12 +7,13 @@ use Rattle.toml.specs.Data.{Members}
 use Rattle.taskscript.specs.declared.event.Event.{Event}
 use Rattle.taskscript.specs.declared.fault.EventFault.{EventFault}
 use Rattle.taskscript.specs.declared.fault.EventFault.TheVariants.{TooMany}
-use Rattle.taskscript.specs.declared.fault.FileFault.{FileFault}
+use Rattle.taskscript.specs.declared.refused.Refused.{Refused}
 use Rattle.taskscript.specs.Events.{event_of, is_skipped, events_of, is_within, fault_by, event_line_faults, event_faults as line_by_line, text_lines, script_of, turns, AreWithin}
 use Rattle.execlist.specs.Order.{first}
 use Rattle.execlist.specs.Answers.{fault_or}
-use Rattle.taskscript.specs.File.{MachineData, faults, machine_of, file_of_document, file_of}
+use Rattle.taskscript.specs.File.{MachineData, refusals, machine_of, placed_file_of_document, placed_file_of, file_of}
 use Rattle.taskscript.specs.Machines.{IsMachine}
+use Rattle.taskscript.specs.Places.{without_place}
 use Rattle.taskscript.specs.Tree.{document_of}
 use Rattle.taskscript.proofs.EventSizes.{events_some}
 use Rattle.taskscript.proofs.EventTurns.{events_push}
@@ -21,16 +22,16 @@ use Rattle.taskscript.proofs.Machines.{machine_holds}
 
 -- ---- machine files
 
-of_tree : (tree : Members) (m : MachineData) (fault : Option FileFault) → first (faults tree) ≡ fault → fault_or fault (machine_of tree) ≡ Ok m → IsMachine m
+of_tree : (tree : Members) (m : MachineData) (fault : Option Refused) → first (refusals tree) ≡ fault → without_place (fault_or fault (machine_of tree)) ≡ Ok m → IsMachine m
 of_tree tree m None none is = let same : machine_of tree ≡ m = cc in subst (λ (x : MachineData). IsMachine x) same (machine_holds tree none)
 of_tree tree m (Some f) some is = absurd cc
 
-of_document : (document : Option Members) (m : MachineData) → file_of_document document ≡ Ok m → IsMachine m
+of_document : (document : Option Members) (m : MachineData) → without_place (placed_file_of_document document) ≡ Ok m → IsMachine m
 of_document None m is = absurd cc
-of_document (Some tree) m is = of_tree tree m (first (faults tree)) refl is
+of_document (Some tree) m is = of_tree tree m (first (refusals tree)) refl is
 
 pub accepted_machine : (bytes : List ℕ) (m : MachineData) → file_of bytes ≡ Ok m → IsMachine m
-unfolding file_of
+unfolding file_of placed_file_of
 accepted_machine bytes m is = of_document (document_of bytes) m is
 
 -- ---- event texts

@@ -17,13 +17,17 @@ use Rattle.taskscript.specs.Commands.{ArgumentData, CommandData, command_view}
 use Rattle.execlist.specs.Order.{first}
 use Rattle.taskscript.specs.Faults.{check, Judges}
 use Rattle.taskscript.specs.Interrupting.{Setting, may_stand, names_softints}
-use Rattle.taskscript.specs.Labels.{Mark, place_in, place_at, are_marked, jump_faults_in}
+use Rattle.taskscript.specs.Labels.{Mark, place_in, place_at, are_marked, jump_faults_in, jumps_faults_in}
 use Rattle.taskscript.specs.Lines.{NamedVariableData, NamedArgumentData, number, variable, label, quoted, NamedCommandData, LineData, label_line, command_line}
 use Rattle.taskscript.specs.Numbering.{Names, names_after, variable_in, is_within, argument_in, command_in, variables_of, labels_of_arguments, have_room}
-use Rattle.taskscript.specs.Code.{line_in, lines_in, command_said, label_said, commands_of, labels_of, is_label_of, place_of, names_of, line_faults, lines_faults, jump_faults, body_faults, code_of, shared_after}
+use Rattle.taskscript.specs.Code.{line_in, lines_in, command_said, label_said, commands_of, labels_of, is_label_of, place_of, names_of, line_faults, lines_faults, jump_faults, jumps_said, jumps_faults, body_faults, code_of, shared_after}
+use Rattle.taskscript.specs.declared.place.Owner.{Owner}
+use Rattle.taskscript.specs.declared.refused.Refused.{Refused}
+use Rattle.taskscript.specs.Listings.{number_said, command_lines_from, command_lines}
 use Rattle.taskscript.specs.Meaning.{says}
+use Rattle.taskscript.specs.Places.{at, line_at, refused}
 use Rattle.taskscript.specs.Bodies.{Reading, nothing_read, reading_with, reading_after, said_faults, faults_after}
-use Rattle.taskscript.proofs.Firsts.{first_none, first_some, first_left, first_right}
+use Rattle.taskscript.proofs.Firsts.{first_none, first_some, first_left, first_right, at_none, at_some, none_at}
 use Rattle.taskscript.proofs.FirstSight.{room_whole}
 use Rattle.taskscript.proofs.Turns.{names_after-append}
 
@@ -49,29 +53,30 @@ marked (m ∷ marks) n = either (bytes_eq n m.name) m.place (place_in marks n) (
 
 -- ---- faults
 
-faults_step : (s : Setting) (r : Reading) (whole : Names) (others : List (List ℕ)) (o : Option LineData)
-    → ((q : Reading) → names_after q.names (variables_left others) ≡ whole → faults_after s q others ≡ lines_faults s whole (mark_names q.marks) others)
+faults_step : (w : Owner) (j n : ℕ) (s : Setting) (r : Reading) (whole : Names) (others : List (List ℕ)) (o : Option LineData)
+    → ((q : Reading) → names_after q.names (variables_left others) ≡ whole → faults_after w j (n + 1) s q others ≡ lines_faults w j (n + 1) s whole (mark_names q.marks) others)
     → names_after r.names (flat_map variables_of (cons_option (command_said o) (commands_of others))) ≡ whole
-    → said_faults s r o ++ faults_after s (reading_with r o) others
-    ≡ line_faults s whole (mark_names r.marks) o ++ lines_faults s whole (mark_names r.marks ++ cons_option (label_said o) []) others
-faults_step s r whole others None rest h =
-    ap (λ (fs : List FileFault). BadCommand ∷ fs) (rest r h ∙ ap (λ (ns : List (List ℕ)). lines_faults s whole ns others) (sym (append-nil (mark_names r.marks))))
-faults_step s r whole others (Some (label_line n)) rest h =
+    → at (line_at w j n) (said_faults s r o) ++ faults_after w j (n + 1) s (reading_with r o) others
+    ≡ at (line_at w j n) (line_faults s whole (mark_names r.marks) o) ++ lines_faults w j (n + 1) s whole (mark_names r.marks ++ cons_option (label_said o) []) others
+faults_step w j n s r whole others None rest h =
+    ap (λ (fs : List Refused). refused (line_at w j n) BadCommand ∷ fs) (rest r h ∙ ap (λ (ns : List (List ℕ)). lines_faults w j (n + 1) s whole ns others) (sym (append-nil (mark_names r.marks))))
+faults_step w j n s r whole others (Some (label_line name)) rest h =
     let here = check (not s.of_interrupt) NotInInterrupt in
-    ap (λ (b : Bool). (here ++ check (not b) BadLabel) ++ faults_after s (reading_with r (Some (label_line n))) others) (marked r.marks n)
-    ∙ ap (λ (fs : List FileFault). (here ++ check (not (list_any (bytes_eq n) (mark_names r.marks))) BadLabel) ++ fs)
-    (rest (reading_with r (Some (label_line n))) h ∙ ap (λ (ns : List (List ℕ)). lines_faults s whole ns others) (map_push (λ (m : Mark). m.name) r.marks (mark n (length r.commands))))
-faults_step s r whole others (Some (command_line c)) rest h =
+    ap (λ (b : Bool). at (line_at w j n) (here ++ check (not b) BadLabel) ++ faults_after w j (n + 1) s (reading_with r (Some (label_line name))) others) (marked r.marks name)
+    ∙ ap (λ (fs : List Refused). at (line_at w j n) (here ++ check (not (list_any (bytes_eq name) (mark_names r.marks))) BadLabel) ++ fs)
+    (rest (reading_with r (Some (label_line name))) h ∙ ap (λ (ns : List (List ℕ)). lines_faults w j (n + 1) s whole ns others) (map_push (λ (m : Mark). m.name) r.marks (mark name (length r.commands))))
+faults_step w j n s r whole others (Some (command_line c)) rest h =
     let room : have_room r.names (variables_of c) ≡ list_all (λ v. is_within (variable_in whole v)) (variables_of c) =
-    room_whole r.names (variables_of c) (variables_left others) ∙ ap (λ (n : Names). list_all (λ v. is_within (variable_in n v)) (variables_of c)) h in
+    room_whole r.names (variables_of c) (variables_left others) ∙ ap (λ (names : Names). list_all (λ v. is_within (variable_in names v)) (variables_of c)) h in
     let q = reading_with r (Some (command_line c)) in
-    ap (λ (b : Bool). (check (names_softints s c) BadCommand ++ (check (may_stand s c) NotInInterrupt ++ check b TooMany)) ++ faults_after s q others) room
-    ∙ ap (λ (fs : List FileFault). line_faults s whole (mark_names r.marks) (Some (command_line c)) ++ fs)
-    (rest q (sym (names_after-append r.names (variables_of c) (variables_left others)) ∙ h) ∙ ap (λ (ns : List (List ℕ)). lines_faults s whole ns others) (sym (append-nil (mark_names r.marks))))
+    ap (λ (b : Bool). at (line_at w j n) (check (names_softints s c) BadCommand ++ (check (may_stand s c) NotInInterrupt ++ check b TooMany)) ++ faults_after w j (n + 1) s q others) room
+    ∙ ap (λ (fs : List Refused). at (line_at w j n) (line_faults s whole (mark_names r.marks) (Some (command_line c))) ++ fs)
+    (rest q (sym (names_after-append r.names (variables_of c) (variables_left others)) ∙ h) ∙ ap (λ (ns : List (List ℕ)). lines_faults w j (n + 1) s whole ns others) (sym (append-nil (mark_names r.marks))))
 
-pub faults_whole : (s : Setting) (r : Reading) (whole : Names) (lines : List (List ℕ)) → names_after r.names (variables_left lines) ≡ whole → faults_after s r lines ≡ lines_faults s whole (mark_names r.marks) lines
-faults_whole s r whole [] h = refl
-faults_whole s r whole (line ∷ others) h = faults_step s r whole others (says line) (λ q k. faults_whole s q whole others k) h
+pub faults_whole : (w : Owner) (j n : ℕ) (s : Setting) (r : Reading) (whole : Names) (lines : List (List ℕ)) → names_after r.names (variables_left lines) ≡ whole
+    → faults_after w j n s r lines ≡ lines_faults w j n s whole (mark_names r.marks) lines
+faults_whole w j n s r whole [] h = refl
+faults_whole w j n s r whole (line ∷ others) h = faults_step w j n s r whole others (says line) (λ q k. faults_whole w j (n + 1) s q whole others k) h
 
 -- ---- what was read
 
@@ -178,25 +183,48 @@ no_fault : (b : Bool) (f : FileFault) → first (check b f) ≡ None → b ≡ t
 no_fault true f h = refl
 no_fault false f h = absurd cc
 
-pub commands_placed : (names : Names) (p q : List ℕ → ℕ) (marks : List Mark) → ((n : List ℕ) → is_some (place_in marks n) ≡ true → p n ≡ q n) → (cs : List NamedCommandData)
-    → first (flat_map (jump_faults_in marks) cs) ≡ None → map (command_in names p) cs ≡ map (command_in names q) cs
-commands_placed names p q marks same [] h = refl
-commands_placed names p q marks same (c ∷ cs) h =
-    let here = no_fault (are_marked marks (labels_of_arguments c.arguments)) BadLabel (first_left (jump_faults_in marks c) (flat_map (jump_faults_in marks) cs) h) in
-    let placed = arguments_placed names p q (λ n. is_some (place_in marks n)) same c.arguments here in
+-- a list of numbers, one for each command
+pub commands_placed : (w : Owner) (j : ℕ) (names : Names) (p q : List ℕ → ℕ) (marks : List Mark) → ((n : List ℕ) → is_some (place_in marks n) ≡ true → p n ≡ q n) → (numbers : List ℕ) (cs : List NamedCommandData)
+    → length numbers ≡ length cs → first (jumps_faults_in w j marks numbers cs) ≡ None → map (command_in names p) cs ≡ map (command_in names q) cs
+commands_placed w j names p q marks same numbers [] e h = refl
+commands_placed w j names p q marks same [] (c ∷ cs) e h = absurd (omega (arith, e))
+commands_placed w j names p q marks same (n ∷ numbers) (c ∷ cs) e h =
+    let own = at (line_at w j n) (jump_faults_in marks c) in
+    let rest = jumps_faults_in w j marks numbers cs in
+    let here = no_fault (are_marked marks (labels_of_arguments c.arguments)) BadLabel (none_at (line_at w j n) (jump_faults_in marks c) (first_left own rest h)) in
+    let placed = arguments_placed names p q (λ name. is_some (place_in marks name)) same c.arguments here in
     ap (λ (found : List ArgumentData). record (command_in names p c) { arguments = found } ∷ map (command_in names p) cs) placed
-    ∙ ap (λ (ds : List CommandData). command_in names q c ∷ ds) (commands_placed names p q marks same cs (first_right (jump_faults_in marks c) (flat_map (jump_faults_in marks) cs) h))
+    ∙ ap (λ (ds : List CommandData). command_in names q c ∷ ds) (commands_placed w j names p q marks same numbers cs (omega (arith, e)) (first_right own rest h))
 
 all_same : (f g : List ℕ → Bool) → ((n : List ℕ) → f n ≡ g n) → (ns : List (List ℕ)) → list_all f ns ≡ list_all g ns
 all_same f g same [] = refl
 all_same f g same (n ∷ ns) = ap (λ (b : Bool). b && list_all f ns) (same n) ∙ ap (λ (b : Bool). g n && b) (all_same f g same ns)
 
--- the jumps are judged by the labels
-pub jumps_judged : (marks : List Mark) (labels : List (List ℕ)) → mark_names marks ≡ labels → (cs : List NamedCommandData) → flat_map (jump_faults_in marks) cs ≡ flat_map (jump_faults labels) cs
-jumps_judged marks labels h [] = refl
-jumps_judged marks labels h (c ∷ cs) =
-    let same = all_same (λ n. is_some (place_in marks n)) (λ n. list_any (bytes_eq n) labels) (λ n. marked marks n ∙ ap (λ (ns : List (List ℕ)). list_any (bytes_eq n) ns) h) (labels_of_arguments c.arguments) in
-    ap (λ (b : Bool). check b BadLabel ++ flat_map (jump_faults_in marks) cs) same ∙ ap (λ (fs : List FileFault). jump_faults labels c ++ fs) (jumps_judged marks labels h cs)
+jumps_step : (w : Owner) (j n : ℕ) (marks : List Mark) (labels : List (List ℕ)) → mark_names marks ≡ labels → (numbers : List ℕ) (cs : List NamedCommandData) (o : Option LineData) (rest : List Refused)
+    → jumps_faults_in w j marks numbers cs ≡ rest
+    → jumps_faults_in w j marks (cons_option (number_said n o) numbers) (cons_option (command_said o) cs) ≡ at (line_at w j n) (jumps_said labels (command_said o)) ++ rest
+jumps_step w j n marks labels named numbers cs None rest h = h
+jumps_step w j n marks labels named numbers cs (Some (label_line name)) rest h = h
+jumps_step w j n marks labels named numbers cs (Some (command_line c)) rest h =
+    let same = all_same (λ name. is_some (place_in marks name)) (λ name. list_any (bytes_eq name) labels) (λ name. marked marks name ∙ ap (λ (ns : List (List ℕ)). list_any (bytes_eq name) ns) named) (labels_of_arguments c.arguments) in
+    ap (λ (b : Bool). at (line_at w j n) (check b BadLabel) ++ jumps_faults_in w j marks numbers cs) same ∙ ap (λ (fs : List Refused). at (line_at w j n) (jump_faults labels c) ++ fs) h
+
+-- the jumps are judged by the labels, each in its line
+pub jumps_judged : (w : Owner) (j n : ℕ) (marks : List Mark) (labels : List (List ℕ)) → mark_names marks ≡ labels → (lines : List (List ℕ))
+    → jumps_faults_in w j marks (command_lines_from n lines) (commands_of lines) ≡ jumps_faults w j n labels lines
+jumps_judged w j n marks labels h [] = refl
+jumps_judged w j n marks labels h (line ∷ others) =
+    jumps_step w j n marks labels h (command_lines_from (n + 1) others) (commands_of others) (says line) (jumps_faults w j (n + 1) labels others) (jumps_judged w j (n + 1) marks labels h others)
+
+one_number : (n : ℕ) (o : Option LineData) (numbers : List ℕ) (cs : List NamedCommandData) → length numbers ≡ length cs → length (cons_option (number_said n o) numbers) ≡ length (cons_option (command_said o) cs)
+one_number n None numbers cs h = h
+one_number n (Some (label_line name)) numbers cs h = h
+one_number n (Some (command_line c)) numbers cs h = ap suc h
+
+-- each command has its line
+pub lines_of_commands : (n : ℕ) (lines : List (List ℕ)) → length (command_lines_from n lines) ≡ length (commands_of lines)
+lines_of_commands n [] = refl
+lines_of_commands n (line ∷ others) = one_number n (says line) (command_lines_from (n + 1) others) (commands_of others) (lines_of_commands (n + 1) others)
 
 -- ---- the whole
 
@@ -204,53 +232,63 @@ pub lines_counted : (items : List Value) → length (lines_in (items_view items)
 lines_counted [] = refl
 lines_counted (v ∷ items) = ap suc (lines_counted items)
 
-short_enough : (n : ℕ) → n ≤ 1024 → first (check (nat_le n 1024) TooMany) ≡ None
-short_enough n h = let e : nat_le n 1024 ≡ true = grind (arith, nat_tests) in ap (λ (b : Bool). first (check b TooMany)) e
+short_enough : (w : Owner) (j n : ℕ) → n ≤ 1024 → first (at (line_at w j 1024) (check (nat_le n 1024) TooMany)) ≡ None
+short_enough w j n h = let e : nat_le n 1024 ≡ true = grind (arith, nat_tests) in ap (λ (b : Bool). first (at (line_at w j 1024) (check b TooMany))) e
 
-pub too_long : (s : Setting) (shared lines : List (List ℕ)) → 1024 < length lines → first (body_faults s shared lines) ≡ Some TooMany
+pub too_long : (w : Owner) (j : ℕ) (s : Setting) (shared lines : List (List ℕ)) → 1024 < length lines → first (body_faults w j s shared lines) ≡ Some (refused (line_at w j 1024) TooMany)
 unfolding body_faults
-too_long s shared lines h = let e : nat_le (length lines) 1024 ≡ false = grind (arith, nat_tests) in first_some (check (nat_le (length lines) 1024) TooMany) _ TooMany (ap (λ (b : Bool). first (check b TooMany)) e)
+too_long w j s shared lines h =
+    let e : nat_le (length lines) 1024 ≡ false = grind (arith, nat_tests) in
+    first_some (at (line_at w j 1024) (check (nat_le (length lines) 1024) TooMany)) _ (refused (line_at w j 1024) TooMany) (ap (λ (b : Bool). first (at (line_at w j 1024) (check b TooMany))) e)
 
-pub lines_judged : (s : Setting) (shared lines : List (List ℕ)) → faults_after s (nothing_read shared) lines ≡ lines_faults s (names_of shared lines) [] lines
-lines_judged s shared lines = faults_whole s (nothing_read shared) (names_of shared lines) lines refl
+pub lines_judged : (w : Owner) (j : ℕ) (s : Setting) (shared lines : List (List ℕ)) → faults_after w j 0 s (nothing_read shared) lines ≡ lines_faults w j 0 s (names_of shared lines) [] lines
+lines_judged w j s shared lines = faults_whole w j 0 s (nothing_read shared) (names_of shared lines) lines refl
 
-pub line_decides : (s : Setting) (shared lines : List (List ℕ)) (f : FileFault) → length lines ≤ 1024 → first (faults_after s (nothing_read shared) lines) ≡ Some f → first (body_faults s shared lines) ≡ Some f
+pub line_decides : (w : Owner) (j : ℕ) (s : Setting) (shared lines : List (List ℕ)) (f : Refused) → length lines ≤ 1024 → first (faults_after w j 0 s (nothing_read shared) lines) ≡ Some f → first (body_faults w j s shared lines) ≡ Some f
 unfolding body_faults
-line_decides s shared lines f few h =
-    first_none (check (nat_le (length lines) 1024) TooMany) _ (short_enough (length lines) few)
-    ∙ first_some (lines_faults s (names_of shared lines) [] lines) _ f (ap first (sym (lines_judged s shared lines)) ∙ h)
+line_decides w j s shared lines f few h =
+    first_none (at (line_at w j 1024) (check (nat_le (length lines) 1024) TooMany)) _ (short_enough w j (length lines) few)
+    ∙ first_some (lines_faults w j 0 s (names_of shared lines) [] lines) _ f (ap first (sym (lines_judged w j s shared lines)) ∙ h)
 
-jumps_decide : (s : Setting) (shared lines : List (List ℕ)) (marks : List Mark) → length lines ≤ 1024 → first (faults_after s (nothing_read shared) lines) ≡ None → mark_names marks ≡ labels_of lines
-    → first (body_faults s shared lines) ≡ first (flat_map (jump_faults_in marks) (commands_of lines))
+jumps_decide : (w : Owner) (j : ℕ) (s : Setting) (shared lines : List (List ℕ)) (marks : List Mark) → length lines ≤ 1024 → first (faults_after w j 0 s (nothing_read shared) lines) ≡ None → mark_names marks ≡ labels_of lines
+    → first (body_faults w j s shared lines) ≡ first (jumps_faults_in w j marks (command_lines lines) (commands_of lines))
 unfolding body_faults
-jumps_decide s shared lines marks few h named =
-    first_none (check (nat_le (length lines) 1024) TooMany) _ (short_enough (length lines) few)
-    ∙ first_none (lines_faults s (names_of shared lines) [] lines) _ (ap first (sym (lines_judged s shared lines)) ∙ h)
-    ∙ ap first (sym (jumps_judged marks (labels_of lines) named (commands_of lines)))
+jumps_decide w j s shared lines marks few h named =
+    first_none (at (line_at w j 1024) (check (nat_le (length lines) 1024) TooMany)) _ (short_enough w j (length lines) few)
+    ∙ first_none (lines_faults w j 0 s (names_of shared lines) [] lines) _ (ap first (sym (lines_judged w j s shared lines)) ∙ h)
+    ∙ ap first (sym (jumps_judged w j 0 marks (labels_of lines) named lines))
 
 place_same : (lines : List (List ℕ)) (n : List ℕ) → is_some (place_in (marks_from 0 lines) n) ≡ true → place_at (marks_from 0 lines) n ≡ place_of lines n
 place_same lines n h =
     let there : list_any (bytes_eq n) (labels_of lines) ≡ true = ap (λ (ns : List (List ℕ)). list_any (bytes_eq n) ns) (sym (marks_from-names 0 lines)) ∙ sym (marked (marks_from 0 lines) n) ∙ h in
     place_at-marks n 0 lines there ∙ zero-add (place_of lines n)
 
-abbrev Resolved : Result (Vec Command Global) FileFault → Reading → Type 0
-Resolved r q = Judges r (flat_map (jump_faults_in q.marks) q.commands) (λ code. map command_view code.items ≡ map (command_in q.names (place_at q.marks)) q.commands)
+abbrev Resolved : Owner → ℕ → List ℕ → Result (Vec Command Global) Refused → Reading → Type 0
+Resolved w j numbers r q = Judges r (jumps_faults_in w j q.marks numbers q.commands) (λ code. map command_view code.items ≡ map (command_in q.names (place_at q.marks)) q.commands)
 
-resolved_whole : (s : Setting) (shared lines : List (List ℕ)) (r : Result (Vec Command Global) FileFault) → length lines ≤ 1024 → first (faults_after s (nothing_read shared) lines) ≡ None
-    → Resolved r (reading (commands_of lines) (names_of shared lines) (marks_from 0 lines)) → Judges r (body_faults s shared lines) (λ code. map command_view code.items ≡ code_of shared lines)
+resolved_whole : (w : Owner) (j : ℕ) (s : Setting) (shared lines : List (List ℕ)) (r : Result (Vec Command Global) Refused) → length lines ≤ 1024 → first (faults_after w j 0 s (nothing_read shared) lines) ≡ None
+    → Resolved w j (command_lines lines) r (reading (commands_of lines) (names_of shared lines) (marks_from 0 lines)) → Judges r (body_faults w j s shared lines) (λ code. map command_view code.items ≡ code_of shared lines)
 unfolding code_of
-resolved_whole s shared lines (Ok code) few h found = (
-  jumps_decide s shared lines (marks_from 0 lines) few h (marks_from-names 0 lines) ∙ found.0,
-  found.1 ∙ commands_placed (names_of shared lines) (place_at (marks_from 0 lines)) (place_of lines) (marks_from 0 lines) (place_same lines) (commands_of lines) found.0,
+resolved_whole w j s shared lines (Ok code) few h found = (
+  jumps_decide w j s shared lines (marks_from 0 lines) few h (marks_from-names 0 lines) ∙ found.0,
+  found.1 ∙ commands_placed w j (names_of shared lines) (place_at (marks_from 0 lines)) (place_of lines) (marks_from 0 lines) (place_same lines) (command_lines lines) (commands_of lines) (lines_of_commands 0 lines) found.0,
 )
-resolved_whole s shared lines (Err f) few h found = λ ne. jumps_decide s shared lines (marks_from 0 lines) few h (marks_from-names 0 lines) ∙ found ne
+resolved_whole w j s shared lines (Err f) few h found = λ ne. jumps_decide w j s shared lines (marks_from 0 lines) few h (marks_from-names 0 lines) ∙ found ne
 
 pub body_read : (shared lines : List (List ℕ)) (q : Reading) → q ≡ reading_after (nothing_read shared) lines → q ≡ reading (commands_of lines) (names_of shared lines) (marks_from 0 lines)
 body_read shared lines q h = h ∙ read_whole (nothing_read shared) lines
 
-pub code_decided : (s : Setting) (shared lines : List (List ℕ)) (q : Reading) (r : Result (Vec Command Global) FileFault) → length lines ≤ 1024 → first (faults_after s (nothing_read shared) lines) ≡ None
-    → q ≡ reading_after (nothing_read shared) lines → Resolved r q → Judges r (body_faults s shared lines) (λ code. map command_view code.items ≡ code_of shared lines)
-code_decided s shared lines q r few h is found = resolved_whole s shared lines r few h (subst (λ (p : Reading). Resolved r p) (body_read shared lines q is) found)
+pub code_decided : (w : Owner) (j : ℕ) (s : Setting) (shared lines : List (List ℕ)) (q : Reading) (numbers : List ℕ) (r : Result (Vec Command Global) Refused) → length lines ≤ 1024
+    → first (faults_after w j 0 s (nothing_read shared) lines) ≡ None → q ≡ reading_after (nothing_read shared) lines → numbers ≡ command_lines lines → Resolved w j numbers r q
+    → Judges r (body_faults w j s shared lines) (λ code. map command_view code.items ≡ code_of shared lines)
+code_decided w j s shared lines q numbers r few h is same found =
+    resolved_whole w j s shared lines r few h
+    (subst (λ (p : Reading). Resolved w j (command_lines lines) r p) (body_read shared lines q is) (subst (λ (ns : List ℕ). Resolved w j ns r q) same found))
+
+-- the commands of a body that was read have their lines
+pub lines_fill : (shared lines : List (List ℕ)) (q : Reading) (numbers : List ℕ) → q ≡ reading_after (nothing_read shared) lines → numbers ≡ command_lines lines → length numbers ≡ length q.commands
+lines_fill shared lines q numbers is same =
+    ap length same ∙ lines_of_commands 0 lines ∙ ap (λ (p : Reading). length p.commands) (sym (body_read shared lines q is))
 
 pub shared_read : (shared lines : List (List ℕ)) (q : Reading) → q ≡ reading_after (nothing_read shared) lines → q.names.shared ≡ shared_after shared lines
 unfolding shared_after
@@ -264,16 +302,18 @@ next_line items i v line lt is text =
     ap lines_in (items_view-drop items i v lt) ∙ ap (λ (w : Value). line_in (view w) ∷ lines_in (items_view (drop (i + 1) items))) (sym is)
     ∙ ap (λ (t : List ℕ). t ∷ lines_in (items_view (drop (i + 1) items))) (sym text)
 
-pub line_stops : (s : Setting) (r : Reading) (line : List ℕ) (left others : List (List ℕ)) (f : FileFault) (o : Option FileFault) → left ≡ line ∷ others → first (said_faults s r (says line)) ≡ Some f
-    → first (faults_after s r left) ≡ o → o ≡ Some f
-line_stops s r line left others f o is h so_far =
-    sym so_far ∙ ap (λ (ls : List (List ℕ)). first (faults_after s r ls)) is ∙ first_some (said_faults s r (says line)) (faults_after s (reading_with r (says line)) others) f h
+pub line_stops : (w : Owner) (j n : ℕ) (s : Setting) (r : Reading) (line : List ℕ) (left others : List (List ℕ)) (f : FileFault) (o : Option Refused) → left ≡ line ∷ others → first (said_faults s r (says line)) ≡ Some f
+    → first (faults_after w j n s r left) ≡ o → o ≡ Some (refused (line_at w j n) f)
+line_stops w j n s r line left others f o is h so_far =
+    sym so_far ∙ ap (λ (ls : List (List ℕ)). first (faults_after w j n s r ls)) is
+    ∙ first_some (at (line_at w j n) (said_faults s r (says line))) (faults_after w j (n + 1) s (reading_with r (says line)) others) (refused (line_at w j n) f) (at_some (line_at w j n) (said_faults s r (says line)) f h)
 
-pub line_goes_on : (s : Setting) (r q : Reading) (line : List ℕ) (left others : List (List ℕ)) → left ≡ line ∷ others → first (said_faults s r (says line)) ≡ None → q ≡ reading_with r (says line)
-    → first (faults_after s r left) ≡ first (faults_after s q others)
-line_goes_on s r q line left others is good more =
-    ap (λ (ls : List (List ℕ)). first (faults_after s r ls)) is ∙ first_none (said_faults s r (says line)) (faults_after s (reading_with r (says line)) others) good
-    ∙ ap (λ (p : Reading). first (faults_after s p others)) (sym more)
+pub line_goes_on : (w : Owner) (j n : ℕ) (s : Setting) (r q : Reading) (line : List ℕ) (left others : List (List ℕ)) → left ≡ line ∷ others → first (said_faults s r (says line)) ≡ None → q ≡ reading_with r (says line)
+    → first (faults_after w j n s r left) ≡ first (faults_after w j (n + 1) s q others)
+line_goes_on w j n s r q line left others is good more =
+    ap (λ (ls : List (List ℕ)). first (faults_after w j n s r ls)) is
+    ∙ first_none (at (line_at w j n) (said_faults s r (says line))) (faults_after w j (n + 1) s (reading_with r (says line)) others) (at_none (line_at w j n) (said_faults s r (says line)) good)
+    ∙ ap (λ (p : Reading). first (faults_after w j (n + 1) s p others)) (sym more)
 
 pub line_read : (r q : Reading) (line : List ℕ) (left others : List (List ℕ)) → left ≡ line ∷ others → q ≡ reading_with r (says line) → reading_after r left ≡ reading_after q others
 line_read r q line left others is more = ap (λ (ls : List (List ℕ)). reading_after r ls) is ∙ ap (λ (p : Reading). reading_after p others) (sym more)

@@ -1,5 +1,5 @@
 -- What holds of the code of a body without a fault: its variables are within their limits, and so are the shared names after it.
-use Rattle.std.proofs.Common.{◌≡◌, ℕ, suc, ◌<◌, ◌≤◌, arith, Bool, true, false, ◌&&◌, ◌||◌, nat_lt, nat_le, bytes_eq, List, [], ◌∷◌, ◌++◌, length, map, All, Option, Some, None, IfSome, option_map, inl, inr, refl, ap, ◌∙◌, length-append}
+use Rattle.std.proofs.Common.{◌≡◌, ℕ, suc, ◌+◌, ◌<◌, ◌≤◌, arith, Bool, true, false, ◌&&◌, ◌||◌, nat_lt, nat_le, bytes_eq, List, [], ◌∷◌, ◌++◌, length, map, All, Option, Some, None, IfSome, option_map, inl, inr, refl, ap, ◌∙◌, length-append}
 use Rattle.std.specs.List.{flat_map, cons_option}
 use Rattle.std.proofs.lemmas.Bool.{cases_Bool, and_parts}
 use Rattle.std.proofs.lemmas.Bool.Decides.{nat_tests}
@@ -17,10 +17,12 @@ use Rattle.taskscript.specs.Faults.{check}
 use Rattle.taskscript.specs.Interrupting.{Setting, may_stand, names_softints}
 use Rattle.taskscript.specs.Lines.{NamedVariableData, NamedArgumentData, number, variable, label, quoted, NamedCommandData, LineData, label_line, command_line}
 use Rattle.taskscript.specs.Numbering.{seen_after, number_in, Names, names_with, names_after, variable_in, argument_in, command_in, is_within, variables_of_target, variables_of_arguments, variables_of, have_room}
-use Rattle.taskscript.specs.Code.{command_said, commands_of, labels_of, place_of, names_of, line_faults, lines_faults, jump_faults, body_faults, code_of, shared_after}
+use Rattle.taskscript.specs.Code.{command_said, commands_of, labels_of, place_of, names_of, line_faults, lines_faults, jumps_faults, body_faults, code_of, shared_after}
+use Rattle.taskscript.specs.declared.place.Owner.{Owner}
 use Rattle.taskscript.specs.Meaning.{says}
+use Rattle.taskscript.specs.Places.{at, line_at}
 use Rattle.taskscript.proofs.BodyReading.{variables_left}
-use Rattle.taskscript.proofs.Firsts.{first_left, first_right}
+use Rattle.taskscript.proofs.Firsts.{first_left, first_right, none_at}
 use Rattle.taskscript.proofs.FirstSight.{is_among, all_within, room_whole}
 
 variable_fits : (n : Variable) → is_within n ≡ true → VariableFits n
@@ -79,30 +81,31 @@ said_stand s names before None others h rest = absurd cc
 said_stand s names before (Some (label_line n)) others h rest = rest
 said_stand s names before (Some (command_line c)) others h rest = All-cons (Stands s names) c others (command_stands s names before c h) rest
 
-pub lines_stand : (s : Setting) (names : Names) (before : List (List ℕ)) (lines : List (List ℕ)) → first (lines_faults s names before lines) ≡ None → All (Stands s names) (commands_of lines)
-lines_stand s names before [] h = All-nil (Stands s names)
-lines_stand s names before (line ∷ others) h =
+pub lines_stand : (w : Owner) (j n : ℕ) (s : Setting) (names : Names) (before : List (List ℕ)) (lines : List (List ℕ)) → first (lines_faults w j n s names before lines) ≡ None → All (Stands s names) (commands_of lines)
+lines_stand w j n s names before [] h = All-nil (Stands s names)
+lines_stand w j n s names before (line ∷ others) h =
     let after = before ++ labels_of (line ∷ []) in
-    said_stand s names before (says line) (commands_of others) (first_left (line_faults s names before (says line)) (lines_faults s names after others) h)
-    (lines_stand s names after others (first_right (line_faults s names before (says line)) (lines_faults s names after others) h))
+    let here = at (line_at w j n) (line_faults s names before (says line)) in
+    let later = lines_faults w j (n + 1) s names after others in
+    said_stand s names before (says line) (commands_of others) (none_at (line_at w j n) (line_faults s names before (says line)) (first_left here later h)) (lines_stand w j (n + 1) s names after others (first_right here later h))
 
-pub commands_stand : (s : Setting) (shared lines : List (List ℕ)) → first (body_faults s shared lines) ≡ None → All (Stands s (names_of shared lines)) (commands_of lines)
+pub commands_stand : (w : Owner) (j : ℕ) (s : Setting) (shared lines : List (List ℕ)) → first (body_faults w j s shared lines) ≡ None → All (Stands s (names_of shared lines)) (commands_of lines)
 unfolding body_faults
-commands_stand s shared lines h =
-    lines_stand s (names_of shared lines) [] lines
-    (first_left (lines_faults s (names_of shared lines) [] lines) (flat_map (jump_faults (labels_of lines)) (commands_of lines)) (first_right (check (nat_le (length lines) 1024) TooMany) _ h))
+commands_stand w j s shared lines h =
+    lines_stand w j 0 s (names_of shared lines) [] lines
+    (first_left (lines_faults w j 0 s (names_of shared lines) [] lines) (jumps_faults w j 0 (labels_of lines) lines) (first_right (at (line_at w j 1024) (check (nat_le (length lines) 1024) TooMany)) _ h))
 
 -- what holds of each command, with the numbers of its variables and the places of its labels
-pub each_command : (P : CommandData → Type 0) (s : Setting) (shared lines : List (List ℕ)) → ((names : Names) (places : List ℕ → ℕ) (c : NamedCommandData) → Stands s names c → P (command_in names places c))
-    → first (body_faults s shared lines) ≡ None → All P (code_of shared lines)
+pub each_command : (P : CommandData → Type 0) (w : Owner) (j : ℕ) (s : Setting) (shared lines : List (List ℕ)) → ((names : Names) (places : List ℕ → ℕ) (c : NamedCommandData) → Stands s names c → P (command_in names places c))
+    → first (body_faults w j s shared lines) ≡ None → All P (code_of shared lines)
 unfolding code_of
-each_command P s shared lines holds h =
+each_command P w j s shared lines holds h =
     let made = command_in (names_of shared lines) (place_of lines) in
     All-map P made (commands_of lines)
-    (All-weaker (Stands s (names_of shared lines)) (λ c. P (made c)) (λ c stands. holds (names_of shared lines) (place_of lines) c stands) (commands_of lines) (commands_stand s shared lines h))
+    (All-weaker (Stands s (names_of shared lines)) (λ c. P (made c)) (λ c stands. holds (names_of shared lines) (place_of lines) c stands) (commands_of lines) (commands_stand w j s shared lines h))
 
-pub commands_fit : (s : Setting) (shared lines : List (List ℕ)) → first (body_faults s shared lines) ≡ None → All CommandFits (code_of shared lines)
-commands_fit s shared lines h = each_command CommandFits s shared lines (λ names places c stands. command_fits names places c stands.within) h
+pub commands_fit : (w : Owner) (j : ℕ) (s : Setting) (shared lines : List (List ℕ)) → first (body_faults w j s shared lines) ≡ None → All CommandFits (code_of shared lines)
+commands_fit w j s shared lines h = each_command CommandFits w j s shared lines (λ names places c stands. command_fits names places c stands.within) h
 
 -- ---- shared names
 
@@ -147,13 +150,13 @@ room_fits : (names : Names) (vs : List NamedVariableData) → have_room names vs
 room_fits names [] room h = h
 room_fits names (v ∷ vs) room h = room_fits (names_with names v) vs (and_parts _ _ room).1 (shared_grown v.is_shared names v.name (and_parts _ _ room).0 h)
 
-pub shared_fit : (s : Setting) (shared lines : List (List ℕ)) → length shared ≤ 64 → first (body_faults s shared lines) ≡ None → length (shared_after shared lines) ≤ 64
+pub shared_fit : (w : Owner) (j : ℕ) (s : Setting) (shared lines : List (List ℕ)) → length shared ≤ 64 → first (body_faults w j s shared lines) ≡ None → length (shared_after shared lines) ≤ 64
 unfolding shared_after
-shared_fit s shared lines few h =
+shared_fit w j s shared lines few h =
     let start : Names = record { private = []; shared = shared } in
     let vs = variables_left lines in
     let whole : names_after start (vs ++ []) ≡ names_of shared lines = ap (names_after start) (append-nil vs) in
-    room_fits start vs (room_whole start vs [] ∙ ap (λ (n : Names). all_within n vs) whole ∙ commands_within s (names_of shared lines) (commands_of lines) (commands_stand s shared lines h)) few
+    room_fits start vs (room_whole start vs [] ∙ ap (λ (n : Names). all_within n vs) whole ∙ commands_within s (names_of shared lines) (commands_of lines) (commands_stand w j s shared lines h)) few
 
 -- ---- lengths
 

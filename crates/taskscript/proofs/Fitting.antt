@@ -3,6 +3,7 @@ use Rattle.std.proofs.Common.{◌≡◌, ℕ, List, [], map, All, None, sym, ap,
 use Rattle.std.specs.Prelude.{slice_index_or}
 use Rattle.std.proofs.lemmas.List.Elements.{All-map, All-weaker}
 use Rattle.execlist.specs.Order.{first}
+use Rattle.taskscript.specs.declared.place.Owner.{Owner}
 use Rattle.taskscript.specs.Commands.{CommandData, CommandFits}
 use Rattle.taskscript.specs.Interrupting.{Setting}
 use Rattle.taskscript.specs.Labels.{place_at}
@@ -19,12 +20,12 @@ use Rattle.taskscript.proofs.OwnArguments.{lines_have}
 abbrev numbered : Reading → List CommandData
 numbered r = map (command_in r.names (place_at r.marks)) r.commands
 
-pub commands_within : (s : Setting) (shared lines : List (List ℕ)) (r : Reading) → first (faults_after s (nothing_read shared) lines) ≡ None → r ≡ reading_after (nothing_read shared) lines
+pub commands_within : (w : Owner) (j : ℕ) (s : Setting) (shared lines : List (List ℕ)) (r : Reading) → first (faults_after w j 0 s (nothing_read shared) lines) ≡ None → r ≡ reading_after (nothing_read shared) lines
     → All CommandFits (numbered r)
-commands_within s shared lines r none is =
+commands_within w j s shared lines r none is =
     let names = names_of shared lines in
     let made = command_in names (place_at (marks_from 0 lines)) in
-    let stand = lines_stand s names [] lines (ap first (sym (lines_judged s shared lines)) ∙ none) in
+    let stand = lines_stand w j 0 s names [] lines (ap first (sym (lines_judged w j s shared lines)) ∙ none) in
     let fit = All-map CommandFits made (commands_of lines)
     (All-weaker (Stands s names) (λ c. CommandFits (made c)) (λ c stands. command_fits names (place_at (marks_from 0 lines)) c stands.within) (commands_of lines) stand) in
     subst (λ (q : Reading). All CommandFits (numbered q)) (sym (body_read shared lines r is)) fit

@@ -8,6 +8,7 @@ use Rattle.taskscript.specs.declared.word.row.Kind.{Kind}
 use Rattle.taskscript.specs.declared.word.row.Kind.TheVariants.{Value, Label, Name, NameOrNone, Softint}
 use Rattle.taskscript.specs.Commands as numbered
 use Rattle.taskscript.specs.Commands.{ArgumentData}
+use Rattle.taskscript.specs.declared.place.Owner.{Owner}
 use Rattle.taskscript.specs.Code.{body_faults, code_of}
 use Rattle.execlist.specs.Order.{first}
 use Rattle.taskscript.specs.Interrupting.{Setting, is_of_interrupt, softint_named, softints_among}
@@ -40,9 +41,9 @@ all_true : (p : List ℕ → Bool) (ns : List (List ℕ)) → list_all p ns ≡ 
 all_true p [] h = All-nil (λ n. p n ≡ true)
 all_true p (n ∷ ns) h = All-cons (λ m. p m ≡ true) n ns (and_parts (p n) (list_all p ns) h).0 (all_true p ns (and_parts (p n) (list_all p ns) h).1)
 
-pub commands_named : (s : Setting) (shared lines : List (List ℕ)) → first (body_faults s shared lines) ≡ None → All (NamesSoftints s.softints) (code_of shared lines)
-commands_named s shared lines h =
-    each_command (NamesSoftints s.softints) s shared lines
+pub commands_named : (w : Owner) (j : ℕ) (s : Setting) (shared lines : List (List ℕ)) → first (body_faults w j s shared lines) ≡ None → All (NamesSoftints s.softints) (code_of shared lines)
+commands_named w j s shared lines h =
+    each_command (NamesSoftints s.softints) w j s shared lines
     (λ names places c stands. rw (all_asked names places (kinds c.word) c.arguments) (all_true (λ n. list_any (bytes_eq n) s.softints) (softints_among (kinds c.word) c.arguments) stands.named)) h
 
 -- ---- the body of an interrupt
@@ -82,5 +83,5 @@ command_interrupts names places c h =
 abbrev interrupting : List (List ℕ) → Setting
 interrupting softints = record { of_interrupt = true; softints = softints }
 
-pub commands_interrupt : (softints shared lines : List (List ℕ)) → first (body_faults (interrupting softints) shared lines) ≡ None → All IsOfInterrupt (code_of shared lines)
-commands_interrupt softints shared lines h = each_command IsOfInterrupt (interrupting softints) shared lines (λ names places c stands. command_interrupts names places c stands.stands) h
+pub commands_interrupt : (w : Owner) (j : ℕ) (softints shared lines : List (List ℕ)) → first (body_faults w j (interrupting softints) shared lines) ≡ None → All IsOfInterrupt (code_of shared lines)
+commands_interrupt w j softints shared lines h = each_command IsOfInterrupt w j (interrupting softints) shared lines (λ names places c stands. command_interrupts names places c stands.stands) h

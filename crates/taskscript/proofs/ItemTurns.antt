@@ -5,17 +5,24 @@ use Rattle.toml.specs.declared.value.Value.{Value}
 use Rattle.toml.specs.Data.{Data, item}
 use Rattle.toml.specs.View.{view, items_view}
 use Rattle.toml.proofs.Views.{items_view-drop}
-use Rattle.taskscript.specs.declared.fault.FileFault.{FileFault}
+use Rattle.taskscript.specs.declared.refused.Refused.{Refused}
 use Rattle.execlist.specs.Order.{first}
+use Rattle.taskscript.specs.Faults.{IsFirst}
 use Rattle.taskscript.specs.File.{region_of, regions_of}
 use Rattle.taskscript.specs.Tree.{items_faults}
-use Rattle.taskscript.proofs.Firsts.{first_none}
+use Rattle.taskscript.proofs.Firsts.{first_none, first_some}
 
-pub items_go_on : (judge : Data → List FileFault) (vs : List Value) (i : ℕ) (v : Value) → i < length vs → v ≡ get_or vs i v → first (judge (view v)) ≡ None
-    → first (items_faults judge (items_view (drop i vs))) ≡ first (items_faults judge (items_view (drop (i + 1) vs)))
+pub items_go_on : (judge : ℕ → Data → List Refused) (vs : List Value) (i : ℕ) (v : Value) → i < length vs → v ≡ get_or vs i v → first (judge i (view v)) ≡ None
+    → first (items_faults judge i (items_view (drop i vs))) ≡ first (items_faults judge (i + 1) (items_view (drop (i + 1) vs)))
 items_go_on judge vs i v lt is good =
-    ap (λ ds. first (items_faults judge ds)) (items_view-drop vs i v lt) ∙ ap (λ (w : Value). first (items_faults judge (item (view w) (items_view (drop (i + 1) vs))))) (sym is)
-    ∙ first_none (judge (view v)) _ good
+    ap (λ ds. first (items_faults judge i ds)) (items_view-drop vs i v lt) ∙ ap (λ (w : Value). first (items_faults judge i (item (view w) (items_view (drop (i + 1) vs))))) (sym is)
+    ∙ first_none (judge i (view v)) _ good
+
+pub items_stop : (judge : ℕ → Data → List Refused) (vs : List Value) (i : ℕ) (v : Value) (f : Refused) → i < length vs → v ≡ get_or vs i v
+    → first (items_faults judge i (items_view (drop i vs))) ≡ first (items_faults judge 0 (items_view vs)) → IsFirst f (judge i (view v)) → IsFirst f (items_faults judge 0 (items_view vs))
+items_stop judge vs i v f lt is so_far h ne =
+    sym so_far ∙ ap (λ ds. first (items_faults judge i ds)) (items_view-drop vs i v lt) ∙ ap (λ (w : Value). first (items_faults judge i (item (view w) (items_view (drop (i + 1) vs))))) (sym is)
+    ∙ first_some (judge i (view v)) _ f (h ne)
 
 pub regions_found : (rs : List Region) (r : Region) (vs : List Value) (i : ℕ) (v : Value) → i < length vs → v ≡ get_or vs i v → r ≡ region_of (view v)
     → rs ++ regions_of (items_view (drop i vs)) ≡ (rs ++ r ∷ []) ++ regions_of (items_view (drop (i + 1) vs))

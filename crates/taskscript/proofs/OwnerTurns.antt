@@ -4,16 +4,18 @@ use Rattle.std.proofs.lemmas.List.{map_push, length-map}
 use Rattle.arrayvec.specs.ArrayString.{ArrayString}
 use Rattle.toml.specs.declared.value.Value.{Value}
 use Rattle.toml.specs.View.{view, items_view}
-use Rattle.toml.specs.Data.{Data, Items, no_items, item, Members}
+use Rattle.toml.specs.Data.{Data, Items, no_items, item}
 use Rattle.toml.proofs.Views.{items_view-drop}
-use Rattle.taskscript.specs.declared.fault.FileFault.{FileFault}
+use Rattle.taskscript.specs.declared.place.Array.{Array}
+use Rattle.taskscript.specs.declared.place.Owner.{Owner}
+use Rattle.taskscript.specs.declared.refused.Refused.{Refused}
 use Rattle.taskscript.specs.Code.{body_faults, shared_after}
 use Rattle.execlist.specs.Order.{first}
 use Rattle.taskscript.specs.Faults.{IsFirst}
-use Rattle.taskscript.specs.File.{name_of, named_faults, item_names, code_lines, bodies_faults, shared_after_bodies, with_bodies}
+use Rattle.taskscript.specs.File.{Judge, name_of, named_faults, named_item_faults, item_names, code_lines, bodies_faults, shared_after_bodies, with_bodies}
 use Rattle.taskscript.specs.Interrupting.{Setting}
 use Rattle.taskscript.specs.Numbering.{texts}
-use Rattle.taskscript.specs.Tree.{table_faults, of_items, count_items}
+use Rattle.taskscript.specs.Tree.{of_items, count_items}
 use Rattle.taskscript.proofs.Firsts.{first_none, first_some}
 use Rattle.taskscript.proofs.Keys.{count_items_view}
 
@@ -29,17 +31,18 @@ kept_more {H} {X} shown hs h x rest same =
 
 -- ---- the first pass
 
-pub heads_stop : (judge : List (List ℕ) → Members → List FileFault) (start before : List (List ℕ)) (vs : List Value) (i : ℕ) (v : Value) (f : FileFault) → i < length vs → v ≡ get_or vs i v
-    → first (named_faults judge before (items_view (drop i vs))) ≡ first (named_faults judge start (items_view vs)) → IsFirst f (table_faults (judge before) (view v)) → IsFirst f (named_faults judge start (items_view vs))
-heads_stop judge start before vs i v f lt is so_far h ne =
-    sym so_far ∙ ap (λ (ds : Items). first (named_faults judge before ds)) (next_item vs i v lt is) ∙ first_some (table_faults (judge before) (view v)) _ f (h ne)
+pub heads_stop : (judge : Judge) (a : Array) (start before : List (List ℕ)) (vs : List Value) (i : ℕ) (v : Value) (f : Refused) → i < length vs → v ≡ get_or vs i v
+    → first (named_faults judge a i before (items_view (drop i vs))) ≡ first (named_faults judge a 0 start (items_view vs)) → IsFirst f (named_item_faults judge a i before (view v))
+    → IsFirst f (named_faults judge a 0 start (items_view vs))
+heads_stop judge a start before vs i v f lt is so_far h ne =
+    sym so_far ∙ ap (λ (ds : Items). first (named_faults judge a i before ds)) (next_item vs i v lt is) ∙ first_some (named_item_faults judge a i before (view v)) _ f (h ne)
 
-pub heads_go_on : (judge : List (List ℕ) → Members → List FileFault) (before after : List (List ℕ)) (vs : List Value) (i : ℕ) (v : Value) → i < length vs → v ≡ get_or vs i v
-    → first (table_faults (judge before) (view v)) ≡ None → after ≡ before ++ name_of (view v) ∷ []
-    → first (named_faults judge before (items_view (drop i vs))) ≡ first (named_faults judge after (items_view (drop (i + 1) vs)))
-heads_go_on judge before after vs i v lt is good more =
-    ap (λ (ds : Items). first (named_faults judge before ds)) (next_item vs i v lt is) ∙ first_none (table_faults (judge before) (view v)) _ good
-    ∙ ap (λ (ns : List (List ℕ)). first (named_faults judge ns (items_view (drop (i + 1) vs)))) (sym more)
+pub heads_go_on : (judge : Judge) (a : Array) (before after : List (List ℕ)) (vs : List Value) (i : ℕ) (v : Value) → i < length vs → v ≡ get_or vs i v
+    → first (named_item_faults judge a i before (view v)) ≡ None → after ≡ before ++ name_of (view v) ∷ []
+    → first (named_faults judge a i before (items_view (drop i vs))) ≡ first (named_faults judge a (i + 1) after (items_view (drop (i + 1) vs)))
+heads_go_on judge a before after vs i v lt is good more =
+    ap (λ (ds : Items). first (named_faults judge a i before ds)) (next_item vs i v lt is) ∙ first_none (named_item_faults judge a i before (view v)) _ good
+    ∙ ap (λ (ns : List (List ℕ)). first (named_faults judge a (i + 1) ns (items_view (drop (i + 1) vs)))) (sym more)
 
 pub heads_found : {H X : Type 0} (shown : H → X) (of : Data → X) (hs : List H) (h : H) (vs : List Value) (i : ℕ) (v : Value) → i < length vs → v ≡ get_or vs i v → shown h ≡ of (view v)
     → map shown hs ++ of_items of (items_view (drop i vs)) ≡ map shown (hs ++ h ∷ []) ++ of_items of (items_view (drop (i + 1) vs))
@@ -99,17 +102,18 @@ front_fits shown of hs ds ns second third heads names =
 
 -- ---- the second pass
 
-pub bodies_stop : (s : Setting) (start shared : List (List ℕ)) (vs : List Value) (i : ℕ) (v : Value) (f : FileFault) → i < length vs → v ≡ get_or vs i v
-    → first (bodies_faults s shared (items_view (drop i vs))) ≡ first (bodies_faults s start (items_view vs)) → IsFirst f (body_faults s shared (code_lines (view v))) → IsFirst f (bodies_faults s start (items_view vs))
-bodies_stop s start shared vs i v f lt is so_far h ne =
-    sym so_far ∙ ap (λ (ds : Items). first (bodies_faults s shared ds)) (next_item vs i v lt is) ∙ first_some (body_faults s shared (code_lines (view v))) _ f (h ne)
+pub bodies_stop : (w : Owner) (s : Setting) (start shared : List (List ℕ)) (vs : List Value) (i : ℕ) (v : Value) (f : Refused) → i < length vs → v ≡ get_or vs i v
+    → first (bodies_faults w i s shared (items_view (drop i vs))) ≡ first (bodies_faults w 0 s start (items_view vs)) → IsFirst f (body_faults w i s shared (code_lines (view v)))
+    → IsFirst f (bodies_faults w 0 s start (items_view vs))
+bodies_stop w s start shared vs i v f lt is so_far h ne =
+    sym so_far ∙ ap (λ (ds : Items). first (bodies_faults w i s shared ds)) (next_item vs i v lt is) ∙ first_some (body_faults w i s shared (code_lines (view v))) _ f (h ne)
 
-pub bodies_go_on : (s : Setting) (shared more : List (List ℕ)) (vs : List Value) (i : ℕ) (v : Value) → i < length vs → v ≡ get_or vs i v
-    → first (body_faults s shared (code_lines (view v))) ≡ None → more ≡ shared_after shared (code_lines (view v))
-    → first (bodies_faults s shared (items_view (drop i vs))) ≡ first (bodies_faults s more (items_view (drop (i + 1) vs)))
-bodies_go_on s shared more vs i v lt is good after =
-    ap (λ (ds : Items). first (bodies_faults s shared ds)) (next_item vs i v lt is) ∙ first_none (body_faults s shared (code_lines (view v))) _ good
-    ∙ ap (λ (names : List (List ℕ)). first (bodies_faults s names (items_view (drop (i + 1) vs)))) (sym after)
+pub bodies_go_on : (w : Owner) (s : Setting) (shared more : List (List ℕ)) (vs : List Value) (i : ℕ) (v : Value) → i < length vs → v ≡ get_or vs i v
+    → first (body_faults w i s shared (code_lines (view v))) ≡ None → more ≡ shared_after shared (code_lines (view v))
+    → first (bodies_faults w i s shared (items_view (drop i vs))) ≡ first (bodies_faults w (i + 1) s more (items_view (drop (i + 1) vs)))
+bodies_go_on w s shared more vs i v lt is good after =
+    ap (λ (ds : Items). first (bodies_faults w i s shared ds)) (next_item vs i v lt is) ∙ first_none (body_faults w i s shared (code_lines (view v))) _ good
+    ∙ ap (λ (names : List (List ℕ)). first (bodies_faults w (i + 1) s names (items_view (drop (i + 1) vs)))) (sym after)
 
 pub shared_go_on : (shared more : List (List ℕ)) (vs : List Value) (i : ℕ) (v : Value) → i < length vs → v ≡ get_or vs i v → more ≡ shared_after shared (code_lines (view v))
     → shared_after_bodies shared (items_view (drop i vs)) ≡ shared_after_bodies more (items_view (drop (i + 1) vs))

@@ -1,7 +1,6 @@
 -- Labels and numbers of a command, one argument and one command after another.
 use Rattle.std.proofs.Common.{◌≡◌, ℕ, ◌+◌, ◌<◌, ◌≤◌, Bool, true, false, ◌&&◌, List, [], ◌∷◌, ◌++◌, length, map, drop, take, get_or, Option, Some, All, arith, refl, ap, sym, subst, ◌∙◌, append_assoc}
 use Rattle.std.specs.Prelude.{is_some, count_by}
-use Rattle.std.specs.List.{flat_map}
 use Rattle.std.proofs.lemmas.List.{drop_all, drop_more, take_more_set, map_push, append-nil}
 use Rattle.std.proofs.Math.ListN.{set}
 use Rattle.arrayvec.specs.ArrayString.{ArrayString as Name}
@@ -15,8 +14,11 @@ use Rattle.taskscript.specs.declared.variable.Variable.{Variable}
 use Rattle.taskscript.specs.declared.word.Word.{Word}
 use Rattle.taskscript.specs.Commands.{ArgumentData, CommandData, argument_view, IsNamed, first_name}
 use Rattle.execlist.specs.Order.{first}
+use Rattle.taskscript.specs.declared.place.Owner.{Owner}
+use Rattle.taskscript.specs.declared.refused.Refused.{Refused}
 use Rattle.taskscript.specs.Faults.{check}
-use Rattle.taskscript.specs.Labels.{Mark, place_in, are_marked, jump_faults_in}
+use Rattle.taskscript.specs.Places.{at, line_at, refused}
+use Rattle.taskscript.specs.Labels.{Mark, place_in, are_marked, jump_faults_in, jumps_faults_in}
 use Rattle.taskscript.specs.Lines.{NamedArgumentData, number, variable, label, quoted, NamedCommandData, named_argument_view, named_command_view}
 use Rattle.taskscript.specs.Numbering.{Names, argument_in, labels_of_arguments}
 use Rattle.taskscript.specs.Machines.{is_quoted}
@@ -102,17 +104,15 @@ command_made w t u xs n k name found count target first once made =
     ap (λ (o : Option Variable). command w o (map (argument_view name) (take n xs))) target
     ∙ ap (command w u) (ap (λ (j : ℕ). map (argument_view name) (take j xs)) count ∙ made name named)
 
-abbrev jumps_left : List Mark → List NamedCommandData → List FileFault
-jumps_left marks cs = flat_map (jump_faults_in marks) cs
+pub jump_stops : (w : Owner) (j : ℕ) (marks : List Mark) (n : ℕ) (c : NamedCommandData) (numbers ns : List ℕ) (left others : List NamedCommandData) (f : FileFault) (o : Option Refused) → numbers ≡ n ∷ ns → left ≡ c ∷ others
+    → (f ≡ BadLabel) × (are_marked marks (labels_of_arguments c.arguments) ≡ false) → first (jumps_faults_in w j marks numbers left) ≡ o → o ≡ Some (refused (line_at w j n) f)
+jump_stops w j marks n c numbers ns left others f o has is h so_far =
+    sym so_far ∙ ap (λ (ks : List ℕ). first (jumps_faults_in w j marks ks left)) has ∙ ap (λ (cs : List NamedCommandData). first (jumps_faults_in w j marks (n ∷ ns) cs)) is
+    ∙ first_some (at (line_at w j n) (jump_faults_in marks c)) (jumps_faults_in w j marks ns others) (refused (line_at w j n) BadLabel) (ap (λ (b : Bool). first (at (line_at w j n) (check b BadLabel))) h.1)
+    ∙ ap (λ (g : FileFault). Some (refused (line_at w j n) g)) (sym h.0)
 
-pub jump_stops : (marks : List Mark) (c : NamedCommandData) (left others : List NamedCommandData) (o : Option FileFault) → left ≡ c ∷ others → are_marked marks (labels_of_arguments c.arguments) ≡ false
-    → first (jumps_left marks left) ≡ o → o ≡ Some BadLabel
-jump_stops marks c left others o is h so_far =
-    sym so_far ∙ ap (λ (cs : List NamedCommandData). first (jumps_left marks cs)) is
-    ∙ first_some (jump_faults_in marks c) (jumps_left marks others) BadLabel (ap (λ (b : Bool). first (check b BadLabel)) h)
-
-pub jump_goes_on : (marks : List Mark) (c : NamedCommandData) (left others : List NamedCommandData) → left ≡ c ∷ others → are_marked marks (labels_of_arguments c.arguments) ≡ true
-    → first (jumps_left marks others) ≡ first (jumps_left marks left)
-jump_goes_on marks c left others is h =
-    sym (ap (λ (cs : List NamedCommandData). first (jumps_left marks cs)) is
-    ∙ first_none (jump_faults_in marks c) (jumps_left marks others) (ap (λ (b : Bool). first (check b BadLabel)) h))
+pub jump_goes_on : (w : Owner) (j : ℕ) (marks : List Mark) (n : ℕ) (c : NamedCommandData) (numbers ns : List ℕ) (left others : List NamedCommandData) → numbers ≡ n ∷ ns → left ≡ c ∷ others
+    → are_marked marks (labels_of_arguments c.arguments) ≡ true → first (jumps_faults_in w j marks ns others) ≡ first (jumps_faults_in w j marks numbers left)
+jump_goes_on w j marks n c numbers ns left others has is h =
+    sym (ap (λ (ks : List ℕ). first (jumps_faults_in w j marks ks left)) has ∙ ap (λ (cs : List NamedCommandData). first (jumps_faults_in w j marks (n ∷ ns) cs)) is
+    ∙ first_none (at (line_at w j n) (jump_faults_in marks c)) (jumps_faults_in w j marks ns others) (ap (λ (b : Bool). first (at (line_at w j n) (check b BadLabel))) h))

@@ -7,7 +7,11 @@ use Rattle.taskscript.specs.declared.event.Event.TheVariants.{Run}
 use Rattle.taskscript.specs.declared.fault.EventFault.TheVariants.{BadLine, TooMany}
 use Rattle.taskscript.specs.declared.fault.FileFault.TheVariants.{UnknownKey, MissingKey}
 use Rattle.taskscript.specs.Events.{event_of, script_of}
-use Rattle.taskscript.specs.File.{file_of}
+use Rattle.taskscript.specs.declared.place.Array.TheVariants as array
+use Rattle.taskscript.specs.declared.place.Key.TheVariants as key
+use Rattle.taskscript.specs.declared.place.TablePlace.TheVariants.{Item}
+use Rattle.taskscript.specs.File.{file_of, placed_file_of}
+use Rattle.taskscript.specs.Places.{key_at, refused}
 
 two_runs : script_of (codes "run 2" ++ 10 ∷ codes "# run 3" ++ 10 ∷ codes "run 4") ≡ Ok (Run 2 ∷ Run 4 ∷ [])
 unfolding script_of event_of
@@ -22,9 +26,14 @@ unfolding script_of event_of
 too_many_steps = refl
 
 unknown_key : file_of (codes "speed = 1") ≡ Err UnknownKey
-unfolding file_of toml_on_literals is_utf8 chars
+unfolding file_of placed_file_of toml_on_literals is_utf8 chars
 unknown_key = refl
 
 no_code : file_of (codes "[[task]]" ++ 10 ∷ codes "name = 'a'") ≡ Err MissingKey
-unfolding file_of toml_on_literals is_utf8 chars regions_fault
+unfolding file_of placed_file_of toml_on_literals is_utf8 chars regions_fault
 no_code = refl
+
+-- and where it lacks
+no_code_there : placed_file_of (codes "[[task]]" ++ 10 ∷ codes "name = 'a'") ≡ Err (refused (key_at (Item array.Task 0) key.Code) MissingKey)
+unfolding placed_file_of toml_on_literals is_utf8 chars regions_fault
+no_code_there = refl

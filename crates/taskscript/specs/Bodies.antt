@@ -1,11 +1,14 @@
 -- A body as it is read: line after line, with what was read so far.
-use Rattle.std.specs.Prelude.{◌≡◌, ℕ, not, is_some, List, [], ◌∷◌, ◌++◌, length, map, Option, Some, None, Result}
+use Rattle.std.specs.Prelude.{◌≡◌, ℕ, ◌+◌, not, is_some, List, [], ◌∷◌, ◌++◌, length, map, Option, Some, None, Result}
 use Rattle.std.specs.List.{fold}
 use Rattle.arrayvec.specs.ArrayString.{ArrayString}
 use Rattle.taskscript.specs.declared.body.Body.{Body}
 use Rattle.taskscript.specs.declared.fault.FileFault.{FileFault}
 use Rattle.taskscript.specs.declared.fault.FileFault.TheVariants.{BadCommand, NotInInterrupt, BadLabel, TooMany}
-use Rattle.taskscript.specs.Faults.{check, Judges}
+use Rattle.taskscript.specs.Faults.{check, JudgesLine}
+use Rattle.taskscript.specs.declared.place.Owner.{Owner}
+use Rattle.taskscript.specs.declared.refused.Refused.{Refused}
+use Rattle.taskscript.specs.Places.{at, line_at}
 use Rattle.taskscript.specs.Interrupting.{Setting, may_stand, names_softints}
 use Rattle.taskscript.specs.Labels.{Mark, place_in, marks_view}
 use Rattle.taskscript.specs.Lines.{NamedCommandData, LineData, label_line, command_line, named_command_view}
@@ -43,14 +46,15 @@ said_faults setting r (Some (command_line c)) =
     ++ (check (may_stand setting c) NotInInterrupt
     ++ check (have_room r.names (variables_of c)) TooMany)
 
-abbrev pub faults_after : Setting → Reading → List (List ℕ) → List FileFault
-faults_after setting r [] = []
-faults_after setting r (line ∷ others) =
-    said_faults setting r (says line) ++ faults_after setting (reading_with r (says line)) others
+-- the faults of the lines of the body of an item from that number on
+abbrev pub faults_after : Owner → ℕ → ℕ → Setting → Reading → List (List ℕ) → List Refused
+faults_after owner item number setting r [] = []
+faults_after owner item number setting r (line ∷ others) =
+    at (line_at owner item number) (said_faults setting r (says line)) ++ faults_after owner item (number + 1) setting (reading_with r (says line)) others
 
 -- the body is read by what one line says, or the line has a fault
 abbrev pub ReadsOn : {X : Type 0} → Setting → Result X FileFault → Reading → Reading → Option LineData → Type 0
-ReadsOn setting result before after said = Judges result (said_faults setting before said) (λ _. after ≡ reading_with before said)
+ReadsOn setting result before after said = JudgesLine result (said_faults setting before said) (λ _. after ≡ reading_with before said)
 
 -- ---- what the code holds
 

@@ -1,11 +1,14 @@
 -- The code of one body: the commands of its lines, or all their faults in order.
-use Rattle.std.specs.Prelude.{ℕ, Bool, false, not, nat_le, bytes_eq, List, [], ◌∷◌, ◌++◌, length, map, Option, Some, None}
+use Rattle.std.specs.Prelude.{ℕ, ◌+◌, Bool, false, not, nat_le, bytes_eq, List, [], ◌∷◌, ◌++◌, length, map, Option, Some, None}
 use Rattle.std.specs.List.{list_all, list_any, filter_map, flat_map, before_first}
 use Rattle.std.specs.Option.{option_map_or}
-use Rattle.toml.specs.Data.{Data, string, Items, no_items, item}
+use Rattle.toml.specs.Data.{Data, string, Items, no_items, item as an_item}
 use Rattle.taskscript.specs.declared.fault.FileFault.{FileFault}
 use Rattle.taskscript.specs.declared.fault.FileFault.TheVariants.{BadCommand, NotInInterrupt, BadLabel, TooMany}
+use Rattle.taskscript.specs.declared.place.Owner.{Owner}
+use Rattle.taskscript.specs.declared.refused.Refused.{Refused}
 use Rattle.taskscript.specs.Commands.{CommandData}
+use Rattle.taskscript.specs.Places.{at, line_at}
 use Rattle.taskscript.specs.Faults.{check}
 use Rattle.taskscript.specs.Lines.{NamedCommandData, LineData, label_line, command_line}
 use Rattle.taskscript.specs.Interrupting.{Setting, may_stand, names_softints}
@@ -22,7 +25,7 @@ line_in _ = []
 -- the lines of an array of strings
 abbrev pub lines_in : Items → List (List ℕ)
 lines_in no_items = []
-lines_in (item d ds) = line_in d ∷ lines_in ds
+lines_in (an_item d ds) = line_in d ∷ lines_in ds
 
 -- the command that a line is, if it is one
 abbrev pub command_said : Option LineData → Option NamedCommandData
@@ -70,22 +73,34 @@ line_faults setting names before (Some (command_line c)) =
     ++ (check (may_stand setting c) NotInInterrupt
     ++ check (list_all (λ v. is_within (variable_in names v)) (variables_of c)) TooMany)
 
--- the lines in their order, each after the labels before it
-abbrev pub lines_faults : Setting → Names → List (List ℕ) → List (List ℕ) → List FileFault
-lines_faults setting names before [] = []
-lines_faults setting names before (line ∷ others) =
-    line_faults setting names before (says line) ++ lines_faults setting names (before ++ labels_of (line ∷ [])) others
+-- the lines of the body of an item from that number on, each after the labels before it
+abbrev pub lines_faults : Owner → ℕ → ℕ → Setting → Names → List (List ℕ) → List (List ℕ) → List Refused
+lines_faults owner item number setting names before [] = []
+lines_faults owner item number setting names before (line ∷ others) =
+    at (line_at owner item number) (line_faults setting names before (says line))
+    ++ lines_faults owner item (number + 1) setting names (before ++ labels_of (line ∷ [])) others
 
 -- a jump to a label that is not among these
 abbrev pub jump_faults : List (List ℕ) → NamedCommandData → List FileFault
 jump_faults labels c = check (list_all (λ name. list_any (bytes_eq name) labels) (labels_of_arguments c.arguments)) BadLabel
 
--- a body has at most 1,024 lines; then its lines in their order, and then its jumps in theirs
-unfoldable pub body_faults : Setting → List (List ℕ) → List (List ℕ) → List FileFault
-body_faults setting shared lines =
-    check (nat_le (length lines) 1024) TooMany
-    ++ (lines_faults setting (names_of shared lines) [] lines
-    ++ flat_map (jump_faults (labels_of lines)) (commands_of lines))
+-- the jumps of a line, if it is a command
+abbrev pub jumps_said : List (List ℕ) → Option NamedCommandData → List FileFault
+jumps_said labels None = []
+jumps_said labels (Some c) = jump_faults labels c
+
+-- the jumps of the lines from that number on
+abbrev pub jumps_faults : Owner → ℕ → ℕ → List (List ℕ) → List (List ℕ) → List Refused
+jumps_faults owner item number labels [] = []
+jumps_faults owner item number labels (line ∷ others) =
+    at (line_at owner item number) (jumps_said labels (command_said (says line))) ++ jumps_faults owner item (number + 1) labels others
+
+-- a body has at most 1,024 lines, and else its fault is at the line after them; then its lines in their order, and then its jumps in theirs
+unfoldable pub body_faults : Owner → ℕ → Setting → List (List ℕ) → List (List ℕ) → List Refused
+body_faults owner item setting shared lines =
+    at (line_at owner item 1024) (check (nat_le (length lines) 1024) TooMany)
+    ++ (lines_faults owner item 0 setting (names_of shared lines) [] lines
+    ++ jumps_faults owner item 0 (labels_of lines) lines)
 
 -- ---- the code
 

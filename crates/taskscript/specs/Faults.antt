@@ -3,6 +3,7 @@ use Rattle.std.specs.Prelude.{◌≡◌, ℕ, Bool, List, [], ◌∷◌, Some, N
 use Rattle.execlist.specs.Order.{first}
 use Rattle.taskscript.specs.declared.fault.FileFault.{FileFault}
 use Rattle.taskscript.specs.declared.fault.FileFault.TheVariants.{NotToml, UnknownKey, MissingKey, BadValue, NameTwice, BadRegions, BadCommand, BadLabel, NotInInterrupt, TooMany, OutOfMemory}
+use Rattle.taskscript.specs.declared.refused.Refused.{Refused}
 use Rattle.taskscript.specs.declared.fault.EventFault.{EventFault}
 use Rattle.taskscript.specs.declared.fault.EventFault.TheVariants as event
 
@@ -44,11 +45,20 @@ event_fault_number event.OutOfMemory = 3
 abbrev pub check : Bool → FileFault → List FileFault
 check good fault = if good then [] else fault ∷ []
 
--- the fault is the first of these; out of memory may come at any allocation
-abbrev pub IsFirst : FileFault → List FileFault → Type 0
-IsFirst fault faults = ¬ (fault ≡ OutOfMemory) → first faults ≡ Some fault
+-- the fault of a line is the first of these; out of memory may come at any allocation
+abbrev pub IsFirstOfLine : FileFault → List FileFault → Type 0
+IsFirstOfLine fault faults = ¬ (fault ≡ OutOfMemory) → first faults ≡ Some fault
 
--- a value if there is no fault, which is then right, or else the first fault
-abbrev pub Judges : {X : Type 0} → Result X FileFault → List FileFault → (X → Type 0) → Type 0
+-- a value if a line has no fault, which is then right, or else its first fault
+abbrev pub JudgesLine : {X : Type 0} → Result X FileFault → List FileFault → (X → Type 0) → Type 0
+JudgesLine (Ok x) faults right = (first faults ≡ None) × right x
+JudgesLine (Err fault) faults right = IsFirstOfLine fault faults
+
+-- the fault with its place is the first of these; out of memory may come at any allocation
+abbrev pub IsFirst : Refused → List Refused → Type 0
+IsFirst r faults = ¬ (r.fault ≡ OutOfMemory) → first faults ≡ Some r
+
+-- a value if there is no fault, which is then right, or else the first fault with its place
+abbrev pub Judges : {X : Type 0} → Result X Refused → List Refused → (X → Type 0) → Type 0
 Judges (Ok x) faults right = (first faults ≡ None) × right x
-Judges (Err fault) faults right = IsFirst fault faults
+Judges (Err r) faults right = IsFirst r faults

@@ -1,16 +1,26 @@
 -- The machine that a file states, or its first fault.
-use Rattle.std.specs.Prelude.{is_none, nat_eq, if◌then◌else◌, ℕ, ℤ, pos, Bool, true, false, codes, List, [], ◌∷◌, ◌++◌, Option, Some, None, Result, Err}
+use Rattle.std.specs.Prelude.{is_none, nat_eq, if◌then◌else◌, ℕ, ◌+◌, ℤ, pos, Bool, true, false, codes, List, [], ◌∷◌, ◌++◌, Option, Some, None, Result, Err}
 use Rattle.memlist.specs.declared.region.Region.{Region}
 use Rattle.memlist.specs.Regions.{regions_fault}
 use Rattle.toml.specs.Data.{Data, Items, no_items, item, Members, get_member}
 use Rattle.taskscript.specs.declared.fault.FileFault.{FileFault}
 use Rattle.taskscript.specs.declared.fault.FileFault.TheVariants.{NotToml, UnknownKey, BadRegions}
+use Rattle.taskscript.specs.declared.place.Array.{Array}
+use Rattle.taskscript.specs.declared.place.Array.TheVariants as array
+use Rattle.taskscript.specs.declared.place.Key.TheVariants as key
+use Rattle.taskscript.specs.declared.place.Owner.{Owner}
+use Rattle.taskscript.specs.declared.place.Owner.TheVariants.{Softint, Server, Task}
+use Rattle.taskscript.specs.declared.place.Place.TheVariants as a_place
+use Rattle.taskscript.specs.declared.place.TablePlace.{TablePlace}
+use Rattle.taskscript.specs.declared.place.TablePlace.TheVariants.{Top, Item}
+use Rattle.taskscript.specs.declared.refused.Refused.{Refused}
 use Rattle.taskscript.specs.declared.source.Source.{Source}
 use Rattle.taskscript.specs.Commands.{CommandData}
 use Rattle.execlist.specs.Order.{first}
 use Rattle.execlist.specs.Answers.{fault_or}
 use Rattle.taskscript.specs.Faults.{check}
 use Rattle.taskscript.specs.Interrupting.{Setting}
+use Rattle.taskscript.specs.Places.{array_at, at, item_at, key_at, refused, unknown_key_at, without_place}
 use Rattle.taskscript.specs.Tree.{document_of, required, optional, table_faults, of_items, keys_are_among, integer_faults, pri_faults, softint_pri_faults, source_faults, boolean_faults, name_faults, array_faults, items_faults, code_faults, pri_in, source_in, number_or, boolean_or, string_or_nothing, items_or_none, members_or_none}
 use Rattle.taskscript.specs.Code.{lines_in, body_faults, code_of, shared_after}
 
@@ -73,14 +83,18 @@ task_keys = codes "name" ∷ codes "pri" ∷ codes "start" ∷ codes "code" ∷ 
 abbrev pub region_keys : List (List ℕ)
 region_keys = codes "base" ∷ codes "size" ∷ codes "attrs" ∷ codes "pri" ∷ []
 
--- the table of a region: its keys, then its values in the order base, size, attrs, pri
-abbrev pub region_faults : Members → List FileFault
-region_faults region =
-    check (keys_are_among region_keys region) UnknownKey
-    ++ (required (integer_faults (pos 0) (pos 4294967295)) (get_member (codes "base") region)
-    ++ (required (integer_faults (pos 0) (pos 4294967295)) (get_member (codes "size") region)
-    ++ (optional (integer_faults (pos 0) (pos 7)) (get_member (codes "attrs") region)
-    ++ pri_faults region)))
+-- the table of a region at that place: its keys, then its values in the order base, size, attrs, pri
+abbrev pub region_faults : TablePlace → Members → List Refused
+region_faults of region =
+    at (unknown_key_at of) (check (keys_are_among region_keys region) UnknownKey)
+    ++ (at (key_at of key.Base) (required (integer_faults (pos 0) (pos 4294967295)) (get_member (codes "base") region))
+    ++ (at (key_at of key.Size) (required (integer_faults (pos 0) (pos 4294967295)) (get_member (codes "size") region))
+    ++ (at (key_at of key.Attrs) (optional (integer_faults (pos 0) (pos 7)) (get_member (codes "attrs") region))
+    ++ at (key_at of key.Pri) (pri_faults region))))
+
+-- the item of that number of the array `region`
+abbrev pub region_item_faults : ℕ → Data → List Refused
+region_item_faults number = table_faults (item_at array.Region number) (region_faults (Item array.Region number))
 
 -- the region that a table is
 abbrev pub region_of : Data → Region
@@ -108,10 +122,10 @@ abbrev pub total_of : ℕ → ℕ
 total_of version = if nat_eq version 1 then 1048576 else 4194304
 
 -- the regions in their order, and after the last of them all together, which may have that many bytes in all
-abbrev pub regions_faults : ℕ → Members → List FileFault
+abbrev pub regions_faults : ℕ → Members → List Refused
 regions_faults total tree =
-    optional (array_faults 8 (items_faults (table_faults region_faults))) (get_member (codes "region") tree)
-    ++ check (is_none (regions_fault total (regions_in tree))) BadRegions
+    optional (array_faults array.Region (items_faults region_item_faults 0)) (get_member (codes "region") tree)
+    ++ at (array_at array.Region) (check (is_none (regions_fault total (regions_in tree))) BadRegions)
 
 -- ---- software interrupts, servers and tasks: what has a name and a code
 
@@ -124,31 +138,31 @@ abbrev pub server_keys : List (List ℕ)
 server_keys = codes "name" ∷ codes "source" ∷ codes "pri" ∷ codes "claim" ∷ codes "code" ∷ []
 
 -- the table of a software interrupt after the names before it: its keys, then its values in the order name, pri, code
-abbrev pub softint_faults : List (List ℕ) → Members → List FileFault
-softint_faults before softint =
-    check (keys_are_among softint_keys softint) UnknownKey
-    ++ (required (name_faults before) (get_member (codes "name") softint)
-    ++ (required softint_pri_faults (get_member (codes "pri") softint)
-    ++ required code_faults (get_member (codes "code") softint)))
+abbrev pub softint_faults : TablePlace → List (List ℕ) → Members → List Refused
+softint_faults of before softint =
+    at (unknown_key_at of) (check (keys_are_among softint_keys softint) UnknownKey)
+    ++ (at (key_at of key.Name) (required (name_faults before) (get_member (codes "name") softint))
+    ++ (at (key_at of key.Pri) (required softint_pri_faults (get_member (codes "pri") softint))
+    ++ at (key_at of key.Code) (required code_faults (get_member (codes "code") softint))))
 
 -- the table of a server after the names before it: its keys, then its values in the order name, source, pri, claim, code
-abbrev pub server_faults : List (List ℕ) → Members → List FileFault
-server_faults before server =
-    check (keys_are_among server_keys server) UnknownKey
-    ++ (required (name_faults before) (get_member (codes "name") server)
-    ++ (required source_faults (get_member (codes "source") server)
-    ++ (pri_faults server
-    ++ (optional boolean_faults (get_member (codes "claim") server)
-    ++ required code_faults (get_member (codes "code") server)))))
+abbrev pub server_faults : TablePlace → List (List ℕ) → Members → List Refused
+server_faults of before server =
+    at (unknown_key_at of) (check (keys_are_among server_keys server) UnknownKey)
+    ++ (at (key_at of key.Name) (required (name_faults before) (get_member (codes "name") server))
+    ++ (at (key_at of key.Source) (required source_faults (get_member (codes "source") server))
+    ++ (at (key_at of key.Pri) (pri_faults server)
+    ++ (at (key_at of key.Claim) (optional boolean_faults (get_member (codes "claim") server))
+    ++ at (key_at of key.Code) (required code_faults (get_member (codes "code") server))))))
 
 -- the table of a task after the names before it: its keys, then its values in the order name, pri, start, code
-abbrev pub task_faults : List (List ℕ) → Members → List FileFault
-task_faults before task =
-    check (keys_are_among task_keys task) UnknownKey
-    ++ (required (name_faults before) (get_member (codes "name") task)
-    ++ (pri_faults task
-    ++ (optional boolean_faults (get_member (codes "start") task)
-    ++ required code_faults (get_member (codes "code") task))))
+abbrev pub task_faults : TablePlace → List (List ℕ) → Members → List Refused
+task_faults of before task =
+    at (unknown_key_at of) (check (keys_are_among task_keys task) UnknownKey)
+    ++ (at (key_at of key.Name) (required (name_faults before) (get_member (codes "name") task))
+    ++ (at (key_at of key.Pri) (pri_faults task)
+    ++ (at (key_at of key.Start) (optional boolean_faults (get_member (codes "start") task))
+    ++ at (key_at of key.Code) (required code_faults (get_member (codes "code") task)))))
 
 -- the name in a table
 abbrev pub name_of : Data → List ℕ
@@ -170,10 +184,19 @@ claim_of server = boolean_or false (get_member (codes "claim") (members_or_none 
 abbrev pub server_source_of : Data → Source
 server_source_of server = source_in (members_or_none server)
 
--- the items in their order, each a table that is judged after the names before it
-abbrev pub named_faults : (List (List ℕ) → Members → List FileFault) → List (List ℕ) → Items → List FileFault
-named_faults judge before no_items = []
-named_faults judge before (item owner rest) = table_faults (judge before) owner ++ named_faults judge (before ++ name_of owner ∷ []) rest
+-- how the table of an item is judged: at its place, after the names before it
+abbrev pub Judge : Type 0
+Judge = TablePlace → List (List ℕ) → Members → List Refused
+
+-- the item of that number of an array, after the names before it
+abbrev pub named_item_faults : Judge → Array → ℕ → List (List ℕ) → Data → List Refused
+named_item_faults judge of number before = table_faults (item_at of number) (judge (Item of number) before)
+
+-- the items of an array from that number on, each a table that is judged after the names before it
+abbrev pub named_faults : Judge → Array → ℕ → List (List ℕ) → Items → List Refused
+named_faults judge of number before no_items = []
+named_faults judge of number before (item owner rest) =
+    named_item_faults judge of number before owner ++ named_faults judge of (number + 1) (before ++ name_of owner ∷ []) rest
 
 -- the names of the items
 abbrev pub item_names : Items → List (List ℕ)
@@ -210,20 +233,20 @@ abbrev pub library_keys : List (List ℕ)
 library_keys = codes "name" ∷ codes "version" ∷ codes "size" ∷ []
 
 -- the table of a library after the names of the libraries before it: its keys, then its values in the order name, version, size
-abbrev pub library_faults : List (List ℕ) → Members → List FileFault
-library_faults before library =
-    check (keys_are_among library_keys library) UnknownKey
-    ++ (required (name_faults before) (get_member (codes "name") library)
-    ++ (required (integer_faults (pos 0) (pos 65535)) (get_member (codes "version") library)
-    ++ required (integer_faults (pos 8) (pos 65536)) (get_member (codes "size") library)))
+abbrev pub library_faults : TablePlace → List (List ℕ) → Members → List Refused
+library_faults of before library =
+    at (unknown_key_at of) (check (keys_are_among library_keys library) UnknownKey)
+    ++ (at (key_at of key.Name) (required (name_faults before) (get_member (codes "name") library))
+    ++ (at (key_at of key.Version) (required (integer_faults (pos 0) (pos 65535)) (get_member (codes "version") library))
+    ++ at (key_at of key.Size) (required (integer_faults (pos 8) (pos 65536)) (get_member (codes "size") library))))
 
 -- the items of the array `library`
 abbrev pub libraries_in : Members → Items
 libraries_in tree = items_or_none (get_member (codes "library") tree)
 
 -- the libraries in their order: no two have one name
-abbrev pub libraries_faults : Members → List FileFault
-libraries_faults tree = optional (array_faults 32 (named_faults library_faults [])) (get_member (codes "library") tree)
+abbrev pub libraries_faults : Members → List Refused
+libraries_faults tree = optional (array_faults array.Library (named_faults library_faults array.Library 0 [])) (get_member (codes "library") tree)
 
 -- the library that a table is
 abbrev pub library_of : Data → LibraryData
@@ -243,11 +266,11 @@ code_lines owner = lines_in (items_or_none (get_member (codes "code") (members_o
 abbrev pub setting_of : Bool → Members → Setting
 setting_of of_interrupt tree = record { of_interrupt = of_interrupt; softints = item_names (softints_in tree) }
 
--- the bodies in their order, each after the shared variables of those before it
-abbrev pub bodies_faults : Setting → List (List ℕ) → Items → List FileFault
-bodies_faults setting shared no_items = []
-bodies_faults setting shared (item owner rest) =
-    body_faults setting shared (code_lines owner) ++ bodies_faults setting (shared_after shared (code_lines owner)) rest
+-- the bodies of the items from that number on, each after the shared variables of those before it
+abbrev pub bodies_faults : Owner → ℕ → Setting → List (List ℕ) → Items → List Refused
+bodies_faults owner number setting shared no_items = []
+bodies_faults owner number setting shared (item body rest) =
+    body_faults owner number setting shared (code_lines body) ++ bodies_faults owner (number + 1) setting (shared_after shared (code_lines body)) rest
 
 -- the shared variables after some bodies
 abbrev pub shared_after_bodies : List (List ℕ) → Items → List (List ℕ)
@@ -262,12 +285,12 @@ with_bodies of shared (item owner rest) = of shared owner ∷ with_bodies of (sh
 -- ---- the whole
 
 -- the values of the keys that hold a number
-abbrev pub settings_faults : Members → List FileFault
+abbrev pub settings_faults : Members → List Refused
 settings_faults tree =
-    optional (integer_faults (pos 1) (pos 2)) (get_member (codes "version") tree)
-    ++ (optional (integer_faults (pos 1) (pos 255)) (get_member (codes "quantum") tree)
-    ++ (optional (integer_faults (pos 1) (pos 1000000)) (get_member (codes "tick_micros") tree)
-    ++ optional (integer_faults (pos 1) (pos 1024)) (get_member (codes "pool") tree)))
+    at (key_at Top key.Version) (optional (integer_faults (pos 1) (pos 2)) (get_member (codes "version") tree))
+    ++ (at (key_at Top key.Quantum) (optional (integer_faults (pos 1) (pos 255)) (get_member (codes "quantum") tree))
+    ++ (at (key_at Top key.TickMicros) (optional (integer_faults (pos 1) (pos 1000000)) (get_member (codes "tick_micros") tree))
+    ++ at (key_at Top key.Pool) (optional (integer_faults (pos 1) (pos 1024)) (get_member (codes "pool") tree))))
 
 -- the names of the shared variables, in order of first sight, after all software interrupts
 abbrev pub shared_after_softints : Members → List (List ℕ)
@@ -286,27 +309,27 @@ abbrev pub names_before_tasks : Members → List (List ℕ)
 names_before_tasks tree = names_before_servers tree ++ item_names (servers_in tree)
 
 -- the software interrupts, the servers and the tasks
-abbrev pub owners_faults : Members → List FileFault
+abbrev pub owners_faults : Members → List Refused
 owners_faults tree =
-    optional (array_faults 32 (named_faults softint_faults [])) (get_member (codes "softint") tree)
-    ++ (optional (array_faults 32 (named_faults server_faults (names_before_servers tree))) (get_member (codes "server") tree)
-    ++ optional (array_faults 64 (named_faults task_faults (names_before_tasks tree))) (get_member (codes "task") tree))
+    optional (array_faults array.Softint (named_faults softint_faults array.Softint 0 [])) (get_member (codes "softint") tree)
+    ++ (optional (array_faults array.Server (named_faults server_faults array.Server 0 (names_before_servers tree))) (get_member (codes "server") tree)
+    ++ optional (array_faults array.Task (named_faults task_faults array.Task 0 (names_before_tasks tree))) (get_member (codes "task") tree))
 
 -- their lines
-abbrev pub lines_of_all_faults : Members → List FileFault
+abbrev pub lines_of_all_faults : Members → List Refused
 lines_of_all_faults tree =
-    bodies_faults (setting_of true tree) [] (softints_in tree)
-    ++ (bodies_faults (setting_of true tree) (shared_after_softints tree) (servers_in tree)
-    ++ bodies_faults (setting_of false tree) (shared_after_servers tree) (tasks_in tree))
+    bodies_faults Softint 0 (setting_of true tree) [] (softints_in tree)
+    ++ (bodies_faults Server 0 (setting_of true tree) (shared_after_softints tree) (servers_in tree)
+    ++ bodies_faults Task 0 (setting_of false tree) (shared_after_servers tree) (tasks_in tree))
 
 -- the software interrupts, the servers and the tasks, and after all of them their lines
-abbrev pub both_passes_faults : Members → List FileFault
+abbrev pub both_passes_faults : Members → List Refused
 both_passes_faults tree = owners_faults tree ++ lines_of_all_faults tree
 
--- the faults of all places of a tree, in their order
-abbrev pub faults : Members → List FileFault
-faults tree =
-    check (keys_are_among top_keys tree) UnknownKey
+-- the faults of a tree with their places, in their order
+abbrev pub refusals : Members → List Refused
+refusals tree =
+    at (unknown_key_at Top) (check (keys_are_among top_keys tree) UnknownKey)
     ++ (settings_faults tree
     ++ (regions_faults (total_of (version_of tree)) tree
     ++ (libraries_faults tree
@@ -360,11 +383,15 @@ machine_of tree = record {
   tasks = tasks_of (shared_after_servers tree) (tasks_in tree);
 }
 
--- what the tree of a document comes to: its first fault, or its machine; no tree is the fault NotToml
-abbrev pub file_of_document : Option Members → Result MachineData FileFault
-file_of_document None = Err NotToml
-file_of_document (Some tree) = fault_or (first (faults tree)) (machine_of tree)
+-- what the tree of a document comes to: its first fault, with its place, or its machine; no tree is the fault NotToml of the file
+abbrev pub placed_file_of_document : Option Members → Result MachineData Refused
+placed_file_of_document None = Err (refused a_place.File NotToml)
+placed_file_of_document (Some tree) = fault_or (first (refusals tree)) (machine_of tree)
+
+-- the machine that the bytes of a file state, or the first of its faults with its place
+unfoldable pub placed_file_of : List ℕ → Result MachineData Refused
+placed_file_of bytes = placed_file_of_document (document_of bytes)
 
 -- the machine that the bytes of a file state, or the fault at the first of its faulty places
 unfoldable pub file_of : List ℕ → Result MachineData FileFault
-file_of bytes = file_of_document (document_of bytes)
+file_of bytes = without_place (placed_file_of bytes)

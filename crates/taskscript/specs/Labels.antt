@@ -1,11 +1,14 @@
 -- Labels, and the places that they name.
-use Rattle.std.specs.Prelude.{◌≡◌, ℕ, Bool, true, false, bytes_eq, is_some, unwrap_or, List, [], ◌∷◌, map, Option, Some, None, Result, Ok, Err, if◌then◌else◌}
+use Rattle.std.specs.Prelude.{◌≡◌, ℕ, Bool, true, false, bytes_eq, is_some, unwrap_or, List, [], ◌∷◌, ◌++◌, map, Option, Some, None, Result, Ok, Err, if◌then◌else◌}
 use Rattle.std.specs.List.{list_all}
 use Rattle.arrayvec.specs.ArrayString.{ArrayString}
 use Rattle.taskscript.specs.declared.fault.FileFault.{FileFault}
 use Rattle.taskscript.specs.declared.fault.FileFault.TheVariants.{BadLabel}
 use Rattle.taskscript.specs.Faults.{check}
+use Rattle.taskscript.specs.declared.place.Owner.{Owner}
+use Rattle.taskscript.specs.declared.refused.Refused.{Refused}
 use Rattle.taskscript.specs.Lines.{NamedCommandData}
+use Rattle.taskscript.specs.Places.{at, line_at}
 use Rattle.taskscript.specs.Numbering.{labels_of_arguments}
 
 -- a label and its place, which is the number of the commands before it
@@ -27,6 +30,13 @@ are_marked marks names = list_all (λ name. is_some (place_in marks name)) names
 -- a command that jumps to none of these
 abbrev pub jump_faults_in : List Mark → NamedCommandData → List FileFault
 jump_faults_in marks c = check (are_marked marks (labels_of_arguments c.arguments)) BadLabel
+
+-- the jumps of commands of the body of an item, each in the line of its number
+abbrev pub jumps_faults_in : Owner → ℕ → List Mark → List ℕ → List NamedCommandData → List Refused
+jumps_faults_in owner item marks numbers [] = []
+jumps_faults_in owner item marks [] (c ∷ others) = []
+jumps_faults_in owner item marks (number ∷ numbers) (c ∷ others) =
+    at (line_at owner item number) (jump_faults_in marks c) ++ jumps_faults_in owner item marks numbers others
 
 -- the labels are there, and the value is right; or one lacks
 abbrev pub Resolves : {X : Type 0} → Result X FileFault → Bool → (X → Type 0) → Type 0

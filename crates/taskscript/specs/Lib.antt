@@ -21,6 +21,7 @@ pub mod Numbering
 pub mod Numbers
 pub mod OneCommand
 pub mod Parsing
+pub mod Places
 pub mod PlainWords
 pub mod PortWords
 pub mod Quotes

@@ -1,7 +1,8 @@
 -- What the readers of a file hold, as the data that it represents.
 use Rattle.std.specs.Prelude.{◌≡◌, ℕ, List, [], ◌++◌, map, None}
 use Rattle.toml.specs.Data.{Data, Members}
-use Rattle.taskscript.specs.declared.fault.FileFault.{FileFault}
+use Rattle.taskscript.specs.declared.place.Place.TheVariants.{File}
+use Rattle.taskscript.specs.declared.refused.Refused.{Refused}
 use Rattle.taskscript.specs.declared.fault.FileFault.TheVariants.{NotToml, OutOfMemory}
 use Rattle.taskscript.specs.declared.file.LibraryRecord.{LibraryRecord}
 use Rattle.taskscript.specs.declared.file.SoftintRecord.{SoftintRecord}
@@ -19,11 +20,12 @@ use Rattle.taskscript.specs.File.{LibraryData, SoftintData, ServerData, TaskData
 use Rattle.taskscript.specs.Interrupting.{Setting}
 use Rattle.taskscript.specs.Listings.{listing_of}
 use Rattle.taskscript.specs.Numbering.{texts}
+use Rattle.taskscript.specs.Places.{refused}
 use Rattle.taskscript.specs.Tree.{document_of, of_items}
 
 -- why there is no tree
-abbrev pub DocumentFault : FileFault → List ℕ → Type 0
-DocumentFault fault bytes = ¬ (fault ≡ OutOfMemory) → (document_of bytes ≡ None) × (fault ≡ NotToml)
+abbrev pub DocumentFault : Refused → List ℕ → Type 0
+DocumentFault r bytes = ¬ (r.fault ≡ OutOfMemory) → (document_of bytes ≡ None) × (r ≡ refused File NotToml)
 
 -- a library, a software interrupt, a server and a task, as its record has it
 abbrev pub library_view : LibraryRecord → LibraryData

@@ -10,7 +10,11 @@ use Rattle.taskscript.specs.declared.fault.FileFault.TheVariants.{MissingKey, Ba
 use Rattle.taskscript.specs.declared.source.Source.{Source}
 use Rattle.taskscript.specs.declared.source.Source.TheVariants.{Ports}
 use Rattle.taskscript.specs.Faults.{check}
+use Rattle.taskscript.specs.declared.place.Array.{Array}
+use Rattle.taskscript.specs.declared.place.Place.{Place}
+use Rattle.taskscript.specs.declared.refused.Refused.{Refused}
 use Rattle.taskscript.specs.Names.{is_name}
+use Rattle.taskscript.specs.Places.{array_at, at, limit, refused}
 use Rattle.taskscript.specs.Sources.{source_of}
 
 -- the tree of a text: none for bytes that are no UTF-8, and for a text that is no TOML document
@@ -25,7 +29,7 @@ required judge None = MissingKey ∷ []
 required judge (Some value) = judge value
 
 -- a key that may be absent
-abbrev pub optional : (Data → List FileFault) → Option Data → List FileFault
+abbrev pub optional : {F : Type 0} → (Data → List F) → Option Data → List F
 optional judge None = []
 optional judge (Some value) = judge value
 
@@ -36,10 +40,10 @@ keys_are_among listed (member key value rest) = list_any (bytes_eq key) listed &
 
 -- ---- values
 
--- a table, which is then judged
-abbrev pub table_faults : (Members → List FileFault) → Data → List FileFault
-table_faults judge (table members) = judge members
-table_faults judge _ = BadValue ∷ []
+-- a table, which is then judged; what is none has its fault at that place
+abbrev pub table_faults : Place → (Members → List Refused) → Data → List Refused
+table_faults place judge (table members) = judge members
+table_faults place judge _ = refused place BadValue ∷ []
 
 -- an integer from low to high
 abbrev pub integer_faults : ℤ → ℤ → Data → List FileFault
@@ -80,15 +84,15 @@ abbrev pub count_items : Items → ℕ
 count_items no_items = 0
 count_items (item value rest) = count_items rest + 1
 
--- an array of at most that many items, which are then judged in their order
-abbrev pub array_faults : ℕ → (Items → List FileFault) → Data → List FileFault
-array_faults limit judge (array items) = check (nat_le (count_items items) limit) TooMany ++ judge items
-array_faults limit judge _ = BadValue ∷ []
+-- an array of at most as many items as it may have, which are then judged in their order
+abbrev pub array_faults : Array → (Items → List Refused) → Data → List Refused
+array_faults of judge (array items) = at (array_at of) (check (nat_le (count_items items) (limit of)) TooMany) ++ judge items
+array_faults of judge _ = refused (array_at of) BadValue ∷ []
 
--- the items of an array in their order, each judged by itself
-abbrev pub items_faults : (Data → List FileFault) → Items → List FileFault
-items_faults judge no_items = []
-items_faults judge (item value rest) = judge value ++ items_faults judge rest
+-- the items of an array from that number on, each judged by itself
+abbrev pub items_faults : (ℕ → Data → List Refused) → ℕ → Items → List Refused
+items_faults judge number no_items = []
+items_faults judge number (item value rest) = judge number value ++ items_faults judge (number + 1) rest
 
 -- each item of an array is a string
 abbrev pub are_strings : Items → Bool

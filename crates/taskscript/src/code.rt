@@ -22,6 +22,8 @@ use crate::line::read_line;
 use crate::listing::BodyListing;
 use crate::named::{Line, NamedCommand};
 use crate::numbering::see_command;
+use crate::place::Owner;
+use crate::refused::{Refused, at_line};
 use crate::resolving::commands_in;
 use crate::variable::VariableName;
 use indexmap::{IndexMap, IndexSet};
@@ -113,16 +115,19 @@ fn add_line(
     }
 }
 
+// The lines of the body of the item of that number.
 fn body_of(
     alloc: Global,
+    owner: Owner,
+    number: usize,
     setting: Setting<'_>,
     lines: &[Value],
     shared: &mut IndexSet<VariableName>,
-) -> Result<Body, FileFault>
+) -> Result<Body, Refused>
     requires { length lines.now ≤ 1024 }
     ensures judged { let start = nothing_read (texts shared.old.keys) in
         let all = lines_in (items_view lines.now) in
-        Judges result (faults_after (setting_view setting.entry) start all) (λ body. reading_view body shared.new.keys ≡ reading_after start all) }
+        Judges result (faults_after owner number 0 (setting_view setting.entry) start all) (λ body. reading_view body shared.new.keys ≡ reading_after start all) }
     ensures lines { IfOk result (λ body. body.lines.items ≡ command_lines (lines_in (items_view lines.now))) }
 {
     let mut body = Body {
@@ -132,7 +137,10 @@ fn body_of(
         labels: IndexMap::new(alloc),
     };
     for (i, item) in lines.iter().enumerate() {
-        add_line(alloc, setting, &mut body, i as u16, line_in(item), shared)?;
+        match add_line(alloc, setting, &mut body, i as u16, line_in(item), shared) {
+            Err(fault) => return Err(at_line(owner, number, i, fault)),
+            Ok(()) => {}
+        }
     }
     Ok(body)
 }
@@ -144,7 +152,7 @@ pub struct Code {
     pub listing: BodyListing,
 }
 
-/// The commands of a body, whose lines are these items, and its listing.
+/// The commands of the body of the item of that number, whose lines are these items, and its listing.
 ///
 /// `setting` says whether it is the body of an interrupt, and has the names of the software interrupts of
 /// the file. `shared` has the names of shared variables that the bodies before it named, in the order of
@@ -156,21 +164,32 @@ pub struct Code {
 /// nothing is said of `shared`. The lines are our own.
 pub fn read_code(
     alloc: Global,
+    owner: Owner,
+    number: usize,
     setting: Setting<'_>,
     lines: &[Value],
     shared: &mut IndexSet<VariableName>,
-) -> Result<Code, FileFault>
+) -> Result<Code, Refused>
     ensures judged { let before = texts shared.old.keys in
         let all = lines_in (items_view lines.now) in
-        Judges result (body_faults (setting_view setting.entry) before all) (λ code. map command_view code.commands.items ≡ code_of before all) }
+        Judges result (body_faults owner number (setting_view setting.entry) before all) (λ code. map command_view code.commands.items ≡ code_of before all) }
     ensures listing { IfOk result (λ code. code.listing ≡ body_listing (texts shared.old.keys) (lines_in (items_view lines.now))) }
     ensures shared { OnOk result (texts shared.new.keys ≡ shared_after (texts shared.old.keys) (lines_in (items_view lines.now))) }
 {
     if lines.len() > LINE_LIMIT {
-        return Err(FileFault::TooMany);
+        return Err(at_line(owner, number, LINE_LIMIT, FileFault::TooMany));
     }
-    let body = body_of(alloc, setting, lines, shared)?;
-    let commands = commands_in(alloc, &body.commands, &body.private, shared, &body.labels)?;
+    let body = body_of(alloc, owner, number, setting, lines, shared)?;
+    let commands = commands_in(
+        alloc,
+        owner,
+        number,
+        &body.lines,
+        &body.commands,
+        &body.private,
+        shared,
+        &body.labels,
+    )?;
     Ok(Code {
         commands,
         listing: BodyListing {

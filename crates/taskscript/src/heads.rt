@@ -5,16 +5,21 @@ ghost use Rattle.toml.specs.Data.{Data, Members, table as a_table, get_member};
 ghost use Rattle.toml.specs.View.{table_view, view, items_view};
 ghost use Rattle.taskscript.specs.Commands.{CommandData, command_view};
 ghost use Rattle.taskscript.specs.Faults.{Judges};
-ghost use Rattle.taskscript.specs.File.{LibraryData, SoftintData, ServerData, TaskData, library_faults, library_of, softint_faults, server_faults, task_faults, named_faults, name_of, item_names};
+ghost use Rattle.taskscript.specs.File.{LibraryData, SoftintData, ServerData, TaskData, library_faults, library_of, softint_faults, server_faults, task_faults, named_faults, named_item_faults, name_of, item_names};
 ghost use Rattle.taskscript.specs.Numbering.{texts};
 ghost use Rattle.taskscript.specs.Records.{library_view, softint_view, server_view, task_view, softint_head_view, server_head_view, task_head_view, softint_head_of, server_head_of, task_head_of, softint_with, server_with, task_with};
-ghost use Rattle.taskscript.specs.Tree.{required, optional, table_faults, name_faults, string_or_nothing, code_faults, array_faults, items_or_none, of_items};
-ghost use Rattle.taskscript.specs.declared.fault.FileFault.{FileFault};
+ghost use Rattle.taskscript.specs.Tree.{required, optional, name_faults, string_or_nothing, code_faults, array_faults, items_or_none, of_items};
+ghost use Rattle.taskscript.specs.Places.{array_key, at, key_at};
+ghost use Rattle.taskscript.specs.declared.place.Key.TheVariants as a_key;
+ghost use Rattle.taskscript.specs.declared.place.TablePlace.{TablePlace};
+ghost use Rattle.taskscript.specs.declared.refused.Refused.{Refused};
 
 use crate::command::Command;
 use crate::fault::FileFault;
 use crate::file::{LibraryRecord, ServerRecord, SoftintRecord, TaskRecord};
 use crate::name::{Name, is_among, is_name};
+use crate::place::{Array, Key, TablePlace};
+use crate::refused::{Refused, at_array, at_key, no_table, unknown_key};
 use crate::source::Source;
 use crate::tree::{
     are_strings, has_only, member, optional_boolean, optional_pri, required_number,
@@ -28,8 +33,8 @@ pub trait Named: Copy {
     /// The data that it represents.
     ghost Shown: { Type 0 };
 
-    /// The faults of an item's table after the names before it.
-    ghost faults: { List (List ℕ) → Members → List FileFault };
+    /// The faults of an item's table of that place after the names before it.
+    ghost faults: { TablePlace → List (List ℕ) → Members → List Refused };
 
     /// What it represents.
     ghost head_view: { Self → Shown };
@@ -38,8 +43,8 @@ pub trait Named: Copy {
     ghost head_of: { Data → Shown };
 
     /// Judges the keys and the values of an item in their order, the name after those before it, and adds it to them.
-    fn head_in(table: &Table, names: &mut Vec<Name>) -> Result<Self, FileFault>
-        ensures judged { Judges result (faults (texts names.old.items) (table_view table.now)) (λ h. head_view h ≡ head_of (a_table (table_view table.now))) }
+    fn head_in(of: TablePlace, table: &Table, names: &mut Vec<Name>) -> Result<Self, Refused>
+        ensures judged { Judges result (faults of (texts names.old.items) (table_view table.now)) (λ h. head_view h ≡ head_of (a_table (table_view table.now))) }
         ensures names { OnOk result (texts names.new.items ≡ texts names.old.items ++ name_of (a_table (table_view table.now)) ∷ []) };
 }
 
@@ -87,51 +92,51 @@ pub struct TaskHead {
 }
 
 /// The name that the key `name` holds, which is to be none of those before it, and is added to them.
-fn name_at(table: &Table, names: &mut Vec<Name>) -> Result<Name, FileFault>
-    ensures judged { Judges result (required (name_faults (texts names.old.items)) (get_member (codes "name") (table_view table.now))) (λ n. n.bytes ≡ string_or_nothing (get_member (codes "name") (table_view table.now))) }
+fn name_at(of: TablePlace, table: &Table, names: &mut Vec<Name>) -> Result<Name, Refused>
+    ensures judged { Judges result (at (key_at of a_key.Name) (required (name_faults (texts names.old.items)) (get_member (codes "name") (table_view table.now)))) (λ n. n.bytes ≡ string_or_nothing (get_member (codes "name") (table_view table.now))) }
     ensures names { OnOk result (texts names.new.items ≡ texts names.old.items ++ string_or_nothing (get_member (codes "name") (table_view table.now)) ∷ []) }
 {
     let value = match member(table, "name") {
-        None => return Err(FileFault::MissingKey),
+        None => return Err(at_key(of, Key::Name, FileFault::MissingKey)),
         Some(value) => value,
     };
     let text = match value.as_str() {
-        None => return Err(FileFault::BadValue),
+        None => return Err(at_key(of, Key::Name, FileFault::BadValue)),
         Some(text) => text,
     };
     if !is_name(text.as_bytes()) {
-        return Err(FileFault::BadValue);
+        return Err(at_key(of, Key::Name, FileFault::BadValue));
     }
     if is_among(names, text) {
-        return Err(FileFault::NameTwice);
+        return Err(at_key(of, Key::Name, FileFault::NameTwice));
     }
     match Name::from(text) {
         Ok(name) => {
             names.push(name)?;
             Ok(name)
         }
-        Err(_) => Err(FileFault::BadValue),
+        Err(_) => Err(at_key(of, Key::Name, FileFault::BadValue)),
     }
 }
 
 /// Judges the array that the key `code` holds: strings first, then their number.
 #[tactic(auto, using(crate::proofs::Keys::count_items_view))]
-fn check_code(table: &Table) -> Result<(), FileFault>
-    ensures { Judges result (required code_faults (get_member (codes "code") (table_view table.now))) (λ _. Unit {0}) }
+fn check_code(of: TablePlace, table: &Table) -> Result<(), Refused>
+    ensures { Judges result (at (key_at of a_key.Code) (required code_faults (get_member (codes "code") (table_view table.now)))) (λ _. Unit {0}) }
 {
     let value = match member(table, "code") {
-        None => return Err(FileFault::MissingKey),
+        None => return Err(at_key(of, Key::Code, FileFault::MissingKey)),
         Some(value) => value,
     };
     let items = match value.as_array() {
-        None => return Err(FileFault::BadValue),
+        None => return Err(at_key(of, Key::Code, FileFault::BadValue)),
         Some(items) => items,
     };
     if !are_strings(items) {
-        return Err(FileFault::BadValue);
+        return Err(at_key(of, Key::Code, FileFault::BadValue));
     }
     if items.len() > 1024 {
-        return Err(FileFault::TooMany);
+        return Err(at_key(of, Key::Code, FileFault::TooMany));
     }
     Ok(())
 }
@@ -145,13 +150,17 @@ impl Named for SoftintHead {
 
     ghost head_of = { softint_head_of };
 
-    fn head_in(table: &Table, names: &mut Vec<Name>) -> Result<SoftintHead, FileFault> {
+    fn head_in(
+        of: TablePlace,
+        table: &Table,
+        names: &mut Vec<Name>,
+    ) -> Result<SoftintHead, Refused> {
         if !has_only(table, &["name", "pri", "code"]) {
-            return Err(FileFault::UnknownKey);
+            return Err(unknown_key(of));
         }
-        let name = name_at(table, names)?;
-        let pri = softint_pri(table)?;
-        check_code(table)?;
+        let name = name_at(of, table, names)?;
+        let pri = softint_pri(of, table)?;
+        check_code(of, table)?;
         Ok(SoftintHead { name, pri })
     }
 }
@@ -183,15 +192,19 @@ impl Named for ServerHead {
 
     ghost head_of = { server_head_of };
 
-    fn head_in(table: &Table, names: &mut Vec<Name>) -> Result<ServerHead, FileFault> {
+    fn head_in(
+        of: TablePlace,
+        table: &Table,
+        names: &mut Vec<Name>,
+    ) -> Result<ServerHead, Refused> {
         if !has_only(table, &["name", "source", "pri", "claim", "code"]) {
-            return Err(FileFault::UnknownKey);
+            return Err(unknown_key(of));
         }
-        let name = name_at(table, names)?;
-        let source = required_source(table)?;
-        let pri = optional_pri(table)?;
-        let claim = optional_boolean(table, "claim", false)?;
-        check_code(table)?;
+        let name = name_at(of, table, names)?;
+        let source = required_source(of, table)?;
+        let pri = optional_pri(of, table)?;
+        let claim = optional_boolean(of, Key::Claim, table, false)?;
+        check_code(of, table)?;
         Ok(ServerHead {
             name,
             source,
@@ -230,14 +243,14 @@ impl Named for TaskHead {
 
     ghost head_of = { task_head_of };
 
-    fn head_in(table: &Table, names: &mut Vec<Name>) -> Result<TaskHead, FileFault> {
+    fn head_in(of: TablePlace, table: &Table, names: &mut Vec<Name>) -> Result<TaskHead, Refused> {
         if !has_only(table, &["name", "pri", "start", "code"]) {
-            return Err(FileFault::UnknownKey);
+            return Err(unknown_key(of));
         }
-        let name = name_at(table, names)?;
-        let pri = optional_pri(table)?;
-        let start = optional_boolean(table, "start", true)?;
-        check_code(table)?;
+        let name = name_at(of, table, names)?;
+        let pri = optional_pri(of, table)?;
+        let start = optional_boolean(of, Key::Start, table, true)?;
+        check_code(of, table)?;
         Ok(TaskHead { name, pri, start })
     }
 }
@@ -270,13 +283,17 @@ impl Named for LibraryRecord {
 
     ghost head_of = { library_of };
 
-    fn head_in(table: &Table, names: &mut Vec<Name>) -> Result<LibraryRecord, FileFault> {
+    fn head_in(
+        of: TablePlace,
+        table: &Table,
+        names: &mut Vec<Name>,
+    ) -> Result<LibraryRecord, Refused> {
         if !has_only(table, &["name", "version", "size"]) {
-            return Err(FileFault::UnknownKey);
+            return Err(unknown_key(of));
         }
-        let name = name_at(table, names)?;
-        let version = required_number(table, "version", 0, 65535)?;
-        let size = required_number(table, "size", 8, 65536)?;
+        let name = name_at(of, table, names)?;
+        let version = required_number(of, Key::Version, table, 0, 65535)?;
+        let size = required_number(of, Key::Size, table, 8, 65536)?;
         Ok(LibraryRecord {
             name,
             version: version as u16,
@@ -285,54 +302,59 @@ impl Named for LibraryRecord {
     }
 }
 
-fn head_of<H: Named>(value: &Value, names: &mut Vec<Name>) -> Result<H, FileFault>
-    ensures judged { Judges result (table_faults (H.faults (texts names.old.items)) (view value.now)) (λ h. H.head_view h ≡ H.head_of (view value.now)) }
+fn head_of<H: Named>(
+    of: Array,
+    number: usize,
+    value: &Value,
+    names: &mut Vec<Name>,
+) -> Result<H, Refused>
+    ensures judged { Judges result (named_item_faults H.faults of number (texts names.old.items) (view value.now)) (λ h. H.head_view h ≡ H.head_of (view value.now)) }
     ensures names { OnOk result (texts names.new.items ≡ texts names.old.items ++ name_of (view value.now) ∷ []) }
 {
     match value.as_table() {
-        None => Err(FileFault::BadValue),
-        Some(table) => H::head_in(table, names),
+        None => Err(no_table(of, number)),
+        Some(table) => H::head_in(TablePlace::Item(of, number), table, names),
     }
 }
 
 fn heads_of<H: Named>(
     alloc: Global,
+    of: Array,
     items: &[Value],
     names: &mut Vec<Name>,
-) -> Result<Vec<H>, FileFault>
-    ensures judged { Judges result (named_faults H.faults (texts names.old.items) (items_view items.now)) (λ hs. map H.head_view hs.items ≡ of_items H.head_of (items_view items.now)) }
+) -> Result<Vec<H>, Refused>
+    ensures judged { Judges result (named_faults H.faults of 0 (texts names.old.items) (items_view items.now)) (λ hs. map H.head_view hs.items ≡ of_items H.head_of (items_view items.now)) }
     ensures names { OnOk result (texts names.new.items ≡ texts names.old.items ++ item_names (items_view items.now)) }
 {
     let mut heads = Vec::new(alloc);
-    for item in items {
-        let head = head_of(item, names)?;
+    for (i, item) in items.iter().enumerate() {
+        let head = head_of(of, i, item, names)?;
         heads.push(head)?;
     }
     Ok(heads)
 }
 
-/// The heads of the items of the array that the key holds, at most `limit`, or none; their names are added to those before them.
+/// The heads of the items of the array, at most its limit, or none; their names are added to those before them.
 #[tactic(auto, using(crate::proofs::Keys::count_items_view))]
 pub fn heads_at<H: Named>(
     alloc: Global,
     table: &Table,
-    key: &str,
-    limit: usize,
+    of: Array,
     names: &mut Vec<Name>,
-) -> Result<Vec<H>, FileFault>
-    ensures judged { Judges result (optional (array_faults limit (named_faults H.faults (texts names.old.items))) (get_member key.now (table_view table.now))) (λ hs. map H.head_view hs.items ≡ of_items H.head_of (items_or_none (get_member key.now (table_view table.now)))) }
-    ensures names { OnOk result (texts names.new.items ≡ texts names.old.items ++ item_names (items_or_none (get_member key.now (table_view table.now)))) }
+) -> Result<Vec<H>, Refused>
+    ensures judged { Judges result (optional (array_faults of (named_faults H.faults of 0 (texts names.old.items))) (get_member (array_key of) (table_view table.now))) (λ hs. map H.head_view hs.items ≡ of_items H.head_of (items_or_none (get_member (array_key of) (table_view table.now)))) }
+    ensures names { OnOk result (texts names.new.items ≡ texts names.old.items ++ item_names (items_or_none (get_member (array_key of) (table_view table.now)))) }
 {
-    let value = match member(table, key) {
+    let value = match member(table, of.key()) {
         None => return Ok(Vec::new(alloc)),
         Some(value) => value,
     };
     let items = match value.as_array() {
-        None => return Err(FileFault::BadValue),
+        None => return Err(at_array(of, FileFault::BadValue)),
         Some(items) => items,
     };
-    if items.len() > limit {
-        return Err(FileFault::TooMany);
+    if items.len() > of.limit() {
+        return Err(at_array(of, FileFault::TooMany));
     }
-    heads_of(alloc, items, names)
+    heads_of(alloc, of, items, names)
 }

@@ -2,7 +2,7 @@
 //! names a software interrupt names one of the file.
 ghost use Rattle.std.specs.Prelude.{◌≡◌, ◌++◌, ◌∷◌, [], bytes_eq, length, map, option_map};
 ghost use Rattle.std.specs.List.{list_all, list_any};
-ghost use Rattle.taskscript.specs.Faults.{check, Judges};
+ghost use Rattle.taskscript.specs.Faults.{check, JudgesLine};
 ghost use Rattle.taskscript.specs.Interrupting.{is_of_interrupt, is_open, is_word_of_interrupt, may_stand, names_softints, softints_among};
 ghost use Rattle.taskscript.specs.Lines.{named_argument_view, named_command_view, named_variable_view};
 ghost use Rattle.taskscript.specs.Numbering.{texts, variables_of_target};
@@ -115,7 +115,7 @@ fn are_known(softints: &[Name], kinds: &[Kind], arguments: &[NamedArgument]) -> 
 pub fn judge_command(setting: Setting<'_>, command: &NamedCommand) -> Result<(), FileFault>
     ensures { let s = setting_view setting.entry in
         let said = named_command_view command.now in
-        Judges result
+        JudgesLine result
         (check (names_softints s said) FileFault.BadCommand ++ check (may_stand s said) FileFault.NotInInterrupt)
         (λ _. Unit {0}) }
 {

@@ -7,7 +7,7 @@ use crate::identifier::{Identifier, identifier_of};
 /// The name of a label.
 pub type LabelName = Identifier;
 
-/// The label of a label line, which is its name and `:`.
+/// The label of a label line, which is its name and `:` (project rule).
 pub fn label_in(field: &str) -> Option<LabelName>
     ensures { option_map (λ n. n.bytes) result ≡ label_in field.now }
 {

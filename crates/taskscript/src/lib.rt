@@ -21,8 +21,10 @@ mod named;
 mod number;
 mod numbering;
 mod owners;
+mod place;
 mod quoted;
 mod reading;
+mod refused;
 mod regions;
 mod resolving;
 mod source;
@@ -39,20 +41,25 @@ pub use fault::{EventFault, FileFault};
 pub use file::{LibraryRecord, MachineFile, ServerRecord, SoftintRecord, TaskRecord};
 pub use identifier::is_identifier;
 pub use interrupting::is_word_of_interrupt;
+pub use label::label_in;
 pub use laws::{
     one_command, one_meaning, one_reading, read_line_is_said, refused_line_says_nothing,
     said_line_is_read,
 };
+pub use line::fields_of;
 pub use listing::{BodyListing, Listed, Listing};
 pub use name::{Name, is_name};
 pub use number::number_of;
 pub use numbering::{PRIVATE_LIMIT, SHARED_LIMIT};
 pub use owners::lines_of;
-pub use reading::{read_listed, read_machine};
+pub use place::{Array, Key, LinePlace, Owner, Place, TablePlace, TreePlace};
+pub use quoted::quoted_in;
+pub use reading::{read_listed, read_machine, read_placed};
+pub use refused::Refused;
 pub use regions::{regions_at, total_of};
 pub use source::Source;
 pub use tree::{are_strings, is_softint_pri, items_at, member};
-pub use variable::{Variable, VariableName};
+pub use variable::{NamedVariable, Variable, VariableName, variable_of};
 pub use word::{
     InterruptWord, Kind, LibraryWord, ListWord, MemoryWord, NestingWord, PlainWord, PortWord,
     RequestWord, SemaphoreWord, SignalWord, TaskWord, Word, word_of, words,

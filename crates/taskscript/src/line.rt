@@ -14,8 +14,12 @@ use crate::variable::{NamedVariable, variable_of};
 use crate::word::{Kind, word_of};
 use std::alloc::{AllocError, Global};
 
-// The parts of a line between single spaces. Two spaces in a row, or one at an end, make an empty part.
-fn fields_of(alloc: Global, line: &str) -> Result<Vec<&str>, AllocError>
+/// The parts of a line between single spaces. Two spaces in a row, or one at an end, make an empty part (project rule).
+///
+/// # Errors
+///
+/// If memory is refused.
+pub fn fields_of(alloc: Global, line: &str) -> Result<Vec<&str>, AllocError>
     ensures { IfOk result (λ v. map (λ f. f.now) v.items ≡ fields line.now) }
 {
     line.split(' ').collect(alloc)

@@ -11,12 +11,13 @@ ghost use Rattle.taskscript.specs.Records.{setting_view, made_of, AreHeads, AreO
 ghost use Rattle.taskscript.specs.Tree.{of_items};
 
 use crate::code::read_code;
-use crate::fault::FileFault;
 use crate::file::{ServerRecord, SoftintRecord, TaskRecord};
 use crate::heads::{Head, ServerHead, SoftintHead, TaskHead, heads_at};
 use crate::interrupting::Setting;
 use crate::listing::{BodyListing, Listing};
 use crate::name::Name;
+use crate::place::{Array, Owner};
+use crate::refused::Refused;
 use crate::tree::items_at;
 use crate::variable::VariableName;
 use indexmap::IndexSet;
@@ -38,37 +39,40 @@ pub fn lines_of(owner: &Value) -> &[Value]
 // What has a body, and the listing of its body.
 fn record_of<H: Head>(
     alloc: Global,
+    owner: Owner,
+    number: usize,
     setting: Setting<'_>,
     head: H,
     item: &Value,
     shared: &mut IndexSet<VariableName>,
-) -> Result<(H::Record, BodyListing), FileFault>
+) -> Result<(H::Record, BodyListing), Refused>
     requires { H.head_view head ≡ H.head_of (view item.now) }
-    ensures judged { Judges result (body_faults (setting_view setting.entry) (texts shared.old.keys) (code_lines (view item.now))) (λ r. H.record_view r.0 ≡ made_of H.with (texts shared.old.keys) (view item.now)) }
+    ensures judged { Judges result (body_faults owner number (setting_view setting.entry) (texts shared.old.keys) (code_lines (view item.now))) (λ r. H.record_view r.0 ≡ made_of H.with (texts shared.old.keys) (view item.now)) }
     ensures listing { IfOk result (λ r. r.1 ≡ owner_listing (texts shared.old.keys) (view item.now)) }
     ensures shared { OnOk result (texts shared.new.keys ≡ shared_after (texts shared.old.keys) (code_lines (view item.now))) }
 {
-    let code = read_code(alloc, setting, lines_of(item), shared)?;
+    let code = read_code(alloc, owner, number, setting, lines_of(item), shared)?;
     Ok((head.with_code(code.commands), code.listing))
 }
 
 /// The second pass over the items of an array, whose heads the first one kept.
 fn records_of<H: Head>(
     alloc: Global,
+    owner: Owner,
     setting: Setting<'_>,
     heads: &[H],
     items: &[Value],
     shared: &mut IndexSet<VariableName>,
-) -> Result<(Vec<H::Record>, Vec<BodyListing>), FileFault>
+) -> Result<(Vec<H::Record>, Vec<BodyListing>), Refused>
     requires { map H.head_view heads.now ≡ of_items H.head_of (items_view items.now) }
-    ensures judged { Judges result (bodies_faults (setting_view setting.entry) (texts shared.old.keys) (items_view items.now)) (λ rs. map H.record_view rs.0.items ≡ with_bodies (made_of H.with) (texts shared.old.keys) (items_view items.now)) }
+    ensures judged { Judges result (bodies_faults owner 0 (setting_view setting.entry) (texts shared.old.keys) (items_view items.now)) (λ rs. map H.record_view rs.0.items ≡ with_bodies (made_of H.with) (texts shared.old.keys) (items_view items.now)) }
     ensures listings { IfOk result (λ rs. rs.1.items ≡ with_bodies owner_listing (texts shared.old.keys) (items_view items.now)) }
     ensures shared { OnOk result (texts shared.new.keys ≡ shared_after_bodies (texts shared.old.keys) (items_view items.now)) }
 {
     let mut records = Vec::new(alloc);
     let mut listings = Vec::new(alloc);
     for (i, item) in items.iter().enumerate() {
-        let record = record_of(alloc, setting, heads[i], item, shared)?;
+        let record = record_of(alloc, owner, i, setting, heads[i], item, shared)?;
         records.push(record.0)?;
         listings.push(record.1)?;
     }
@@ -85,13 +89,13 @@ struct Heads {
 }
 
 /// The first pass.
-fn heads_in(alloc: Global, table: &Table) -> Result<Heads, FileFault>
+fn heads_in(alloc: Global, table: &Table) -> Result<Heads, Refused>
     ensures { Judges result (owners_faults (table_view table.now)) (λ hs. AreHeads hs (table_view table.now)) }
 {
     let mut names = Vec::new(alloc);
-    let softints = heads_at(alloc, table, "softint", 32, &mut names)?;
-    let servers = heads_at(alloc, table, "server", 32, &mut names)?;
-    let tasks = heads_at(alloc, table, "task", 64, &mut names)?;
+    let softints = heads_at(alloc, table, Array::Softint, &mut names)?;
+    let servers = heads_at(alloc, table, Array::Server, &mut names)?;
+    let tasks = heads_at(alloc, table, Array::Task, &mut names)?;
     Ok(Heads {
         softints,
         servers,
@@ -117,7 +121,7 @@ fn front(names: &[Name], count: usize) -> &[Name]
 }
 
 /// The second pass.
-fn owners_in(alloc: Global, table: &Table, heads: &Heads) -> Result<Owners, FileFault>
+fn owners_in(alloc: Global, table: &Table, heads: &Heads) -> Result<Owners, Refused>
     requires { AreHeads heads.now (table_view table.now) }
     ensures { Judges result (lines_of_all_faults (table_view table.now)) (λ o. AreOwners o (table_view table.now)) }
 {
@@ -133,6 +137,7 @@ fn owners_in(alloc: Global, table: &Table, heads: &Heads) -> Result<Owners, File
     let mut shared = IndexSet::new(alloc);
     let softints = records_of(
         alloc,
+        Owner::Softint,
         of_interrupt,
         &heads.softints,
         items_at(table, "softint"),
@@ -140,6 +145,7 @@ fn owners_in(alloc: Global, table: &Table, heads: &Heads) -> Result<Owners, File
     )?;
     let servers = records_of(
         alloc,
+        Owner::Server,
         of_interrupt,
         &heads.servers,
         items_at(table, "server"),
@@ -147,6 +153,7 @@ fn owners_in(alloc: Global, table: &Table, heads: &Heads) -> Result<Owners, File
     )?;
     let tasks = records_of(
         alloc,
+        Owner::Task,
         of_task,
         &heads.tasks,
         items_at(table, "task"),
@@ -166,7 +173,7 @@ fn owners_in(alloc: Global, table: &Table, heads: &Heads) -> Result<Owners, File
 }
 
 /// The software interrupts, the servers and the tasks of a file, by both passes.
-pub fn owners_at(alloc: Global, table: &Table) -> Result<Owners, FileFault>
+pub fn owners_at(alloc: Global, table: &Table) -> Result<Owners, Refused>
     ensures { Judges result (both_passes_faults (table_view table.now)) (λ o. AreOwners o (table_view table.now)) }
 {
     let heads = heads_in(alloc, table)?;

@@ -4,7 +4,7 @@ ghost use Rattle.taskscript.specs.Parsing.{quoted_in};
 
 use crate::name::{Name, is_name};
 
-/// The name between double quotes, if the field is one.
+/// The name between double quotes, if the field is one (project rule).
 pub fn quoted_in(field: &str) -> Option<Name>
     ensures { option_map (λ n. n.bytes) result ≡ quoted_in field.now }
 {

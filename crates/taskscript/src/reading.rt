@@ -5,13 +5,15 @@ ghost use Rattle.taskscript.specs.Faults.{Judges};
 ghost use Rattle.taskscript.specs.Listings.{listing_in, listing_of};
 ghost use Rattle.taskscript.specs.Records.{library_view};
 ghost use Rattle.taskscript.specs.Tree.{of_items};
-ghost use Rattle.taskscript.specs.File.{libraries_faults, libraries_in, library_of, settings_faults, version_of, quantum_of, tick_micros_of, pool_of, faults, machine_of, file_of};
+ghost use Rattle.taskscript.specs.File.{libraries_faults, libraries_in, library_of, settings_faults, version_of, quantum_of, tick_micros_of, pool_of, refusals, machine_of, file_of, placed_file_of};
 
 use crate::fault::FileFault;
 use crate::file::{LibraryRecord, MachineFile};
 use crate::heads::heads_at;
 use crate::listing::Listed;
 use crate::owners::owners_at;
+use crate::place::{Array, Key, TablePlace};
+use crate::refused::{Refused, unknown_key};
 use crate::regions::{regions_at, total_of};
 use crate::tree::{document, has_only, optional_number};
 use std::alloc::Global;
@@ -26,13 +28,14 @@ struct Settings {
     pool: u32,
 }
 
-fn settings_of(table: &Table) -> Result<Settings, FileFault>
+fn settings_of(table: &Table) -> Result<Settings, Refused>
     ensures { Judges result (settings_faults (table_view table.now)) (λ s. (s.version ≡ version_of (table_view table.now)) × (s.quantum ≡ quantum_of (table_view table.now)) × (s.tick_micros ≡ tick_micros_of (table_view table.now)) × (s.pool ≡ pool_of (table_view table.now))) }
 {
-    let version = optional_number(table, "version", 1, 2, 1)?;
-    let quantum = optional_number(table, "quantum", 1, 255, 4)?;
-    let tick_micros = optional_number(table, "tick_micros", 1, 1_000_000, 20_000)?;
-    let pool = optional_number(table, "pool", 1, 1024, 64)?;
+    let top = TablePlace::Top;
+    let version = optional_number(top, Key::Version, table, 1, 2, 1)?;
+    let quantum = optional_number(top, Key::Quantum, table, 1, 255, 4)?;
+    let tick_micros = optional_number(top, Key::TickMicros, table, 1, 1_000_000, 20_000)?;
+    let pool = optional_number(top, Key::Pool, table, 1, 1024, 64)?;
     Ok(Settings {
         version: version as u8,
         quantum: quantum as u8,
@@ -42,15 +45,15 @@ fn settings_of(table: &Table) -> Result<Settings, FileFault>
 }
 
 /// The libraries of a file, whose names are distinct among themselves.
-fn libraries_at(alloc: Global, table: &Table) -> Result<Vec<LibraryRecord>, FileFault>
+fn libraries_at(alloc: Global, table: &Table) -> Result<Vec<LibraryRecord>, Refused>
     ensures { Judges result (libraries_faults (table_view table.now)) (λ ls. map library_view ls.items ≡ of_items library_of (libraries_in (table_view table.now))) }
 {
     let mut names = Vec::new(alloc);
-    heads_at(alloc, table, "library", 32, &mut names)
+    heads_at(alloc, table, Array::Library, &mut names)
 }
 
-fn machine_of(alloc: Global, table: &Table) -> Result<Listed, FileFault>
-    ensures { Judges result (faults (table_view table.now)) (λ l. (l.machine ≡ machine_of (table_view table.now)) × (l.listing ≡ listing_of (table_view table.now))) }
+fn machine_of(alloc: Global, table: &Table) -> Result<Listed, Refused>
+    ensures { Judges result (refusals (table_view table.now)) (λ l. (l.machine ≡ machine_of (table_view table.now)) × (l.listing ≡ listing_of (table_view table.now))) }
 {
     if !has_only(
         table,
@@ -66,7 +69,7 @@ fn machine_of(alloc: Global, table: &Table) -> Result<Listed, FileFault>
             "task",
         ],
     ) {
-        return Err(FileFault::UnknownKey);
+        return Err(unknown_key(TablePlace::Top));
     }
     let settings = settings_of(table)?;
     let regions = regions_at(alloc, table, total_of(settings.version))?;
@@ -89,6 +92,22 @@ fn machine_of(alloc: Global, table: &Table) -> Result<Listed, FileFault>
     })
 }
 
+/// Reads a machine file as `read_listed` does, and says of its fault where it is.
+///
+/// # Errors
+///
+/// As `read_machine`, with the place of the fault. `NotToml` and `OutOfMemory` are of the file as a whole. `TooMany` for a body of more than
+/// 1,024 lines is at its key `code`, `BadRegions` at the array `region`, and `BadLabel` for a jump at the line of the jump.
+///
+/// The format is a project rule.
+pub fn read_placed(alloc: Global, bytes: &[u8]) -> Result<Listed, Refused>
+    ensures machine { MatchResult result (λ l. placed_file_of bytes.now ≡ Ok l.machine) (λ r. ¬ (r.fault ≡ FileFault.OutOfMemory) → placed_file_of bytes.now ≡ Err r) }
+    ensures listing { IfOk result (λ l. listing_in bytes.now ≡ Some l.listing) }
+{
+    let table = document(alloc, bytes)?;
+    machine_of(alloc, &table)
+}
+
 /// Reads a machine file as `read_machine` does, with the lines of its commands and the names of its variables.
 ///
 /// # Errors
@@ -100,8 +119,10 @@ pub fn read_listed(alloc: Global, bytes: &[u8]) -> Result<Listed, FileFault>
     ensures machine { MatchResult result (λ l. file_of bytes.now ≡ Ok l.machine) (λ f. ¬ (f ≡ FileFault.OutOfMemory) → file_of bytes.now ≡ Err f) }
     ensures listing { IfOk result (λ l. listing_in bytes.now ≡ Some l.listing) }
 {
-    let table = document(alloc, bytes)?;
-    machine_of(alloc, &table)
+    match read_placed(alloc, bytes) {
+        Err(refused) => Err(refused.fault),
+        Ok(listed) => Ok(listed),
+    }
 }
 
 /// Reads a machine file, a TOML document.

@@ -4,26 +4,29 @@ ghost use Rattle.memlist.specs.Regions.{regions_fault};
 ghost use Rattle.toml.specs.Data.{table as a_table, get_member};
 ghost use Rattle.toml.specs.View.{table_view, view, items_view};
 ghost use Rattle.taskscript.specs.Faults.{Judges};
-ghost use Rattle.taskscript.specs.File.{region_faults, region_of, regions_of, regions_faults, regions_in, total_of};
-ghost use Rattle.taskscript.specs.Tree.{optional, table_faults, array_faults, items_faults};
+ghost use Rattle.taskscript.specs.File.{region_faults, region_item_faults, region_of, regions_of, regions_faults, regions_in, total_of};
+ghost use Rattle.taskscript.specs.Tree.{optional, array_faults, items_faults};
+ghost use Rattle.taskscript.specs.declared.place.Array.TheVariants as array;
 
 use crate::fault::FileFault;
+use crate::place::{Array, Key, TablePlace};
+use crate::refused::{Refused, at_array, no_table, unknown_key};
 use crate::tree::{has_only, member, optional_number, optional_pri, required_number};
 use memlist::{Region, check_regions};
 use std::alloc::Global;
 use toml::{Table, Value};
 
 /// The region of a table, whose keys and values are judged in their order.
-fn region_in(table: &Table) -> Result<Region, FileFault>
-    ensures { Judges result (region_faults (table_view table.now)) (λ r. r ≡ region_of (a_table (table_view table.now))) }
+fn region_in(of: TablePlace, table: &Table) -> Result<Region, Refused>
+    ensures { Judges result (region_faults of (table_view table.now)) (λ r. r ≡ region_of (a_table (table_view table.now))) }
 {
     if !has_only(table, &["base", "size", "attrs", "pri"]) {
-        return Err(FileFault::UnknownKey);
+        return Err(unknown_key(of));
     }
-    let base = required_number(table, "base", 0, 4_294_967_295)?;
-    let size = required_number(table, "size", 0, 4_294_967_295)?;
-    let attrs = optional_number(table, "attrs", 0, 7, 1)?;
-    let pri = optional_pri(table)?;
+    let base = required_number(of, Key::Base, table, 0, 4_294_967_295)?;
+    let size = required_number(of, Key::Size, table, 0, 4_294_967_295)?;
+    let attrs = optional_number(of, Key::Attrs, table, 0, 7, 1)?;
+    let pri = optional_pri(of, table)?;
     Ok(Region {
         base,
         size,
@@ -32,21 +35,21 @@ fn region_in(table: &Table) -> Result<Region, FileFault>
     })
 }
 
-fn region_of(value: &Value) -> Result<Region, FileFault>
-    ensures { Judges result (table_faults region_faults (view value.now)) (λ r. r ≡ region_of (view value.now)) }
+fn region_of(number: usize, value: &Value) -> Result<Region, Refused>
+    ensures { Judges result (region_item_faults number (view value.now)) (λ r. r ≡ region_of (view value.now)) }
 {
     match value.as_table() {
-        None => Err(FileFault::BadValue),
-        Some(table) => region_in(table),
+        None => Err(no_table(Array::Region, number)),
+        Some(table) => region_in(TablePlace::Item(Array::Region, number), table),
     }
 }
 
-fn regions_of(alloc: Global, items: &[Value]) -> Result<Vec<Region>, FileFault>
-    ensures { Judges result (items_faults (table_faults region_faults) (items_view items.now)) (λ rs. rs.items ≡ regions_of (items_view items.now)) }
+fn regions_of(alloc: Global, items: &[Value]) -> Result<Vec<Region>, Refused>
+    ensures { Judges result (items_faults region_item_faults 0 (items_view items.now)) (λ rs. rs.items ≡ regions_of (items_view items.now)) }
 {
     let mut regions = Vec::new(alloc);
-    for item in items {
-        let region = region_of(item)?;
+    for (i, item) in items.iter().enumerate() {
+        let region = region_of(i, item)?;
         regions.push(region)?;
     }
     Ok(regions)
@@ -54,19 +57,19 @@ fn regions_of(alloc: Global, items: &[Value]) -> Result<Vec<Region>, FileFault>
 
 /// The items of the array that the key `region` holds, or none.
 #[tactic(auto, using(crate::proofs::Keys::count_items_view))]
-fn listed_regions(alloc: Global, table: &Table) -> Result<Vec<Region>, FileFault>
-    ensures { Judges result (optional (array_faults 8 (items_faults (table_faults region_faults))) (get_member (codes "region") (table_view table.now))) (λ rs. rs.items ≡ regions_in (table_view table.now)) }
+fn listed_regions(alloc: Global, table: &Table) -> Result<Vec<Region>, Refused>
+    ensures { Judges result (optional (array_faults array.Region (items_faults region_item_faults 0)) (get_member (codes "region") (table_view table.now))) (λ rs. rs.items ≡ regions_in (table_view table.now)) }
 {
-    let value = match member(table, "region") {
+    let value = match member(table, Array::Region.key()) {
         None => return Ok(Vec::new(alloc)),
         Some(value) => value,
     };
     let items = match value.as_array() {
-        None => return Err(FileFault::BadValue),
+        None => return Err(at_array(Array::Region, FileFault::BadValue)),
         Some(items) => items,
     };
-    if items.len() > 8 {
-        return Err(FileFault::TooMany);
+    if items.len() > Array::Region.limit() {
+        return Err(at_array(Array::Region, FileFault::TooMany));
     }
     regions_of(alloc, items)
 }
@@ -82,12 +85,12 @@ pub fn total_of(version: u8) -> u32
 ///
 /// The first fault of the array `region` is answered: of the array itself, of an item, or `BadRegions` of all together; `OutOfMemory` may come
 /// wherever memory is refused. The format is a project rule.
-pub fn regions_at(alloc: Global, table: &Table, total: u32) -> Result<Vec<Region>, FileFault>
+pub fn regions_at(alloc: Global, table: &Table, total: u32) -> Result<Vec<Region>, Refused>
     ensures { Judges result (regions_faults total (table_view table.now)) (λ rs. rs.items ≡ regions_in (table_view table.now)) }
 {
     let regions = listed_regions(alloc, table)?;
     if check_regions(&regions, total).is_err() {
-        return Err(FileFault::BadRegions);
+        return Err(at_array(Array::Region, FileFault::BadRegions));
     }
     Ok(regions)
 }

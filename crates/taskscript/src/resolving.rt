@@ -1,9 +1,8 @@
 //! Commands with numbers and places for their names, once the whole body was read.
 ghost use Rattle.std.specs.Prelude.{◌≡◌, ◌≤◌, ℕ, List, [], ◌∷◌, All, length, map, take};
-ghost use Rattle.std.specs.List.{flat_map};
 ghost use Rattle.taskscript.specs.Commands.{argument_view, command_view, first_name, ArgumentFits, CommandFits, IsNamed};
 ghost use Rattle.taskscript.specs.Faults.{Judges};
-ghost use Rattle.taskscript.specs.Labels.{are_marked, jump_faults_in, marks_view, place_at, Resolves};
+ghost use Rattle.taskscript.specs.Labels.{are_marked, jumps_faults_in, marks_view, place_at, Resolves};
 ghost use Rattle.taskscript.specs.Lines.{named_argument_view, named_command_view};
 ghost use Rattle.taskscript.specs.Machines.{QuotesOnce};
 ghost use Rattle.taskscript.specs.Numbering.{argument_in, command_in, labels_of_arguments, names_view, Names};
@@ -14,6 +13,8 @@ use crate::label::LabelName;
 use crate::name::Name;
 use crate::named::{NamedArgument, NamedCommand};
 use crate::numbering::{target_in, variable_in};
+use crate::place::Owner;
+use crate::refused::{Refused, at_line};
 use crate::variable::VariableName;
 use indexmap::{IndexMap, IndexSet};
 use std::alloc::Global;
@@ -104,27 +105,35 @@ fn command_in(
     })
 }
 
-/// The commands with numbers and places for their names, or BadLabel if one jumps to a label that is
-/// not among these. Their variables are within the limits, and at most one argument of each is a name.
+/// The commands of the body of the item of that number with numbers and places for their names, or BadLabel if one jumps to a label that
+/// is not among these, at its line, which `lines` has. Their variables are within the limits, and at most one argument of each is a name.
 pub fn commands_in(
     alloc: Global,
+    owner: Owner,
+    number: usize,
+    lines: &[u16],
     commands: &[NamedCommand],
     private: &IndexSet<VariableName>,
     shared: &IndexSet<VariableName>,
     labels: &IndexMap<LabelName, u32>,
-) -> Result<Vec<Command>, FileFault>
+) -> Result<Vec<Command>, Refused>
+    requires lines { length lines.now ≡ length commands.now }
     requires fit { All CommandFits (map (command_in (names_view private.now.keys shared.now.keys) (place_at (marks_view labels.now.entries))) (map named_command_view commands.now)) }
     requires once { All QuotesOnce (map (command_in (names_view private.now.keys shared.now.keys) (place_at (marks_view labels.now.entries))) (map named_command_view commands.now)) }
     ensures { let names = names_view private.now.keys shared.now.keys in
         let marks = marks_view labels.now.entries in
         let all = map named_command_view commands.now in
         Judges result
-        (flat_map (jump_faults_in marks) all)
+        (jumps_faults_in owner number marks lines.now all)
         (λ code. map command_view code.items ≡ map (command_in names (place_at marks)) all) }
 {
     let mut code = Vec::with_capacity(alloc, commands.len())?;
-    for named in commands {
-        code.push(command_in(named, private, shared, labels)?)?;
+    for (i, named) in commands.iter().enumerate() {
+        let line = lines[i] as usize;
+        match command_in(named, private, shared, labels) {
+            Err(fault) => return Err(at_line(owner, number, line, fault)),
+            Ok(command) => code.push(command)?,
+        }
     }
     Ok(code)
 }

@@ -4,26 +4,30 @@ ghost use Rattle.std.specs.List.{list_any};
 ghost use Rattle.toml.specs.Data.{get_member};
 ghost use Rattle.toml.specs.View.{table_view, view, items_view};
 ghost use Rattle.taskscript.specs.Faults.{Judges};
+ghost use Rattle.taskscript.specs.Places.{at, key_at, key_text};
+ghost use Rattle.taskscript.specs.declared.place.Key.TheVariants as a_key;
 ghost use Rattle.taskscript.specs.Records.{DocumentFault};
 ghost use Rattle.taskscript.specs.Tree.{keys_are_among, required, optional, integer_faults, pri_faults, is_softint_pri, softint_pri_faults, source_faults, boolean_faults, integer_or, pri_in, source_in, number_or, boolean_or, items_or_none, document_of, are_strings};
 
 use crate::fault::FileFault;
+use crate::place::{Key, TablePlace};
+use crate::refused::{Refused, at_file, at_key};
 use crate::source::Source;
 use std::alloc::Global;
 use toml::{Table, Value};
 
 /// The tree that the bytes state. Bytes that are no UTF-8 state none.
-pub fn document(alloc: Global, bytes: &[u8]) -> Result<Table, FileFault>
+pub fn document(alloc: Global, bytes: &[u8]) -> Result<Table, Refused>
     ensures ok { IfOk result (λ t. document_of bytes.now ≡ Some (table_view t)) }
-    ensures err { IfErr result (λ f. DocumentFault f bytes.now) }
+    ensures err { IfErr result (λ r. DocumentFault r bytes.now) }
 {
     match toml::table_from_slice(alloc, bytes) {
         Ok(table) => Ok(table),
         Err(error) => {
             if error.is_memory() {
-                Err(FileFault::OutOfMemory)
+                Err(at_file(FileFault::OutOfMemory))
             } else {
-                Err(FileFault::NotToml)
+                Err(at_file(FileFault::NotToml))
             }
         }
     }
@@ -56,27 +60,28 @@ pub fn has_only(table: &Table, listed: &[&str]) -> bool
 
 /// The integer from `low` to `high` that the key holds, or `otherwise` if the key is absent.
 fn optional_integer(
+    of: TablePlace,
+    key: Key,
     table: &Table,
-    key: &str,
     low: i64,
     high: i64,
     otherwise: i64,
-) -> Result<i64, FileFault>
+) -> Result<i64, Refused>
     requires low_in { int_le low otherwise ≡ true }
     requires high_in { int_le otherwise high ≡ true }
-    ensures exact { Judges result (optional (integer_faults low high) (get_member key.now (table_view table.now))) (λ z. z ≡ integer_or otherwise (get_member key.now (table_view table.now))) }
+    ensures exact { Judges result (at (key_at of key) (optional (integer_faults low high) (get_member (key_text key) (table_view table.now)))) (λ z. z ≡ integer_or otherwise (get_member (key_text key) (table_view table.now))) }
     ensures low_out { IfOk result (λ z. int_le low z ≡ true) }
     ensures high_out { IfOk result (λ z. int_le z high ≡ true) }
 {
-    match member(table, key) {
+    match member(table, key.text()) {
         None => Ok(otherwise),
         Some(value) => match value.as_integer() {
-            None => Err(FileFault::BadValue),
+            None => Err(at_key(of, key, FileFault::BadValue)),
             Some(z) => {
                 if low <= z && z <= high {
                     Ok(z)
                 } else {
-                    Err(FileFault::BadValue)
+                    Err(at_key(of, key, FileFault::BadValue))
                 }
             }
         },
@@ -84,30 +89,32 @@ fn optional_integer(
 }
 
 /// The priority that the key `pri` holds, or 0 if it is absent.
-pub fn optional_pri(table: &Table) -> Result<i8, FileFault>
-    ensures { Judges result (pri_faults (table_view table.now)) (λ p. p ≡ pri_in (table_view table.now)) }
+pub fn optional_pri(of: TablePlace, table: &Table) -> Result<i8, Refused>
+    ensures { Judges result (at (key_at of a_key.Pri) (pri_faults (table_view table.now))) (λ p. p ≡ pri_in (table_view table.now)) }
 {
-    let pri = optional_integer(table, "pri", -128, 127, 0)?;
+    let pri = optional_integer(of, Key::Pri, table, -128, 127, 0)?;
     Ok(pri as i8)
 }
 
 /// The number from `low` to `high` that the key holds, or `otherwise` if the key is absent.
 pub fn optional_number(
+    of: TablePlace,
+    key: Key,
     table: &Table,
-    key: &str,
     low: u32,
     high: u32,
     otherwise: u32,
-) -> Result<u32, FileFault>
+) -> Result<u32, Refused>
     requires low_in { low ≤ otherwise }
     requires high_in { otherwise ≤ high }
-    ensures exact { Judges result (optional (integer_faults (pos low) (pos high)) (get_member key.now (table_view table.now))) (λ n. n ≡ number_or otherwise (get_member key.now (table_view table.now))) }
+    ensures exact { Judges result (at (key_at of key) (optional (integer_faults (pos low) (pos high)) (get_member (key_text key) (table_view table.now)))) (λ n. n ≡ number_or otherwise (get_member (key_text key) (table_view table.now))) }
     ensures low_out { IfOk result (λ n. low ≤ n) }
     ensures high_out { IfOk result (λ n. n ≤ high) }
 {
     let number = optional_integer(
-        table,
+        of,
         key,
+        table,
         i64::from(low),
         i64::from(high),
         i64::from(otherwise),
@@ -116,22 +123,28 @@ pub fn optional_number(
 }
 
 /// The number from `low` to `high` that the key holds.
-pub fn required_number(table: &Table, key: &str, low: u32, high: u32) -> Result<u32, FileFault>
-    ensures exact { Judges result (required (integer_faults (pos low) (pos high)) (get_member key.now (table_view table.now))) (λ n. n ≡ number_or 0 (get_member key.now (table_view table.now))) }
+pub fn required_number(
+    of: TablePlace,
+    key: Key,
+    table: &Table,
+    low: u32,
+    high: u32,
+) -> Result<u32, Refused>
+    ensures exact { Judges result (at (key_at of key) (required (integer_faults (pos low) (pos high)) (get_member (key_text key) (table_view table.now)))) (λ n. n ≡ number_or 0 (get_member (key_text key) (table_view table.now))) }
     ensures low_out { IfOk result (λ n. low ≤ n) }
     ensures high_out { IfOk result (λ n. n ≤ high) }
 {
-    let value = match member(table, key) {
-        None => return Err(FileFault::MissingKey),
+    let value = match member(table, key.text()) {
+        None => return Err(at_key(of, key, FileFault::MissingKey)),
         Some(value) => value,
     };
     match value.as_integer() {
-        None => Err(FileFault::BadValue),
+        None => Err(at_key(of, key, FileFault::BadValue)),
         Some(z) => {
             if i64::from(low) <= z && z <= i64::from(high) {
                 Ok(z as u32)
             } else {
-                Err(FileFault::BadValue)
+                Err(at_key(of, key, FileFault::BadValue))
             }
         }
     }
@@ -145,51 +158,56 @@ pub fn is_softint_pri(pri: i64) -> bool
 }
 
 /// The priority of a software interrupt, which the key `pri` holds: -32, -16, 0, 16 or 32 (RKM Libraries, Exec Interrupts).
-pub fn softint_pri(table: &Table) -> Result<i8, FileFault>
-    ensures { Judges result (required softint_pri_faults (get_member (codes "pri") (table_view table.now))) (λ p. p ≡ pri_in (table_view table.now)) }
+pub fn softint_pri(of: TablePlace, table: &Table) -> Result<i8, Refused>
+    ensures { Judges result (at (key_at of a_key.Pri) (required softint_pri_faults (get_member (codes "pri") (table_view table.now)))) (λ p. p ≡ pri_in (table_view table.now)) }
 {
     let value = match member(table, "pri") {
-        None => return Err(FileFault::MissingKey),
+        None => return Err(at_key(of, Key::Pri, FileFault::MissingKey)),
         Some(value) => value,
     };
     match value.as_integer() {
-        None => Err(FileFault::BadValue),
+        None => Err(at_key(of, Key::Pri, FileFault::BadValue)),
         Some(z) => {
             if is_softint_pri(z) {
                 Ok(z as i8)
             } else {
-                Err(FileFault::BadValue)
+                Err(at_key(of, Key::Pri, FileFault::BadValue))
             }
         }
     }
 }
 
 /// The source whose name the key `source` holds.
-pub fn required_source(table: &Table) -> Result<Source, FileFault>
-    ensures { Judges result (required source_faults (get_member (codes "source") (table_view table.now))) (λ s. s ≡ source_in (table_view table.now)) }
+pub fn required_source(of: TablePlace, table: &Table) -> Result<Source, Refused>
+    ensures { Judges result (at (key_at of a_key.Source) (required source_faults (get_member (codes "source") (table_view table.now)))) (λ s. s ≡ source_in (table_view table.now)) }
 {
     let value = match member(table, "source") {
-        None => return Err(FileFault::MissingKey),
+        None => return Err(at_key(of, Key::Source, FileFault::MissingKey)),
         Some(value) => value,
     };
     let name = match value.as_str() {
-        None => return Err(FileFault::BadValue),
+        None => return Err(at_key(of, Key::Source, FileFault::BadValue)),
         Some(name) => name,
     };
     match Source::named(name) {
-        None => Err(FileFault::BadValue),
+        None => Err(at_key(of, Key::Source, FileFault::BadValue)),
         Some(source) => Ok(source),
     }
 }
 
 /// The boolean that the key holds, or `otherwise` if the key is absent.
-pub fn optional_boolean(table: &Table, key: &str, otherwise: bool) -> Result<bool, FileFault>
-    ensures { Judges result (optional boolean_faults (get_member key.now (table_view table.now))) (λ b. b ≡ boolean_or otherwise (get_member key.now (table_view table.now))) }
+pub fn optional_boolean(
+    of: TablePlace,
+    key: Key,
+    table: &Table,
+    otherwise: bool,
+) -> Result<bool, Refused>
+    ensures { Judges result (at (key_at of key) (optional boolean_faults (get_member (key_text key) (table_view table.now)))) (λ b. b ≡ boolean_or otherwise (get_member (key_text key) (table_view table.now))) }
 {
-    match member(table, key) {
+    match member(table, key.text()) {
         None => Ok(otherwise),
         Some(value) => match value.as_bool() {
-            None => Err(FileFault::BadValue),
+            None => Err(at_key(of, key, FileFault::BadValue)),
             Some(b) => Ok(b),
         },
     }

@@ -75,6 +75,20 @@ impl<S: ListSpace> Timer<S> {
         })
     }
 
+    /// Sets clock and system time to 0, which gain that many microseconds at each tick, as `new` made them. No request waits any more.
+    ///
+    /// Source: project rule.
+    pub fn reset(&mut self, tick_micros: u32)
+        ensures { self.new ≡ record { room = self.old.room; timer = new_timer tick_micros } }
+    {
+        self.queues.reset();
+        self.begun.reset();
+        self.clock = 0;
+        self.system = 0;
+        self.is_set = false;
+        self.tick_micros = tick_micros;
+    }
+
     // ---- the clock, and system time
 
     /// Answers the microseconds that the clock has counted. Project rule: the clock begins at 0.

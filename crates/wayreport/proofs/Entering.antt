@@ -1,7 +1,6 @@
 -- The texts of entries, one more.
 use Rattle.std.proofs.Common.{◌≡◌, ◌∙◌, ℕ, ◌+◌, ◌<◌, List, ◌∷◌, ◌++◌, length, drop, get_or, map, ap, sym, subst, append_assoc}
 use Rattle.std.proofs.lemmas.List.{drop_more, get_or-map, length-map}
-use Rattle.ways.specs.Tables.{Entry}
 use Rattle.wayreport.specs.Reports.{entries_text, entry_text, found_view}
 use Rattle.wayreport.specs.declared.report.Found.{Found}
 

@@ -1,5 +1,5 @@
 -- The tables of the parts of some ways, and that of all of them.
-use Rattle.std.proofs.Common.{◌≡◌, ◌∙◌, ℕ, zero, suc, true, false, ◌+◌, ◌*◌, ◌/◌, ◌-◌, ◌≤◌, ◌<◌, List, [], ◌∷◌, ◌++◌, length, take, drop, map, if◌then◌else◌, refl, ap, ap₂, sym, subst, arith, bytes_eq}
+use Rattle.std.proofs.Common.{◌≡◌, ◌∙◌, ℕ, zero, suc, true, false, ◌+◌, ◌*◌, ◌/◌, ◌-◌, ◌≤◌, List, [], ◌∷◌, ◌++◌, length, take, drop, map, if◌then◌else◌, refl, ap, ap₂, sym, arith, bytes_eq}
 use Rattle.std.proofs.Math.Nat.{mul-div_cancel, mul-suc, mul-zero, zero-div, div-mul-le_self}
 use Rattle.std.proofs.lemmas.Nat.{le-div}
 use Rattle.std.proofs.lemmas.List.{take_all}

@@ -2,3 +2,4 @@ pub mod Events
 pub mod Reports
 pub mod Sums
 pub mod Parts
+pub mod Totals

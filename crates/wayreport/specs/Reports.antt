@@ -1,5 +1,5 @@
 -- What a report has in it, and its text.
-use Rattle.std.specs.Prelude.{ℕ, ◌+◌, ◌==◌, ◌++◌, Bool, true, List, [], ◌∷◌, Option, None, Some, codes, length, map, if◌then◌else◌}
+use Rattle.std.specs.Prelude.{◌≡◌, ℕ, ◌+◌, ◌==◌, ◌++◌, Bool, true, List, [], ◌∷◌, Option, None, Some, codes, length, map, if◌then◌else◌}
 use Rattle.std.specs.Fmt.{decimal}
 use Rattle.std.specs.String.{string_bytes}
 use Rattle.taskscript.specs.declared.event.Event.{Event}
@@ -39,6 +39,11 @@ report_view r = record {
   entries = map found_view r.found.items;
 }
 
+-- a text is that of a way
+pub record IsFirst (text : List ℕ) : Type 0 where
+  pub way : List Event
+  pub is : text ≡ listed (grouped way)
+
 -- ---- its text
 
 -- two spaces before each line; the first line begins here or was begun before
@@ -46,9 +51,13 @@ abbrev pub indented : Bool → List ℕ → List ℕ
 indented begins [] = []
 indented begins (b ∷ bs) = (if begins then codes "  " else []) ++ b ∷ indented (b == 10) bs
 
+-- a number of ways
+abbrev pub ways_text : ℕ → List ℕ
+ways_text n = decimal n ++ (if n == 1 then codes " way" else codes " ways")
+
 -- the line over what is seen
 abbrev pub entry_line : ℕ → Entry (List ℕ) → List ℕ
-entry_line number e = codes "\noutcome " ++ (decimal number ++ (codes ": " ++ (decimal e.count ++ (codes " ways, first " ++ (e.first ++ codes "\n")))))
+entry_line number e = codes "\noutcome " ++ (decimal number ++ (codes ": " ++ (ways_text e.count ++ (codes ", first " ++ (e.first ++ codes "\n")))))
 
 abbrev pub entry_text : ℕ → Entry (List ℕ) → List ℕ
 entry_text number e = entry_line number e ++ indented true e.seen
@@ -60,11 +69,15 @@ entries_text number (e ∷ es) = entry_text number e ++ entries_text (number + 1
 
 abbrev pub part_text : Option Part → List ℕ
 part_text None = []
-part_text (Some p) = codes "part " ++ (decimal p.number ++ (codes " of " ++ (decimal p.of ++ (codes ": " ++ (decimal p.ways ++ codes " ways\n")))))
+part_text (Some p) = codes "part " ++ (decimal p.number ++ (codes " of " ++ (decimal p.of ++ (codes ": " ++ (ways_text p.ways ++ codes "\n")))))
+
+-- a number of outcomes
+abbrev pub outcomes_text : ℕ → List ℕ
+outcomes_text n = decimal n ++ (if n == 1 then codes " outcome" else codes " outcomes")
 
 -- the lines before that many entries: what was searched, the part, the digests of both texts, and what is seen
 abbrev pub title_line : ℕ → ReportData → List ℕ
-title_line outcomes r = r.title ++ (codes ", " ++ (decimal outcomes ++ codes " outcomes\n"))
+title_line outcomes r = r.title ++ (codes ", " ++ (outcomes_text outcomes ++ codes "\n"))
 
 abbrev pub digest_lines : ReportData → List ℕ
 digest_lines r = codes "machine file: SHA-256 " ++ (r.machine ++ (codes "\nevent text: SHA-256 " ++ (r.events ++ codes "\n")))

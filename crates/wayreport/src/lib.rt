@@ -7,9 +7,10 @@ mod reading;
 mod report;
 mod sum;
 mod text;
+mod total;
 
 pub use events::{first_text, lines_of};
 pub use reading::{ReportFault, read_report};
 pub use report::{Found, Part, Report, found_of};
 pub use sum::{SumFault, sum_reports};
-pub use text::report_text;
+pub use text::{report_text, ways_text};

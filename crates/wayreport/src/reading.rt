@@ -1,11 +1,18 @@
 //! The reading of a report.
-ghost use Rattle.std.specs.Prelude.{◌≡◌, IfOk};
-ghost use Rattle.wayreport.specs.Reports.{report_view, text_of};
+ghost use Rattle.std.specs.Prelude.{◌≡◌, All, IfOk, OnOk};
+ghost use Rattle.std.specs.String.{string_bytes};
+ghost use Rattle.wayreport.specs.Reports.{IsFirst, report_view, text_of};
 
+use crate::events::first_text;
 use crate::report::{Found, Part, Report};
 use crate::text::report_text;
 use std::alloc::{AllocError, AllocFailed, Global};
+use taskscript::{Event, EventFault, read_events};
 use thiserror::Error;
+use ways::actions_of;
+
+/// How many actions a way may have: those of the longest event text and a few more.
+const MOST_ACTIONS: u64 = 2_100_008;
 
 /// Why a text is no report.
 #[derive(Clone, Copy, Debug, PartialEq, Eq, Error)]
@@ -81,7 +88,7 @@ fn title_in(line: &str) -> Result<&str, ReportFault> {
 fn part_in(line: &str) -> Result<Part, ReportFault> {
     let (number, rest) = cut(after(line, "part ")?, " of ")?;
     let (of, rest) = cut(rest, ": ")?;
-    let (ways, _) = cut(rest, " ways")?;
+    let (ways, _) = cut(rest, " way")?;
     Ok(Part {
         number: small_number_in(number)?,
         of: small_number_in(of)?,
@@ -92,7 +99,8 @@ fn part_in(line: &str) -> Result<Part, ReportFault> {
 /// The outcome that a line begins, as `outcome 3: 71 ways, first run 1, tick 1`, of which nothing was seen yet.
 fn found_on(alloc: Global, line: &str) -> Result<Found, ReportFault> {
     let (_, rest) = cut(after(line, "outcome ")?, ": ")?;
-    let (count, first) = cut(rest, " ways, first ")?;
+    let (ways, first) = cut(rest, ", first ")?;
+    let (count, _) = cut(ways, " way")?;
     Ok(Found {
         seen: Vec::new(alloc),
         count: number_in(count)?,
@@ -151,7 +159,66 @@ fn report_in(alloc: Global, text: &str) -> Result<Report, ReportFault> {
     })
 }
 
-/// Reads a report. What is read prints the same text again, byte for byte: any other text is refused.
+/// The event of a text.
+fn event_in(alloc: Global, text: &str) -> Result<Event, ReportFault> {
+    match read_events(alloc, text.as_bytes()) {
+        Ok(events) if events.list().len() == 1 => Ok(events.list()[0]),
+        Err(EventFault::OutOfMemory) => Err(ReportFault::OutOfMemory),
+        _ => Err(ReportFault::NotAReport),
+    }
+}
+
+/// The number of actions for which an event asks.
+fn actions_in(event: Event) -> u64 {
+    match event {
+        Event::Run(count) | Event::Tick(count) => u64::from(count),
+        Event::Irq(_) => 1,
+    }
+}
+
+/// The events in a line, as `run 14, tick 1, irq EXTER`.
+fn events_in(alloc: Global, text: &str) -> Result<Vec<Event>, ReportFault> {
+    let mut events = Vec::new(alloc);
+    if text == "no event" {
+        return Ok(events);
+    }
+    let mut left = MOST_ACTIONS;
+    for piece in text.split(", ") {
+        let event = event_in(alloc, piece)?;
+        match left.checked_sub(actions_in(event)) {
+            None => return Err(ReportFault::NotAReport),
+            Some(less) => left = less,
+        }
+        events.push(event)?;
+    }
+    Ok(events)
+}
+
+/// Refuses a text that is not that of a way.
+fn check_first(alloc: Global, text: &str) -> Result<(), ReportFault>
+    ensures { OnOk result (IsFirst text.now) }
+{
+    let events = events_in(alloc, text)?;
+    let way = actions_of(alloc, &events)?;
+    let printed = first_text(alloc, &way)?;
+    if printed.as_str() == text {
+        Ok(())
+    } else {
+        Err(ReportFault::NotAReport)
+    }
+}
+
+/// Refuses outcomes whose first ways are not those of ways.
+fn check_firsts(alloc: Global, found: &[Found]) -> Result<(), ReportFault>
+    ensures { OnOk result (All (λ f. IsFirst (string_bytes f.first)) found.now) }
+{
+    for i in 0..found.len() {
+        check_first(alloc, found[i].first.as_str())?;
+    }
+    Ok(())
+}
+
+/// Reads a report. What is read prints the same text again, byte for byte, and each first way is the text of a way: any other text is refused.
 ///
 /// # Errors
 ///
@@ -159,12 +226,14 @@ fn report_in(alloc: Global, text: &str) -> Result<Report, ReportFault> {
 ///
 /// Source: project rule.
 pub fn read_report(alloc: Global, text: &[u8]) -> Result<Report, ReportFault>
-    ensures { IfOk result (λ report. text_of (report_view report) ≡ text.now) }
+    ensures text { IfOk result (λ report. text_of (report_view report) ≡ text.now) }
+    ensures firsts { IfOk result (λ report. All (λ f. IsFirst (string_bytes f.first)) report.found.items) }
 {
     let Ok(shown) = std::str::from_utf8(text) else {
         return Err(ReportFault::NotAReport);
     };
     let report = report_in(alloc, shown)?;
+    check_firsts(alloc, &report.found)?;
     let printed = report_text(alloc, &report)?;
     if printed.as_slice() == text {
         Ok(report)

@@ -1,11 +1,12 @@
 //! The sum of the reports of all parts: the report of the whole.
 ghost use Rattle.std.specs.Prelude.{◌≡◌, ◌+◌, ◌≤◌, ◌<◌, true, All, IfOk, IfSome, OnOk, length, map, sum_by};
 ghost use Rattle.std.specs.String.{string_bytes};
-ghost use Rattle.ways.specs.Tables.{added, merged};
+ghost use Rattle.ways.specs.Tables.{merged};
 ghost use Rattle.wayreport.specs.Reports.{found_view};
 ghost use Rattle.wayreport.specs.Sums.{IsPartOf, IsSum, is_numbered, outcomes_in, outcomes_of, parts_of, summed};
 
 use crate::report::{Found, Part, Report};
+use crate::total::Total;
 use std::alloc::{AllocError, AllocFailed, Global};
 use thiserror::Error;
 
@@ -47,45 +48,12 @@ impl<T: Drop> From<AllocFailed<T>> for SumFault {
     }
 }
 
-/// A copy of an outcome.
-fn copied(alloc: Global, one: &Found) -> Result<Found, AllocError>
-    ensures { IfOk result (λ copy. found_view copy ≡ found_view one.now) }
-{
-    let mut seen = Vec::new(alloc);
-    seen.extend_from_slice(one.seen.as_slice())?;
-    let mut first = String::new(alloc);
-    first.push_str(one.first.as_str())?;
-    Ok(Found {
-        seen,
-        count: one.count,
-        first,
-    })
-}
-
-/// Adds an outcome of later ways.
-fn add(alloc: Global, found: &mut Vec<Found>, one: &Found) -> Result<(), SumFault>
-    ensures { OnOk result (map found_view found.new.items ≡ added (map found_view found.old.items) (found_view one.now)) }
-{
-    for i in 0..found.len() {
-        if found[i].seen.as_slice() == one.seen.as_slice() {
-            match found[i].count.checked_add(one.count) {
-                None => return Err(SumFault::TooManyWays),
-                Some(count) => found[i].count = count,
-            }
-            return Ok(());
-        }
-    }
-    let copy = copied(alloc, one)?;
-    found.push(copy)?;
-    Ok(())
-}
-
 /// Adds the outcomes of later ways.
-fn merge(alloc: Global, found: &mut Vec<Found>, more: &[Found]) -> Result<(), SumFault>
-    ensures { OnOk result (map found_view found.new.items ≡ merged (map found_view found.old.items) (map found_view more.now)) }
+fn merge(alloc: Global, total: &mut Total, more: &[Found]) -> Result<(), SumFault>
+    ensures { OnOk result (total.new ≡ merged total.old (map found_view more.now)) }
 {
     for one in more {
-        add(alloc, found, one)?;
+        total.add(alloc, one)?;
     }
     Ok(())
 }
@@ -116,15 +84,15 @@ fn report_of(reports: &[Report], number: u32) -> Option<&Report>
 /// Adds the outcomes of the part of this number.
 fn merge_part(
     alloc: Global,
-    found: &mut Vec<Found>,
+    total: &mut Total,
     reports: &[Report],
     number: u32,
 ) -> Result<(), SumFault>
-    ensures { OnOk result (map found_view found.new.items ≡ merged (map found_view found.old.items) (outcomes_in reports.now number)) }
+    ensures { OnOk result (total.new ≡ merged total.old (outcomes_in reports.now number)) }
 {
     match report_of(reports, number) {
         None => Err(SumFault::IsMissing(number)),
-        Some(report) => merge(alloc, found, report.found.as_slice()),
+        Some(report) => merge(alloc, total, report.found.as_slice()),
     }
 }
 
@@ -132,11 +100,11 @@ fn merge_part(
 fn merge_parts(alloc: Global, reports: &[Report], parts: u32) -> Result<Vec<Found>, SumFault>
     ensures { IfOk result (λ found. map found_view found.items ≡ summed reports.now parts) }
 {
-    let mut found = Vec::new(alloc);
+    let mut total = Total::new(alloc);
     for before in 0..parts {
-        merge_part(alloc, &mut found, reports, before + 1)?;
+        merge_part(alloc, &mut total, reports, before + 1)?;
     }
-    Ok(found)
+    Ok(total.into_found(alloc)?)
 }
 
 /// The number of parts that a report reports of; 0 for a report of the whole.

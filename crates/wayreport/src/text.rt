@@ -1,7 +1,7 @@
 //! The text of a report.
 ghost use Rattle.std.specs.Prelude.{◌≡◌, ◌+◌, ◌==◌, ◌++◌, Bool, true, IfOk, OnOk, map, codes};
 ghost use Rattle.std.specs.String.{string_bytes};
-ghost use Rattle.wayreport.specs.Reports.{digest_lines, entries_text, entry_line, entry_text, found_view, head_text, indented, part_text, report_view, seen_lines, text_of, title_line};
+ghost use Rattle.wayreport.specs.Reports.{digest_lines, entries_text, entry_line, entry_text, found_view, head_text, indented, outcomes_text, part_text, report_view, seen_lines, text_of, title_line, ways_text};
 
 use crate::report::{Found, Part, Report};
 use std::alloc::{AllocError, Global};
@@ -21,13 +21,42 @@ fn push_indented(out: &mut Vec<u8>, text: &[u8]) -> Result<(), AllocError>
     Ok(())
 }
 
+/// A number of ways, as `1 way` and `71 ways`.
+///
+/// # Errors
+///
+/// Memory was refused.
+///
+/// Source: project rule.
+pub fn ways_text(alloc: Global, ways: u64) -> Result<String, AllocError>
+    ensures { IfOk result (λ text. string_bytes text ≡ ways_text ways) }
+{
+    if ways == 1 {
+        format!(in alloc; "{ways} way")
+    } else {
+        format!(in alloc; "{ways} ways")
+    }
+}
+
+/// A number of outcomes.
+fn outcomes_text(alloc: Global, outcomes: usize) -> Result<String, AllocError>
+    ensures { IfOk result (λ text. string_bytes text ≡ outcomes_text outcomes) }
+{
+    if outcomes == 1 {
+        format!(in alloc; "{outcomes} outcome")
+    } else {
+        format!(in alloc; "{outcomes} outcomes")
+    }
+}
+
 /// The line over what is seen.
 fn entry_line(alloc: Global, number: usize, found: &Found) -> Result<String, AllocError>
     ensures { IfOk result (λ text. string_bytes text ≡ entry_line number (found_view found.now)) }
 {
-    let count = found.count;
+    let counted = ways_text(alloc, found.count)?;
+    let ways = counted.as_str();
     let first = found.first.as_str();
-    format!(in alloc; "\noutcome {number}: {count} ways, first {first}\n")
+    format!(in alloc; "\noutcome {number}: {ways}, first {first}\n")
 }
 
 /// Adds an outcome.
@@ -63,8 +92,9 @@ fn part_text(alloc: Global, part: Option<Part>) -> Result<String, AllocError>
         Some(part) => {
             let number = part.number;
             let of = part.of;
-            let ways = part.ways;
-            format!(in alloc; "part {number} of {of}: {ways} ways\n")
+            let counted = ways_text(alloc, part.ways)?;
+            let ways = counted.as_str();
+            format!(in alloc; "part {number} of {of}: {ways}\n")
         }
     }
 }
@@ -74,7 +104,9 @@ fn title_line(alloc: Global, report: &Report, outcomes: usize) -> Result<String,
     ensures { IfOk result (λ text. string_bytes text ≡ title_line outcomes (report_view report.now)) }
 {
     let title = report.title.as_str();
-    format!(in alloc; "{title}, {outcomes} outcomes\n")
+    let counted = outcomes_text(alloc, outcomes)?;
+    let number = counted.as_str();
+    format!(in alloc; "{title}, {number}\n")
 }
 
 /// The digests of both texts.

@@ -1,11 +1,11 @@
 -- Texts that end in a line feed, by their lines.
-use Rattle.std.proofs.Common.{◌≡◌, ◌≢◌, ◌∙◌, ◌<◌, ◌+◌, length, take, get_or, arith, ℕ, Bool, ◌==◌, true, false, List, [], ◌∷◌, ◌++◌, if◌then◌else◌, codes, refl, ap, ap₂, sym, append_assoc}
+use Rattle.std.proofs.Common.{◌≡◌, ◌≢◌, ◌∙◌, ◌<◌, length, arith, ℕ, suc, Bool, ◌==◌, true, false, List, [], ◌∷◌, ◌++◌, if◌then◌else◌, codes, refl, ap, ap₂, sym, append_assoc}
 use Rattle.std.specs.List.{flat_map}
-use Rattle.std.proofs.lemmas.List.{append-nil, take_more}
+use Rattle.std.proofs.lemmas.List.{append-nil}
 use Rattle.std.proofs.lemmas.Bool.Decides.{nat_tests}
 use Rattle.std.proofs.lemmas.Grind.{flat_map-append}
 use Rattle.exectrace.specs.Trace.{TraceLine, Switch, Idle, Call, Serve, Timer, Server, Softint, Alert, printed, printed_line, argument_text, outcome_text, value_text}
-use Rattle.wayrun.specs.Texts.{whole_lines, last_line, last_of, shown_line, shown_of}
+use Rattle.wayrun.specs.Texts.{IsCut, IsPart, whole_lines, last_line, last_of, shown_line, shown_of}
 use Rattle.wayrun.specs.declared.see.See.{See}
 
 pub whole_lines-append : (begun xs ys : List ℕ) → whole_lines begun (xs ++ ys) ≡ whole_lines begun xs ++ whole_lines (last_line begun xs) ys
@@ -57,47 +57,31 @@ last_of-append last (x ∷ xs) ys = last_of-append x xs ys
 pub last-append : (xs ys : List TraceLine) → last_of [] (whole_lines [] (printed (xs ++ ys))) ≡ last_of (last_of [] (whole_lines [] (printed xs))) (whole_lines [] (printed ys))
 last-append xs ys = ap (last_of []) (lines-append xs ys) ∙ last_of-append [] (whole_lines [] (printed xs)) (whole_lines [] (printed ys))
 
--- one more byte, a line feed
-lines-line_feed : (begun bytes : List ℕ) (i : ℕ) → i < length bytes → get_or bytes i 0 ≡ 10
-    → whole_lines begun (take (i + 1) bytes) ≡ whole_lines begun (take i bytes) ++ last_line begun (take i bytes) ∷ []
-lines-line_feed begun bytes i lt is =
-    ap (whole_lines begun) (take_more bytes i 0 lt ∙ ap (λ b. take i bytes ++ b ∷ []) is) ∙ whole_lines-append begun (take i bytes) (10 ∷ [])
+-- bytes with no line feed only go on a line
+rest_is_part : (b : ℕ) (bs : List ℕ) → IsPart (b ∷ bs) → IsPart bs
+rest_is_part b bs part = λ k within. part (suc k) (omega (arith, within))
 
-pub shown-line_feed : (see : See) (begun bytes : List ℕ) (i : ℕ) → i < length bytes → get_or bytes i 0 ≡ 10
-    → flat_map (shown_line see) (whole_lines begun (take (i + 1) bytes)) ≡ flat_map (shown_line see) (whole_lines begun (take i bytes)) ++ shown_line see (last_line begun (take i bytes))
-shown-line_feed see begun bytes i lt is =
-    let line = last_line begun (take i bytes) in
-    ap (flat_map (shown_line see)) (lines-line_feed begun bytes i lt is)
-    ∙ (flat_map-append (shown_line see) (whole_lines begun (take i bytes)) (line ∷ [])
-    ∙ ap (λ l. flat_map (shown_line see) (whole_lines begun (take i bytes)) ++ l) (append-nil (shown_line see line)))
+other : (b : ℕ) (bs : List ℕ) → IsPart (b ∷ bs) → (b == 10) ≡ false
+other b bs part = let is : b ≢ 10 = part 0 (omega arith) in grind (arith, nat_tests, is)
 
-pub last-line_feed : (last begun bytes : List ℕ) (i : ℕ) → i < length bytes → get_or bytes i 0 ≡ 10
-    → last_of last (whole_lines begun (take (i + 1) bytes)) ≡ last_line begun (take i bytes)
-last-line_feed last begun bytes i lt is =
-    ap (last_of last) (lines-line_feed begun bytes i lt is) ∙ last_of-append last (whole_lines begun (take i bytes)) (last_line begun (take i bytes) ∷ [])
+pub part_lines : (begun bytes : List ℕ) → IsPart bytes → whole_lines begun bytes ≡ []
+part_lines begun [] part = refl
+part_lines begun (b ∷ bs) part =
+    ap (λ (t : Bool). if t then begun ∷ whole_lines [] bs else whole_lines (begun ++ b ∷ []) bs) (other b bs part) ∙ part_lines (begun ++ b ∷ []) bs (rest_is_part b bs part)
 
-pub last_line-line_feed : (begun bytes : List ℕ) (i : ℕ) → i < length bytes → get_or bytes i 0 ≡ 10 → last_line begun (take (i + 1) bytes) ≡ []
-last_line-line_feed begun bytes i lt is =
-    ap (last_line begun) (take_more bytes i 0 lt ∙ ap (λ b. take i bytes ++ b ∷ []) is) ∙ last_line-append begun (take i bytes) (10 ∷ [])
+pub part_last : (begun bytes : List ℕ) → IsPart bytes → last_line begun bytes ≡ begun ++ bytes
+part_last begun [] part = sym (append-nil begun)
+part_last begun (b ∷ bs) part =
+    ap (λ (t : Bool). if t then last_line [] bs else last_line (begun ++ b ∷ []) bs) (other b bs part)
+    ∙ part_last (begun ++ b ∷ []) bs (rest_is_part b bs part) ∙ append_assoc begun (b ∷ []) bs
 
--- one more byte of another kind
-pub lines-byte : (begun bytes : List ℕ) (i : ℕ) → i < length bytes → get_or bytes i 0 ≢ 10 → whole_lines begun (take (i + 1) bytes) ≡ whole_lines begun (take i bytes)
-lines-byte begun bytes i lt is =
-    let other : (get_or bytes i 0 == 10) ≡ false = grind (arith, nat_tests, is) in
-    let line = last_line begun (take i bytes) in
-    ap (whole_lines begun) (take_more bytes i 0 lt)
-    ∙ (whole_lines-append begun (take i bytes) (get_or bytes i 0 ∷ [])
-    ∙ (ap (λ (t : Bool). whole_lines begun (take i bytes) ++ (if t then line ∷ [] else [])) other
-    ∙ append-nil (whole_lines begun (take i bytes))))
+-- a line that was begun ends at the first line feed
+pub cut_lines : (begun bytes line after : List ℕ) → IsCut bytes line after → whole_lines begun bytes ≡ (begun ++ line) ∷ whole_lines [] after
+cut_lines begun bytes line after cut = ap (whole_lines begun) cut.bytes_are ∙ whole_lines-append begun line (10 ∷ after)
+    ∙ ap₂ (λ (ls : List (List ℕ)) (l : List ℕ). ls ++ l ∷ whole_lines [] after) (part_lines begun line cut.is_part) (part_last begun line cut.is_part)
 
-pub last_line-byte : (begun bytes : List ℕ) (i : ℕ) → i < length bytes → get_or bytes i 0 ≢ 10
-    → last_line begun (take (i + 1) bytes) ≡ last_line begun (take i bytes) ++ get_or bytes i 0 ∷ []
-last_line-byte begun bytes i lt is =
-    let other : (get_or bytes i 0 == 10) ≡ false = grind (arith, nat_tests, is) in
-    let line = last_line begun (take i bytes) in
-    ap (last_line begun) (take_more bytes i 0 lt)
-    ∙ (last_line-append begun (take i bytes) (get_or bytes i 0 ∷ [])
-    ∙ ap (λ (t : Bool). if t then [] else line ++ get_or bytes i 0 ∷ []) other)
+pub cut_last : (begun bytes line after : List ℕ) → IsCut bytes line after → last_line begun bytes ≡ last_line [] after
+cut_last begun bytes line after cut = ap (last_line begun) cut.bytes_are ∙ last_line-append begun line (10 ∷ after)
 
 -- whole lines were read from their beginning
 pub line_after : (line line' bytes : List ℕ) (lines : List TraceLine) → line ≡ [] → bytes ≡ printed lines → line' ≡ last_line line bytes → line' ≡ []

@@ -1,7 +1,8 @@
 -- The lines of a text, and which of them are shown.
-use Rattle.std.specs.Prelude.{ℕ, Bool, ◌==◌, List, [], ◌∷◌, ◌++◌, codes, bytes_eq, take, if◌then◌else◌}
+use Rattle.std.specs.Prelude.{◌≡◌, ◌≢◌, ◌<◌, ℕ, Bool, ◌==◌, List, [], ◌∷◌, ◌++◌, Option, Some, None, codes, bytes_eq, length, slice_index, take, if◌then◌else◌}
 use Rattle.std.specs.List.{flat_map}
 use Rattle.wayrun.specs.declared.see.See.{See}
+use Rattle.std.specs.Borrow.{Bor}
 use Rattle.wayrun.specs.declared.see.See.TheVariants.{End, Prints, Trace}
 
 -- the lines of some bytes that end in a line feed, of which the first was begun before
@@ -37,3 +38,19 @@ shown_of see text = flat_map (shown_line see) (whole_lines [] text)
 abbrev pub last_of : List ℕ → List (List ℕ) → List ℕ
 last_of last [] = last
 last_of last (line ∷ lines) = last_of line lines
+
+-- ---- cut at line feeds
+
+-- bytes with no line feed
+abbrev pub IsPart : List ℕ → Type 0
+IsPart bytes = (k : ℕ) → k < length bytes → slice_index bytes k ≢ 10
+
+-- some bytes are cut at their first line feed
+pub record IsCut (bytes line after : List ℕ) : Type 0 where
+  pub bytes_are : bytes ≡ line ++ 10 ∷ after
+  pub is_part : IsPart line
+
+-- the same, if they have one
+abbrev pub IsCutAt : List ℕ → Option (Bor (List ℕ) × Bor (List ℕ)) → Type 0
+IsCutAt bytes None = IsPart bytes
+IsCutAt bytes (Some cut) = IsCut bytes cut.0.now cut.1.now

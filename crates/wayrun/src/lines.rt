@@ -1,9 +1,10 @@
 //! The lines of a trace that are shown.
 ghost use Rattle.std.specs.Prelude.{◌≡◌, ◌++◌, ◌∷◌, [], OnOk};
 ghost use Rattle.std.specs.List.{flat_map};
-ghost use Rattle.wayrun.specs.Texts.{is_print, last_line, last_of, shown_line, whole_lines};
+ghost use Rattle.wayrun.specs.Texts.{IsCutAt, is_print, last_line, last_of, shown_line, whole_lines};
 
 use crate::see::See;
+use memchr::memchr;
 use std::alloc::AllocError;
 
 /// Whether a line is one of Print.
@@ -58,6 +59,37 @@ fn keep_line(
     push_shown(see, line, kept)
 }
 
+/// Adds a line that was begun and ends in these bytes, if it is shown, and keeps it as the last one.
+fn end_line(
+    see: See,
+    end: &[u8],
+    line: &mut Vec<u8>,
+    last: &mut Vec<u8>,
+    kept: &mut Vec<u8>,
+) -> Result<(), AllocError>
+    ensures line { OnOk result (line.new.items ≡ []) }
+    ensures last { OnOk result (last.new.items ≡ line.old.items ++ end.now) }
+    ensures kept { OnOk result (kept.new.items ≡ kept.old.items ++ shown_line see (line.old.items ++ end.now)) }
+{
+    if line.is_empty() {
+        return keep_line(see, end, last, kept);
+    }
+    line.extend_from_slice(end)?;
+    keep_line(see, line.as_slice(), last, kept)?;
+    line.clear();
+    Ok(())
+}
+
+/// The first line of some bytes, without its line feed, and what is after it; none if there is no line feed.
+fn cut_line(bytes: &[u8]) -> Option<(&[u8], &[u8])>
+    ensures { IsCutAt bytes.now result }
+{
+    match memchr(b'\n', bytes) {
+        None => None,
+        Some(end) => Some((&bytes[..end], &bytes[end + 1..])),
+    }
+}
+
 /// Adds the lines of some bytes that are shown, and keeps the last line.
 pub(crate) fn keep_lines(
     see: See,
@@ -70,13 +102,11 @@ pub(crate) fn keep_lines(
     ensures last { OnOk result (last.new.items ≡ last_of last.old.items (whole_lines line.old.items bytes.now)) }
     ensures kept { OnOk result (kept.new.items ≡ kept.old.items ++ flat_map (shown_line see) (whole_lines line.old.items bytes.now)) }
 {
-    for byte in bytes {
-        if *byte == 10 {
-            keep_line(see, line.as_slice(), last, kept)?;
-            line.clear();
-        } else {
-            line.push(*byte)?;
-        }
+    let mut rest = bytes;
+    while let Some((end, after)) = cut_line(rest) {
+        end_line(see, end, line, last, kept)?;
+        rest = after;
     }
+    line.extend_from_slice(rest)?;
     Ok(())
 }

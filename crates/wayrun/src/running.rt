@@ -1,4 +1,4 @@
-//! One way, run on a machine of its own, of which what is seen is kept.
+//! One way, run from the first state of its machine, of which what is seen is kept. The machine is kept from way to way, and reset before each.
 ghost use Rattle.std.specs.Prelude.{◌≡◌, ◌≤◌, ◌++◌, false, IfOk, OnOk, sum_by};
 ghost use Rattle.exectrace.specs.declared.sinks.SinkState.{SinkState};
 ghost use Rattle.taskscript.specs.Events.{ticks as ticks_of};
@@ -143,7 +143,7 @@ impl Bench {
     }
 }
 
-/// Puts a machine back to its first state: that of the file, before its start.
+/// Puts a machine back to its first state: that of the file, before its start. One that was made of another file is made anew.
 fn made_again(
     alloc: Global,
     machine: &mut Machine<LinkSpace>,
@@ -153,6 +153,9 @@ fn made_again(
     ensures agrees { OnOk result (Agrees machine.new.seen (booted file.now)) }
     ensures enough { OnOk result (HasTimeFor 1000000 machine.new.seen) }
 {
+    if machine.reset(file) {
+        return Ok(());
+    }
     *machine = Machine::boot(alloc, file)?;
     Ok(())
 }

@@ -53,7 +53,7 @@ enum Step {
     HasBlock(u32, Option<(u32, u32)>),
     /// A plain block of that size is taken, and nobody is asked.
     Takes(u32, Option<u32>),
-    /// A plain block of that size is taken of public memory, and libraries may are expunged under low memory.
+    /// A plain block of that size is taken of public memory, for which libraries may be expunged.
     Allocs(u32, Option<u32>),
 }
 
@@ -285,7 +285,7 @@ impl<S: ListSpace> Driver<S> {
         }
     }
 
-    /// Takes a plain block of public memory, to which libraries may are expunged under low memory, and answers its address, if it answered one.
+    /// Takes a plain block of public memory, for which libraries may be expunged, and answers its address, if it answered one.
     fn alloc(&mut self, size: u32) -> Option<Option<u32>> {
         if self.are_placed() {
             Some(self.libraries.alloc_mem(size, 1, 0, &mut self.memory))

@@ -242,78 +242,69 @@ fn mixed_calls_agree(rt: HostRuntime) -> Result<(), Fail> {
     Ok(())
 }
 
-/// The nodes 0 to 5: each has a priority and a name.
-static KEYS: [(i8, Option<&str>); 6] = [
-    (0, Some("x")),
-    (5, Some("y")),
-    (0, Some("x")),
-    (-128, None),
-    (127, Some("z")),
-    (5, Some("y")),
+/// A call of a space of two headers and eight nodes, and what it must answer.
+enum Step {
+    Does(Change, Answer),
+    Sees(Look, Answer),
+}
+
+use Step::*;
+
+/// Nodes 0 to 5 get keys and are enqueued in header 0: a node goes after its equals, and a search goes on after a node. Then the space is
+/// reset, and has no node in a header, no priority and no name.
+static STEPS: [Step; 36] = [
+    Does(SetKey(0, 0, Some("x")), Done),
+    Does(Put(0, 0, ByPriority), Done),
+    Does(SetKey(1, 5, Some("y")), Done),
+    Does(Put(0, 1, ByPriority), Done),
+    Does(SetKey(2, 0, Some("x")), Done),
+    Does(Put(0, 2, ByPriority), Done),
+    Does(SetKey(3, -128, None), Done),
+    Does(Put(0, 3, ByPriority), Done),
+    Does(SetKey(4, 127, Some("z")), Done),
+    Does(Put(0, 4, ByPriority), Done),
+    Does(SetKey(5, 5, Some("y")), Done),
+    Does(Put(0, 5, ByPriority), Done),
+    Sees(Look::First(0), Node(Some(4))),
+    Sees(Succ(4), Node(Some(1))),
+    Sees(Succ(1), Node(Some(5))),
+    Sees(Succ(5), Node(Some(0))),
+    Sees(Succ(0), Node(Some(2))),
+    Sees(Succ(2), Node(Some(3))),
+    Sees(Succ(3), Node(None)),
+    Sees(FindName(0, "x"), Node(Some(0))),
+    Sees(FindNameAfter(0, "x"), Node(Some(2))),
+    Sees(FindNameAfter(2, "x"), Node(None)),
+    Sees(FindName(0, "X"), Node(None)),
+    Sees(FindName(1, "x"), Node(None)),
+    Does(Reset, Done),
+    Sees(Look::First(0), Node(None)),
+    Sees(Home(4), Header(None)),
+    Sees(Pri(4), Priority(0)),
+    Sees(HasName(4, "z"), Is(false)),
+    Does(Put(1, 5, Tail), Done),
+    Does(Put(1, 0, ByPriority), Done),
+    Sees(Look::First(1), Node(Some(5))),
+    Sees(Succ(5), Node(Some(0))),
+    Sees(Last(1), Node(Some(0))),
+    Sees(Home(0), Header(Some(1))),
+    Sees(FindName(1, "x"), Node(None)),
 ];
 
-/// What is seen once they were enqueued in that order: a node goes after its equals, and a search goes on after a node.
-static LOOKS: [(Look, Answer); 12] = [
-    (Look::First(0), Node(Some(4))),
-    (Succ(4), Node(Some(1))),
-    (Succ(1), Node(Some(5))),
-    (Succ(5), Node(Some(0))),
-    (Succ(0), Node(Some(2))),
-    (Succ(2), Node(Some(3))),
-    (Succ(3), Node(None)),
-    (FindName(0, "x"), Node(Some(0))),
-    (FindNameAfter(0, "x"), Node(Some(2))),
-    (FindNameAfter(2, "x"), Node(None)),
-    (FindName(0, "X"), Node(None)),
-    (FindName(1, "x"), Node(None)),
-];
-
-/// Enqueues the nodes in header 0, and then looks.
-fn look_at_six<S: ListSpace>(rt: &impl Abort, alloc: Global) -> Result<(), Fail> {
+/// Takes the steps.
+fn take_all<S: ListSpace>(rt: &impl Abort, alloc: Global) -> Result<(), Fail> {
     let mut d: Driver<S> = Driver::new(alloc, 2, 8)?;
-    for (n, (pri, name)) in KEYS.iter().enumerate() {
-        for call in [SetKey(n, *pri, *name), Put(0, n, ByPriority)] {
-            same(rt, n, n, d.change(call), Done);
-        }
-    }
-    for (number, (call, wanted)) in LOOKS.iter().enumerate() {
-        same(rt, number, 0, d.look(*call), *wanted);
-    }
-    Ok(())
-}
-
-/// Links and names the nodes of a space, resets it, and compares it with a new one, before and after a node is linked in each.
-fn reset_as_new<S: ListSpace>(rt: &impl Abort, alloc: Global) -> Result<(), Fail> {
-    let mut used: Driver<S> = Driver::new(alloc, 2, 8)?;
-    let mut new: Driver<S> = Driver::new(alloc, 2, 8)?;
-    for (n, (pri, name)) in KEYS.iter().enumerate() {
-        for call in [SetKey(n, *pri, *name), Put(n % 2, n, ByPriority)] {
-            same(rt, n, n, used.change(call), Done);
-        }
-    }
-    same(rt, 6, 0, used.change(Reset), Done);
-    for (number, (call, _)) in LOOKS.iter().enumerate() {
-        same(rt, number, 0, used.look(*call), new.look(*call));
-    }
-    for call in [Put(1, 5, Tail), Put(1, 0, ByPriority)] {
-        same(rt, 7, 1, used.change(call), new.change(call));
-    }
-    for n in 0..8 {
-        for call in [Home(n), Pri(n), Succ(n), HasName(n, "y")] {
-            same(rt, 8, n, used.look(call), new.look(call));
+    for (number, step) in STEPS.iter().enumerate() {
+        match step {
+            Does(call, wanted) => same(rt, number, 0, d.change(*call), *wanted),
+            Sees(call, wanted) => same(rt, number, 0, d.look(*call), *wanted),
         }
     }
     Ok(())
 }
 
 #[test]
-fn a_space_that_was_reset_is_as_new(rt: HostRuntime) -> Result<(), Fail> {
-    reset_as_new::<PlainSpace>(&rt, rt.alloc())?;
-    reset_as_new::<LinkSpace>(&rt, rt.alloc())
-}
-
-#[test]
-fn nodes_that_were_enqueued_stand_and_are_found_in_order(rt: HostRuntime) -> Result<(), Fail> {
-    look_at_six::<PlainSpace>(&rt, rt.alloc())?;
-    look_at_six::<LinkSpace>(&rt, rt.alloc())
+fn nodes_are_in_order_until_the_space_is_reset(rt: HostRuntime) -> Result<(), Fail> {
+    take_all::<PlainSpace>(&rt, rt.alloc())?;
+    take_all::<LinkSpace>(&rt, rt.alloc())
 }

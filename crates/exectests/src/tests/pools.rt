@@ -90,6 +90,8 @@ fn each_call_answers_as_its_case_says(rt: HostRuntime) -> Result<(), Fail> {
     for (case, numbers, steps) in &CASES {
         let mut pool = Pool::new(rt.alloc(), *numbers)?;
         take_all(&mut pool, &rt, case, *steps);
+        pool.reset();
+        take_all(&mut pool, &rt, case, *steps);
     }
     Ok(())
 }

@@ -1,215 +1,86 @@
-//! Which task runs, its quantum, and the signals and the nesting of each task, over a list space in vectors.
-//! `Driver` tests at run time what a call asks.
-ghost use Rattle.std.specs.Prelude.{◌≡◌, ◌≤◌, length};
+//! Which task runs, its quantum, and the signals and the nesting of each task, over a list space in vectors. Each case is a table of steps:
+//! calls, each with what it must answer. What a call asks is asserted first.
+ghost use Rattle.std.specs.Prelude.{◌≡◌};
 ghost use Rattle.scheduler.specs.Schedule.{task_count};
 
 use super::comparing::same;
 use execlist::key::Name;
 use execlist::plain::PlainSpace;
-use execlist::space::ListSpace;
 use scheduler::{Sched, Switch};
 use std::alloc::{AllocError, Global};
 use std::process::Abort;
 use std::test::Fail;
 use taskq::{TaskId, TaskInit};
 
-/// A call on the schedule, or on its running task.
-#[derive(Clone, Copy)]
-enum Call {
-    Running,
-    Find(&'static str),
-    Reschedule,
-    /// A serving of VERTB is counted, and then it is rescheduled.
-    Tick,
-    MaySwitch,
-    MayInterrupt,
-    Add(TaskId),
-    IsLive(TaskId),
-    Remove(TaskId),
-    SetPri(TaskId, i8),
-    Signal(TaskId, u32),
-    FreeSignal(TaskId, u32),
-    IsAtSemaphore(TaskId),
-    WakeSem(TaskId),
+/// A schedule of three tasks.
+#[derive(Drop)]
+struct Driver {
+    schedule: Sched<PlainSpace>,
+    ghost known: { task_count schedule ≡ 3 },
+}
+
+/// A call on a task, and what it must answer.
+enum OnTask {
+    Add(bool),
+    IsLive(bool),
+    /// The task lives, and does not run.
+    Remove,
+    /// A new priority, and the one before.
+    SetPri(i8, i8),
+    Signal(u32),
+    FreeSignal(u32),
+    IsAtSemaphore(bool),
+    /// The task waits at a semaphore.
+    WakeSem,
+}
+
+/// A call by the running task, and what it must answer.
+enum ByRunning {
     Leave,
-    Wait(u32),
+    /// A mask, and the signals that have come.
+    Wait(u32, Option<u32>),
     WaitClear(u32),
     WaitSem,
-    AllocSignal(i32),
-    NextSignal,
-    SetSignal(u32, u32),
+    /// A number or -1, and the number of a signal or -1.
+    AllocSignal(i32, i32),
+    NextSignal(Option<u32>),
+    /// New signals, a mask, and the signals that were received.
+    SetSignal(u32, u32, u32),
     /// Signals are posted to its own in the loan of them.
     Post(u32),
     /// The signals that it has received, as the loan of them reports.
-    Received,
+    Received(u32),
     /// Forbid, in the loan of its nesting.
-    Nest,
-    Forbid,
-    Permit,
-    Disable,
-    Enable,
+    Nest(bool),
+    Forbid(bool),
+    Permit(bool),
+    Disable(bool),
+    Enable(bool),
 }
 
-/// What came of a call: it may not be made, it was made, or it answered this.
-#[derive(Clone, Copy, Debug, PartialEq, Eq)]
-enum Answer {
-    Refused,
-    Done,
-    Is(bool),
-    Task(Option<TaskId>),
-    Turned(Option<Switch>),
-    Priority(i8),
-    /// The number of a signal, or -1.
-    Allocated(i32),
-    /// The signal that is allocated next.
-    Next(Option<u32>),
-    /// The signals that have come.
-    Came(Option<u32>),
-    /// The signals that were received.
-    Had(u32),
+/// A call, and what it must answer.
+enum Step {
+    Running(Option<TaskId>),
+    Find(&'static str, Option<TaskId>),
+    Reschedule(Option<Switch>),
+    /// A serving of VERTB is counted, and then it is rescheduled.
+    Tick(Option<Switch>),
+    MaySwitch(bool),
+    MayInterrupt(bool),
+    Task(TaskId, OnTask),
+    By(ByRunning),
 }
 
-use Answer::*;
-use Call::*;
-
-/// A schedule whose conditions are tested: a call that may not be made changes nothing.
-#[derive(Drop)]
-struct Driver<S: ListSpace> {
-    schedule: Sched<S>,
-    tasks: usize,
-    ghost known: { tasks ≡ task_count schedule },
-}
-
-impl<S: ListSpace> Driver<S> {
-    /// A schedule of these tasks, none of which was added.
-    fn new(alloc: Global, tasks: &[TaskInit], quantum: u8) -> Result<Self, AllocError>
-        requires { length tasks.now ≤ 4096 }
-    {
-        let schedule = Sched::new(alloc, tasks, quantum)?;
-        Ok(Driver {
-            schedule,
-            tasks: tasks.len(),
-        })
-    }
-
-    /// Makes a call.
-    fn call(&mut self, call: Call) -> Answer {
-        match call {
-            Running => Task(self.schedule.running()),
-            Find(name) => Task(self.schedule.find(name)),
-            Reschedule => Turned(self.schedule.reschedule()),
-            Tick => {
-                self.schedule.quantum_tick();
-                Turned(self.schedule.reschedule())
-            }
-            MaySwitch => Is(self.schedule.may_switch()),
-            MayInterrupt => Is(self.schedule.may_interrupt()),
-            Add(t)
-            | IsLive(t)
-            | Remove(t)
-            | SetPri(t, _)
-            | Signal(t, _)
-            | FreeSignal(t, _)
-            | IsAtSemaphore(t)
-            | WakeSem(t) => self.call_on(t, call),
-            _ => self.call_by_running(call),
-        }
-    }
-
-    /// Makes a call on a task.
-    fn call_on(&mut self, t: TaskId, call: Call) -> Answer {
-        if t >= self.tasks {
-            return Refused;
-        }
-        match call {
-            Add(_) => Is(self.schedule.add(t)),
-            IsLive(_) => Is(self.schedule.is_live(t)),
-            Remove(_) if self.schedule.is_live(t) && self.schedule.running() != Some(t) => {
-                self.schedule.remove(t);
-                Done
-            }
-            SetPri(_, pri) => Priority(self.schedule.set_pri(t, pri)),
-            Signal(_, mask) => {
-                self.schedule.signal(t, mask);
-                Done
-            }
-            FreeSignal(_, n) if 16 <= n && n <= 31 => {
-                self.schedule.free_signal(t, n);
-                Done
-            }
-            IsAtSemaphore(_) => Is(self.schedule.is_at_semaphore(t)),
-            WakeSem(_) if self.schedule.is_at_semaphore(t) => {
-                self.schedule.wake_sem(t);
-                Done
-            }
-            _ => Refused,
-        }
-    }
-
-    /// Makes a call by the running task.
-    fn call_by_running(&mut self, call: Call) -> Answer {
-        if self.schedule.running().is_none() {
-            return Refused;
-        }
-        match call {
-            Leave => {
-                self.schedule.leave();
-                Done
-            }
-            // A task that waits is expunged under low memory at once.
-            Wait(mask) => Came(self.schedule.wait(mask)),
-            WaitClear(mask) => {
-                self.schedule.wait_clear(mask);
-                Done
-            }
-            WaitSem => {
-                self.schedule.wait_sem();
-                Done
-            }
-            AllocSignal(n) => Allocated(self.schedule.alloc_signal(n)),
-            NextSignal => Next(self.schedule.next_signal()),
-            SetSignal(new, mask) => Had(self.schedule.set_signal(new, mask)),
-            Post(mask) => {
-                self.schedule.sigs().post(mask);
-                Done
-            }
-            Received => Had(self.schedule.sigs().received()),
-            Nest => Is(self.schedule.nest().forbid().is_ok()),
-            Forbid => Is(self.schedule.forbid().is_ok()),
-            Permit => Is(self.schedule.permit().is_ok()),
-            Disable => Is(self.schedule.disable().is_ok()),
-            Enable => Is(self.schedule.enable().is_ok()),
-            _ => Refused,
-        }
-    }
-}
+use ByRunning::*;
+use OnTask::*;
+use Step::*;
 
 /// Steps on tasks a and b of priority 0 and c of priority 1, of which the first `added` were added.
-#[derive(Clone, Copy)]
 struct Case {
     name: &'static str,
     quantum: u8,
     added: usize,
-    steps: &'static [(Call, Answer)],
-}
-
-/// A task of a name and a priority.
-fn task(name: &str, pri: i8) -> TaskInit {
-    let name = Name::from(name).unwrap_or_default();
-    TaskInit { name, pri }
-}
-
-/// Takes the steps of a case.
-fn on_three<S: ListSpace>(rt: &impl Abort, alloc: Global, case: &Case) -> Result<(), Fail> {
-    let tasks = [task("a", 0), task("b", 0), task("c", 1)];
-    let mut d: Driver<S> = Driver::new(alloc, &tasks, case.quantum)?;
-    for t in 0..case.added {
-        same(rt, case.name, t, d.call(Add(t)), Is(true));
-    }
-    for (number, (call, wanted)) in case.steps.iter().enumerate() {
-        same(rt, case.name, number, d.call(*call), *wanted);
-    }
-    Ok(())
+    steps: &'static [Step],
 }
 
 const A: TaskId = 0;
@@ -218,37 +89,37 @@ const B: TaskId = 1;
 
 const C: TaskId = 2;
 
-const TO_A: Answer = Turned(Some(Switch::To(A)));
+const TO_A: Option<Switch> = Some(Switch::To(A));
 
-const TO_B: Answer = Turned(Some(Switch::To(B)));
+const TO_B: Option<Switch> = Some(Switch::To(B));
 
-const TO_C: Answer = Turned(Some(Switch::To(C)));
+const TO_C: Option<Switch> = Some(Switch::To(C));
 
-const IDLE: Answer = Turned(Some(Switch::Idle));
+const IDLE: Option<Switch> = Some(Switch::Idle);
 
-const NO_SWITCH: Answer = Turned(None);
+const NO_SWITCH: Option<Switch> = None;
 
-/// Who runs, and when a task is expunged under low memory.
+/// Who runs, and when a task is pre-empted.
 static TURNS: [Case; 9] = [
     Case {
         name: "tasks run by priority and then by arrival",
         quantum: 4,
         added: 3,
         steps: &[
-            (Reschedule, TO_C),
-            (Running, Task(Some(C))),
-            (Leave, Done),
-            (Running, Task(None)),
-            (Reschedule, TO_A),
-            (Running, Task(Some(A))),
-            (Leave, Done),
-            (Running, Task(None)),
-            (Reschedule, TO_B),
-            (Running, Task(Some(B))),
-            (Leave, Done),
-            (Running, Task(None)),
-            (Reschedule, IDLE),
-            (Reschedule, NO_SWITCH),
+            Reschedule(TO_C),
+            Running(Some(C)),
+            By(Leave),
+            Running(None),
+            Reschedule(TO_A),
+            Running(Some(A)),
+            By(Leave),
+            Running(None),
+            Reschedule(TO_B),
+            Running(Some(B)),
+            By(Leave),
+            Running(None),
+            Reschedule(IDLE),
+            Reschedule(NO_SWITCH),
         ],
     },
     Case {
@@ -256,21 +127,21 @@ static TURNS: [Case; 9] = [
         quantum: 4,
         added: 2,
         steps: &[
-            (IsLive(B), Is(true)),
-            (IsLive(C), Is(false)),
-            (Add(B), Is(false)),
-            (Find("b"), Task(Some(B))),
-            (Find("c"), Task(None)),
-            (Remove(B), Done),
-            (IsLive(B), Is(false)),
-            (Add(B), Is(false)),
-            (Find("b"), Task(None)),
-            (Reschedule, TO_A),
-            (Leave, Done),
-            (Add(A), Is(false)),
-            (Reschedule, IDLE),
-            (Add(C), Is(true)),
-            (Reschedule, TO_C),
+            Task(B, IsLive(true)),
+            Task(C, IsLive(false)),
+            Task(B, Add(false)),
+            Find("b", Some(B)),
+            Find("c", None),
+            Task(B, Remove),
+            Task(B, IsLive(false)),
+            Task(B, Add(false)),
+            Find("b", None),
+            Reschedule(TO_A),
+            By(Leave),
+            Task(A, Add(false)),
+            Reschedule(IDLE),
+            Task(C, Add(true)),
+            Reschedule(TO_C),
         ],
     },
     Case {
@@ -278,12 +149,12 @@ static TURNS: [Case; 9] = [
         quantum: 4,
         added: 2,
         steps: &[
-            (Reschedule, TO_A),
-            (Wait(0x1000), Came(None)),
-            (Reschedule, TO_B),
-            (Signal(A, 0x1000), Done),
-            (Reschedule, NO_SWITCH),
-            (Running, Task(Some(B))),
+            Reschedule(TO_A),
+            By(Wait(0x1000, None)),
+            Reschedule(TO_B),
+            Task(A, Signal(0x1000)),
+            Reschedule(NO_SWITCH),
+            Running(Some(B)),
         ],
     },
     Case {
@@ -291,11 +162,11 @@ static TURNS: [Case; 9] = [
         quantum: 4,
         added: 2,
         steps: &[
-            (Reschedule, TO_A),
-            (Add(C), Is(true)),
-            (Reschedule, TO_C),
-            (Leave, Done),
-            (Reschedule, TO_B),
+            Reschedule(TO_A),
+            Task(C, Add(true)),
+            Reschedule(TO_C),
+            By(Leave),
+            Reschedule(TO_B),
         ],
     },
     Case {
@@ -303,13 +174,13 @@ static TURNS: [Case; 9] = [
         quantum: 2,
         added: 2,
         steps: &[
-            (Reschedule, TO_A),
-            (Tick, NO_SWITCH),
-            (Tick, TO_B),
-            (Tick, NO_SWITCH),
-            (Tick, TO_A),
-            (Tick, NO_SWITCH),
-            (Tick, TO_B),
+            Reschedule(TO_A),
+            Tick(NO_SWITCH),
+            Tick(TO_B),
+            Tick(NO_SWITCH),
+            Tick(TO_A),
+            Tick(NO_SWITCH),
+            Tick(TO_B),
         ],
     },
     Case {
@@ -317,12 +188,12 @@ static TURNS: [Case; 9] = [
         quantum: 2,
         added: 1,
         steps: &[
-            (Reschedule, TO_A),
-            (Tick, NO_SWITCH),
-            (Tick, NO_SWITCH),
-            (Add(B), Is(true)),
-            (Tick, NO_SWITCH),
-            (Tick, TO_B),
+            Reschedule(TO_A),
+            Tick(NO_SWITCH),
+            Tick(NO_SWITCH),
+            Task(B, Add(true)),
+            Tick(NO_SWITCH),
+            Tick(TO_B),
         ],
     },
     Case {
@@ -330,15 +201,15 @@ static TURNS: [Case; 9] = [
         quantum: 2,
         added: 1,
         steps: &[
-            (Reschedule, TO_A),
-            (Tick, NO_SWITCH),
-            (Add(C), Is(true)),
-            (Reschedule, TO_C),
-            (Leave, Done),
-            (Reschedule, TO_A),
-            (Add(B), Is(true)),
-            (Tick, NO_SWITCH),
-            (Tick, TO_B),
+            Reschedule(TO_A),
+            Tick(NO_SWITCH),
+            Task(C, Add(true)),
+            Reschedule(TO_C),
+            By(Leave),
+            Reschedule(TO_A),
+            Task(B, Add(true)),
+            Tick(NO_SWITCH),
+            Tick(TO_B),
         ],
     },
     Case {
@@ -346,13 +217,13 @@ static TURNS: [Case; 9] = [
         quantum: 2,
         added: 2,
         steps: &[
-            (Reschedule, TO_A),
-            (Forbid, Is(true)),
-            (Tick, NO_SWITCH),
-            (Tick, NO_SWITCH),
-            (Tick, NO_SWITCH),
-            (Permit, Is(true)),
-            (Reschedule, TO_B),
+            Reschedule(TO_A),
+            By(Forbid(true)),
+            Tick(NO_SWITCH),
+            Tick(NO_SWITCH),
+            Tick(NO_SWITCH),
+            By(Permit(true)),
+            Reschedule(TO_B),
         ],
     },
     Case {
@@ -360,14 +231,14 @@ static TURNS: [Case; 9] = [
         quantum: 4,
         added: 3,
         steps: &[
-            (Reschedule, TO_C),
-            (SetPri(A, 0), Priority(0)),
-            (Reschedule, NO_SWITCH),
-            (SetPri(C, -1), Priority(1)),
-            (Reschedule, TO_B),
-            (SetPri(A, 1), Priority(0)),
-            (Reschedule, TO_A),
-            (SetPri(A, -128), Priority(1)),
+            Reschedule(TO_C),
+            Task(A, SetPri(0, 0)),
+            Reschedule(NO_SWITCH),
+            Task(C, SetPri(-1, 1)),
+            Reschedule(TO_B),
+            Task(A, SetPri(1, 0)),
+            Reschedule(TO_A),
+            Task(A, SetPri(-128, 1)),
         ],
     },
 ];
@@ -379,12 +250,12 @@ static WAITS: [Case; 7] = [
         quantum: 4,
         added: 1,
         steps: &[
-            (Reschedule, TO_A),
-            (Signal(A, 0x3000), Done),
-            (Wait(0x5000), Came(Some(0x1000))),
-            (Wait(0x3000), Came(Some(0x2000))),
-            (Wait(0x3000), Came(None)),
-            (Running, Task(None)),
+            Reschedule(TO_A),
+            Task(A, Signal(0x3000)),
+            By(Wait(0x5000, Some(0x1000))),
+            By(Wait(0x3000, Some(0x2000))),
+            By(Wait(0x3000, None)),
+            Running(None),
         ],
     },
     Case {
@@ -392,14 +263,14 @@ static WAITS: [Case; 7] = [
         quantum: 4,
         added: 1,
         steps: &[
-            (Reschedule, TO_A),
-            (Signal(A, 0x3000), Done),
-            (WaitClear(0x1000), Done),
-            (Running, Task(None)),
-            (Reschedule, IDLE),
-            (Signal(A, 0x1000), Done),
-            (Reschedule, TO_A),
-            (Wait(0x3000), Came(Some(0x3000))),
+            Reschedule(TO_A),
+            Task(A, Signal(0x3000)),
+            By(WaitClear(0x1000)),
+            Running(None),
+            Reschedule(IDLE),
+            Task(A, Signal(0x1000)),
+            Reschedule(TO_A),
+            By(Wait(0x3000, Some(0x3000))),
         ],
     },
     Case {
@@ -407,19 +278,19 @@ static WAITS: [Case; 7] = [
         quantum: 4,
         added: 1,
         steps: &[
-            (Signal(B, 0x1000), Done),
-            (Reschedule, TO_A),
-            (Wait(0x3000), Came(None)),
-            (Reschedule, IDLE),
-            (Signal(A, 0x4000), Done),
-            (Reschedule, NO_SWITCH),
-            (Signal(A, 0x1000), Done),
-            (Reschedule, TO_A),
-            (Wait(0xf000), Came(Some(0x5000))),
-            (Add(B), Is(true)),
-            (Leave, Done),
-            (Reschedule, TO_B),
-            (Wait(0x1000), Came(None)),
+            Task(B, Signal(0x1000)),
+            Reschedule(TO_A),
+            By(Wait(0x3000, None)),
+            Reschedule(IDLE),
+            Task(A, Signal(0x4000)),
+            Reschedule(NO_SWITCH),
+            Task(A, Signal(0x1000)),
+            Reschedule(TO_A),
+            By(Wait(0xf000, Some(0x5000))),
+            Task(B, Add(true)),
+            By(Leave),
+            Reschedule(TO_B),
+            By(Wait(0x1000, None)),
         ],
     },
     Case {
@@ -427,27 +298,27 @@ static WAITS: [Case; 7] = [
         quantum: 4,
         added: 2,
         steps: &[
-            (Reschedule, TO_A),
-            (Forbid, Is(true)),
-            (Disable, Is(true)),
-            (MaySwitch, Is(false)),
-            (MayInterrupt, Is(false)),
-            (Wait(0x1000), Came(None)),
-            (MaySwitch, Is(true)),
-            (MayInterrupt, Is(true)),
-            (Reschedule, TO_B),
-            (Permit, Is(false)),
-            (Enable, Is(false)),
-            (Signal(A, 0x1000), Done),
-            (Leave, Done),
-            (Reschedule, TO_A),
-            (MaySwitch, Is(false)),
-            (MayInterrupt, Is(false)),
-            (Enable, Is(true)),
-            (MayInterrupt, Is(true)),
-            (MaySwitch, Is(false)),
-            (Permit, Is(true)),
-            (MaySwitch, Is(true)),
+            Reschedule(TO_A),
+            By(Forbid(true)),
+            By(Disable(true)),
+            MaySwitch(false),
+            MayInterrupt(false),
+            By(Wait(0x1000, None)),
+            MaySwitch(true),
+            MayInterrupt(true),
+            Reschedule(TO_B),
+            By(Permit(false)),
+            By(Enable(false)),
+            Task(A, Signal(0x1000)),
+            By(Leave),
+            Reschedule(TO_A),
+            MaySwitch(false),
+            MayInterrupt(false),
+            By(Enable(true)),
+            MayInterrupt(true),
+            MaySwitch(false),
+            By(Permit(true)),
+            MaySwitch(true),
         ],
     },
     Case {
@@ -455,14 +326,13 @@ static WAITS: [Case; 7] = [
         quantum: 4,
         added: 2,
         steps: &[
-            (NextSignal, Refused),
-            (Reschedule, TO_A),
-            (NextSignal, Next(Some(31))),
-            (AllocSignal(-1), Allocated(31)),
-            (NextSignal, Next(Some(30))),
-            (Wait(0x1000), Came(None)),
-            (Reschedule, TO_B),
-            (NextSignal, Next(Some(31))),
+            Reschedule(TO_A),
+            By(NextSignal(Some(31))),
+            By(AllocSignal(-1, 31)),
+            By(NextSignal(Some(30))),
+            By(Wait(0x1000, None)),
+            Reschedule(TO_B),
+            By(NextSignal(Some(31))),
         ],
     },
     Case {
@@ -470,16 +340,16 @@ static WAITS: [Case; 7] = [
         quantum: 4,
         added: 2,
         steps: &[
-            (Reschedule, TO_A),
-            (AllocSignal(-1), Allocated(31)),
-            (AllocSignal(20), Allocated(20)),
-            (FreeSignal(B, 20), Done),
-            (AllocSignal(20), Allocated(-1)),
-            (FreeSignal(A, 20), Done),
-            (AllocSignal(20), Allocated(20)),
-            (SetSignal(0x5000, 0xf000), Had(0)),
-            (SetSignal(0x0000, 0x1000), Had(0x5000)),
-            (Wait(0xf000), Came(Some(0x4000))),
+            Reschedule(TO_A),
+            By(AllocSignal(-1, 31)),
+            By(AllocSignal(20, 20)),
+            Task(B, FreeSignal(20)),
+            By(AllocSignal(20, -1)),
+            Task(A, FreeSignal(20)),
+            By(AllocSignal(20, 20)),
+            By(SetSignal(0x5000, 0xf000, 0)),
+            By(SetSignal(0x0000, 0x1000, 0x5000)),
+            By(Wait(0xf000, Some(0x4000))),
         ],
     },
     Case {
@@ -487,14 +357,14 @@ static WAITS: [Case; 7] = [
         quantum: 4,
         added: 1,
         steps: &[
-            (Reschedule, TO_A),
-            (Post(0x3000), Done),
-            (Nest, Is(true)),
-            (MaySwitch, Is(false)),
-            (MayInterrupt, Is(true)),
-            (Wait(0x1000), Came(Some(0x1000))),
-            (Received, Had(0x2000)),
-            (Running, Task(Some(A))),
+            Reschedule(TO_A),
+            By(Post(0x3000)),
+            By(Nest(true)),
+            MaySwitch(false),
+            MayInterrupt(true),
+            By(Wait(0x1000, Some(0x1000))),
+            By(Received(0x2000)),
+            Running(Some(A)),
         ],
     },
 ];
@@ -506,22 +376,19 @@ static SEMAPHORES: [Case; 5] = [
         quantum: 4,
         added: 2,
         steps: &[
-            (WaitSem, Refused),
-            (Reschedule, TO_A),
-            (IsAtSemaphore(A), Is(false)),
-            (WaitSem, Done),
-            (Running, Task(None)),
-            (IsAtSemaphore(A), Is(true)),
-            (IsLive(A), Is(true)),
-            (Reschedule, TO_B),
-            (Wait(0x1000), Came(None)),
-            (IsAtSemaphore(B), Is(false)),
-            (WakeSem(B), Refused),
-            (Reschedule, IDLE),
-            (WakeSem(A), Done),
-            (IsAtSemaphore(A), Is(false)),
-            (WakeSem(A), Refused),
-            (Reschedule, TO_A),
+            Reschedule(TO_A),
+            Task(A, IsAtSemaphore(false)),
+            By(WaitSem),
+            Running(None),
+            Task(A, IsAtSemaphore(true)),
+            Task(A, IsLive(true)),
+            Reschedule(TO_B),
+            By(Wait(0x1000, None)),
+            Task(B, IsAtSemaphore(false)),
+            Reschedule(IDLE),
+            Task(A, WakeSem),
+            Task(A, IsAtSemaphore(false)),
+            Reschedule(TO_A),
         ],
     },
     Case {
@@ -529,14 +396,14 @@ static SEMAPHORES: [Case; 5] = [
         quantum: 4,
         added: 2,
         steps: &[
-            (Reschedule, TO_A),
-            (WaitSem, Done),
-            (WakeSem(A), Done),
-            (Running, Task(None)),
-            (Reschedule, TO_B),
-            (Reschedule, NO_SWITCH),
-            (Leave, Done),
-            (Reschedule, TO_A),
+            Reschedule(TO_A),
+            By(WaitSem),
+            Task(A, WakeSem),
+            Running(None),
+            Reschedule(TO_B),
+            Reschedule(NO_SWITCH),
+            By(Leave),
+            Reschedule(TO_A),
         ],
     },
     Case {
@@ -544,15 +411,15 @@ static SEMAPHORES: [Case; 5] = [
         quantum: 4,
         added: 1,
         steps: &[
-            (Reschedule, TO_A),
-            (Signal(A, 0x1000), Done),
-            (WaitSem, Done),
-            (Signal(A, 0x2000), Done),
-            (IsAtSemaphore(A), Is(true)),
-            (Reschedule, IDLE),
-            (WakeSem(A), Done),
-            (Reschedule, TO_A),
-            (Wait(0xf000), Came(Some(0x3000))),
+            Reschedule(TO_A),
+            Task(A, Signal(0x1000)),
+            By(WaitSem),
+            Task(A, Signal(0x2000)),
+            Task(A, IsAtSemaphore(true)),
+            Reschedule(IDLE),
+            Task(A, WakeSem),
+            Reschedule(TO_A),
+            By(Wait(0xf000, Some(0x3000))),
         ],
     },
     Case {
@@ -560,16 +427,16 @@ static SEMAPHORES: [Case; 5] = [
         quantum: 4,
         added: 2,
         steps: &[
-            (Reschedule, TO_A),
-            (Forbid, Is(true)),
-            (WaitSem, Done),
-            (MaySwitch, Is(true)),
-            (Reschedule, TO_B),
-            (WakeSem(A), Done),
-            (MaySwitch, Is(true)),
-            (Leave, Done),
-            (Reschedule, TO_A),
-            (MaySwitch, Is(false)),
+            Reschedule(TO_A),
+            By(Forbid(true)),
+            By(WaitSem),
+            MaySwitch(true),
+            Reschedule(TO_B),
+            Task(A, WakeSem),
+            MaySwitch(true),
+            By(Leave),
+            Reschedule(TO_A),
+            MaySwitch(false),
         ],
     },
     Case {
@@ -577,21 +444,115 @@ static SEMAPHORES: [Case; 5] = [
         quantum: 4,
         added: 1,
         steps: &[
-            (Reschedule, TO_A),
-            (WaitSem, Done),
-            (Remove(A), Done),
-            (IsAtSemaphore(A), Is(false)),
-            (WakeSem(A), Refused),
-            (Reschedule, IDLE),
+            Reschedule(TO_A),
+            By(WaitSem),
+            Task(A, Remove),
+            Task(A, IsAtSemaphore(false)),
+            Reschedule(IDLE),
         ],
     },
 ];
+
+/// A task of a name and a priority.
+fn task(name: &str, pri: i8) -> TaskInit {
+    let name = Name::from(name).unwrap_or_default();
+    TaskInit { name, pri }
+}
+
+/// The schedule of the three tasks, none of which was added.
+fn three(alloc: Global, quantum: u8) -> Result<Driver, AllocError> {
+    let tasks = [task("a", 0), task("b", 0), task("c", 1)];
+    let schedule = Sched::new(alloc, &tasks, quantum)?;
+    Ok(Driver { schedule })
+}
+
+/// Makes a call on a task.
+fn call_on(rt: &impl Abort, d: &mut Driver, case: &str, number: usize, t: TaskId, call: &OnTask) {
+    assert!(rt; t < 3);
+    match call {
+        Add(wanted) => same(rt, case, number, d.schedule.add(t), *wanted),
+        IsLive(wanted) => same(rt, case, number, d.schedule.is_live(t), *wanted),
+        Remove => {
+            assert!(rt; d.schedule.is_live(t) && d.schedule.running() != Some(t));
+            d.schedule.remove(t);
+        }
+        SetPri(pri, wanted) => same(rt, case, number, d.schedule.set_pri(t, *pri), *wanted),
+        Signal(mask) => d.schedule.signal(t, *mask),
+        FreeSignal(n) => {
+            assert!(rt; 16 <= *n && *n <= 31);
+            d.schedule.free_signal(t, *n);
+        }
+        IsAtSemaphore(wanted) => same(rt, case, number, d.schedule.is_at_semaphore(t), *wanted),
+        WakeSem => {
+            assert!(rt; d.schedule.is_at_semaphore(t));
+            d.schedule.wake_sem(t);
+        }
+    }
+}
+
+/// Makes a call by the running task.
+fn call_by_running(rt: &impl Abort, d: &mut Driver, case: &str, number: usize, call: &ByRunning) {
+    assert!(rt; d.schedule.running().is_some());
+    match call {
+        Leave => d.schedule.leave(),
+        Wait(mask, wanted) => same(rt, case, number, d.schedule.wait(*mask), *wanted),
+        WaitClear(mask) => d.schedule.wait_clear(*mask),
+        WaitSem => d.schedule.wait_sem(),
+        AllocSignal(n, wanted) => same(rt, case, number, d.schedule.alloc_signal(*n), *wanted),
+        NextSignal(wanted) => same(rt, case, number, d.schedule.next_signal(), *wanted),
+        SetSignal(new, mask, wanted) => {
+            same(
+                rt,
+                case,
+                number,
+                d.schedule.set_signal(*new, *mask),
+                *wanted,
+            );
+        }
+        Post(mask) => d.schedule.sigs().post(*mask),
+        Received(wanted) => same(rt, case, number, d.schedule.sigs().received(), *wanted),
+        Nest(wanted) => same(
+            rt,
+            case,
+            number,
+            d.schedule.nest().forbid().is_ok(),
+            *wanted,
+        ),
+        Forbid(wanted) => same(rt, case, number, d.schedule.forbid().is_ok(), *wanted),
+        Permit(wanted) => same(rt, case, number, d.schedule.permit().is_ok(), *wanted),
+        Disable(wanted) => same(rt, case, number, d.schedule.disable().is_ok(), *wanted),
+        Enable(wanted) => same(rt, case, number, d.schedule.enable().is_ok(), *wanted),
+    }
+}
+
+/// Takes one step of a case.
+fn take(rt: &impl Abort, d: &mut Driver, case: &str, number: usize, step: &Step) {
+    match step {
+        Running(wanted) => same(rt, case, number, d.schedule.running(), *wanted),
+        Find(name, wanted) => same(rt, case, number, d.schedule.find(*name), *wanted),
+        Reschedule(wanted) => same(rt, case, number, d.schedule.reschedule(), *wanted),
+        Tick(wanted) => {
+            d.schedule.quantum_tick();
+            same(rt, case, number, d.schedule.reschedule(), *wanted);
+        }
+        MaySwitch(wanted) => same(rt, case, number, d.schedule.may_switch(), *wanted),
+        MayInterrupt(wanted) => same(rt, case, number, d.schedule.may_interrupt(), *wanted),
+        Task(t, call) => call_on(rt, d, case, number, *t, call),
+        By(call) => call_by_running(rt, d, case, number, call),
+    }
+}
 
 #[test]
 fn each_call_answers_as_its_case_says(rt: HostRuntime) -> Result<(), Fail> {
     for cases in [TURNS.as_slice(), &WAITS, &SEMAPHORES] {
         for case in cases {
-            on_three::<PlainSpace>(&rt, rt.alloc(), case)?;
+            let mut d = three(rt.alloc(), case.quantum)?;
+            for t in 0..case.added {
+                call_on(&rt, &mut d, case.name, t, t, &Add(true));
+            }
+            for (number, step) in case.steps.iter().enumerate() {
+                take(&rt, &mut d, case.name, number, step);
+            }
         }
     }
     Ok(())

@@ -1,46 +1,44 @@
-//! Semaphores over a list space in vectors. Each case is a table of steps: calls, each with what it must answer.
-//! What a call asks is tested first, and a call that may not be made answers none.
-ghost use Rattle.std.specs.Prelude.{◌≡◌, ◌≤◌, length};
+//! Semaphores over a list space in vectors. Each case is a table of steps: calls, each with what it must answer. What a call asks is asserted
+//! first.
+ghost use Rattle.std.specs.Prelude.{◌≡◌, length};
 
 use super::comparing::same;
 use execlist::plain::PlainSpace;
-use execlist::space::ListSpace;
 use sigsem::fault::SemFault;
 use sigsem::semaphore::{Obtained, TaskId};
 use sigsem::sems::{SemId, Sems};
-use std::alloc::{AllocError, Global};
 use std::process::Abort;
 use std::test::*;
 
-/// Semaphores whose conditions are tested.
+/// Semaphores of four tasks.
 #[derive(Drop)]
-struct Driver<S: ListSpace> {
-    sems: Sems<S>,
-    tasks: usize,
-    ghost known: { tasks ≡ length sems.places },
+struct Driver {
+    sems: Sems<PlainSpace>,
+    ghost known: { length sems.places ≡ 4 },
 }
 
 /// A call, and what it must answer.
-#[derive(Clone, Copy)]
 enum Step {
     /// A semaphore is made.
     Makes(Result<SemId, SemFault>),
     /// A semaphore is freed.
-    Frees(SemId, Option<Result<(), SemFault>>),
-    /// A task asks for a semaphore, and waits for it if it must.
-    Obtains(SemId, TaskId, Option<Result<Obtained, SemFault>>),
+    Frees(SemId, Result<(), SemFault>),
+    /// A task that waits at none asks for a semaphore, and waits for it if it must.
+    Obtains(SemId, TaskId, Result<Obtained, SemFault>),
     /// A task asks for a semaphore, and does not wait.
-    Attempts(SemId, TaskId, Option<Result<bool, SemFault>>),
+    Attempts(SemId, TaskId, Result<bool, SemFault>),
     /// A task obtains a semaphore so often.
     Deepens(SemId, TaskId, usize),
     /// A task releases a semaphore.
-    Releases(SemId, TaskId, Option<Result<Option<TaskId>, SemFault>>),
-    /// A task waits no more. The semaphore if it waited.
-    Drops(TaskId, Option<SemId>),
+    Releases(SemId, TaskId, Result<Option<TaskId>, SemFault>),
+    /// A task waits no more.
+    Drops(TaskId),
     /// The number of the semaphore that is made next.
     Next(Option<SemId>),
+    /// Whether there is a semaphore.
+    Lives(SemId, bool),
     /// Whether a semaphore is owned.
-    Owned(SemId, Option<bool>),
+    Owned(SemId, bool),
     /// The semaphore if a task waits.
     WaitsAt(TaskId, Option<SemId>),
 }
@@ -53,15 +51,15 @@ struct Case {
     steps: &'static [Step],
 }
 
-const OWNS: Option<Result<Obtained, SemFault>> = Some(Ok(Obtained::Owner));
+const OWNS: Result<Obtained, SemFault> = Ok(Obtained::Owner);
 
-const WAITS: Option<Result<Obtained, SemFault>> = Some(Ok(Obtained::Waits));
+const WAITS: Result<Obtained, SemFault> = Ok(Obtained::Waits);
 
-const TOO_DEEP: Option<Result<Obtained, SemFault>> = Some(Err(SemFault::TooDeep));
+const TOO_DEEP: Result<Obtained, SemFault> = Err(SemFault::TooDeep);
 
-const STAYS: Option<Result<Option<TaskId>, SemFault>> = Some(Ok(None));
+const STAYS: Result<Option<TaskId>, SemFault> = Ok(None);
 
-const STRANGE: Option<Result<Option<TaskId>, SemFault>> = Some(Err(SemFault::NotOwner));
+const STRANGE: Result<Option<TaskId>, SemFault> = Err(SemFault::NotOwner);
 
 /// What is shown on room for two semaphores, of which there is none, and for tasks 0 to 3.
 static CASES: [Case; 9] = [
@@ -74,14 +72,14 @@ static CASES: [Case; 9] = [
             Obtains(1, 3, WAITS),
             Obtains(1, 1, WAITS),
             WaitsAt(3, Some(1)),
-            Releases(1, 2, Some(Ok(Some(0)))),
+            Releases(1, 2, Ok(Some(0))),
             WaitsAt(0, None),
             WaitsAt(3, Some(1)),
-            Releases(1, 0, Some(Ok(Some(3)))),
-            Releases(1, 3, Some(Ok(Some(1)))),
-            Owned(1, Some(true)),
+            Releases(1, 0, Ok(Some(3))),
+            Releases(1, 3, Ok(Some(1))),
+            Owned(1, true),
             Releases(1, 1, STAYS),
-            Owned(1, Some(false)),
+            Owned(1, false),
         ],
     },
     Case {
@@ -90,25 +88,25 @@ static CASES: [Case; 9] = [
             Makes(Ok(1)),
             Obtains(1, 0, OWNS),
             Obtains(1, 0, OWNS),
-            Attempts(1, 0, Some(Ok(true))),
+            Attempts(1, 0, Ok(true)),
             Obtains(1, 1, WAITS),
             Releases(1, 0, STAYS),
             Releases(1, 0, STAYS),
-            Owned(1, Some(true)),
-            Releases(1, 0, Some(Ok(Some(1)))),
+            Owned(1, true),
+            Releases(1, 0, Ok(Some(1))),
             Releases(1, 1, STAYS),
-            Owned(1, Some(false)),
+            Owned(1, false),
         ],
     },
     Case {
         name: "an attempt never waits",
         steps: &[
             Makes(Ok(1)),
-            Attempts(1, 0, Some(Ok(true))),
-            Attempts(1, 1, Some(Ok(false))),
+            Attempts(1, 0, Ok(true)),
+            Attempts(1, 1, Ok(false)),
             WaitsAt(1, None),
             Releases(1, 0, STAYS),
-            Attempts(1, 1, Some(Ok(true))),
+            Attempts(1, 1, Ok(true)),
             Releases(1, 0, STRANGE),
             Releases(1, 1, STAYS),
         ],
@@ -121,11 +119,11 @@ static CASES: [Case; 9] = [
             Obtains(1, 1, WAITS),
             Obtains(1, 2, WAITS),
             Obtains(1, 3, WAITS),
-            Drops(2, Some(1)),
-            Drops(2, None),
-            Drops(0, None),
-            Releases(1, 0, Some(Ok(Some(1)))),
-            Releases(1, 1, Some(Ok(Some(3)))),
+            Drops(2),
+            Drops(2),
+            Drops(0),
+            Releases(1, 0, Ok(Some(1))),
+            Releases(1, 1, Ok(Some(3))),
             Releases(1, 3, STAYS),
         ],
     },
@@ -138,7 +136,7 @@ static CASES: [Case; 9] = [
             Obtains(1, 1, WAITS),
             Releases(1, 1, STRANGE),
             Releases(1, 2, STRANGE),
-            Releases(1, 0, Some(Ok(Some(1)))),
+            Releases(1, 0, Ok(Some(1))),
         ],
     },
     Case {
@@ -147,7 +145,7 @@ static CASES: [Case; 9] = [
             Makes(Ok(1)),
             Deepens(1, 0, 32767),
             Obtains(1, 0, TOO_DEEP),
-            Attempts(1, 0, Some(Err(SemFault::TooDeep))),
+            Attempts(1, 0, Err(SemFault::TooDeep)),
             Obtains(1, 1, WAITS),
             Releases(1, 0, STAYS),
             Obtains(1, 0, OWNS),
@@ -159,13 +157,13 @@ static CASES: [Case; 9] = [
         steps: &[
             Makes(Ok(1)),
             Obtains(1, 0, OWNS),
-            Frees(1, Some(Err(SemFault::Busy))),
+            Frees(1, Err(SemFault::Busy)),
             Obtains(1, 1, WAITS),
-            Frees(1, Some(Err(SemFault::Busy))),
-            Releases(1, 0, Some(Ok(Some(1)))),
+            Frees(1, Err(SemFault::Busy)),
+            Releases(1, 0, Ok(Some(1))),
             Releases(1, 1, STAYS),
-            Frees(1, Some(Ok(()))),
-            Frees(1, None),
+            Frees(1, Ok(())),
+            Lives(1, false),
         ],
     },
     Case {
@@ -176,8 +174,8 @@ static CASES: [Case; 9] = [
             Makes(Ok(0)),
             Next(None),
             Makes(Err(SemFault::PoolFull)),
-            Frees(1, Some(Ok(()))),
-            Owned(1, None),
+            Frees(1, Ok(())),
+            Lives(1, false),
             Next(Some(1)),
             Makes(Ok(1)),
         ],
@@ -191,126 +189,73 @@ static CASES: [Case; 9] = [
             Obtains(0, 1, OWNS),
             Obtains(0, 0, WAITS),
             Obtains(1, 2, WAITS),
-            Releases(1, 0, Some(Ok(Some(2)))),
+            Releases(1, 0, Ok(Some(2))),
             WaitsAt(0, Some(0)),
-            Releases(0, 1, Some(Ok(Some(0)))),
+            Releases(0, 1, Ok(Some(0))),
         ],
     },
 ];
 
-impl<S: ListSpace> Driver<S> {
-    /// Room for that many semaphores and tasks.
-    fn new(alloc: Global, sems: usize, tasks: usize) -> Result<Self, AllocError>
-        requires few_sems { sems ≤ 4096 }
-        requires few_tasks { tasks ≤ 4096 }
-    {
-        let sems = Sems::new(alloc, sems, tasks)?;
-        Ok(Driver { sems, tasks })
-    }
-
-    /// Frees a semaphore.
-    fn free(&mut self, s: SemId) -> Option<Result<(), SemFault>> {
-        if self.sems.is_sem(s) {
-            Some(self.sems.free(s))
-        } else {
-            None
-        }
-    }
-
-    /// Asks for a semaphore for a task that waits at none.
-    fn obtain(&mut self, s: SemId, t: TaskId) -> Option<Result<Obtained, SemFault>> {
-        if self.sems.is_sem(s) && t < self.tasks && self.sems.waits_at(t).is_none() {
-            Some(self.sems.obtain(s, t))
-        } else {
-            None
-        }
-    }
-
-    /// Asks for a semaphore for a task that is not to wait.
-    fn attempt(&mut self, s: SemId, t: TaskId) -> Option<Result<bool, SemFault>> {
-        if self.sems.is_sem(s) {
-            Some(self.sems.attempt(s, t))
-        } else {
-            None
-        }
-    }
-
-    /// Whether the task obtained the semaphore so often.
-    fn deepen(&mut self, s: SemId, t: TaskId, times: usize) -> bool {
-        for _ in 0..times {
-            if self.obtain(s, t) != Some(Ok(Obtained::Owner)) {
-                return false;
-            }
-        }
-        true
-    }
-
-    /// Releases a semaphore once.
-    fn release(&mut self, s: SemId, t: TaskId) -> Option<Result<Option<TaskId>, SemFault>> {
-        if self.sems.is_sem(s) {
-            Some(self.sems.release(s, t))
-        } else {
-            None
-        }
-    }
-
-    /// Takes a task out of where it waits, and answers the semaphore.
-    fn drop_waiter(&mut self, t: TaskId) -> Option<SemId> {
-        if t < self.tasks {
-            let waited = self.sems.waits_at(t);
-            self.sems.drop_waiter(t);
-            waited
-        } else {
-            None
-        }
-    }
-
-    /// Whether some task owns a semaphore.
-    fn is_owned(&self, s: SemId) -> Option<bool> {
-        if self.sems.is_sem(s) {
-            Some(self.sems.is_owned(s))
-        } else {
-            None
-        }
-    }
-
-    /// The semaphore at which a task waits.
-    fn waits_at(&self, t: TaskId) -> Option<SemId> {
-        if t < self.tasks {
-            self.sems.waits_at(t)
-        } else {
-            None
-        }
-    }
+/// A task that waits at none asks for a semaphore.
+fn obtain(rt: &impl Abort, d: &mut Driver, s: SemId, t: TaskId) -> Result<Obtained, SemFault> {
+    assert!(rt; t < 4);
+    assert!(rt; d.sems.is_sem(s) && d.sems.waits_at(t).is_none());
+    d.sems.obtain(s, t)
 }
 
 /// Takes one step of a case.
-fn take<S: ListSpace>(rt: &impl Abort, d: &mut Driver<S>, case: &str, number: usize, step: Step) {
+fn take(rt: &impl Abort, d: &mut Driver, case: &str, number: usize, step: &Step) {
     match step {
-        Makes(wanted) => same(rt, case, number, d.sems.make(), wanted),
-        Frees(s, wanted) => same(rt, case, number, d.free(s), wanted),
-        Obtains(s, t, wanted) => same(rt, case, number, d.obtain(s, t), wanted),
-        Attempts(s, t, wanted) => same(rt, case, number, d.attempt(s, t), wanted),
-        Deepens(s, t, times) => same(rt, case, number, d.deepen(s, t, times), true),
-        Releases(s, t, wanted) => same(rt, case, number, d.release(s, t), wanted),
-        Drops(t, wanted) => same(rt, case, number, d.drop_waiter(t), wanted),
-        Next(wanted) => same(rt, case, number, d.sems.next_sem(), wanted),
-        Owned(s, wanted) => same(rt, case, number, d.is_owned(s), wanted),
-        WaitsAt(t, wanted) => same(rt, case, number, d.waits_at(t), wanted),
+        Makes(wanted) => same(rt, case, number, d.sems.make(), *wanted),
+        Frees(s, wanted) => {
+            assert!(rt; d.sems.is_sem(*s));
+            same(rt, case, number, d.sems.free(*s), *wanted);
+        }
+        Obtains(s, t, wanted) => same(rt, case, number, obtain(rt, d, *s, *t), *wanted),
+        Attempts(s, t, wanted) => {
+            assert!(rt; d.sems.is_sem(*s));
+            same(rt, case, number, d.sems.attempt(*s, *t), *wanted);
+        }
+        Deepens(s, t, times) => {
+            for depth in 0..*times {
+                same(rt, case, depth, obtain(rt, d, *s, *t), Ok(Obtained::Owner));
+            }
+        }
+        Releases(s, t, wanted) => {
+            assert!(rt; d.sems.is_sem(*s));
+            same(rt, case, number, d.sems.release(*s, *t), *wanted);
+        }
+        Drops(t) => {
+            assert!(rt; *t < 4);
+            d.sems.drop_waiter(*t);
+        }
+        Next(wanted) => same(rt, case, number, d.sems.next_sem(), *wanted),
+        Lives(s, wanted) => same(rt, case, number, d.sems.is_sem(*s), *wanted),
+        Owned(s, wanted) => {
+            assert!(rt; d.sems.is_sem(*s));
+            same(rt, case, number, d.sems.is_owned(*s), *wanted);
+        }
+        WaitsAt(t, wanted) => {
+            assert!(rt; *t < 4);
+            same(rt, case, number, d.sems.waits_at(*t), *wanted);
+        }
     }
 }
 
 /// Takes the steps of a case.
-fn take_all<S: ListSpace>(rt: &impl Abort, d: &mut Driver<S>, case: &str, steps: &[Step]) {
+fn take_all(rt: &impl Abort, d: &mut Driver, case: &str, steps: &[Step]) {
     for (number, step) in steps.iter().enumerate() {
-        take(rt, d, case, number, *step);
+        take(rt, d, case, number, step);
     }
 }
 
 #[test]
 fn each_call_answers_as_its_case_says(rt: HostRuntime) -> Result<(), Fail> {
     for case in &CASES {
-        let mut d: Driver<PlainSpace> = Driver::new(rt.alloc(), 2, 4)?;
+        let sems = Sems::new(rt.alloc(), 2, 4)?;
+        let mut d = Driver { sems };
+        take_all(&rt, &mut d, case.name, case.steps);
+        d.sems.reset();
         take_all(&rt, &mut d, case.name, case.steps);
     }
     Ok(())

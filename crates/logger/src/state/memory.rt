@@ -4,7 +4,7 @@ use super::objects::push_object;
 use crate::reading::Run;
 use crate::values::{push_number, push_signed, push_word};
 use execlist::space::ListSpace;
-use execsim::{BlockView, Machine};
+use execsim::Machine;
 use memlist::Region;
 use std::alloc::AllocError;
 
@@ -39,26 +39,29 @@ fn push_front(page: &mut String, address: u32, size: u32) -> Result<(), AllocErr
     page.push_str("  ")
 }
 
-/// Adds a block of memory with what begins there.
-fn push_block<S: ListSpace>(
+/// Adds the block that begins at an address of a region, or else the next gap, and answers how many bytes it takes from the address on; none if
+/// neither is there.
+fn push_at<S: ListSpace>(
     page: &mut String,
     machine: &Machine<S>,
     run: &Run,
+    k: usize,
     address: u32,
-    block: &BlockView,
-) -> Result<(), AllocError> {
-    push_front(page, address, block.size)?;
-    push_object(page, machine, run, address, &block.object)?;
-    page.push('\n')
-}
-
-/// Adds the free bytes between two addresses, if there are any.
-fn push_gap(page: &mut String, from: u32, to: u32) -> Result<(), AllocError> {
-    if from >= to {
-        return Ok(());
+) -> Result<Option<u32>, AllocError> {
+    if let Some(block) = machine.block(address) {
+        push_front(page, address, block.size)?;
+        push_object(page, machine, run, address, &block.object)?;
+        page.push('\n')?;
+        return Ok(Some(block.size));
     }
-    push_front(page, from, to.saturating_sub(from))?;
-    page.push_str("free\n")
+    match machine.gap_from(k, address) {
+        None => Ok(None),
+        Some(gap) => {
+            push_front(page, gap.address, gap.size)?;
+            page.push_str("free\n")?;
+            Ok(Some(gap.size.saturating_add(gap.address.saturating_sub(address))))
+        }
+    }
 }
 
 /// Adds the blocks and the gaps of a region.
@@ -66,26 +69,21 @@ fn push_map<S: ListSpace>(
     page: &mut String,
     machine: &Machine<S>,
     run: &Run,
+    k: usize,
     region: &Region,
 ) -> Result<(), AllocError> {
     let end = region.base.saturating_add(region.size);
     let mut address = region.base;
-    let mut free_from = region.base;
-    for _grain in 0..region.size / GRAIN {
+    for _part in 0..region.size / GRAIN {
         if address >= end {
-            break;
+            return Ok(());
         }
-        match machine.block(address) {
-            None => address = address.saturating_add(GRAIN),
-            Some(block) => {
-                push_gap(page, free_from, address)?;
-                push_block(page, machine, run, address, &block)?;
-                address = address.saturating_add(block.size.max(GRAIN));
-                free_from = address;
-            }
+        match push_at(page, machine, run, k, address)? {
+            None => return Ok(()),
+            Some(size) => address = address.saturating_add(size),
         }
     }
-    push_gap(page, free_from, end)
+    Ok(())
 }
 
 /// Adds what a machine shows of its memory.
@@ -103,7 +101,7 @@ pub fn push_memory<S: ListSpace>(
     for k in 0..run.listed.machine.regions().len() {
         if let Some(region) = machine.region(k) {
             push_head(page, k, &region)?;
-            push_map(page, machine, run, &region)?;
+            push_map(page, machine, run, k, &region)?;
         }
     }
     Ok(())

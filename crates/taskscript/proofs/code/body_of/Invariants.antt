@@ -18,7 +18,7 @@ invariant-loop-i l =
     let left = lines_in (items_view (drop l.i l.lines)) in
     record {
       few : length l.body.commands.items ≤ l.i;
-      judged : first (faults_after setting now left) ≡ first (faults_after setting start all);
+      judged : first (faults_after l.owner l.number l.i setting now left) ≡ first (faults_after l.owner l.number 0 setting start all);
       numbers : l.body.lines.items ++ command_lines_from l.i left ≡ command_lines all;
       read : reading_after now left ≡ reading_after start all;
     }

@@ -5,6 +5,7 @@ use Rattle.arrayvec.specs.ArrayString.{ArrayString}
 use Rattle.toml.specs.Data.{get_member}
 use Rattle.toml.specs.View.{table_view}
 use Rattle.execlist.specs.Order.{first}
+use Rattle.taskscript.specs.declared.place.Array.TheVariants as array
 use Rattle.taskscript.specs.Faults.{IsFirst}
 use Rattle.taskscript.specs.File.{softint_faults, server_faults, task_faults, named_faults, item_names, softints_in, servers_in, tasks_in, names_before_servers, names_before_tasks}
 use Rattle.taskscript.specs.Numbering.{texts}
@@ -17,43 +18,43 @@ returns-in_err-servers c =
     let p = err_from_is_err_and c.from_residual-in_err-servers.result c.from_residual-in_err-servers.ensures.1 in
     let f = c.in_err-servers.field-0.0 in
     let t = table_view c.args.table.now in
-    let softints : first (optional (array_faults 32 (named_faults softint_faults [])) (get_member (codes "softint") t)) ≡ None =
-    subst (λ (ns : List ArrayString). first (optional (array_faults 32 (named_faults softint_faults (texts ns))) (get_member (codes "softint") t)) ≡ None) c.new-names.ensures.items c.in_ok-softints.ensures.judged.0 in
+    let softints : first (optional (array_faults array.Softint (named_faults softint_faults array.Softint 0 [])) (get_member (codes "softint") t)) ≡ None =
+    subst (λ (ns : List ArrayString). first (optional (array_faults array.Softint (named_faults softint_faults array.Softint 0 (texts ns))) (get_member (codes "softint") t)) ≡ None) c.new-names.ensures.items c.in_ok-softints.ensures.judged.0 in
     let names : texts c.heads_at.new.names.items ≡ names_before_servers t = c.in_ok-softints.ensures.names ∙ ap (λ (ns : List ArrayString). texts ns ++ item_names (softints_in t)) c.new-names.ensures.items in
-    let fault : IsFirst f (optional (array_faults 32 (named_faults server_faults (names_before_servers t))) (get_member (codes "server") t)) =
-    subst (λ (ns : List (List ℕ)). IsFirst f (optional (array_faults 32 (named_faults server_faults ns)) (get_member (codes "server") t))) names c.in_err-servers.ensures.judged in
-    rw (p.1, p.2) (skip (optional (array_faults 32 (named_faults softint_faults [])) (get_member (codes "softint") t)) _ f softints
-    (λ ne. first_some (optional (array_faults 32 (named_faults server_faults (names_before_servers t))) (get_member (codes "server") t)) (optional (array_faults 64 (named_faults task_faults (names_before_tasks t))) (get_member (codes "task") t)) f (fault ne)))
+    let fault : IsFirst f (optional (array_faults array.Server (named_faults server_faults array.Server 0 (names_before_servers t))) (get_member (codes "server") t)) =
+    subst (λ (ns : List (List ℕ)). IsFirst f (optional (array_faults array.Server (named_faults server_faults array.Server 0 ns)) (get_member (codes "server") t))) names c.in_err-servers.ensures.judged in
+    rw (p.1, p.2) (skip (optional (array_faults array.Softint (named_faults softint_faults array.Softint 0 [])) (get_member (codes "softint") t)) _ f softints
+    (λ ne. first_some (optional (array_faults array.Server (named_faults server_faults array.Server 0 (names_before_servers t))) (get_member (codes "server") t)) (optional (array_faults array.Task (named_faults task_faults array.Task 0 (names_before_tasks t))) (get_member (codes "task") t)) f (fault ne)))
 
 pub returns-in_err-tasks : goal.returns-in_err-tasks
 returns-in_err-tasks c =
     let p = err_from_is_err_and c.from_residual-in_err-tasks.result c.from_residual-in_err-tasks.ensures.1 in
     let f = c.in_err-tasks.field-0.0 in
     let t = table_view c.args.table.now in
-    let softints : first (optional (array_faults 32 (named_faults softint_faults [])) (get_member (codes "softint") t)) ≡ None =
-    subst (λ (ns : List ArrayString). first (optional (array_faults 32 (named_faults softint_faults (texts ns))) (get_member (codes "softint") t)) ≡ None) c.new-names.ensures.items c.in_ok-softints.ensures.judged.0 in
+    let softints : first (optional (array_faults array.Softint (named_faults softint_faults array.Softint 0 [])) (get_member (codes "softint") t)) ≡ None =
+    subst (λ (ns : List ArrayString). first (optional (array_faults array.Softint (named_faults softint_faults array.Softint 0 (texts ns))) (get_member (codes "softint") t)) ≡ None) c.new-names.ensures.items c.in_ok-softints.ensures.judged.0 in
     let names : texts c.heads_at.new.names.items ≡ names_before_servers t = c.in_ok-softints.ensures.names ∙ ap (λ (ns : List ArrayString). texts ns ++ item_names (softints_in t)) c.new-names.ensures.items in
-    let servers : first (optional (array_faults 32 (named_faults server_faults (names_before_servers t))) (get_member (codes "server") t)) ≡ None =
-    subst (λ (ns : List (List ℕ)). first (optional (array_faults 32 (named_faults server_faults ns)) (get_member (codes "server") t)) ≡ None) names c.in_ok-servers.ensures.judged.0 in
+    let servers : first (optional (array_faults array.Server (named_faults server_faults array.Server 0 (names_before_servers t))) (get_member (codes "server") t)) ≡ None =
+    subst (λ (ns : List (List ℕ)). first (optional (array_faults array.Server (named_faults server_faults array.Server 0 ns)) (get_member (codes "server") t)) ≡ None) names c.in_ok-servers.ensures.judged.0 in
     let more_names : texts c.heads_at-2.new.names.items ≡ names_before_tasks t = c.in_ok-servers.ensures.names ∙ ap (λ (ns : List (List ℕ)). ns ++ item_names (servers_in t)) names in
-    let fault : IsFirst f (optional (array_faults 64 (named_faults task_faults (names_before_tasks t))) (get_member (codes "task") t)) =
-    subst (λ (ns : List (List ℕ)). IsFirst f (optional (array_faults 64 (named_faults task_faults ns)) (get_member (codes "task") t))) more_names c.in_err-tasks.ensures.judged in
-    rw (p.1, p.2) (skip (optional (array_faults 32 (named_faults softint_faults [])) (get_member (codes "softint") t)) _ f softints
-    (skip (optional (array_faults 32 (named_faults server_faults (names_before_servers t))) (get_member (codes "server") t)) (optional (array_faults 64 (named_faults task_faults (names_before_tasks t))) (get_member (codes "task") t)) f servers fault))
+    let fault : IsFirst f (optional (array_faults array.Task (named_faults task_faults array.Task 0 (names_before_tasks t))) (get_member (codes "task") t)) =
+    subst (λ (ns : List (List ℕ)). IsFirst f (optional (array_faults array.Task (named_faults task_faults array.Task 0 ns)) (get_member (codes "task") t))) more_names c.in_err-tasks.ensures.judged in
+    rw (p.1, p.2) (skip (optional (array_faults array.Softint (named_faults softint_faults array.Softint 0 [])) (get_member (codes "softint") t)) _ f softints
+    (skip (optional (array_faults array.Server (named_faults server_faults array.Server 0 (names_before_servers t))) (get_member (codes "server") t)) (optional (array_faults array.Task (named_faults task_faults array.Task 0 (names_before_tasks t))) (get_member (codes "task") t)) f servers fault))
 
 pub returns : goal.returns
 returns c =
     let t = table_view c.args.table.now in
-    let softints : first (optional (array_faults 32 (named_faults softint_faults [])) (get_member (codes "softint") t)) ≡ None =
-    subst (λ (ns : List ArrayString). first (optional (array_faults 32 (named_faults softint_faults (texts ns))) (get_member (codes "softint") t)) ≡ None) c.new-names.ensures.items c.in_ok-softints.ensures.judged.0 in
+    let softints : first (optional (array_faults array.Softint (named_faults softint_faults array.Softint 0 [])) (get_member (codes "softint") t)) ≡ None =
+    subst (λ (ns : List ArrayString). first (optional (array_faults array.Softint (named_faults softint_faults array.Softint 0 (texts ns))) (get_member (codes "softint") t)) ≡ None) c.new-names.ensures.items c.in_ok-softints.ensures.judged.0 in
     let names : texts c.heads_at.new.names.items ≡ names_before_servers t = c.in_ok-softints.ensures.names ∙ ap (λ (ns : List ArrayString). texts ns ++ item_names (softints_in t)) c.new-names.ensures.items in
-    let servers : first (optional (array_faults 32 (named_faults server_faults (names_before_servers t))) (get_member (codes "server") t)) ≡ None =
-    subst (λ (ns : List (List ℕ)). first (optional (array_faults 32 (named_faults server_faults ns)) (get_member (codes "server") t)) ≡ None) names c.in_ok-servers.ensures.judged.0 in
+    let servers : first (optional (array_faults array.Server (named_faults server_faults array.Server 0 (names_before_servers t))) (get_member (codes "server") t)) ≡ None =
+    subst (λ (ns : List (List ℕ)). first (optional (array_faults array.Server (named_faults server_faults array.Server 0 ns)) (get_member (codes "server") t)) ≡ None) names c.in_ok-servers.ensures.judged.0 in
     let more_names : texts c.heads_at-2.new.names.items ≡ names_before_tasks t = c.in_ok-servers.ensures.names ∙ ap (λ (ns : List (List ℕ)). ns ++ item_names (servers_in t)) names in
-    let tasks : first (optional (array_faults 64 (named_faults task_faults (names_before_tasks t))) (get_member (codes "task") t)) ≡ None =
-    subst (λ (ns : List (List ℕ)). first (optional (array_faults 64 (named_faults task_faults ns)) (get_member (codes "task") t)) ≡ None) more_names c.in_ok-tasks.ensures.judged.0 in (
-      both (optional (array_faults 32 (named_faults softint_faults [])) (get_member (codes "softint") t)) _ softints
-          (both (optional (array_faults 32 (named_faults server_faults (names_before_servers t))) (get_member (codes "server") t)) (optional (array_faults 64 (named_faults task_faults (names_before_tasks t))) (get_member (codes "task") t)) servers tasks),
+    let tasks : first (optional (array_faults array.Task (named_faults task_faults array.Task 0 (names_before_tasks t))) (get_member (codes "task") t)) ≡ None =
+    subst (λ (ns : List (List ℕ)). first (optional (array_faults array.Task (named_faults task_faults array.Task 0 ns)) (get_member (codes "task") t)) ≡ None) more_names c.in_ok-tasks.ensures.judged.0 in (
+      both (optional (array_faults array.Softint (named_faults softint_faults array.Softint 0 [])) (get_member (codes "softint") t)) _ softints
+          (both (optional (array_faults array.Server (named_faults server_faults array.Server 0 (names_before_servers t))) (get_member (codes "server") t)) (optional (array_faults array.Task (named_faults task_faults array.Task 0 (names_before_tasks t))) (get_member (codes "task") t)) servers tasks),
       record {
         softints = c.in_ok-softints.ensures.judged.1;
         servers = c.in_ok-servers.ensures.judged.1;

@@ -4,6 +4,7 @@ use Rattle.std.proofs.lemmas.Result.{err_from_is_err_and}
 use Rattle.toml.specs.Data.{Items}
 use Rattle.toml.specs.View.{table_view, items_view}
 use Rattle.execlist.specs.Order.{first}
+use Rattle.taskscript.specs.declared.place.Owner.TheVariants.{Softint, Server, Task}
 use Rattle.taskscript.specs.File.{item_names, softints_in, servers_in, tasks_in, setting_of, bodies_faults, shared_after_bodies, with_bodies, shared_after_softints, shared_after_servers, softint_of, server_of, task_of}
 use Rattle.taskscript.specs.Interrupting.{Setting}
 use Rattle.taskscript.specs.Listings.{owner_listing}
@@ -40,10 +41,10 @@ returns-in_err-softints c =
     let interrupts : setting true (texts c.front-softints.result.now) ≡ setting_of true t = ap (setting true) known in
     let others : setting false (texts c.front-softints.result.now) ≡ setting_of false t = ap (setting false) known in
     let start : texts c.new-shared.result.keys ≡ [] = ap texts c.new-shared.ensures.empty in
-    let softint_bodies = bodies_faults (setting_of true t) [] (softints_in t) in
-    let server_bodies = bodies_faults (setting_of true t) (shared_after_softints t) (servers_in t) in
-    let task_bodies = bodies_faults (setting_of false t) (shared_after_servers t) (tasks_in t) in
-    let softints : bodies_faults (setting true (texts c.front-softints.result.now)) (texts c.new-shared.result.keys) (items_view c.items_at.result.now) ≡ softint_bodies = of_three bodies_faults _ _ _ _ _ _ interrupts start c.items_at.ensures in
+    let softint_bodies = bodies_faults Softint 0 (setting_of true t) [] (softints_in t) in
+    let server_bodies = bodies_faults Server 0 (setting_of true t) (shared_after_softints t) (servers_in t) in
+    let task_bodies = bodies_faults Task 0 (setting_of false t) (shared_after_servers t) (tasks_in t) in
+    let softints : bodies_faults Softint 0 (setting true (texts c.front-softints.result.now)) (texts c.new-shared.result.keys) (items_view c.items_at.result.now) ≡ softint_bodies = of_three (bodies_faults Softint 0) _ _ _ _ _ _ interrupts start c.items_at.ensures in
     rw (p.1, p.2) (λ ne. first_some softint_bodies (server_bodies ++ task_bodies) f (sym (ap first softints) ∙ c.in_err-softints.ensures.judged ne))
 
 pub returns-in_err-servers : goal.returns-in_err-servers
@@ -59,12 +60,12 @@ returns-in_err-servers c =
     let interrupts : setting true (texts c.front-softints.result.now) ≡ setting_of true t = ap (setting true) known in
     let others : setting false (texts c.front-softints.result.now) ≡ setting_of false t = ap (setting false) known in
     let start : texts c.new-shared.result.keys ≡ [] = ap texts c.new-shared.ensures.empty in
-    let softint_bodies = bodies_faults (setting_of true t) [] (softints_in t) in
-    let server_bodies = bodies_faults (setting_of true t) (shared_after_softints t) (servers_in t) in
-    let task_bodies = bodies_faults (setting_of false t) (shared_after_servers t) (tasks_in t) in
-    let softints : bodies_faults (setting true (texts c.front-softints.result.now)) (texts c.new-shared.result.keys) (items_view c.items_at.result.now) ≡ softint_bodies = of_three bodies_faults _ _ _ _ _ _ interrupts start c.items_at.ensures in
+    let softint_bodies = bodies_faults Softint 0 (setting_of true t) [] (softints_in t) in
+    let server_bodies = bodies_faults Server 0 (setting_of true t) (shared_after_softints t) (servers_in t) in
+    let task_bodies = bodies_faults Task 0 (setting_of false t) (shared_after_servers t) (tasks_in t) in
+    let softints : bodies_faults Softint 0 (setting true (texts c.front-softints.result.now)) (texts c.new-shared.result.keys) (items_view c.items_at.result.now) ≡ softint_bodies = of_three (bodies_faults Softint 0) _ _ _ _ _ _ interrupts start c.items_at.ensures in
     let after_softints : texts c.records_of.new.shared.keys ≡ shared_after_softints t = c.in_ok-softints.ensures.shared ∙ of_three after _ _ _ _ _ _ interrupts start c.items_at.ensures in
-    let servers : bodies_faults (setting true (texts c.front-softints.result.now)) (texts c.records_of.new.shared.keys) (items_view c.items_at-2.result.now) ≡ server_bodies = of_three bodies_faults _ _ _ _ _ _ interrupts after_softints c.items_at-2.ensures in
+    let servers : bodies_faults Server 0 (setting true (texts c.front-softints.result.now)) (texts c.records_of.new.shared.keys) (items_view c.items_at-2.result.now) ≡ server_bodies = of_three (bodies_faults Server 0) _ _ _ _ _ _ interrupts after_softints c.items_at-2.ensures in
     rw (p.1, p.2) (skip softint_bodies (server_bodies ++ task_bodies) f (sym (ap first softints) ∙ c.in_ok-softints.ensures.judged.0)
     (λ ne. first_some server_bodies task_bodies f (sym (ap first servers) ∙ c.in_err-servers.ensures.judged ne)))
 
@@ -81,14 +82,14 @@ returns-in_err-tasks c =
     let interrupts : setting true (texts c.front-softints.result.now) ≡ setting_of true t = ap (setting true) known in
     let others : setting false (texts c.front-softints.result.now) ≡ setting_of false t = ap (setting false) known in
     let start : texts c.new-shared.result.keys ≡ [] = ap texts c.new-shared.ensures.empty in
-    let softint_bodies = bodies_faults (setting_of true t) [] (softints_in t) in
-    let server_bodies = bodies_faults (setting_of true t) (shared_after_softints t) (servers_in t) in
-    let task_bodies = bodies_faults (setting_of false t) (shared_after_servers t) (tasks_in t) in
-    let softints : bodies_faults (setting true (texts c.front-softints.result.now)) (texts c.new-shared.result.keys) (items_view c.items_at.result.now) ≡ softint_bodies = of_three bodies_faults _ _ _ _ _ _ interrupts start c.items_at.ensures in
+    let softint_bodies = bodies_faults Softint 0 (setting_of true t) [] (softints_in t) in
+    let server_bodies = bodies_faults Server 0 (setting_of true t) (shared_after_softints t) (servers_in t) in
+    let task_bodies = bodies_faults Task 0 (setting_of false t) (shared_after_servers t) (tasks_in t) in
+    let softints : bodies_faults Softint 0 (setting true (texts c.front-softints.result.now)) (texts c.new-shared.result.keys) (items_view c.items_at.result.now) ≡ softint_bodies = of_three (bodies_faults Softint 0) _ _ _ _ _ _ interrupts start c.items_at.ensures in
     let after_softints : texts c.records_of.new.shared.keys ≡ shared_after_softints t = c.in_ok-softints.ensures.shared ∙ of_three after _ _ _ _ _ _ interrupts start c.items_at.ensures in
-    let servers : bodies_faults (setting true (texts c.front-softints.result.now)) (texts c.records_of.new.shared.keys) (items_view c.items_at-2.result.now) ≡ server_bodies = of_three bodies_faults _ _ _ _ _ _ interrupts after_softints c.items_at-2.ensures in
+    let servers : bodies_faults Server 0 (setting true (texts c.front-softints.result.now)) (texts c.records_of.new.shared.keys) (items_view c.items_at-2.result.now) ≡ server_bodies = of_three (bodies_faults Server 0) _ _ _ _ _ _ interrupts after_softints c.items_at-2.ensures in
     let after_servers : texts c.records_of-2.new.shared.keys ≡ shared_after_servers t = c.in_ok-servers.ensures.shared ∙ of_three after _ _ _ _ _ _ interrupts after_softints c.items_at-2.ensures in
-    let tasks : bodies_faults (setting false (texts c.front-softints.result.now)) (texts c.records_of-2.new.shared.keys) (items_view c.items_at-3.result.now) ≡ task_bodies = of_three bodies_faults _ _ _ _ _ _ others after_servers c.items_at-3.ensures in
+    let tasks : bodies_faults Task 0 (setting false (texts c.front-softints.result.now)) (texts c.records_of-2.new.shared.keys) (items_view c.items_at-3.result.now) ≡ task_bodies = of_three (bodies_faults Task 0) _ _ _ _ _ _ others after_servers c.items_at-3.ensures in
     rw (p.1, p.2) (skip softint_bodies (server_bodies ++ task_bodies) f (sym (ap first softints) ∙ c.in_ok-softints.ensures.judged.0)
     (skip server_bodies task_bodies f (sym (ap first servers) ∙ c.in_ok-servers.ensures.judged.0) (λ ne. sym (ap first tasks) ∙ c.in_err-tasks.ensures.judged ne)))
 
@@ -103,14 +104,14 @@ returns c =
     let interrupts : setting true (texts c.front-softints.result.now) ≡ setting_of true t = ap (setting true) known in
     let others : setting false (texts c.front-softints.result.now) ≡ setting_of false t = ap (setting false) known in
     let start : texts c.new-shared.result.keys ≡ [] = ap texts c.new-shared.ensures.empty in
-    let softint_bodies = bodies_faults (setting_of true t) [] (softints_in t) in
-    let server_bodies = bodies_faults (setting_of true t) (shared_after_softints t) (servers_in t) in
-    let task_bodies = bodies_faults (setting_of false t) (shared_after_servers t) (tasks_in t) in
-    let softints : bodies_faults (setting true (texts c.front-softints.result.now)) (texts c.new-shared.result.keys) (items_view c.items_at.result.now) ≡ softint_bodies = of_three bodies_faults _ _ _ _ _ _ interrupts start c.items_at.ensures in
+    let softint_bodies = bodies_faults Softint 0 (setting_of true t) [] (softints_in t) in
+    let server_bodies = bodies_faults Server 0 (setting_of true t) (shared_after_softints t) (servers_in t) in
+    let task_bodies = bodies_faults Task 0 (setting_of false t) (shared_after_servers t) (tasks_in t) in
+    let softints : bodies_faults Softint 0 (setting true (texts c.front-softints.result.now)) (texts c.new-shared.result.keys) (items_view c.items_at.result.now) ≡ softint_bodies = of_three (bodies_faults Softint 0) _ _ _ _ _ _ interrupts start c.items_at.ensures in
     let after_softints : texts c.records_of.new.shared.keys ≡ shared_after_softints t = c.in_ok-softints.ensures.shared ∙ of_three after _ _ _ _ _ _ interrupts start c.items_at.ensures in
-    let servers : bodies_faults (setting true (texts c.front-softints.result.now)) (texts c.records_of.new.shared.keys) (items_view c.items_at-2.result.now) ≡ server_bodies = of_three bodies_faults _ _ _ _ _ _ interrupts after_softints c.items_at-2.ensures in
+    let servers : bodies_faults Server 0 (setting true (texts c.front-softints.result.now)) (texts c.records_of.new.shared.keys) (items_view c.items_at-2.result.now) ≡ server_bodies = of_three (bodies_faults Server 0) _ _ _ _ _ _ interrupts after_softints c.items_at-2.ensures in
     let after_servers : texts c.records_of-2.new.shared.keys ≡ shared_after_servers t = c.in_ok-servers.ensures.shared ∙ of_three after _ _ _ _ _ _ interrupts after_softints c.items_at-2.ensures in
-    let tasks : bodies_faults (setting false (texts c.front-softints.result.now)) (texts c.records_of-2.new.shared.keys) (items_view c.items_at-3.result.now) ≡ task_bodies = of_three bodies_faults _ _ _ _ _ _ others after_servers c.items_at-3.ensures in (
+    let tasks : bodies_faults Task 0 (setting false (texts c.front-softints.result.now)) (texts c.records_of-2.new.shared.keys) (items_view c.items_at-3.result.now) ≡ task_bodies = of_three (bodies_faults Task 0) _ _ _ _ _ _ others after_servers c.items_at-3.ensures in (
       both softint_bodies (server_bodies ++ task_bodies) (sym (ap first softints) ∙ c.in_ok-softints.ensures.judged.0)
           (both server_bodies task_bodies (sym (ap first servers) ∙ c.in_ok-servers.ensures.judged.0) (sym (ap first tasks) ∙ c.in_ok-tasks.ensures.judged.0)),
       record {

@@ -15,7 +15,7 @@ invariant-loop-i g l =
     let left = items_view (drop l.i l.items) in
     let all = items_view l.items in
     record {
-      judged : first (bodies_faults setting (texts l.shared.keys) left) ≡ first (bodies_faults setting (texts l.fn.shared.keys) all);
+      judged : first (bodies_faults l.owner l.i setting (texts l.shared.keys) left) ≡ first (bodies_faults l.owner 0 setting (texts l.fn.shared.keys) all);
       found : map g.H.Head.record_view l.records.items ++ with_bodies of (texts l.shared.keys) left ≡ with_bodies of (texts l.fn.shared.keys) all;
       listed : l.listings.items ++ with_bodies owner_listing (texts l.shared.keys) left ≡ with_bodies owner_listing (texts l.fn.shared.keys) all;
       names : shared_after_bodies (texts l.shared.keys) left ≡ shared_after_bodies (texts l.fn.shared.keys) all;

@@ -3,9 +3,11 @@ use Rattle.std.proofs.Common.{sym, ◌∙◌, ◌++◌, ap, map, Bool, None, Som
 use Rattle.std.proofs.lemmas.Result.{err_from_is_err_and}
 use Rattle.toml.specs.View.{table_view}
 use Rattle.taskscript.specs.declared.fault.FileFault.TheVariants.{UnknownKey}
+use Rattle.taskscript.specs.declared.place.TablePlace.TheVariants.{Top}
 use Rattle.execlist.specs.Order.{first}
 use Rattle.taskscript.specs.Faults.{check}
 use Rattle.taskscript.specs.File.{top_keys, total_of, version_of, settings_faults, regions_faults, libraries_faults, both_passes_faults}
+use Rattle.taskscript.specs.Places.{at, unknown_key_at}
 use Rattle.taskscript.specs.Records.{library_view, softint_view, server_view, task_view}
 use Rattle.taskscript.specs.Tree.{keys_are_among}
 use Rattle.taskscript.proofs.Firsts.{first_some, skip, both}
@@ -25,8 +27,8 @@ returns-in_err-settings c =
     let p = err_from_is_err_and c.from_residual.result c.from_residual.ensures.1 in
     let f = c.in_err-settings.field-0.0 in
     let t = table_view c.args.table.now in
-    let keys = ap (λ (b : Bool). first (check b UnknownKey)) (sym c.has_only.ensures ∙ c.if-not-has_only.false) in
-    rw (p.1, p.2) (skip (check (keys_are_among top_keys t) UnknownKey) _ f keys
+    let keys = ap (λ (b : Bool). first (at (unknown_key_at Top) (check b UnknownKey))) (sym c.has_only.ensures ∙ c.if-not-has_only.false) in
+    rw (p.1, p.2) (skip (at (unknown_key_at Top) (check (keys_are_among top_keys t) UnknownKey)) _ f keys
     (λ ne. first_some (settings_faults t) (regions_faults (total_of (version_of t)) t ++ (libraries_faults t ++ both_passes_faults t)) f (c.in_err-settings.ensures ne)))
 
 pub returns-in_err-regions : goal.returns-in_err-regions
@@ -34,8 +36,8 @@ returns-in_err-regions c =
     let p = err_from_is_err_and c.from_residual-in_err-regions.result c.from_residual-in_err-regions.ensures.1 in
     let f = c.in_err-regions.field-0.0 in
     let t = table_view c.args.table.now in
-    let keys = ap (λ (b : Bool). first (check b UnknownKey)) (sym c.has_only.ensures ∙ c.if-not-has_only.false) in
-    rw (p.1, p.2) (skip (check (keys_are_among top_keys t) UnknownKey) _ f keys
+    let keys = ap (λ (b : Bool). first (at (unknown_key_at Top) (check b UnknownKey))) (sym c.has_only.ensures ∙ c.if-not-has_only.false) in
+    rw (p.1, p.2) (skip (at (unknown_key_at Top) (check (keys_are_among top_keys t) UnknownKey)) _ f keys
     (skip (settings_faults t) _ f c.in_ok-settings.ensures.0 (λ ne. first_some (regions_faults (total_of (version_of t)) t) (libraries_faults t ++ both_passes_faults t) f (in_version t c.in_ok-settings.settings.version c.total_of.result (Some f) c.in_ok-settings.ensures.1.0 c.total_of.ensures (c.in_err-regions.ensures ne)))))
 
 pub returns-in_err-libraries : goal.returns-in_err-libraries
@@ -44,8 +46,8 @@ returns-in_err-libraries c =
     let f = c.in_err-libraries.field-0.0 in
     let t = table_view c.args.table.now in
     let regions = in_version t c.in_ok-settings.settings.version c.total_of.result None c.in_ok-settings.ensures.1.0 c.total_of.ensures c.in_ok-regions.ensures.0 in
-    let keys = ap (λ (b : Bool). first (check b UnknownKey)) (sym c.has_only.ensures ∙ c.if-not-has_only.false) in
-    rw (p.1, p.2) (skip (check (keys_are_among top_keys t) UnknownKey) _ f keys
+    let keys = ap (λ (b : Bool). first (at (unknown_key_at Top) (check b UnknownKey))) (sym c.has_only.ensures ∙ c.if-not-has_only.false) in
+    rw (p.1, p.2) (skip (at (unknown_key_at Top) (check (keys_are_among top_keys t) UnknownKey)) _ f keys
     (skip (settings_faults t) _ f c.in_ok-settings.ensures.0
     (skip (regions_faults (total_of (version_of t)) t) _ f regions (λ ne. first_some (libraries_faults t) (both_passes_faults t) f (c.in_err-libraries.ensures ne)))))
 
@@ -55,8 +57,8 @@ returns-in_err-owners c =
     let f = c.in_err-owners.field-0.0 in
     let t = table_view c.args.table.now in
     let regions = in_version t c.in_ok-settings.settings.version c.total_of.result None c.in_ok-settings.ensures.1.0 c.total_of.ensures c.in_ok-regions.ensures.0 in
-    let keys = ap (λ (b : Bool). first (check b UnknownKey)) (sym c.has_only.ensures ∙ c.if-not-has_only.false) in
-    rw (p.1, p.2) (skip (check (keys_are_among top_keys t) UnknownKey) _ f keys
+    let keys = ap (λ (b : Bool). first (at (unknown_key_at Top) (check b UnknownKey))) (sym c.has_only.ensures ∙ c.if-not-has_only.false) in
+    rw (p.1, p.2) (skip (at (unknown_key_at Top) (check (keys_are_among top_keys t) UnknownKey)) _ f keys
     (skip (settings_faults t) _ f c.in_ok-settings.ensures.0
     (skip (regions_faults (total_of (version_of t)) t) _ f regions
     (skip (libraries_faults t) (both_passes_faults t) f c.in_ok-libraries.ensures.0 c.in_err-owners.ensures))))
@@ -66,8 +68,8 @@ returns c =
     let t = table_view c.args.table.now in
     let owners = c.in_ok-owners.owners in
     let regions = in_version t c.in_ok-settings.settings.version c.total_of.result None c.in_ok-settings.ensures.1.0 c.total_of.ensures c.in_ok-regions.ensures.0 in
-    let keys = ap (λ (b : Bool). first (check b UnknownKey)) (sym c.has_only.ensures ∙ c.if-not-has_only.false) in (
-      both (check (keys_are_among top_keys t) UnknownKey) _ keys
+    let keys = ap (λ (b : Bool). first (at (unknown_key_at Top) (check b UnknownKey))) (sym c.has_only.ensures ∙ c.if-not-has_only.false) in (
+      both (at (unknown_key_at Top) (check (keys_are_among top_keys t) UnknownKey)) _ keys
           (both (settings_faults t) _ c.in_ok-settings.ensures.0
           (both (regions_faults (total_of (version_of t)) t) _ regions
           (both (libraries_faults t) (both_passes_faults t) c.in_ok-libraries.ensures.0 c.in_ok-owners.ensures.0))),

@@ -5,4 +5,4 @@ use Rattle.wayreport.specs.Reports.{found_view}
 use Rattle.wayreport.proofs.sum.merge.Given as goal
 
 abbrev pub invariant-loop-one : goal.invariant-loop-one
-invariant-loop-one l = merged (map found_view l.found.items) (map found_view (drop l.one-index l.more)) ≡ merged (map found_view l.fn.found.items) (map found_view l.more)
+invariant-loop-one l = merged l.total (map found_view (drop l.one-index l.more)) ≡ merged l.fn.total (map found_view l.more)

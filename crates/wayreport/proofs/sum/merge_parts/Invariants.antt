@@ -1,8 +1,7 @@
 -- The parts so far were added.
-use Rattle.std.proofs.Common.{◌≡◌, map}
-use Rattle.wayreport.specs.Reports.{found_view}
+use Rattle.std.proofs.Common.{◌≡◌}
 use Rattle.wayreport.specs.Sums.{summed}
 use Rattle.wayreport.proofs.sum.merge_parts.Given as goal
 
 abbrev pub invariant-loop-before : goal.invariant-loop-before
-invariant-loop-before l = map found_view l.found.items ≡ summed l.reports l.before
+invariant-loop-before l = l.total ≡ summed l.reports l.before

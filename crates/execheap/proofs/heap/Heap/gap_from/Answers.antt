@@ -2,7 +2,6 @@
 use Rattle.std.proofs.Common.{ap, sym, ◌∙◌}
 use Rattle.std.specs.Prelude.{slice_get}
 use Rattle.memlist.specs.Readers.{gap_from as first_from}
-use Rattle.execmodel.specs.State.{Memory}
 use Rattle.execheap.specs.Queues.{gap_from}
 use Rattle.execheap.proofs.Blocks.{gaps_shown}
 use Rattle.execheap.proofs.heap.Heap.gap_from.Goals as goal

@@ -1,5 +1,5 @@
 -- The nodes of a list by number are those that are shown by address.
-use Rattle.std.proofs.Common.{List, ℕ, Option, Some, map, ap, sym, ◌∙◌}
+use Rattle.std.proofs.Common.{ℕ, Option, Some, map, ap, sym, ◌∙◌}
 use Rattle.std.specs.Option.{option_map}
 use Rattle.execlist.specs.Lists.{part_from, sequence}
 use Rattle.execlist.specs.Order.{first}

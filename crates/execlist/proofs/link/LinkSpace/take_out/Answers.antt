@@ -1,5 +1,5 @@
 -- A cell that has a header is taken from between its neighbours; one that has none is in no list already.
-use Rattle.std.proofs.Common.{◌≡◌, ℕ, ◌-◌, ◌<◌, Some, ap, sym, subst, ◌∙◌}
+use Rattle.std.proofs.Common.{◌≡◌, ◌-◌, Some, ap, sym, subst, ◌∙◌}
 use Rattle.execlist.specs.Lists.{home}
 use Rattle.execlist.specs.Chains.{IsLinked, lists_of, homes_of}
 use Rattle.execlist.proofs.Fresh.{AreFresh, same-homes, unlinked-fresh}

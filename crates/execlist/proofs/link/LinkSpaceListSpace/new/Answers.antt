@@ -1,5 +1,5 @@
 -- The cells are those of empty lists and of nodes that are in none.
-use Rattle.std.proofs.Common.{◌≡◌, suc, ◌*◌, ◌<◌, List, [], ◌∷◌, ◌++◌, ◌+◌, length, replicate, refl, sym, ap, subst, ◌∙◌, arith}
+use Rattle.std.proofs.Common.{◌≡◌, suc, ◌*◌, ◌<◌, List, [], ◌∷◌, ◌++◌, ◌+◌, length, refl, sym, ap, subst, ◌∙◌, arith}
 use lib.ListN.{length-append, length-replicate}
 use Rattle.execlist.specs.Lists.{blank}
 use Rattle.execlist.specs.DigestKeys.{keys_in}

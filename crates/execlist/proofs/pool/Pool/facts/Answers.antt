@@ -5,4 +5,4 @@ use Rattle.execlist.proofs.Pools.{stocked}
 use Rattle.execlist.proofs.pool.Pool.facts.Goals as goal
 
 pub returns : goal.returns
-returns g c = subst IsStocked c.self.view_is (stocked _ _ _ c.self.invariant)
+returns g c = subst IsStocked c.self.view_is (stocked _ _ _ c.self.invariant.0)

@@ -14,10 +14,10 @@ pub returns-clause-free : goal.returns-clause-free
 returns-clause-free g c =
     let top : c.copied.result ≡ last c.self.inside.free.items =
     c.copied.ensures ∙ c.last.ensures.value ∙ last_read c.deref.result.now ∙ ap last c.deref.ensures.value in
-    rw (sym c.self.view_is) (next_vacant _ _ _ c.self.invariant _ top)
+    rw (sym c.self.view_is) (next_vacant _ _ _ c.self.invariant.0 _ top)
 
 pub returns-clause-known : goal.returns-clause-known
 returns-clause-known g c =
     let top : c.copied.result ≡ last c.self.inside.free.items =
     c.copied.ensures ∙ c.last.ensures.value ∙ last_read c.deref.result.now ∙ ap last c.deref.ensures.value in
-    rw (sym c.self.view_is) (next_known _ _ _ c.self.invariant _ top)
+    rw (sym c.self.view_is) (next_known _ _ _ c.self.invariant.0 _ top)

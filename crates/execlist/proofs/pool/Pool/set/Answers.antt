@@ -8,4 +8,4 @@ use Rattle.execlist.proofs.pool.Pool.set.Goals as goal
 pub invariant_of-self : goal.invariant_of-self
 invariant_of-self g c =
     let was : IsSome (slot c.self.inside.slots.items c.args.n) = rw (ap (λ p. p.slots) c.self.view_is) c.requires in
-    written _ _ _ _ _ c.self.invariant (item_of _ was).1 c.args.other
+    (written _ _ _ _ _ c.self.invariant.0 (item_of _ was).1 c.args.other, c.self.invariant.1)

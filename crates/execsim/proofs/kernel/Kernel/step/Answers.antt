@@ -2,5 +2,5 @@
 use Rattle.execsim.proofs.Stepping.{step_as}
 use Rattle.execsim.proofs.kernel.Kernel.step.Goals as goal
 
-pub returns : goal.returns
-returns g c = step_as c.act.ensures c.settle.ensures
+pub returns-clause-follows : goal.returns-clause-follows
+returns-clause-follows g c = step_as c.act.ensures c.settle_again.ensures.follows

@@ -9,9 +9,9 @@ pub returns-then-address-eq0 : goal.returns-then-address-eq0
 returns-then-address-eq0 c =
     let inside = subst (λ (a : Area). IsTrue (is_in a.region c.args.address)) (sym c.self.view_is) c.requires in
     c.block.ensures
-    ∙ found_slot c.self.inside.region c.self.inside.slots.items c.self.inside.space c.self.invariant c.args.address c.place_of-place.result c.index.result.now inside c.if-address-eq0.true c.place_of-place.ensures c.index.ensures
+    ∙ found_slot c.self.inside.region c.self.inside.slots.items c.self.inside.space c.self.invariant.0 c.args.address c.place_of-place.result c.index.result.now inside c.if-address-eq0.true c.place_of-place.ensures c.index.ensures
     ∙ ap (λ (a : Area). block_at c.args.address a.blocks) c.self.view_is
 
 pub returns-else-address-eq0 : goal.returns-else-address-eq0
 returns-else-address-eq0 c =
-    sym (found_odd c.self.inside.region c.self.inside.slots.items c.self.inside.space c.self.invariant c.args.address c.if-address-eq0.false) ∙ ap (λ (a : Area). block_at c.args.address a.blocks) c.self.view_is
+    sym (found_odd c.self.inside.region c.self.inside.slots.items c.self.inside.space c.self.invariant.0 c.args.address c.if-address-eq0.false) ∙ ap (λ (a : Area). block_at c.args.address a.blocks) c.self.view_is

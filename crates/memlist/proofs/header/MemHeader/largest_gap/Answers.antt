@@ -7,5 +7,5 @@ use Rattle.memlist.proofs.header.MemHeader.largest_gap.Goals as goal
 
 pub returns : goal.returns
 returns c =
-    let shown = gaps_shown c.self.inside.region c.self.inside.slots.items c.self.inside.space _ c.self.invariant c.self.view_is in
+    let shown = gaps_shown c.self.inside.region c.self.inside.slots.items c.self.inside.space _ c.self.invariant.0 c.self.view_is in
     c.largest.ensures ∙ ap (λ (gaps : List Gap). greatest (map (λ (gap : Gap). gap.size) gaps)) shown

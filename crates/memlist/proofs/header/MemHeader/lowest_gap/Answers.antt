@@ -7,5 +7,5 @@ use Rattle.memlist.proofs.header.MemHeader.lowest_gap.Goals as goal
 
 pub returns : goal.returns
 returns c =
-    let shown = gaps_shown c.self.inside.region c.self.inside.slots.items c.self.inside.space _ c.self.invariant c.self.view_is in
+    let shown = gaps_shown c.self.inside.region c.self.inside.slots.items c.self.inside.space _ c.self.invariant.0 c.self.view_is in
     subst (λ (gaps : List Gap). IsLowest c.args.size gaps c.lowest_gap.result) shown c.lowest_gap.ensures

@@ -1,7 +1,8 @@
 -- The proof of `MemHeader::new`: a region in which nothing is allocated, with a slot for each unit and a word for each 4 bytes.
-use Rattle.std.proofs.Common.{arith, ap}
+use Rattle.std.proofs.Common.{◌/◌, arith, ap}
 use Rattle.memlist.specs.Areas.{Area}
 use Rattle.memlist.proofs.Headers.{aligned_region, new_header, reach_region}
+use Rattle.memlist.proofs.Resets.{unused_none}
 use Rattle.memlist.proofs.header.MemHeader.new.Goals as goal
 
 pub new-requires-clause-place : goal.new-requires-clause-place
@@ -23,7 +24,7 @@ pub invariant_of-result : goal.invariant_of-result
 invariant_of-result c =
     let slots = c.in_ok-slots.ensures.items_if_clones_equal (λ y h. h) in
     let kept = new_header c.args.region c.in_ok-slots.slots.items c.in_ok-space.space c.requires.aligned c.requires.in_reach slots c.in_ok-space.ensures in
-    kept.header
+    (kept.header, unused_none (c.args.region.size / 8) c.in_ok-slots.slots.items slots)
 
 pub returns-clause-value : goal.returns-clause-value
 returns-clause-value c =

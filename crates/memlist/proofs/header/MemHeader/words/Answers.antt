@@ -9,11 +9,11 @@ use Rattle.memlist.proofs.header.MemHeader.words.Goals as goal
 pub returns-clause-len : goal.returns-clause-len
 returns-clause-len c =
     let size = ap (λ (a : Area). a.region.size) c.self.view_is in
-    omega (arith, c.words.ensures.len, c.self.invariant.base, c.self.invariant.end, size)
+    omega (arith, c.words.ensures.len, c.self.invariant.0.base, c.self.invariant.0.end, size)
 
 pub returns-clause-linked : goal.returns-clause-linked
 returns-clause-linked c =
-    let shown = gaps_shown c.self.inside.region c.self.inside.slots.items c.self.inside.space _ c.self.invariant c.self.view_is in
+    let shown = gaps_shown c.self.inside.region c.self.inside.slots.items c.self.inside.space _ c.self.invariant.0 c.self.view_is in
     subst (λ (a : Area). IsLinked a.region.base c.words.result.now (area_gaps a) 0) c.self.view_is
-    (subst (λ (gaps : List Gap). IsLinked c.self.inside.region.base c.words.result.now gaps 0) c.self.invariant.free
-    (subst (λ base. IsLinked base c.words.result.now c.self.inside.space.gaps 0) c.self.invariant.base c.words.ensures.linked))
+    (subst (λ (gaps : List Gap). IsLinked c.self.inside.region.base c.words.result.now gaps 0) c.self.invariant.0.free
+    (subst (λ base. IsLinked base c.words.result.now c.self.inside.space.gaps 0) c.self.invariant.0.base c.words.ensures.linked))

@@ -1,4 +1,4 @@
--- The proof of `Driver::alloc`: takes a plain block of public memory, to which libraries may are expunged under low memory, and answers
+-- The proof of `Driver::alloc`: takes a plain block of public memory, for which libraries may be expunged, and answers
 -- its address, if it answered one.
 use Rattle.execlib.specs.Libraries.{lent}
 use Rattle.exectests.proofs.Lent.{few_asked}

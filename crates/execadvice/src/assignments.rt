@@ -1,0 +1,121 @@
+//! Lines in the manner of C: assignments without a word, and calls with parentheses.
+
+use crate::escaped::is_hidden;
+use crate::mistake::is_variable;
+use std::alloc::{AllocError, Global};
+use taskscript::{number_of, word_of};
+
+/// Whether a part is a number or a variable.
+fn is_value(part: &str) -> bool {
+    is_variable(part) || number_of(part.as_bytes()).is_some()
+}
+
+/// The word for an operator of C.
+fn word_for(operator: &str) -> Option<&'static str> {
+    match operator {
+        "+" => Some("Add"),
+        "-" => Some("Sub"),
+        "&" => Some("And"),
+        "|" => Some("Or"),
+        _ => None,
+    }
+}
+
+/// The word for an operator of C that ends with `=`.
+fn word_for_change(operator: &str) -> Option<&'static str> {
+    match operator.strip_suffix("=") {
+        None => None,
+        Some(operator) => word_for(operator),
+    }
+}
+
+/// What is meant by the parts of a line that sets a variable without a word, as `x = 5`, `x = y + 1` and `x += 1`.
+pub fn missing_word(alloc: Global, parts: &[&str]) -> Result<Option<String>, AllocError> {
+    match parts {
+        [target, equals, value] if *equals == "=" && is_value(*value) => {
+            Ok(Some(format!(in alloc; "{target} = Set {value}")?))
+        }
+        [target, equals, one, operator, other] if *equals == "=" => match word_for(*operator) {
+            Some(word) if is_value(*one) && is_value(*other) => {
+                Ok(Some(format!(in alloc; "{target} = {word} {one} {other}")?))
+            }
+            _ => Ok(None),
+        },
+        [target, operator, value] => match word_for_change(*operator) {
+            Some(word) if is_variable(*target) && is_value(*value) => {
+                Ok(Some(format!(in alloc; "{target} = {word} {target} {value}")?))
+            }
+            _ => Ok(None),
+        },
+        _ => Ok(None),
+    }
+}
+
+/// The target and the value of a line as `x=5`, `x:=5`, `x==5` or `x := 5`, with a word to which they are given.
+fn joined(alloc: Global, line: &str) -> Result<Option<String>, AllocError> {
+    let Some((target, value)) = line.split_once("=") else {
+        return Ok(None);
+    };
+    let target = target.trim_end_matches(':').trim_end();
+    let value = value.trim_start_matches('=').trim_start();
+    if is_variable(target) && is_value(value) {
+        Ok(Some(format!(in alloc; "{target} = Set {value}")?))
+    } else {
+        Ok(None)
+    }
+}
+
+/// The variable of a line as `x++` or `x--`, with the word that does it.
+fn counted(alloc: Global, line: &str) -> Result<Option<String>, AllocError> {
+    for (end, word) in [("++", "Add"), ("--", "Sub")] {
+        if let Some(target) = line.strip_suffix(end) {
+            if is_variable(target) {
+                return Ok(Some(format!(in alloc; "{target} = {word} {target} 1")?));
+            }
+        }
+    }
+    Ok(None)
+}
+
+/// What is meant by a line that sets a variable in the manner of C, without a word.
+pub fn assignment_of_c(alloc: Global, line: &str) -> Result<Option<String>, AllocError> {
+    match joined(alloc, line)? {
+        None => counted(alloc, line),
+        Some(meant) => Ok(Some(meant)),
+    }
+}
+
+/// A line with a space for each parenthesis, comma and semicolon, and with one space between its parts.
+fn without_parentheses(alloc: Global, line: &str) -> Result<String, AllocError> {
+    let mut out = String::new(alloc);
+    let mut is_apart = false;
+    for c in line.chars() {
+        if c == ' ' || c == '(' || c == ')' || c == ',' || c == ';' {
+            is_apart = !out.is_empty();
+        } else {
+            if is_apart {
+                out.push(' ')?;
+            }
+            is_apart = false;
+            out.push(c)?;
+        }
+    }
+    Ok(out)
+}
+
+/// What is meant by a line with a call as in C, as `Wait($1000);`. None if it has no parentheses, or no word where one has to be.
+pub fn call_with_parentheses(alloc: Global, line: &str) -> Result<Option<String>, AllocError> {
+    if !line.contains('(') || line.len() > 80 || line.chars().any(|c| is_hidden(c)) {
+        return Ok(None);
+    }
+    let meant = without_parentheses(alloc, line)?;
+    let mut parts = meant.as_str().split(' ');
+    let first = parts.next().unwrap_or("");
+    let second = parts.next().unwrap_or("");
+    let third = parts.next().unwrap_or("");
+    let word = if second == "=" { third } else { first };
+    if word_of(word).is_none() {
+        return Ok(None);
+    }
+    Ok(Some(meant))
+}

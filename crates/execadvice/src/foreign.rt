@@ -1,0 +1,161 @@
+//! Names of other systems and of Exec's headers, with what has their place in a machine file.
+
+use std::alloc::{AllocError, Global};
+
+/// The constants of Exec's headers that the words of the simulator take or answer, each with its number.
+const CONSTANTS: [(&str, u32); 45] = [
+    ("NULL", 0),
+    ("FALSE", 0),
+    ("TRUE", 1),
+    ("MEMF_ANY", 0),
+    ("MEMF_PUBLIC", 0x1),
+    ("MEMF_CHIP", 0x2),
+    ("MEMF_FAST", 0x4),
+    ("MEMF_CLEAR", 0x10000),
+    ("MEMF_LARGEST", 0x20000),
+    ("MEMF_TOTAL", 0x80000),
+    ("SIGBREAKF_CTRL_C", 0x1000),
+    ("SIGBREAKF_CTRL_D", 0x2000),
+    ("SIGBREAKF_CTRL_E", 0x4000),
+    ("SIGBREAKF_CTRL_F", 0x8000),
+    ("SIGBREAKB_CTRL_C", 12),
+    ("SIGBREAKB_CTRL_D", 13),
+    ("SIGBREAKB_CTRL_E", 14),
+    ("SIGBREAKB_CTRL_F", 15),
+    ("NT_UNKNOWN", 0),
+    ("NT_MESSAGE", 5),
+    ("NT_FREEMSG", 6),
+    ("NT_REPLYMSG", 7),
+    ("CMD_INVALID", 0),
+    ("CMD_RESET", 1),
+    ("CMD_READ", 2),
+    ("CMD_WRITE", 3),
+    ("CMD_UPDATE", 4),
+    ("CMD_CLEAR", 5),
+    ("CMD_STOP", 6),
+    ("CMD_START", 7),
+    ("CMD_FLUSH", 8),
+    ("CMD_NONSTD", 9),
+    ("TR_ADDREQUEST", 9),
+    ("TR_GETSYSTIME", 10),
+    ("TR_SETSYSTIME", 11),
+    ("UNIT_MICROHZ", 0),
+    ("UNIT_VBLANK", 1),
+    ("UNIT_ECLOCK", 2),
+    ("UNIT_WAITUNTIL", 3),
+    ("UNIT_WAITECLOCK", 4),
+    ("IOERR_OPENFAIL", 0xFFFF_FFFF),
+    ("IOERR_ABORTED", 0xFFFF_FFFE),
+    ("IOERR_NOCMD", 0xFFFF_FFFD),
+    ("IOERR_BADLENGTH", 0xFFFF_FFFC),
+    ("IOF_QUICK", 1),
+];
+
+/// How a task sleeps, ends and is made here.
+const SLEEP: &str =
+    "SetIO r 9 SECONDS MICROSECONDS and then DoIO r, with a request of timer.device";
+
+const END: &str = "RemTask 0, or nothing: the end of the code ends the task";
+
+const NEW_TASK: &str = "a [[task]] table with start = false, and AddTask NUMBER";
+
+/// Names of other systems, each with what is written in their place.
+const NAMES: [(&str, &str); 45] = [
+    ("InitSemaphore", "s = NewSem"),
+    (
+        "ObtainSemaphoreShared",
+        "ObtainSemaphore s, since semaphores are not shared here",
+    ),
+    ("mutex_lock", "ObtainSemaphore s"),
+    ("pthread_mutex_lock", "ObtainSemaphore s"),
+    ("lock", "ObtainSemaphore s"),
+    ("mutex_unlock", "ReleaseSemaphore s"),
+    ("pthread_mutex_unlock", "ReleaseSemaphore s"),
+    ("unlock", "ReleaseSemaphore s"),
+    ("BeginIO", "SendIO r"),
+    ("CreateExtIO", "r = CreateIORequest p"),
+    ("CreateStdIO", "r = CreateIORequest p"),
+    ("DeleteExtIO", "DeleteIORequest r"),
+    ("DeleteStdIO", "DeleteIORequest r"),
+    ("Delay", SLEEP),
+    ("TimeDelay", SLEEP),
+    ("sleep", SLEEP),
+    ("usleep", SLEEP),
+    ("Exit", END),
+    ("return", END),
+    ("CreateTask", NEW_TASK),
+    ("CreateProc", NEW_TASK),
+    ("CreateNewProc", NEW_TASK),
+    ("pthread_create", NEW_TASK),
+    ("fork", NEW_TASK),
+    ("DeleteTask", "RemTask NUMBER"),
+    ("kill", "Signal TASK MASK"),
+    (
+        "CreatePort",
+        "p = CreateMsgPort and then AddPort p \"NAME\" 0",
+    ),
+    ("DeletePort", "RemPort p and then DeleteMsgPort p"),
+    ("AddIntServer", "a [[server]] table"),
+    ("SetIntVector", "a [[server]] table"),
+    ("malloc", "a = AllocMem SIZE 1"),
+    ("AllocVec", "a = AllocMem SIZE 1"),
+    ("AllocMemory", "a = AllocMem SIZE 1"),
+    ("free", "FreeMem a SIZE"),
+    ("FreeVec", "FreeMem a SIZE"),
+    ("printf", "Print x"),
+    ("puts", "Print x"),
+    ("echo", "Print x"),
+    ("goto", "Jump LABEL"),
+    ("if", "JumpZ x LABEL or JumpNZ x LABEL"),
+    ("while", "a label, JumpZ x LABEL and Jump LABEL"),
+    ("for", "a label, JumpZ x LABEL and Jump LABEL"),
+    ("WaitTOF", "Wait for a signal of a server of VERTB"),
+    ("OldOpenLibrary", "b = OpenLibrary \"NAME\" 0"),
+    ("nop", "x = Set x"),
+];
+
+/// What is written in the place of a name of another system.
+pub fn equivalent_of(name: &str) -> Option<&'static str> {
+    match NAMES.iter().find(|row| name.eq_ignore_ascii_case(row.0)) {
+        None => None,
+        Some(row) => Some(row.1),
+    }
+}
+
+/// The number of a constant of Exec's headers.
+fn constant(name: &str) -> Option<u32> {
+    match CONSTANTS.iter().find(|row| name == row.0) {
+        None => None,
+        Some(row) => Some(row.1),
+    }
+}
+
+/// The number of a constant of Exec's headers, or of several with `|` between them.
+pub fn number_of_constants(text: &str) -> Option<u32> {
+    let mut sum = 0u32;
+    for name in text.split('|') {
+        match constant(name) {
+            None => return None,
+            Some(number) => sum |= number,
+        }
+    }
+    Some(sum)
+}
+
+/// A number as it is written in a machine file: small ones and negative ones in decimal digits.
+pub fn written_number(alloc: Global, number: u32) -> Result<String, AllocError> {
+    if number < 16 {
+        return format!(in alloc; "{number}");
+    }
+    if number >= 0xFFFF_FF00 {
+        let below = 0xFFFF_FFFF - number;
+        let magnitude = below.saturating_add(1);
+        return format!(in alloc; "-{magnitude}");
+    }
+    let digits = format!(in alloc; "{number:x}")?;
+    let mut text = String::from_str(alloc, "$")?;
+    for c in digits.as_str().chars() {
+        text.push(c.to_ascii_uppercase())?;
+    }
+    Ok(text)
+}

@@ -1,0 +1,2 @@
+-- The lemma files of `execpicture`.
+pub mod Turns

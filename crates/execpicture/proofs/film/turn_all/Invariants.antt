@@ -1,0 +1,12 @@
+-- The machine has not failed, and has time for the events that are left.
+use Rattle.std.proofs.Common.{◌≡◌, false, drop}
+use Rattle.std.specs.Prelude.{sum_by}
+use Rattle.taskscript.specs.Events.{ticks as ticks_of}
+use Rattle.execsim.specs.Time.{HasTimeFor}
+use Rattle.execpicture.proofs.film.turn_all.Given as goal
+
+abbrev pub invariant-loop-one : goal.invariant-loop-one
+invariant-loop-one g l = record {
+  going : l.machine.failed ≡ false;
+  time : HasTimeFor (sum_by ticks_of (drop l.one-index l.list)) l.machine.seen;
+}

@@ -1,0 +1,196 @@
+//! What a picture shows of a run, point by point: the columns, and the tracks of tasks, interrupts and objects.
+//!
+//! Column 0 is the point at which the picture begins; what is shown after column k is what the machine shows at that point.
+use crate::deeds::{Deed, read_deeds, read_states};
+use crate::fault::PictureFault;
+use crate::film::{Point, Shown, Turn, Watch};
+use crate::objects::Objects;
+use crate::seen::{NestSeen, ObjectSeen, TaskSeen, is_shut, nest_seen, object_seen, task_seen};
+use crate::track::Track;
+use softint::latches::Latches;
+use std::alloc::{AllocError, Global};
+use taskq::TaskState;
+use taskscript::Listed;
+
+/// A step, a tick or a request of an interrupt.
+#[derive(Drop)]
+pub(crate) struct Column {
+    /// What was done, and by whom.
+    pub point: Point,
+    /// What was printed.
+    pub text: String,
+    /// What one did to another.
+    pub deeds: Vec<Deed>,
+    /// Which sources asked to be served after it.
+    pub latches: Latches,
+}
+
+/// The track of an object, if it was made before the picture ends.
+#[derive(Drop)]
+pub(crate) struct ObjectTrack {
+    /// The column after which it was made.
+    pub first: u32,
+    pub seen: Track<ObjectSeen>,
+}
+
+impl ObjectTrack {
+    /// Whether the object is there at any point that is shown.
+    pub fn is_shown(&self) -> bool {
+        self.seen
+            .spans()
+            .iter()
+            .any(|span| span.shown != ObjectSeen::Absent)
+    }
+}
+
+/// The track of a task.
+#[derive(Drop)]
+pub(crate) struct TaskTrack {
+    pub seen: Track<TaskSeen>,
+    pub nest: Track<NestSeen>,
+}
+
+impl TaskTrack {
+    /// Adds what a machine shows of the task of a number, which has it.
+    fn note(&mut self, machine: &Shown, t: usize) -> Result<(), AllocError> {
+        let Some(seen) = task_seen(machine, t) else {
+            return Ok(());
+        };
+        self.seen.note(seen)?;
+        match nest_seen(machine, t) {
+            Some(nest) => self.nest.note(nest),
+            None => Ok(()),
+        }
+    }
+}
+
+/// What a picture shows.
+#[derive(Drop)]
+pub(crate) struct Scene<'a> {
+    alloc: Global,
+    pub file: &'a Listed,
+    /// The number of the point at which the picture begins.
+    pub from: u64,
+    /// How many columns are kept at most.
+    most: u32,
+    /// How the tasks were at the last point.
+    states: Vec<TaskState>,
+    /// The columns, that of number 0 included; no more than `most` after it.
+    pub columns: Vec<Column>,
+    pub tasks: Vec<TaskTrack>,
+    /// Whether interrupts are disabled.
+    pub shut: Track<bool>,
+    pub objects: Objects<'a>,
+    pub object_tracks: Vec<ObjectTrack>,
+}
+
+impl<'a> Scene<'a> {
+    /// A picture that shows nothing yet.
+    ///
+    /// # Errors
+    ///
+    /// Memory was refused.
+    pub fn new(
+        alloc: Global,
+        file: &'a Listed,
+        from: u64,
+        most: u32,
+    ) -> Result<Scene<'a>, AllocError> {
+        let mut tasks = Vec::new(alloc);
+        for _task in 0..file.machine.tasks().len() {
+            tasks.push(TaskTrack {
+                seen: Track::new(alloc),
+                nest: Track::new(alloc),
+            })?;
+        }
+        Ok(Scene {
+            alloc,
+            file,
+            from,
+            most,
+            states: Vec::new(alloc),
+            columns: Vec::new(alloc),
+            tasks,
+            shut: Track::new(alloc),
+            objects: Objects::new(alloc, file),
+            object_tracks: Vec::new(alloc),
+        })
+    }
+
+    /// The number of the last column.
+    pub fn last_column(&self) -> u32 {
+        (self.columns.len().min(1_000_000) as u32).saturating_sub(1)
+    }
+
+    /// The number of the point after a column.
+    pub fn number_of(&self, column: u32) -> u64 {
+        self.from.saturating_add(u64::from(column))
+    }
+
+    /// Keeps what the machine shows of its tasks after a column.
+    fn note_tasks(&mut self, machine: &Shown) -> Result<(), AllocError> {
+        for (t, track) in self.tasks.iter_mut().enumerate() {
+            track.note(machine, t)?;
+        }
+        Ok(())
+    }
+
+    /// Makes a track for each object that has none: those that were made in a column, and at column 0 all that were made before.
+    fn make_tracks(&mut self, column: u32) -> Result<(), AllocError> {
+        for _object in self.object_tracks.len()..self.objects.list().len() {
+            self.object_tracks.push(ObjectTrack {
+                first: column,
+                seen: Track::new(self.alloc),
+            })?;
+        }
+        Ok(())
+    }
+
+    /// Keeps what the machine shows of the objects after a column.
+    fn note_objects(&mut self, machine: &Shown, column: u32) -> Result<(), AllocError> {
+        self.make_tracks(column)?;
+        for (track, object) in self.object_tracks.iter_mut().zip(self.objects.list()) {
+            let seen = object_seen(machine, object.kind, object.address);
+            track.seen.note(seen)?;
+        }
+        Ok(())
+    }
+
+    /// Keeps a column.
+    fn push_column(
+        &mut self,
+        machine: &Shown,
+        point: &Point,
+        text: &str,
+    ) -> Result<(), AllocError> {
+        let mut deeds = Vec::new(self.alloc);
+        read_deeds(&self.file.machine, machine, &self.states, text, &mut deeds)?;
+        self.columns.push(Column {
+            point: *point,
+            text: String::from_str(self.alloc, text)?,
+            deeds,
+            latches: machine.view().latches,
+        })?;
+        Ok(())
+    }
+
+    /// Keeps what is seen at a point that is shown.
+    fn keep(&mut self, machine: &Shown, point: &Point, text: &str) -> Result<(), AllocError> {
+        self.push_column(machine, point, text)?;
+        let column = self.last_column();
+        self.note_tasks(machine)?;
+        self.note_objects(machine, column)?;
+        self.shut.note(is_shut(machine))
+    }
+}
+
+impl Watch for Scene<'_> {
+    fn see(&mut self, machine: &Shown, point: &Point, text: &str) -> Result<(), PictureFault> {
+        self.objects.learn(point, text)?;
+        if point.number >= self.from && self.columns.len() <= self.most as usize {
+            self.keep(machine, point, text)?;
+        }
+        read_states(machine, &mut self.states)?;
+        Ok(())
+    }
+}

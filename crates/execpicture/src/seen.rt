@@ -1,0 +1,166 @@
+//! What a picture shows of a task, of the interrupts and of an object at one point.
+use crate::film::Shown;
+use execsim::{Call, ObjectView};
+use exectrace::ShortArg;
+use iorequest::request::ReqState;
+use taskq::{TaskId, TaskState, Why};
+use taskscript::{PortWord, RequestWord, SemaphoreWord, Word};
+
+/// What a task waits for in a call.
+#[derive(Clone, Copy, PartialEq)]
+pub(crate) enum Awaits {
+    /// It waits in no call.
+    Nothing,
+    /// Signals of a mask.
+    Signals(u32),
+    /// An object of a kind, at an address.
+    Object(Kind, u32),
+}
+
+/// What is shown of a task.
+#[derive(Clone, Copy, PartialEq)]
+pub(crate) struct TaskSeen {
+    /// If it is in its life, and what it waits for.
+    pub state: TaskState,
+    /// What the call is about that it waits in.
+    pub awaits: Awaits,
+}
+
+/// What a task that runs keeps others from.
+#[derive(Clone, Copy, PartialEq)]
+pub(crate) struct NestSeen {
+    /// Whether it runs, and forbids switches.
+    pub forbids: bool,
+    /// Whether it runs, and disables interrupts.
+    pub disables: bool,
+}
+
+/// What is shown of an object.
+#[derive(Clone, Copy, PartialEq)]
+pub(crate) enum ObjectSeen {
+    /// There is none.
+    Absent,
+    /// A semaphore, with its owner.
+    Semaphore(Option<TaskId>),
+    /// A message port, with the number of its messages.
+    Port(u32),
+    /// A request that is not in progress.
+    Idle,
+    /// A request that waits for a time, in microseconds.
+    Busy(u64),
+    /// A request that waits until a system time, in microseconds.
+    BusyUntil(u64),
+}
+
+/// Which kind of object is shown.
+#[derive(Clone, Copy, PartialEq)]
+pub(crate) enum Kind {
+    /// A semaphore.
+    Semaphore,
+    /// A message port.
+    Port,
+    /// A timer request.
+    Request,
+}
+
+/// The first argument of a call.
+fn first_argument(call: &Call) -> u32 {
+    match call.arguments[0] {
+        ShortArg::Value(value) => value,
+        ShortArg::Quoted => 0,
+    }
+}
+
+/// What a task waits for in a call.
+fn awaits_in(word: Word, argument: u32) -> Awaits {
+    match word {
+        Word::Ports(PortWord::WaitPort) => Awaits::Object(Kind::Port, argument),
+        Word::Requests(RequestWord::WaitIO | RequestWord::DoIO) => {
+            Awaits::Object(Kind::Request, argument)
+        }
+        Word::Semaphores(SemaphoreWord::ObtainSemaphore) => {
+            Awaits::Object(Kind::Semaphore, argument)
+        }
+        _ => Awaits::Signals(argument),
+    }
+}
+
+/// What a task in that state waits for in a call.
+fn awaits_of(machine: &Shown, t: TaskId, state: TaskState) -> Awaits {
+    if !matches!(state, TaskState::Waiting(_)) {
+        return Awaits::Nothing;
+    }
+    match machine.call(t) {
+        Some(call) => awaits_in(call.word, first_argument(call)),
+        None => Awaits::Nothing,
+    }
+}
+
+/// What is shown of a task; none past the last.
+pub(crate) fn task_seen(machine: &Shown, t: TaskId) -> Option<TaskSeen> {
+    match machine.task(t) {
+        None => None,
+        Some(view) => Some(TaskSeen {
+            state: view.state,
+            awaits: awaits_of(machine, t, view.state),
+        }),
+    }
+}
+
+/// What a task keeps others from.
+pub(crate) fn nest_seen(machine: &Shown, t: TaskId) -> Option<NestSeen> {
+    let view = machine.task(t)?;
+    let runs = view.state == TaskState::Running;
+    Some(NestSeen {
+        forbids: runs && view.forbids >= 0,
+        disables: runs && view.disables >= 0,
+    })
+}
+
+/// Whether interrupts are disabled.
+pub(crate) fn is_shut(machine: &Shown) -> bool {
+    let Some(t) = machine.view().running else {
+        return false;
+    };
+    match machine.task(t) {
+        Some(view) => view.disables >= 0,
+        None => false,
+    }
+}
+
+/// How many messages a port has, of which there are at most as many as objects.
+fn messages(machine: &Shown, port: u32) -> u32 {
+    let mut last = None;
+    for count in 0..MOST_MESSAGES {
+        last = machine.message_after(port, last);
+        if last.is_none() {
+            return count;
+        }
+    }
+    MOST_MESSAGES
+}
+
+/// More messages than a machine may have: 1,024, and as many requests.
+const MOST_MESSAGES: u32 = 2_048;
+
+/// What is shown of the object of a kind at an address.
+pub(crate) fn object_seen(machine: &Shown, kind: Kind, address: u32) -> ObjectSeen {
+    let Some(block) = machine.block(address) else {
+        return ObjectSeen::Absent;
+    };
+    match (kind, block.object) {
+        (Kind::Semaphore, ObjectView::Semaphore(view)) => ObjectSeen::Semaphore(view.owner),
+        (Kind::Port, ObjectView::Port(_)) => ObjectSeen::Port(messages(machine, address)),
+        (Kind::Request, ObjectView::Request(view)) => match view.state {
+            ReqState::UnderWay => {
+                if view.is_until() {
+                    ObjectSeen::BusyUntil(view.time())
+                } else {
+                    ObjectSeen::Busy(view.time())
+                }
+            }
+            _ => ObjectSeen::Idle,
+        },
+        _ => ObjectSeen::Absent,
+    }
+}

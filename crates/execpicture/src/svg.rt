@@ -1,0 +1,91 @@
+//! A run as an SVG document.
+ghost use Rattle.std.specs.Prelude.{◌≡◌};
+ghost use Rattle.exectrace.specs.declared.sinks.SinkState.{SinkState};
+
+mod arrows;
+mod calls;
+mod columns;
+mod frame;
+mod interrupts;
+pub(crate) mod names;
+mod objects;
+mod plan;
+mod ruler;
+mod shapes;
+mod style;
+mod tasks;
+
+use crate::fault::PictureFault;
+use crate::film::{Ending, film};
+use crate::scene::Scene;
+use crate::stretch::Stretch;
+use exectrace::Sink;
+use exectrace::sinks::{put, written};
+use plan::plan_of;
+use std::alloc::{AllocError, Global};
+use taskscript::{Event, Events, Listed};
+
+/// How many steps, ticks and requests a picture shows at most.
+pub const LIMIT: u32 = 200;
+
+/// Draws a scene.
+fn draw(
+    alloc: Global,
+    scene: &Scene<'_>,
+    list: &[Event],
+    title: &str,
+    page: &mut String,
+) -> Result<(), AllocError> {
+    let plan = plan_of(alloc, scene)?;
+    frame::write_head(scene, &plan, title, page)?;
+    columns::write_columns(scene, &plan, page)?;
+    ruler::write_ruler(alloc, scene, &plan, list, page)?;
+    interrupts::write_interrupts(scene, &plan, page)?;
+    tasks::write_tasks(alloc, scene, &plan, page)?;
+    objects::write_objects(alloc, scene, &plan, page)?;
+    arrows::write_arrows(alloc, scene, &plan, page)?;
+    tasks::write_labels(alloc, scene, &plan, page)?;
+    calls::write_calls(scene, &plan, page)?;
+    frame::write_foot(&plan, page)
+}
+
+/// Runs the machine of a file over the events, and writes one picture of a part of the run to `out`, which is good: an SVG document that
+/// shows, from above, the events and the clock; the interrupts; the state of each task from step to step; who owns a semaphore, what is in a
+/// port and which request is in progress; and the calls. Objects are named by the variable that got their address, or by their public name.
+/// `title` is the headline. Answers whether an alert has stopped the machine, with which the picture ends.
+///
+/// # Errors
+///
+/// `Memory` if memory was refused. `Empty`, `PastEnd` or `TooLong` if the part has no column, begins where the run is over, or has more
+/// than `LIMIT` columns. In all these cases nothing was written. `Write` if the sink did not take all: it has taken a prefix of the picture.
+///
+/// Source: project rule.
+pub fn write_svg<W: Sink>(
+    alloc: Global,
+    file: &Listed,
+    events: &Events,
+    title: &str,
+    part: Stretch,
+    out: &mut W,
+) -> Result<bool, PictureFault>
+    requires { (W.tape out.old).state ≡ SinkState.Good }
+{
+    if part.is_empty() {
+        return Err(PictureFault::Empty);
+    }
+    let mut scene = Scene::new(alloc, file, part.from, LIMIT)?;
+    let Ending { last, stopped } = film(alloc, &file.machine, events, part.to, &mut scene)?;
+    if last < part.from || (last == part.from && last > 0) {
+        return Err(PictureFault::PastEnd(last));
+    }
+    if last - part.from > u64::from(LIMIT) {
+        return Err(PictureFault::TooLong(last - part.from));
+    }
+    let mut page = String::new(alloc);
+    draw(alloc, &scene, events.list(), title, &mut page)?;
+    put(page.as_bytes(), out);
+    match written(out) {
+        Ok(()) => Ok(stopped),
+        Err(_) => Err(PictureFault::Write),
+    }
+}

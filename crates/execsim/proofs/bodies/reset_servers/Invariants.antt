@@ -1,0 +1,12 @@
+-- the servers so far are those of the file, and their sources and priorities stay
+use Rattle.std.proofs.Common.{◌≡◌, length, map, take}
+use Rattle.taskscript.specs.Records as records
+use Rattle.execsim.specs.Views.{interrupting, server_view}
+use Rattle.execsim.proofs.bodies.reset_servers.Given as goal
+
+abbrev pub invariant-loop-k : goal.invariant-loop-k
+invariant-loop-k l = record {
+  same : take l.k (map server_view l.servers.items) ≡ take l.k (map records.server_view l.file);
+  kept : map interrupting (map server_view l.servers.items) ≡ map interrupting (map server_view l.initial.servers.items);
+  count : length l.servers.items ≡ length l.file;
+}

@@ -1,0 +1,14 @@
+-- the software interrupts so far are those of the file, and their names and priorities stay
+use Rattle.std.proofs.Common.{◌≡◌, length, map, take}
+use Rattle.taskscript.specs.Machines.{softint_names}
+use Rattle.taskscript.specs.Records as records
+use Rattle.execsim.specs.Views.{softint_view}
+use Rattle.execsim.proofs.bodies.reset_softints.Given as goal
+
+abbrev pub invariant-loop-i : goal.invariant-loop-i
+invariant-loop-i l = record {
+  same : take l.i (map softint_view l.softints.items) ≡ take l.i (map records.softint_view l.file);
+  names : softint_names (map softint_view l.softints.items) ≡ softint_names (map softint_view l.initial.softints.items);
+  pris : map (λ s. s.pri) (map softint_view l.softints.items) ≡ map (λ s. s.pri) (map softint_view l.initial.softints.items);
+  count : length l.softints.items ≡ length l.file;
+}

@@ -1,0 +1,19 @@
+-- The proof of `Kernel::quiet_steps`: steps of a settled machine that ask nothing of Exec.
+use Rattle.std.proofs.Common.{ap, sym, ◌∙◌}
+use Rattle.std.specs.Prelude.{is_some}
+use Rattle.execlist.specs.Order.{first}
+use Rattle.execsim.specs.Agreement.{Seen}
+use Rattle.execsim.proofs.Settling.{idle_steps, no_step, none_caused}
+use Rattle.execsim.proofs.kernel.Kernel.quiet_steps.Goals as goal
+
+pub returns-then-any_caused-clause-follows : goal.returns-then-any_caused-clause-follows
+returns-then-any_caused-clause-follows g c = no_step c.args.self.now
+
+pub returns-in-None-clause-follows : goal.returns-in-None-clause-follows
+returns-in-None-clause-follows g c = λ tape. idle_steps c.args.most tape c.requires
+    (none_caused c.args.self.now (ap (λ (m : Seen). is_some (first m.pending.caused)) (sym c.self.view_is) ∙ sym c.any_caused.ensures ∙ c.if-any_caused.false))
+    (sym c.running.ensures.value ∙ c.in-None.is)
+
+pub plain_words-requires-clause-uncaused : goal.plain_words-requires-clause-uncaused
+plain_words-requires-clause-uncaused g c =
+    none_caused c.args.self.now (ap (λ (m : Seen). is_some (first m.pending.caused)) (sym c.self.view_is) ∙ sym c.any_caused.ensures ∙ c.if-any_caused.false)

@@ -1,0 +1,13 @@
+-- A machine in which nothing is due that a settle would do.
+use Rattle.std.specs.Prelude.{◌≡◌, false, is_some, None}
+use Rattle.execlist.specs.Disciplines.{by_priority}
+use Rattle.scheduler.specs.Dispatch.{rescheduled, switch_of}
+use Rattle.softint.specs.Sources.{highest}
+use Rattle.execsim.specs.Agreement.{Seen}
+
+-- no alert has stopped the machine, no source asks to be served, no switch is due, and no quantum begins anew
+pub record IsSettled (seen : Seen) : Type 0 where
+  pub going : seen.stopped ≡ false
+  pub unasked : is_some (highest seen.pending.latches) ≡ false
+  pub unswitched : switch_of by_priority seen.schedule ≡ None
+  pub stays : rescheduled by_priority seen.schedule ≡ seen.schedule

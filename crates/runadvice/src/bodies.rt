@@ -1,0 +1,103 @@
+//! Which bodies of interrupts have run, by the lines that they printed. A body runs straight to its end, so each of its commands that print has
+//! a line, in their order, up to an alert.
+use crate::page::Spot;
+use crate::step::prints;
+use taskscript::{Command, MachineFile, Owner};
+
+/// A body that has begun.
+#[derive(Clone, Copy)]
+pub struct Begun<'a> {
+    /// What has it, and its number among all that are of its kind, from 0.
+    pub owner: Owner,
+    pub item: usize,
+    pub code: &'a [Command],
+    /// How many lines were printed after the one that says that it begins.
+    pub lines: usize,
+}
+
+impl<'a> Begun<'a> {
+    /// The same, after one line more.
+    fn with_line(self) -> Begun<'a> {
+        Begun {
+            lines: self.lines.saturating_add(1),
+            ..self
+        }
+    }
+
+    /// The place of the command whose alert was the last line.
+    pub fn alerted_place(self) -> usize {
+        printing_place(self.code, self.lines.saturating_sub(1))
+    }
+}
+
+/// The code of what has a body.
+fn code_of<'a>(file: &'a MachineFile, owner: Owner, item: usize) -> Option<&'a [Command]> {
+    Some(match owner {
+        Owner::Task => &file.tasks().get(item)?.code,
+        Owner::Server => &file.servers().get(item)?.code,
+        Owner::Softint => &file.softints().get(item)?.code,
+    })
+}
+
+/// A command of a file.
+pub fn command_at<'a>(file: &'a MachineFile, spot: Spot) -> Option<&'a Command> {
+    code_of(file, spot.owner, spot.item)?.get(spot.place)
+}
+
+/// The place of the command of some code that prints its line after that many others; the number of commands if there is none.
+fn printing_place(code: &[Command], lines: usize) -> usize {
+    let mut left = lines;
+    for (place, command) in code.iter().enumerate() {
+        if prints(command.word) {
+            if left == 0 {
+                return place;
+            }
+            left = left.saturating_sub(1);
+        }
+    }
+    code.len()
+}
+
+/// The body that begins with a line of the trace, if one does.
+pub fn begun_by<'a>(file: &'a MachineFile, line: &str) -> Option<Begun<'a>> {
+    let (kind, name) = line.split_once(" ")?;
+    let (owner, item) = if kind == "server" {
+        let item = file
+            .servers()
+            .iter()
+            .position(|one| name == one.name.as_str())?;
+        (Owner::Server, item)
+    } else if kind == "softint" {
+        let item = file
+            .softints()
+            .iter()
+            .position(|one| name == one.name.as_str())?;
+        (Owner::Softint, item)
+    } else {
+        return None;
+    };
+    Some(Begun {
+        owner,
+        item,
+        code: code_of(file, owner, item)?,
+        lines: 0,
+    })
+}
+
+/// The body that runs after a line, if the one before it was `last`.
+pub fn after_line<'a>(last: Option<Begun<'a>>, next: Option<Begun<'a>>) -> Option<Begun<'a>> {
+    match (next, last) {
+        (Some(body), _) => Some(body),
+        (None, Some(body)) => Some(body.with_line()),
+        (None, None) => None,
+    }
+}
+
+/// The body that was the last to begin in some lines of the trace.
+pub fn last_begun<'a>(file: &'a MachineFile, text: &str) -> Option<Begun<'a>> {
+    let mut last = None;
+    for line in text.lines() {
+        last = after_line(last, begun_by(file, line));
+    }
+    last
+}

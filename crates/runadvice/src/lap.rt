@@ -1,0 +1,191 @@
+//! Whether the tasks of a machine run without end: whether some steps more bring it back to what it shows now.
+ghost use Rattle.std.specs.Prelude.{◌≡◌, false, OnOk};
+ghost use Rattle.exectrace.specs.declared.sinks.SinkState.{SinkState};
+ghost use Rattle.execsim.specs.Time.{HasTimeFor};
+
+use crate::course::{Course, RECENT};
+use crate::room::Room;
+use crate::scene::Linked;
+use crate::snapshot::{memory_shown, tasks_shown};
+use crate::step::{Turn, prints};
+use execsim::Flow;
+use std::alloc::{AllocError, Global};
+use taskscript::{Event, PlainWord, PortWord, Word};
+
+/// How often all that the memory shows is compared.
+const MOST_COMPARED: usize = 4;
+
+/// The part of a task's code that was run, by its first and its last place.
+#[derive(Clone, Copy, Debug, PartialEq, Eq)]
+pub struct Stretch {
+    pub task: usize,
+    pub first: usize,
+    pub last: usize,
+}
+
+/// What some steps did.
+#[derive(Drop)]
+pub struct Lap {
+    /// The tasks that did them, in the order of their first step.
+    pub stretches: Vec<Stretch>,
+    /// Whether one was a call.
+    pub has_call: bool,
+    /// Whether one printed a value by Print.
+    pub prints: bool,
+    /// Whether one was a task that went on to wait.
+    pub waits: bool,
+    /// Whether one was a software interrupt.
+    pub has_softint: bool,
+    /// Whether one made a port public, or the other way, which is not compared.
+    is_hidden: bool,
+}
+
+impl Lap {
+    /// No step.
+    pub fn new(alloc: Global) -> Lap {
+        Lap {
+            stretches: Vec::new(alloc),
+            has_call: false,
+            prints: false,
+            waits: false,
+            has_softint: false,
+            is_hidden: false,
+        }
+    }
+
+    /// Whether a command of a task is in the part of its code that was run.
+    pub fn has(&self, turn: Turn) -> bool {
+        self.stretches.iter().any(|stretch| {
+            stretch.task == turn.task && stretch.first <= turn.place && turn.place <= stretch.last
+        })
+    }
+
+    /// Adds the place of a command.
+    fn add_place(&mut self, turn: Turn) -> Result<(), AllocError> {
+        for stretch in self.stretches.iter_mut() {
+            if stretch.task == turn.task {
+                stretch.first = stretch.first.min(turn.place);
+                stretch.last = stretch.last.max(turn.place);
+                return Ok(());
+            }
+        }
+        self.stretches.push(Stretch {
+            task: turn.task,
+            first: turn.place,
+            last: turn.place,
+        })?;
+        Ok(())
+    }
+
+    /// Adds a step of a task.
+    pub fn add(&mut self, turn: Turn, word: Word) -> Result<(), AllocError> {
+        self.has_call = self.has_call || prints(word);
+        self.prints = self.prints || matches!(word, Word::Plain(PlainWord::Print));
+        self.is_hidden = self.is_hidden
+            || matches!(word, Word::Ports(PortWord::AddPort | PortWord::RemPort));
+        self.add_place(turn)
+    }
+}
+
+/// Does one step more; whether no alert has stopped the machine. The room holds what it printed.
+fn go_on(machine: &mut Linked, room: &mut Room) -> Result<bool, AllocError>
+    requires going { machine.old.failed ≡ false }
+    requires good { room.old.state ≡ SinkState.Good }
+    requires time { HasTimeFor 0 machine.old.seen }
+    ensures going { OnOk result (machine.new.failed ≡ false) }
+    ensures good { OnOk result (room.new.state ≡ SinkState.Good) }
+    ensures time { OnOk result (HasTimeFor 0 machine.new.seen) }
+{
+    room.bytes.clear();
+    match machine.event(Event::Run(1), room) {
+        Ok(flow) => Ok(flow == Flow::Going),
+        Err(_) => Err(AllocError),
+    }
+}
+
+/// The task that runs, at its next command.
+pub fn turn_of(machine: &Linked) -> Option<Turn> {
+    let task = machine.view().running?;
+    let place = machine.task(task)?.place;
+    Some(Turn { task, place })
+}
+
+/// Adds what the next step is to do: the command of a task, or a software interrupt; whether it is one of them.
+fn add_next(
+    lap: &mut Lap,
+    machine: &Linked,
+    course: &Course<'_>,
+    turn: Option<Turn>,
+) -> Result<bool, AllocError> {
+    let Some(turn) = turn else {
+        lap.has_softint = true;
+        return Ok(machine.caused_after(None).is_some());
+    };
+    match course.command(turn) {
+        None => Ok(false),
+        Some(command) => {
+            lap.add(turn, command.word)?;
+            Ok(!lap.is_hidden)
+        }
+    }
+}
+
+/// Whether a task waits in its call.
+fn is_waiting(machine: &Linked, turn: Option<Turn>) -> bool {
+    match turn {
+        None => false,
+        Some(turn) => machine.call(turn.task).is_some(),
+    }
+}
+
+/// Whether a machine shows again what it showed of its tasks.
+fn shows_again(
+    alloc: Global,
+    machine: &Linked,
+    running: Option<Turn>,
+    tasks: &str,
+) -> Result<bool, AllocError> {
+    if turn_of(machine) != running {
+        return Ok(false);
+    }
+    Ok(tasks_shown(alloc, machine)?.as_str() == tasks)
+}
+
+/// The steps that bring a machine in which a task runs back to what it shows now, if some steps do. It goes on, and where no steps do it
+/// shows something else then.
+pub fn lap_of(
+    alloc: Global,
+    machine: &mut Linked,
+    course: &Course<'_>,
+    room: &mut Room,
+) -> Result<Option<Lap>, AllocError>
+    requires going { machine.old.failed ≡ false }
+    requires good { room.old.state ≡ SinkState.Good }
+    requires time { HasTimeFor 0 machine.old.seen }
+{
+    let running = turn_of(machine);
+    let tasks = tasks_shown(alloc, machine)?;
+    let memory = memory_shown(alloc, machine)?;
+    let mut lap = Lap::new(alloc);
+    let mut compared = 0usize;
+    for _step in 0..RECENT {
+        let turn = course.turn(machine);
+        if !add_next(&mut lap, machine, course, turn)? {
+            return Ok(None);
+        }
+        if !go_on(machine, room)? {
+            return Ok(None);
+        }
+        lap.waits = lap.waits || is_waiting(machine, turn);
+        if shows_again(alloc, machine, running, tasks.as_str())? {
+            if memory_shown(alloc, machine)?.as_str() == memory.as_str() {
+                return Ok(Some(lap));
+            }
+            compared = compared.saturating_add(1);
+            if compared >= MOST_COMPARED {
+                return Ok(None);
+            }
+        }
+    }
+    Ok(None)
+}

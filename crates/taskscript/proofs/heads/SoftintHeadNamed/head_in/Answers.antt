@@ -1,0 +1,34 @@
+-- The proof of `SoftintHeadNamed::head_in`.
+use Rattle.std.proofs.Common.{sym, ◌∙◌, ap, Bool, codes}
+use Rattle.std.proofs.lemmas.Result.{err_from_is_err_and}
+use Rattle.toml.specs.Data.{get_member}
+use Rattle.toml.specs.View.{table_view}
+use Rattle.taskscript.specs.declared.place.Key.TheVariants as key
+use Rattle.taskscript.specs.declared.fault.FileFault.TheVariants.{UnknownKey}
+use Rattle.execlist.specs.Order.{first}
+use Rattle.taskscript.specs.Faults.{check}
+use Rattle.taskscript.specs.File.{softint_keys}
+use Rattle.taskscript.specs.Numbering.{texts}
+use Rattle.taskscript.specs.Places.{at, key_at, unknown_key_at}
+use Rattle.taskscript.specs.Tree.{required, keys_are_among, softint_pri_faults, name_faults}
+use Rattle.taskscript.proofs.Firsts.{first_some, skip}
+use Rattle.taskscript.proofs.heads.SoftintHeadNamed.head_in.Goals as goal
+
+pub returns-in_err-name-clause-judged : goal.returns-in_err-name-clause-judged
+returns-in_err-name-clause-judged c =
+    let p = err_from_is_err_and c.from_residual.result c.from_residual.ensures.1 in
+    let f = c.in_err-name.field-0.0 in
+    let t = table_view c.args.table.now in
+    let keys = ap (λ (b : Bool). first (at (unknown_key_at c.args.of) (check b UnknownKey))) (sym c.has_only.ensures ∙ c.if-not-has_only.false) in
+    rw (p.1, p.2) (skip (at (unknown_key_at c.args.of) (check (keys_are_among softint_keys t) UnknownKey)) _ f keys
+    (λ ne. first_some (at (key_at c.args.of key.Name) (required (name_faults (texts c.args.names.now.items)) (get_member (codes "name") t))) _ f (c.in_err-name.ensures.judged ne)))
+
+pub returns-in_err-pri-clause-judged : goal.returns-in_err-pri-clause-judged
+returns-in_err-pri-clause-judged c =
+    let p = err_from_is_err_and c.from_residual-in_err-pri.result c.from_residual-in_err-pri.ensures.1 in
+    let f = c.in_err-pri.field-0.0 in
+    let t = table_view c.args.table.now in
+    let keys = ap (λ (b : Bool). first (at (unknown_key_at c.args.of) (check b UnknownKey))) (sym c.has_only.ensures ∙ c.if-not-has_only.false) in
+    rw (p.1, p.2) (skip (at (unknown_key_at c.args.of) (check (keys_are_among softint_keys t) UnknownKey)) _ f keys
+    (skip (at (key_at c.args.of key.Name) (required (name_faults (texts c.args.names.now.items)) (get_member (codes "name") t))) _ f c.in_ok-name.ensures.judged.0
+    (λ ne. first_some (at (key_at c.args.of key.Pri) (required softint_pri_faults (get_member (codes "pri") t))) _ f (c.in_err-pri.ensures ne))))

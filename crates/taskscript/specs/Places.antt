@@ -1,0 +1,84 @@
+-- The places of a machine file, and faults with their places.
+use Rattle.std.specs.Prelude.{ℕ, codes, List, map, Result, Ok, Err}
+use Rattle.taskscript.specs.declared.fault.FileFault.{FileFault}
+use Rattle.taskscript.specs.declared.place.Array.{Array}
+use Rattle.taskscript.specs.declared.place.Array.TheVariants.{Region, Library, Softint, Server, Task}
+use Rattle.taskscript.specs.declared.place.Key.{Key}
+use Rattle.taskscript.specs.declared.place.Key.TheVariants as key
+use Rattle.taskscript.specs.declared.place.TablePlace.{TablePlace}
+use Rattle.taskscript.specs.declared.place.TreePlace.TheVariants as tree
+use Rattle.taskscript.specs.declared.place.Owner.{Owner}
+use Rattle.taskscript.specs.declared.place.Place.{Place}
+use Rattle.taskscript.specs.declared.place.Place.TheVariants.{Tree, Line}
+use Rattle.taskscript.specs.declared.refused.Refused.{Refused}
+
+-- ---- keys
+
+-- the key of an array
+abbrev pub array_key : Array → List ℕ
+array_key Region = codes "region"
+array_key Library = codes "library"
+array_key Softint = codes "softint"
+array_key Server = codes "server"
+array_key Task = codes "task"
+
+-- the greatest number of items
+abbrev pub limit : Array → ℕ
+limit Region = 8
+limit Library = 32
+limit Softint = 32
+limit Server = 32
+limit Task = 64
+
+-- the text of a key
+abbrev pub key_text : Key → List ℕ
+key_text key.Quantum = codes "quantum"
+key_text key.TickMicros = codes "tick_micros"
+key_text key.Pool = codes "pool"
+key_text key.Base = codes "base"
+key_text key.Size = codes "size"
+key_text key.Attrs = codes "attrs"
+key_text key.Pri = codes "pri"
+key_text key.Name = codes "name"
+key_text key.Version = codes "version"
+key_text key.Source = codes "source"
+key_text key.Claim = codes "claim"
+key_text key.Start = codes "start"
+key_text key.Code = codes "code"
+
+-- ---- places
+
+-- a key that a table may not have
+abbrev pub unknown_key_at : TablePlace → Place
+unknown_key_at of = Tree (tree.UnknownKey of)
+
+-- what a key of a table holds, or that it is absent
+abbrev pub key_at : TablePlace → Key → Place
+key_at of k = Tree (tree.Key of k)
+
+-- an array as a whole
+abbrev pub array_at : Array → Place
+array_at of = Tree (tree.Array of)
+
+-- the item of that number of an array
+abbrev pub item_at : Array → ℕ → Place
+item_at of number = Tree (tree.Item of number)
+
+-- the line of that number, from 0, of the body of an item
+abbrev pub line_at : Owner → ℕ → ℕ → Place
+line_at owner number line = Line (record { owner = owner; item = number; line = line })
+
+-- ---- faults with their places
+
+-- a fault at a place
+abbrev pub refused : Place → FileFault → Refused
+refused place fault = record { fault = fault; place = place }
+
+-- the faults of one place
+abbrev pub at : Place → List FileFault → List Refused
+at place faults = map (refused place) faults
+
+-- what was read, or the fault without its place
+abbrev pub without_place : {X : Type 0} → Result X Refused → Result X FileFault
+without_place (Ok x) = Ok x
+without_place (Err r) = Err r.fault

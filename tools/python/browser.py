@@ -1,0 +1,122 @@
+"""Chromium without a window, which is asked for things by a pipe."""
+import base64
+import json
+import os
+import select
+import shutil
+import subprocess
+import tempfile
+
+NAMES = ("chromium", "chromium-browser", "google-chrome")
+# No window, no network of its own, and no sandbox, which cannot be had in every container.
+WORDS = ["--headless=new", "--no-sandbox", "--disable-gpu", "--hide-scrollbars", "--no-first-run", "--disable-background-networking", "--remote-debugging-pipe"]
+# How long the browser may say nothing, in seconds: a machine with much else to do takes its time.
+PATIENCE = 180
+
+
+def found():
+    """The path of a browser, or None."""
+    return next((shutil.which(name) for name in NAMES if shutil.which(name)), None)
+
+
+class Failure(Exception):
+    """What a page threw, or what the browser refused."""
+
+
+class Browser:
+    """One page in a browser of its own, which is ended with it."""
+
+    def __init__(self, url, width=1280, height=900, dark=False):
+        self.profile = tempfile.TemporaryDirectory(ignore_cleanup_errors=True)
+        to_it, self.write = os.pipe()
+        self.read, from_it = os.pipe()
+        # it reads from 3 and writes to 4
+        words = ["sh", "-c", f'exec "$@" 3<&{to_it} 4>&{from_it}', "sh", found(), *WORDS, f"--user-data-dir={self.profile.name}", "about:blank"]
+        self.process = subprocess.Popen(words, pass_fds=(to_it, from_it), stdout=subprocess.DEVNULL, stderr=subprocess.DEVNULL, env=os.environ | {"TMPDIR": self.profile.name})
+        os.close(to_it)
+        os.close(from_it)
+        self.buffer, self.number, self.session = b"", 0, None
+        target = next(it for it in self.ask("Target.getTargets")["targetInfos"] if it["type"] == "page")
+        self.session = self.ask("Target.attachToTarget", targetId=target["targetId"], flatten=True)["sessionId"]
+        self.look(width, height, dark)
+        self.ask("Page.enable")
+        self.open(url)
+
+    def __enter__(self):
+        return self
+
+    def __exit__(self, *_why):
+        self.process.terminate()
+        try:
+            self.process.wait(10)
+        except subprocess.TimeoutExpired:
+            self.process.kill()
+        os.close(self.write)
+        os.close(self.read)
+        self.profile.cleanup()
+
+    def message(self):
+        """The next message of the browser."""
+        while b"\0" not in self.buffer:
+            if not select.select([self.read], [], [], PATIENCE)[0]:
+                raise Failure(f"the browser says nothing for {PATIENCE} s")
+            more = os.read(self.read, 1 << 20)
+            if not more:
+                raise Failure("the browser has ended")
+            self.buffer += more
+        text, _, self.buffer = self.buffer.partition(b"\0")
+        return json.loads(text)
+
+    def ask(self, method, **parameters):
+        self.number += 1
+        asked = {"id": self.number, "method": method, "params": parameters} | ({"sessionId": self.session} if self.session else {})
+        text = json.dumps(asked).encode() + b"\0"
+        while text:
+            text = text[os.write(self.write, text) :]
+        while True:
+            got = self.message()
+            if got.get("id") == self.number:
+                if "error" in got:
+                    raise Failure(f"{method}: {got['error']['message']}")
+                return got["result"]
+
+    def open(self, url):
+        self.ask("Page.navigate", url=url)
+
+    def look(self, width, height, dark=False):
+        """Sets the size of the page, and whether it is dark."""
+        self.ask("Emulation.setDeviceMetricsOverride", width=width, height=height, deviceScaleFactor=1, mobile=False)
+        self.ask("Emulation.setEmulatedMedia", features=[{"name": "prefers-color-scheme", "value": "dark" if dark else "light"}])
+
+    def value(self, expression):
+        """What an expression of JavaScript comes to, when its promise is kept."""
+        got = self.ask("Runtime.evaluate", expression=expression, awaitPromise=True, returnByValue=True)
+        if "exceptionDetails" in got:
+            details = got["exceptionDetails"]
+            raise Failure(details.get("exception", {}).get("description", details["text"]))
+        return got["result"].get("value")
+
+    def wait(self, expression, seconds=150):
+        """Waits until an expression holds; answers whether it does."""
+        return self.value(f"new Promise(done => {{ const end = performance.now() + {1000 * seconds}, look = () => {{ let is = false; try {{ is = {expression}; }} catch {{}} is || performance.now() > end ? done(!!is) : setTimeout(look, 5); }}; look(); }})")
+
+    def key(self, key, code=None, modifiers=0, text=""):
+        """Presses a key and lets it go: 1 is Alt, 2 is Ctrl, 8 is Shift."""
+        numbers = {"Enter": 13, "Tab": 9, "Escape": 27, "ArrowLeft": 37, "ArrowRight": 39, "ArrowUp": 38, "ArrowDown": 40, "Home": 36, "End": 35}
+        it = {"key": key, "code": code or key, "modifiers": modifiers, "windowsVirtualKeyCode": numbers.get(key, 0)}
+        self.ask("Input.dispatchKeyEvent", type="keyDown", **it, **({"text": text} if text else {}))
+        self.ask("Input.dispatchKeyEvent", type="keyUp", **it)
+
+    def type(self, text):
+        self.ask("Input.insertText", text=text)
+
+    def click(self, selector):
+        """Clicks the middle of a part of the page."""
+        place = self.value(f"(e => {{ e.scrollIntoView({{ block: 'nearest' }}); const r = e.getBoundingClientRect(); return [r.x + r.width / 2, r.y + r.height / 2]; }})(document.querySelector({json.dumps(selector)}))")
+        for kind in ("mousePressed", "mouseReleased"):
+            self.ask("Input.dispatchMouseEvent", type=kind, x=place[0], y=place[1], button="left", clickCount=1)
+
+    def shoot(self, to, whole=False):
+        """Takes a screenshot, of the whole page or of what is in sight."""
+        with open(to, "wb") as file:
+            file.write(base64.b64decode(self.ask("Page.captureScreenshot", format="png", captureBeyondViewport=whole)["data"]))

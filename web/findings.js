@@ -1,0 +1,37 @@
+// What execsim_check says of the texts: findings that begin with a file, a line and a column.
+
+const PLACE = /^(machine\.toml|run\.events)(?::(\d+))?(?::(\d+))?: (.*)$/;
+
+/** The findings of a text, each with its place, the lines that follow, and what is marked. */
+function findingsOf(text) {
+  const found = [];
+  for (const line of text.split('\n')) {
+    const match = line.match(PLACE);
+    if (match) found.push({ file: match[1], line: Number(match[2] ?? 0), column: Number(match[3] ?? 0), length: 0, head: match[4], rest: [] });
+    else if (found.length && line) withLine(found.at(-1), line.replace(/^ {4}/, ''));
+  }
+  for (const one of found) one.kind = kindOf(one.head);
+  return found;
+}
+
+/** Adds a line to a finding: one with marks says how long the part is, and what is wrong with it. */
+function withLine(finding, line) {
+  const marks = line.match(/^( *)(\^+)(?: (.*))?$/), place = line.match(/ at line (\d+), column (\d+)$/);
+  if (marks) {
+    [finding.from, finding.length, finding.why] = [marks[1].length, marks[2].length, marks[3] ?? ''];
+    if (finding.file === 'run.events') finding.column ||= finding.from + 1; // the line is shown whole
+    return;
+  }
+  if (place && !finding.line) [finding.line, finding.column, finding.length] = [Number(place[1]), Number(place[2]), 1];
+  finding.rest.push(line);
+}
+
+/** A fault of a text, an alert, a warning or a remark. */
+function kindOf(head) {
+  if (/(^|: )alert /.test(head)) return 'alert';
+  if (/(^|: )note\b/.test(head)) return 'remark';
+  return /(^|: )warning\b/.test(head) ? 'warning' : 'fault';
+}
+
+/** What is said below the marked part. */
+function noteOf(finding) { return finding.why || finding.rest.at(-1) || finding.head; }

@@ -1,0 +1,47 @@
+// The worker: it makes one call of the library at a time. Each call begins with an empty heap.
+const TOO_LONG = 5, PAGE = 65536;
+let compiled, instance;
+
+/** Grows a memory of 64 bits, whose pages older engines do not count in big integers. */
+function grow(memory, bytes) {
+  const pages = Math.ceil(bytes / PAGE) - memory.buffer.byteLength / PAGE;
+  if (pages <= 0) return;
+  try {
+    memory.grow(BigInt(pages));
+  } catch (why) {
+    if (!(why instanceof TypeError)) throw why;
+    memory.grow(pages);
+  }
+}
+
+/** Makes a call over these texts and numbers, with a buffer of so many bytes; answers the status and what the buffer has. */
+function callWith(room, name, texts, numbers) {
+  instance ??= new WebAssembly.Instance(compiled, {});
+  const { exports } = instance, { memory } = exports;
+  let at = Number(exports.__heap_base.value);
+  const take = bytes => { const place = Math.ceil(at / 16) * 16; at = place + bytes; return place; };
+  const places = texts.map(text => take(text.length)), out = take(room), length = take(8);
+  grow(memory, at);
+  exports.heap_from(BigInt(at));
+  texts.forEach((text, i) => new Uint8Array(memory.buffer).set(text, places[i]));
+  const given = texts.flatMap((text, i) => [BigInt(places[i]), BigInt(text.length)]);
+  const status = exports[name](...given, ...numbers, BigInt(out), BigInt(room), BigInt(length));
+  const filled = Number(new DataView(memory.buffer).getBigUint64(length, true));
+  if (status === TOO_LONG && filled > room) return callWith(filled, name, texts, numbers);
+  return { status, bytes: new Uint8Array(memory.buffer, out, Math.min(filled, room)).slice() };
+}
+
+onmessage = ({ data: { module, id, name, texts, numbers, room } }) => {
+  if (module) {
+    compiled = module;
+    return;
+  }
+  const begun = performance.now();
+  try {
+    const { status, bytes } = callWith(room, name, texts, numbers);
+    postMessage({ id, status, bytes, took: performance.now() - begun, memory: instance.exports.memory.buffer.byteLength }, [bytes.buffer]);
+  } catch (why) {
+    instance = undefined;
+    postMessage({ id, broken: String(why) });
+  }
+};
