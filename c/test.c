@@ -382,8 +382,8 @@ static void refuse_calls(void) {
     say(many_extras, TWO, "run 4\n", 0, 0, EXECSIM_NOT_THERE, "extra is a number from 0 to 8");
     say(odd_kinds, TWO, "run 4\n", 0, 0, EXECSIM_NOT_THERE, "kinds is a sum of 1 (PORTS), 2 (ticks) and 4 (EXTER), or 0");
     say(odd_sight, TWO, "run 4\n", 0, 0, EXECSIM_NOT_THERE, "see is 0 (the end), 1 (the prints) or 2 (the trace)");
-    say(way_of, TWO, "run 4\n", 0, 2, EXECSIM_NOT_THERE, "--events 2: there are 1 outcomes");
-    say(way_of, TWO, "run 4\n", 0, 0, EXECSIM_NOT_THERE, "--events 0: there are 1 outcomes");
+    say(way_of, TWO, "run 4\n", 0, 2, EXECSIM_NOT_THERE, "--events 2: there is 1 outcome");
+    say(way_of, TWO, "run 4\n", 0, 0, EXECSIM_NOT_THERE, "--events 0: there is 1 outcome");
 }
 
 #ifdef WRAPPED

@@ -52,7 +52,7 @@ fn command<'a>(alloc: Global) -> Result<Command<'a>, AllocError> {
         )
         .override_usage("execexplore [OPTIONS] MACHINE EVENTS\n       execexplore --sum REPORT..")
         .after_help(
-            "Example: `execexplore --extra 2 lost.toml lost.events` runs the events of lost.events with at most two more ticks, anywhere among them.\n`execexplore --extra 2 --events 3 lost.toml lost.events >third.events` keeps the events of the first way of outcome 3, and\n`execsim lost.toml third.events` prints the trace of that run.",
+            "Example: `execexplore --extra 2 lost.toml lost.events` runs the events of lost.events with at most two more ticks, anywhere among them.\n`execexplore --extra 2 --events 3 lost.toml lost.events >third.events` keeps the events of the first way of outcome 3, and\n`execsim lost.toml third.events` prints the trace of that run.\n\nexecexplore --version, with nothing else, prints the version.",
         )
         .no_binary_name(true)
         .arg(option(

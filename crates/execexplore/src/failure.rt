@@ -151,6 +151,7 @@ impl fmt::Display for Failure<'_> {
                 f,
                 "there are ways with {ticks} ticks, and at most 1000000 are run; ask for fewer extras, or shorten the events"
             ),
+            Failure::NoOutcome(number, 1) => { write!(f, "--events {number}: there is 1 outcome") }
             Failure::NoOutcome(number, outcomes) => {
                 write!(f, "--events {number}: there are {outcomes} outcomes")
             }

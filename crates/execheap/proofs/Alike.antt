@@ -1,5 +1,5 @@
 -- Two lists that are the same as far as they were compared.
-use Rattle.std.proofs.Common.{◌≡◌, ℕ, zero, suc, ◌+◌, List, [], ◌∷◌, Bool, true, false, not, length, take, drop, get_or, refl, ap, ◌∙◌, subst, arith, Option, Some, None, is_some, unwrap_or}
+use Rattle.std.proofs.Common.{◌≡◌, ℕ, zero, suc, ◌+◌, List, [], ◌∷◌, Bool, true, false, not, length, take, drop, get_or, refl, ap, sym, ◌∙◌, subst, arith, Option, Some, None, is_some, unwrap_or}
 use Rattle.std.specs.Prelude.{slice_get}
 
 module _ {A : Type 0} where
@@ -28,3 +28,12 @@ module _ {A : Type 0} where
   pub none_of : (o : Option A) (none : Bool) → is_some o ≡ not none → none ≡ true → o ≡ None
   none_of None none is so = refl
   none_of (Some a) none is so = let bad : true ≡ false = is ∙ ap not so in cc
+
+  -- past the last one there is none
+  pub past_end : (xs : List A) → slice_get xs (length xs) ≡ None
+  past_end [] = refl
+  past_end (x ∷ xs) = past_end xs
+
+  pub none_is : (o : Option A) (none : Bool) → is_some o ≡ not none → o ≡ None → none ≡ true
+  none_is o true is so = refl
+  none_is o false is so = let bad : true ≡ false = sym is ∙ ap is_some so in cc

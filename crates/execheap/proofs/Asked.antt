@@ -1,4 +1,4 @@
--- Libraries that are asked by number are expunged under low memory as those by address do.
+-- Libraries that are asked by number are expunged under low memory as those by address are.
 use Rattle.std.proofs.Common.{◌≡◌, ℕ, List, [], ◌∷◌, Bool, true, false, length, map, refl, ap, sym, ◌∙◌, subst}
 use Rattle.std.specs.Prelude.{Some, None, Option, is_some, ◌&&◌, not, nat_eq, if◌then◌else◌}
 use Rattle.std.specs.Option.{option_map}
@@ -13,7 +13,7 @@ use Rattle.execlib.specs.Libraries.{Lent, asked_each, asked_one, fits, gives_way
 use Rattle.execmodel.specs.GivingWay as model
 use Rattle.execmodel.specs.GivingWay.{after_asking_for_object, gives_way_at}
 use Rattle.execmodel.specs.Memory.{place_for, placed}
-use Rattle.execmodel.specs.State.{Plain}
+use Rattle.execmodel.specs.State.{Object, Plain}
 use Rattle.execmodel.specs.Objects.{is_allowed, place_for_object}
 use Rattle.execheap.specs.declared.tag.Kind.{Kind}
 use Rattle.execheap.specs.declared.tag.Kind.TheVariants as variant
@@ -24,6 +24,7 @@ use Rattle.execheap.proofs.Asking.{IsSettled, settled_after, settled_now, settle
 use Rattle.execheap.proofs.Blocks.{fit_shown}
 use Rattle.execheap.proofs.Libraries.{base_shown}
 use Rattle.execheap.proofs.LibraryCalls.{removed_shown}
+use Rattle.execheap.proofs.Made.{IsMade, made_at}
 use Rattle.execheap.proofs.Plain.{plain_placed}
 use Rattle.execheap.proofs.Showing.{address_of, allowed_shown, place_shown}
 
@@ -143,9 +144,9 @@ pub record IsReady (kind : Kind) (s u : Numbered) : Type 0 where
   pub stocked : IsStocked (pool_of kind u.table)
   pub shown : shown_memory u ≡ after_asking_for_object (test_of kind) (size_of kind) (shown_memory s)
 
-module _ {s : Numbered} (kept : IsKept s) (sound : IsSound s.table) (formed : IsWellFormed s.table.memory.regions s.table.memory.blocks)
+module _ {s seen : Numbered} (view : s ≡ seen) (kept : IsKept s) (sound : IsSound s.table) (formed : IsWellFormed s.table.memory.regions s.table.memory.blocks)
     (kind : Kind) (stocked : IsStocked (pool_of kind s.table)) where
-  pub ready : IsReady kind s (readied kind s)
+  ready : IsReady kind s (readied kind s)
   unfolding after_asking_for_object
   ready = by_next (next_number (pool_of kind s.table)) refl where
     allowed : (o : Option ℕ) → next_number (pool_of kind s.table) ≡ o → (if is_some o then model.after_asking (size_of kind) 1 (shown_memory s) else shown_memory s)
@@ -166,16 +167,30 @@ module _ {s : Numbered} (kept : IsKept s) (sound : IsSound s.table) (formed : Is
           shown = after_shown kept (size_of kind) 1 (lent s.table.libs s.table.memory) now ∙ allowed (Some n) next;
         }
 
+  shown_ready : shown_memory (readied kind s) ≡ after_asking_for_object (test_of kind) (size_of kind) (shown_memory seen)
+  shown_ready = ready.shown ∙ ap (λ u. after_asking_for_object (test_of kind) (size_of kind) (shown_memory u)) view
+
   -- if an object is made, the model has it made
   pub place_made : (made : Option (ℕ × ℕ)) → made ≡ next_object kind (ready_for kind s.table)
-      → address_of made ≡ place_for_object (test_of kind) (size_of kind) (after_asking_for_object (test_of kind) (size_of kind) (shown_memory s))
+      → address_of made ≡ place_for_object (test_of kind) (size_of kind) (after_asking_for_object (test_of kind) (size_of kind) (shown_memory seen))
   place_made made is =
-      ap address_of is ∙ sym (place_shown (readied kind s) ready.sound kind ready.stocked) ∙ ap (place_for_object (test_of kind) (size_of kind)) ready.shown
+      ap address_of is ∙ sym (place_shown (readied kind s) ready.sound kind ready.stocked) ∙ ap (place_for_object (test_of kind) (size_of kind)) shown_ready
 
   -- if none is made, libraries may have been expunged under low memory all the same
   module _ (t : Tabled) (is : t ≡ with_object kind None (ready_for kind s.table)) where
     pub kept_unmade : IsKept (record s { table = t })
     kept_unmade = subst IsKept (λ i. record s { table = sym is i }) ready.kept
 
-    pub shown_unmade : shown_memory (record s { table = t }) ≡ after_asking_for_object (test_of kind) (size_of kind) (shown_memory s)
-    shown_unmade = ap (λ u. shown_memory (record s { table = u })) is ∙ ready.shown
+    pub shown_unmade : (object : Object) (place : Option ℕ) → place ≡ None
+        → shown_memory (record s { table = t }) ≡ placed (size_of kind) object place (after_asking_for_object (test_of kind) (size_of kind) (shown_memory seen))
+    shown_unmade object place none =
+        ap (λ u. shown_memory (record s { table = u })) is ∙ shown_ready
+        ∙ ap (λ o. placed (size_of kind) object o (after_asking_for_object (test_of kind) (size_of kind) (shown_memory seen))) (sym none)
+
+  module _ (n a : ℕ) (t : Tabled) (answer : Some (n, a) ≡ next_object kind (ready_for kind s.table)) (is : t ≡ with_object kind (Some (n, a)) (ready_for kind s.table)) where
+    pub made_ready : IsMade kind (readied kind s) n a t
+    made_ready = made_at {s = readied kind s} ready.kept ready.sound ready.formed kind ready.stocked n a t is answer
+
+  pub placed_ready : (a : ℕ) (object : Object) → placed (size_of kind) object (Some a) (shown_memory (readied kind s))
+      ≡ placed (size_of kind) object (Some a) (after_asking_for_object (test_of kind) (size_of kind) (shown_memory seen))
+  placed_ready a object = ap (placed (size_of kind) object (Some a)) shown_ready

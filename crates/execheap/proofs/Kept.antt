@@ -91,10 +91,6 @@ module _ {s : Numbered} (sound : IsSound s.table) (formed : IsWellFormed s.table
           ∙ freed_beside sound formed kind number a live variant.Port p (ports r p there) ∙ lives;
     }
 
-    -- what is freed is neither
-    pub about_other : kind_code variant.Request ≢ kind_code kind → kind_code variant.Port ≢ kind_code kind → (u : Numbered) → u.table ≡ without → IsAbout s u
-    about_other request port u is = about_freed u is (λ r p there e. absurd (request (ap kind_code e))) (λ r p there e. absurd (port (ap kind_code e)))
-
     pub kept_freed : (u : Numbered) → u.table ≡ without → u.sequences ≡ s.sequences → u.homes ≡ s.homes
         → ((k : Kind) → kind_code k ≢ kind_code kind → own_shape k u ≡ own_shape k s) → Fits (own_shape kind u) (pool_of kind without)
         → ((n : ℕ) → IsSome (home s.homes n) → variant.Node ≡ kind → n ≢ number)

@@ -23,7 +23,7 @@ use Rattle.execheap.specs.declared.tag.Tagged.{Tagged}
 use Rattle.execheap.specs.declared.tag.Tagged.TheVariants as tag
 use Rattle.execheap.specs.Tags.{library_in, tagged}
 use Rattle.execheap.specs.Table.{IsSound, IsTagged, base_at, library_at, place_of}
-use Rattle.execheap.specs.Numbered.{Numbered, object_of, shown_block, shown_entry, shown_heap, shown_library, shown_memory, shown_public, shown_tagged, shown_timer}
+use Rattle.execheap.specs.Numbered.{Numbered, object_of, shown_block, shown_entry, shown_heap, shown_memory, shown_tagged}
 use Rattle.execheap.proofs.Counting.{all_freed}
 use Rattle.execheap.proofs.Entries.{IsFound, all_found, all_then, all_with, map_same, put_shown, some_same, where_key_shown}
 use Rattle.execheap.proofs.Beside.{objects_kept}
@@ -194,16 +194,7 @@ module _ (s : Numbered) (sound : IsSound s.table) (formed : IsWellFormed s.table
   pub library_changed : (l : Loaded) → base_at i s.table.libs ≡ Some a
       → shown_memory (changed (Some l)) ≡ on_heap (with_library a l.count l.delayed_expunge) (shown_memory s)
   unfolding with_library
-  library_changed l lies = λ k. record {
-    regions = s.table.memory.regions;
-    libraries = map shown_library s.table.libs.known;
-    asks = s.table.libs.asks;
-    pool = s.table.pool;
-    tasks = s.tasks;
-    heap = heap_is k;
-    public = map (shown_public s) s.ports.public;
-    timer = shown_timer s;
-  } where
+  library_changed l lies = λ k. record (shown_memory s) { heap = heap_is k } where
     known : i < length s.table.libs.loaded
     known = lies_known i s.table.libs a lies
 
@@ -224,12 +215,7 @@ module _ (s : Numbered) (sound : IsSound s.table) (formed : IsWellFormed s.table
       → shown_memory (record s { table = record s.table { memory = allocated size (library_tag i) (Some a) s.table.memory; libs = with_loaded i (Some l) s.table.libs } })
       ≡ placed size (Library i l.count l.delayed_expunge) (Some a) (shown_memory s)
   unfolding shown_heap
-  library_placed l size absent known = λ k. record {
-    regions = s.table.memory.regions;
-    libraries = map shown_library s.table.libs.known;
-    asks = s.table.libs.asks;
-    pool = s.table.pool;
-    tasks = s.tasks;
+  library_placed l size absent known = λ k. record (shown_memory s) {
     heap = (
         sym (put_shown (shown_block new) a (round size, library_tag i) s.table.memory.blocks)
         ∙ ap (λ o. put nat_cmp a (record { size = round size; object = o }) (map (shown_entry new) s.table.memory.blocks))
@@ -237,8 +223,6 @@ module _ (s : Numbered) (sound : IsSound s.table) (formed : IsWellFormed s.table
         ∙ ap (put nat_cmp a (record { size = round size; object = Library i l.count l.delayed_expunge }))
         (map_same (shown_entry new) (shown_entry s) s.table.memory.blocks
         (all_then (λ (entry : ℕ × (ℕ × ℕ)) told. ap (λ o. (entry.0, record { size = entry.1.0; object = o })) (same (tagged entry.1.1) entry.0 told.0)) s.table.memory.blocks sound.matched.tagged))) k;
-    public = map (shown_public s) s.ports.public;
-    timer = shown_timer s;
   } where
     new : Numbered
     new = record s { table = record s.table { memory = allocated size (library_tag i) (Some a) s.table.memory; libs = with_loaded i (Some l) s.table.libs } }
@@ -254,17 +238,10 @@ module _ (s : Numbered) (sound : IsSound s.table) (formed : IsWellFormed s.table
   pub library_freed : base_at i s.table.libs ≡ Some a
       → shown_memory (record s { table = record s.table { memory = without_block a s.table.memory; libs = expunged i s.table.libs } }) ≡ freed a (shown_memory s)
   unfolding shown_heap
-  library_freed lies = λ k. record {
-    regions = s.table.memory.regions;
-    libraries = map shown_library s.table.libs.known;
-    asks = s.table.libs.asks;
-    pool = s.table.pool;
-    tasks = s.tasks;
+  library_freed lies = λ k. record (shown_memory s) {
     heap = (
         map_same (shown_entry new) (shown_entry s) (without_block a s.table.memory).blocks (all_but s.table.memory.blocks sound.matched.tagged)
         ∙ sym (where_key_shown (shown_block s) (λ other. not (nat_eq other a)) s.table.memory.blocks)) k;
-    public = map (shown_public s) s.ports.public;
-    timer = shown_timer s;
   } where
     new : Numbered
     new = record s { table = record s.table { memory = without_block a s.table.memory; libs = expunged i s.table.libs } }

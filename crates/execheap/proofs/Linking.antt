@@ -16,7 +16,7 @@ use Rattle.execheap.specs.declared.tag.Kind.TheVariants as variant
 use Rattle.execheap.specs.declared.tag.Tagged.{Tagged}
 use Rattle.execheap.specs.declared.tag.Tagged.TheVariants as tag
 use Rattle.execheap.specs.Tags.{tagged}
-use Rattle.execheap.specs.Numbered.{IsSound, IsSpace, Numbered, address_in, object_of, places, shown_entry, shown_heap, shown_library, shown_memory, shown_public, shown_tagged, shown_timer}
+use Rattle.execheap.specs.Numbered.{IsSound, IsSpace, Numbered, address_in, object_of, places, shown_entry, shown_heap, shown_memory, shown_tagged}
 use Rattle.execheap.specs.Changes as numbered
 use Rattle.execheap.proofs.Entries.{all_then}
 use Rattle.execheap.proofs.Mapped.{all_of_part_after, enqueue-map, find-map, first-map, last-map, members, part_after-map, part_before-map, put_after-map, without-map, without_absent, without_first-map, without_last-map}
@@ -32,16 +32,7 @@ use Rattle.execheap.proofs.Shown.{key_shown, nodes_shown, tells}
 heap_set : (s : Numbered) (sequences : List (List ℕ)) (homes : List (Option ℕ)) (heap : Heap)
     → shown_heap (record s { sequences = sequences; homes = homes }) ≡ heap
     → shown_memory (record s { sequences = sequences; homes = homes }) ≡ on_heap (λ old. heap) (shown_memory s)
-heap_set s sequences homes heap is = λ i. record {
-  regions = s.table.memory.regions;
-  libraries = map shown_library s.table.libs.known;
-  asks = s.table.libs.asks;
-  pool = s.table.pool;
-  tasks = s.tasks;
-  heap = is i;
-  public = map (shown_public s) s.ports.public;
-  timer = shown_timer s;
-}
+heap_set s sequences homes heap is = λ i. record (shown_memory s) { heap = is i }
 
 module _ {s : Numbered} (sound : IsSound s) (space : IsSpace s) where
   -- ---- nodes of a live list

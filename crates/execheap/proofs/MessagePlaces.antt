@@ -1,22 +1,19 @@
 -- What may be in a port: a message, or a request, whose numbers as messages are after those of the messages. Each has one address.
-use Rattle.std.proofs.Common.{◌≡◌, ◌≢◌, ℕ, ◌+◌, ◌-◌, ◌<◌, ◌≤◌, true, false, inl, inr, map, refl, ap, sym, ◌∙◌, arith}
+use Rattle.std.proofs.Common.{◌≡◌, ◌≢◌, ℕ, ◌+◌, ◌-◌, ◌<◌, ◌≤◌, true, false, inl, inr, map, ap, sym, ◌∙◌, arith}
 use Rattle.std.specs.Prelude.{Some, None, Option, List, [], ◌∷◌, is_some, IfSome, IsSome, unwrap_or, ◌++◌, ◌==◌}
 use Rattle.std.specs.List.{list_any}
 use Rattle.std.proofs.lemmas.Bool.{cases_lt, eq-eqb, or_left}
 use Rattle.std.proofs.lemmas.List.{get_or_append_left, get_or-append_right}
-use Rattle.memlist.specs.Fit.{fit}
-use Rattle.memlist.specs.Memory.{IsWellFormed}
 use Rattle.memlist.proofs.Headers.{from_eq}
 use Rattle.execlist.specs.Lists.{home, is_at}
 use Rattle.execlist.specs.Order.{first}
-use Rattle.execlist.specs.Pool.{IsStocked, next_number, slot}
+use Rattle.execlist.specs.Pool.{slot}
 use Rattle.execlist.proofs.Pools.{slot_known}
 use Rattle.msgport.specs.Ports as ports
-use Rattle.msgport.specs.Ports.{is_message, messages_of}
+use Rattle.msgport.specs.Ports.{messages_of}
 use Rattle.execheap.specs.declared.tag.Kind.{Kind}
 use Rattle.execheap.specs.declared.tag.Kind.TheVariants as variant
-use Rattle.execheap.specs.Tags.{size_of}
-use Rattle.execheap.specs.Table.{Tabled, IsSound, pool_of, slots_of, with_object, without_object}
+use Rattle.execheap.specs.Table.{Tabled, IsSound, slots_of}
 use Rattle.execheap.specs.Numbered as numbered
 use Rattle.execheap.specs.Numbered.{Numbered, address_in, message_of_request, message_places, places}
 use Rattle.execheap.proofs.Beside.{addresses_kept}
@@ -24,7 +21,8 @@ use Rattle.execheap.proofs.Entries.{some_same}
 use Rattle.execheap.proofs.Front.{message_has}
 use Rattle.execheap.proofs.Linked.{some_is}
 use Rattle.execheap.proofs.Mapped.{Alike, alike_apart, stands_by_times}
-use Rattle.execheap.proofs.Matching.{freed_beside, lives_beside, made_beside, number_same, other_object, sound_freed, sound_made}
+use Rattle.execheap.proofs.Made.{IsFreed, IsMade, sound_left, sound_new, stays_left, stays_new}
+use Rattle.execheap.proofs.Matching.{number_same}
 use Rattle.execheap.proofs.Tagging.{tag_same}
 
 -- the addresses of what may be in a port
@@ -134,49 +132,35 @@ module _ {s : Numbered} (sound : numbered.IsSound s) (held : ports.IsSound s.por
   messages_apart p m a here = alike_apart (address_in (message_places s)) m (messages_of p s.ports)
       (λ n stands same. apart p m n a here stands same)
 
-  -- ---- what is in a port keeps its address if an object of any kind is made or freed
-
-  module _ (formed : IsWellFormed s.table.memory.regions s.table.memory.blocks) (kind : Kind) (number a : ℕ) where
-    pub standing_made : IsStocked (pool_of kind s.table) → next_number (pool_of kind s.table) ≡ Some number
-        → fit s.table.memory.regions s.table.memory.blocks (size_of kind) 1 ≡ Some a → (p : ℕ)
-        → map (address_in (queue_places (with_object kind (Some (number, a)) s.table))) (messages_of p s.ports)
-        ≡ map (address_in (message_places s)) (messages_of p s.ports)
-    standing_made stocked next fits p =
-        addresses_kept (message_places s) (queue_places (with_object kind (Some (number, a)) s.table)) (messages_of p s.ports) (λ m stands.
-        let b = standing_placed p m stands in
-        place_kept sound.table (sound_made sound.table formed kind number a stocked next fits) refl m
-        (λ below. stays variant.Message m b.0 (sym (place_below sound.table m below) ∙ b.1))
-        (λ from. stays variant.Request (m - s.table.pool) b.0 (sym (place_from sound.table m from) ∙ b.1)))
-      where
-        stays : (k : Kind) (n b : ℕ) → slot (slots_of k s.table) n ≡ Some b
-            → slot (slots_of k (with_object kind (Some (number, a)) s.table)) n ≡ slot (slots_of k s.table) n
-        stays k n b lives = made_beside sound.table formed kind number a stocked next fits k n
-            (lives_beside sound.table formed kind number a stocked next fits k n b lives)
-
-    -- if what is freed is in no port
-    pub standing_freed : slot (slots_of kind s.table) number ≡ Some a
-        → ((p m : ℕ) → Standing p m s → slot (message_places s) m ≢ Some a) → (p : ℕ)
-        → map (address_in (queue_places (without_object kind number a s.table))) (messages_of p s.ports)
-        ≡ map (address_in (message_places s)) (messages_of p s.ports)
-    standing_freed live loose p =
-        addresses_kept (message_places s) (queue_places (without_object kind number a s.table)) (messages_of p s.ports) (λ m stands.
-        let b = standing_placed p m stands in
-        let other : b.0 ≢ a = λ same. loose p m stands (b.1 ∙ ap Some same) in
-        place_kept sound.table (sound_freed sound.table formed kind number a live) refl m
-        (λ below. stays variant.Message m b.0 other (sym (place_below sound.table m below) ∙ b.1))
-        (λ from. stays variant.Request (m - s.table.pool) b.0 other (sym (place_from sound.table m from) ∙ b.1)))
-      where
-        stays : (k : Kind) (n b : ℕ) → b ≢ a → slot (slots_of k s.table) n ≡ Some b
-            → slot (slots_of k (without_object kind number a s.table)) n ≡ slot (slots_of k s.table) n
-        stays k n b other lives = freed_beside sound.table formed kind number a live k n
-            (other_object sound.table formed kind number a live k n b other lives)
-
   -- what has no place is in no port
-  pub loose_apart : (n a : ℕ) → slot (message_places s) n ≡ Some a → home s.ports.places n ≡ None → (p m : ℕ) → Standing p m s
+  loose_apart : (n a : ℕ) → slot (message_places s) n ≡ Some a → home s.ports.places n ≡ None → (p m : ℕ) → Standing p m s
       → slot (message_places s) m ≢ Some a
   loose_apart n a here loose p m stands there =
       let bad : true ≡ false = sym (ap is_some (standing_home p m stands)) ∙ ap (λ k. is_some (home s.ports.places k)) (place_same sound.table m n a there here)
       ∙ ap is_some loose in cc
+
+-- ---- what is in a port keeps its address if an object of any kind is made or freed
+
+module _ {kind : Kind} {s : Numbered} {n a : ℕ} {t : Tabled} where
+  pub standing_new : IsMade kind s n a t → ports.IsSound s.ports → (p : ℕ) → map (address_in (queue_places t)) (messages_of p s.ports) ≡ map (address_in (message_places s)) (messages_of p s.ports)
+  standing_new made held p =
+      addresses_kept (message_places s) (queue_places t) (messages_of p s.ports) (λ m stands.
+      let b = standing_placed {s = s} (record { table = made.sound; kept = made.kept }) held p m stands in
+      place_kept made.sound (sound_new made) (ap (λ (u : Tabled). u.pool) made.is) m
+      (λ below. stays_new made variant.Message m b.0 (sym (place_below made.sound m below) ∙ b.1))
+      (λ from. stays_new made variant.Request (m - s.table.pool) b.0 (sym (place_from made.sound m from) ∙ b.1)))
+
+  -- if what is freed is in no port
+  pub standing_left : IsFreed kind s n a t → ports.IsSound s.ports → (k : ℕ) → slot (message_places s) k ≡ Some a → home s.ports.places k ≡ None → (p : ℕ)
+      → map (address_in (queue_places t)) (messages_of p s.ports) ≡ map (address_in (message_places s)) (messages_of p s.ports)
+  standing_left gone held k here loose p =
+      addresses_kept (message_places s) (queue_places t) (messages_of p s.ports) (λ m stands.
+      let whole : numbered.IsSound s = record { table = gone.sound; kept = gone.kept } in
+      let b = standing_placed {s = s} whole held p m stands in
+      let other : b.0 ≢ a = λ same. loose_apart {s = s} whole held k a here loose p m stands (b.1 ∙ ap Some same) in
+      place_kept gone.sound (sound_left gone) (ap (λ (u : Tabled). u.pool) gone.is) m
+      (λ below. stays_left gone variant.Message m b.0 other (sym (place_below gone.sound m below) ∙ b.1))
+      (λ from. stays_left gone variant.Request (m - s.table.pool) b.0 other (sym (place_from gone.sound m from) ∙ b.1)))
 
 -- the message of a request
 pub request_standing : (s : Numbered) → IsSound s.table → (r : ℕ) → slot (message_places s) (message_of_request r s) ≡ slot (places variant.Request s) r

@@ -1,5 +1,5 @@
 -- A semaphore that changes: by number and by address it is the same one.
-use Rattle.std.proofs.Common.{◌≡◌, ℕ, ◌<◌, List, Bool, true, false, drop, map, length, slice_set, refl, ap, sym, ◌∙◌}
+use Rattle.std.proofs.Common.{◌≡◌, ℕ, ◌<◌, List, Bool, true, false, drop, length, slice_set, refl, ap, sym, ◌∙◌}
 use Rattle.std.specs.Prelude.{Option, Some, None, if◌then◌else◌, nat_eq, ◌&&◌, IsTrue}
 use Rattle.execlist.specs.Order.{first}
 use Rattle.sigsem.specs.declared.semaphore.Sem.{Sem}
@@ -10,7 +10,7 @@ use Rattle.execmodel.specs.Semaphores as model
 use Rattle.execheap.specs.declared.tag.Kind.{Kind}
 use Rattle.execheap.specs.declared.tag.Kind.TheVariants as variant
 use Rattle.execheap.specs.Tags.{is_same}
-use Rattle.execheap.specs.Numbered.{Numbered, object_of, places, shown_heap, shown_library, shown_memory, shown_public, shown_timer}
+use Rattle.execheap.specs.Numbered.{Numbered, object_of, places, shown_heap, shown_memory}
 use Rattle.execheap.specs.Table.{number_at}
 use Rattle.execheap.specs.Changes.{on_semaphores}
 use Rattle.execheap.proofs.Posted.{item_known, none_left, same_at, written_at}
@@ -21,16 +21,7 @@ use Rattle.execheap.proofs.Shown.{sem_shown, waiters_shown}
 
 pub heap_owned : (s : Numbered) (q : Semaphores) (heap : Heap) → shown_heap (record s { sems = q }) ≡ heap
     → shown_memory (record s { sems = q }) ≡ on_heap (λ old. heap) (shown_memory s)
-heap_owned s q heap is = λ i. record {
-  regions = s.table.memory.regions;
-  libraries = map shown_library s.table.libs.known;
-  asks = s.table.libs.asks;
-  pool = s.table.pool;
-  tasks = s.tasks;
-  heap = is i;
-  public = map (shown_public s) s.ports.public;
-  timer = shown_timer s;
-}
+heap_owned s q heap is = λ i. record (shown_memory s) { heap = is i }
 
 module _ (s : Numbered) (q : Semaphores) where
   abbrev beside : Numbered

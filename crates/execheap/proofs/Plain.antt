@@ -20,7 +20,7 @@ use Rattle.execheap.specs.declared.tag.Tagged.{Tagged}
 use Rattle.execheap.specs.declared.tag.Tagged.TheVariants.{Plain, Object, Library}
 use Rattle.execheap.specs.Tags.{is_of, is_plain, tagged}
 use Rattle.execheap.specs.Table.{Tabled, IsSound, IsTagged, place_of, tag_at}
-use Rattle.execheap.specs.Numbered.{Numbered, shown_block, shown_entry, shown_heap, shown_library, shown_memory, shown_public, shown_tagged, shown_timer}
+use Rattle.execheap.specs.Numbered.{Numbered, shown_block, shown_entry, shown_heap, shown_memory, shown_tagged}
 use Rattle.execheap.proofs.Counting.{tally}
 use Rattle.execheap.proofs.Beside.{objects_kept}
 use Rattle.execheap.proofs.Showing.{block_shown}
@@ -84,7 +84,7 @@ pub plain_placed : (s : Numbered) (size : ℕ) (place : Option ℕ)
 unfolding shown_heap
 plain_placed s size None = refl
 plain_placed s size (Some address) =
-    ap (λ heap. record { regions = s.table.memory.regions; libraries = map shown_library s.table.libs.known; asks = s.table.libs.asks; pool = s.table.pool; tasks = s.tasks; heap = heap; public = map (shown_public s) s.ports.public; timer = shown_timer s })
+    ap (λ heap. record (shown_memory s) { heap = heap })
     (entries_same s (allocated size 0 (Some address) s.table.memory) (allocated size 0 (Some address) s.table.memory).blocks
     ∙ sym (put_shown (shown_block s) address (round size, 0) s.table.memory.blocks)
     ∙ ap (λ o. put nat_cmp address (record { size = round size; object = o }) (map (shown_entry s) s.table.memory.blocks)) (ap (shown_tagged s) read_plain))
@@ -94,7 +94,7 @@ pub plain_freed : (s : Numbered) (address : ℕ)
     → shown_memory (record s { table = record s.table { memory = without_block address s.table.memory } }) ≡ freed address (shown_memory s)
 unfolding shown_heap
 plain_freed s address =
-    ap (λ heap. record { regions = s.table.memory.regions; libraries = map shown_library s.table.libs.known; asks = s.table.libs.asks; pool = s.table.pool; tasks = s.tasks; heap = heap; public = map (shown_public s) s.ports.public; timer = shown_timer s })
+    ap (λ heap. record (shown_memory s) { heap = heap })
     (entries_same s (without_block address s.table.memory) (without_block address s.table.memory).blocks
     ∙ sym (where_key_shown (shown_block s) (λ other. not (nat_eq other address)) s.table.memory.blocks))
 

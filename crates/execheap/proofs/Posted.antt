@@ -21,7 +21,7 @@ use Rattle.execheap.specs.declared.tag.Kind.TheVariants as variant
 use Rattle.execheap.specs.declared.tag.Tagged.{Tagged}
 use Rattle.execheap.specs.declared.tag.Tagged.TheVariants as tag
 use Rattle.execheap.specs.Tags.{is_same, tagged}
-use Rattle.execheap.specs.Numbered.{IsSound, Numbered, address_in, message_places, object_of, places, shown_heap, shown_library, shown_memory, shown_public, shown_tagged, shown_timer}
+use Rattle.execheap.specs.Numbered.{IsSound, Numbered, address_in, message_places, object_of, places, shown_heap, shown_memory, shown_public, shown_tagged}
 use Rattle.execheap.specs.Table.{number_at}
 use Rattle.execheap.specs.Changes.{on_ports}
 use Rattle.execheap.proofs.Linked.{some_is}
@@ -36,8 +36,8 @@ use Rattle.execheap.proofs.Tagging.{either_number}
 
 pub heap_beside : (s : Numbered) (q : MessagePorts) (heap : Heap) {public : List _} → shown_heap (record s { ports = q }) ≡ heap
     → map (shown_public (record s { ports = q })) q.public ≡ public
-    → shown_memory (record s { ports = q }) ≡ record { regions = s.table.memory.regions; libraries = map shown_library s.table.libs.known; asks = s.table.libs.asks; pool = s.table.pool; tasks = s.tasks; heap = heap; public = public; timer = shown_timer s }
-heap_beside s q heap is listed = λ i. record { regions = s.table.memory.regions; libraries = map shown_library s.table.libs.known; asks = s.table.libs.asks; pool = s.table.pool; tasks = s.tasks; heap = is i; public = listed i; timer = shown_timer s }
+    → shown_memory (record s { ports = q }) ≡ record (shown_memory s) { heap = heap; public = public }
+heap_beside s q heap is listed = λ i. record (shown_memory s) { heap = is i; public = listed i }
 
 module _ (s : Numbered) (q : MessagePorts) where
   abbrev beside : Numbered

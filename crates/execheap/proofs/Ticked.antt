@@ -9,7 +9,7 @@ use Rattle.execheap.specs.declared.tag.Kind.TheVariants as variant
 use Rattle.execheap.specs.declared.tag.Tagged.{Tagged}
 use Rattle.execheap.specs.declared.tag.Tagged.TheVariants as tag
 use Rattle.execheap.specs.Tags.{tagged}
-use Rattle.execheap.specs.Numbered.{Numbered, object_of, shown_heap, shown_library, shown_memory, shown_public, shown_tagged, shown_timer}
+use Rattle.execheap.specs.Numbered.{Numbered, object_of, shown_heap, shown_memory, shown_tagged, shown_timer}
 use Rattle.execheap.specs.Requesting.{on_timing}
 
 module _ (s : Numbered) (t : Held) where
@@ -33,13 +33,4 @@ module _ (s : Numbered) (t : Held) where
 -- a change of the times is shown if it leaves those that wait alone
 pub times_shown : (f : Timer → Timer) (s : Numbered) → shown_timer (on_timing f s) ≡ f (shown_timer s)
     → shown_memory (on_timing f s) ≡ on_timer f (shown_memory s)
-times_shown f s timer = λ i. record {
-  regions = s.table.memory.regions;
-  libraries = map shown_library s.table.libs.known;
-  asks = s.table.libs.asks;
-  pool = s.table.pool;
-  tasks = s.tasks;
-  heap = timing_beside s (on_held f s.timing) i;
-  public = map (shown_public s) s.ports.public;
-  timer = timer i;
-}
+times_shown f s timer = λ i. record (shown_memory s) { heap = timing_beside s (on_held f s.timing) i; timer = timer i }

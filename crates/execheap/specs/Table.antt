@@ -68,7 +68,7 @@ unused regions pool known asks = record {
 abbrev pub with_lent : Lent → Tabled → Tabled
 with_lent l t = record t { memory = l.memory; libs = l.libraries }
 
--- libraries were expunged under low memory to a block of that many bytes
+-- libraries were expunged under low memory for a block of that many bytes
 abbrev pub after_asking : (size reqs : ℕ) → Tabled → Tabled
 after_asking size reqs t = with_lent (library.after_asking size reqs (lent t.libs t.memory)) t
 
@@ -107,7 +107,7 @@ without_object kind number address t = record t {
 
 -- ---- libraries
 
--- other libraries were expunged under low memory to the one that is opened, if it is to be loaded
+-- other libraries were expunged under low memory for the one that is opened, if it is to be loaded
 abbrev pub ready_to_open : Option ℕ → Tabled → Tabled
 ready_to_open found t = with_lent (library.ready_to_open found (lent t.libs t.memory)) t
 

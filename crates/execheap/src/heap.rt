@@ -1,7 +1,7 @@
 //! The memory of a machine and the objects that live in it, by address. Its value is the memory of the abstract machine,
 //! with the public ports in the order in which they are kept. Here is what every kind needs and plain blocks; the calls on objects are
 //! in `objects`, in the file of their kind.
-ghost use Rattle.std.specs.Prelude.{◌≡◌, ◌≤◌, [], true, false, length, map, IfOk};
+ghost use Rattle.std.specs.Prelude.{◌≡◌, ◌≤◌, ◌↔◌, [], true, false, length, map, IfOk};
 ghost use Rattle.execlib.specs.Libraries.{description_of};
 ghost use Rattle.memlist.specs.Fit.{avail};
 ghost use Rattle.taskscript.specs.Records.{library_view};
@@ -10,6 +10,7 @@ ghost use Rattle.execmodel.specs.Memory.{block_at, can_be_asked, extents, freed,
 ghost use Rattle.execmodel.specs.GivingWay.{after_asking};
 ghost use Rattle.timerdev.specs.Timing.{new_timer};
 ghost use Rattle.execheap.specs.Numbered.{shown_library};
+ghost use Rattle.execheap.specs.Resetting.{IsAsLarge};
 
 use crate::objects::Objects;
 use execlib::library::LibInit;
@@ -74,6 +75,7 @@ impl<S: ListSpace> Heap<S> {
         asks: bool,
         tick_micros: u32,
     ) -> bool
+        ensures answer { (result ≡ true) ↔ IsAsLarge regions.now pool tasks (map library_view libraries.now) self.old }
         ensures same { result ≡ true → self.new ≡ record { regions = regions.now; libraries = map library_view libraries.now; asks = asks; pool = pool; tasks = tasks; heap = []; public = []; timer = new_timer tick_micros } }
         ensures kept { result ≡ false → self.new ≡ self.old }
     {

@@ -1,6 +1,6 @@
 //! Which blocks are objects of which kind, and where each object is; and the libraries, which are loaded into blocks. Here is nothing of
 //! what objects hold.
-ghost use Rattle.std.specs.Prelude.{◌≡◌, ◌≤◌, not, ◌&&◌, true, false, length, map, slice_get, IfOk, IfSome, IsSome, IsTrue, None, Some};
+ghost use Rattle.std.specs.Prelude.{◌≡◌, ◌≤◌, ◌↔◌, not, ◌&&◌, true, false, length, map, slice_get, IfOk, IfSome, IsSome, IsTrue, None, Some};
 ghost use Rattle.memlist.specs.Fit.{asks, avail, fit};
 ghost use Rattle.memlist.specs.Memory.{IsWellFormed, allocated, can_free, untouched, without_block};
 ghost use Rattle.memlist.specs.Readers.{gap_from, gaps_in};
@@ -79,7 +79,7 @@ impl<S: ListSpace> Table<S> {
     ///
     /// Source: project rule.
     pub fn has_regions(&self, regions: &[Region]) -> bool
-        ensures { result ≡ true → self.now.memory.regions ≡ regions.now }
+        ensures { (result ≡ true) ↔ (self.now.memory.regions ≡ regions.now) }
     {
         for k in 0..regions.len() {
             if !is_region(self.memory.region(k), regions[k]) {
@@ -93,7 +93,7 @@ impl<S: ListSpace> Table<S> {
     ///
     /// Source: project rule.
     pub fn knows(&self, libraries: &[LibraryRecord]) -> bool
-        ensures { result ≡ true → map shown_library self.now.libs.known ≡ map library_view libraries.now }
+        ensures { (result ≡ true) ↔ (map shown_library self.now.libs.known ≡ map library_view libraries.now) }
     {
         are_libraries(self.libs.libraries(), libraries)
     }
@@ -349,7 +349,7 @@ fn reset_pools(pools: &mut [Pool<u32>; 6])
 
 /// Whether a region, if there is one, is that one.
 fn is_region(known: Option<Region>, region: Region) -> bool
-    ensures { result ≡ true → known ≡ Some region }
+    ensures { (result ≡ true) ↔ (known ≡ Some region) }
 {
     match known {
         None => false,
@@ -359,7 +359,7 @@ fn is_region(known: Option<Region>, region: Region) -> bool
 
 /// Whether a library is that of a file.
 fn is_library(known: &LibInit, library: &LibraryRecord) -> bool
-    ensures { result ≡ true → shown_library (description_of known.now) ≡ library_view library.now }
+    ensures { (result ≡ true) ↔ (shown_library (description_of known.now) ≡ library_view library.now) }
 {
     known.name.as_str() == library.name.as_str()
         && known.version == library.version
@@ -368,7 +368,7 @@ fn is_library(known: &LibInit, library: &LibraryRecord) -> bool
 
 /// Whether some libraries are those of a file, in its order.
 fn are_libraries(known: &[LibInit], libraries: &[LibraryRecord]) -> bool
-    ensures { result ≡ true → map shown_library (map description_of known.now) ≡ map library_view libraries.now }
+    ensures { (result ≡ true) ↔ (map shown_library (map description_of known.now) ≡ map library_view libraries.now) }
 {
     if known.len() != libraries.len() {
         return false;

@@ -233,7 +233,7 @@ module _ (i : ℕ) (l : Lent) where
     abbrev asked : Lent
     asked = after_asking (library_at i l.libraries).size public_memory l
 
-    -- others are expunged under low memory to a library that is absent
+    -- others are expunged under low memory for a library that is absent
     pub ready_absent : ready_to_load i l ≡ asked
     ready_absent = ap (λ o. cond (is_some o) l asked) is
 

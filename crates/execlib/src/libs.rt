@@ -83,7 +83,7 @@ impl<S: ListSpace> Libs<S> {
 
     /// Takes a block of a size in bytes with those requirements and that tag, as `MemList::alloc_mem` does, and answers its address.
     ///
-    /// If the libraries are asked, the size is not 0 and no gap is large enough, the loaded ones are expunged under low memory in the order of
+    /// If the libraries are asked, the size is not 0 and no gap is large enough, the loaded ones are asked in the order of
     /// their numbers: one that is not open is expunged, an open one is to be expunged when it is closed for the last time (LIBF_DELEXP).
     /// After each of them the gaps are looked at again, and the first that is large enough ends the asking. None is answered if none
     /// is large enough then; what was expunged or marked stays so. The loaded libraries have to lie in the memory.
@@ -105,7 +105,7 @@ impl<S: ListSpace> Libs<S> {
     /// of its size, with MEMF_PUBLIC, whose tag is $80000000 and its number, and other libraries are expunged under low memory for it as in `alloc_mem`. It is
     /// open once more, and is not to be expunged any more.
     ///
-    /// Answers its base, the address of its block. None is answered, and nothing changes but what were expunged under low memory, if there is no library of the
+    /// Answers its base, the address of its block. None is answered, and nothing changes but what was expunged under low memory, if there is no library of the
     /// name, its version is lower, it is open 65,535 times, or it is to be loaded and no gap of memory is large enough (the count: project
     /// rule). The loaded libraries have to lie in the memory. Autodoc exec.library/OpenLibrary.
     #[tactic(auto, unfolding(crate::specs::Libraries::ready_to_open))]

@@ -1,12 +1,12 @@
 -- How rows follow one another.
-use Rattle.std.proofs.Common.{◌≡◌, ◌≤◌, ◌<◌, ◌-◌, ◌^◌, ℕ, take, drop, length, replicate, Bool, true, List, [], ◌∷◌, ◌++◌, refl, ap, sym, ◌∙◌, subst, append-nil, append_assoc, arith}
-use Rattle.std.specs.Prelude.{◌&&◌, decimal, Option}
+use Rattle.std.proofs.Common.{◌≡◌, ◌≢◌, ◌≤◌, ◌<◌, ◌-◌, ◌^◌, ℕ, take, drop, length, replicate, Bool, true, List, [], ◌∷◌, ◌++◌, refl, ap, sym, ◌∙◌, subst, append-nil, append_assoc, arith}
+use Rattle.std.specs.Prelude.{◌&&◌, codes, decimal, Option}
 use Rattle.std.specs.List.{flat_map, list_all}
 use Rattle.std.proofs.lemmas.Fmt.{length-decimal-le}
 use Rattle.std.proofs.lemmas.List.{drop-append-le, drop-replicate, length-replicate, nil_from_length, take-append-drop, take-replicate, take-take}
 use Rattle.execlog.specs.declared.moment.Moment.{Moment}
 use Rattle.execlog.specs.Log.{Gains}
-use Rattle.execlog.specs.Rows.{FollowsRows, IsBlank, IsPart, IsRow, LaysOut, Row, laid, padded, traced}
+use Rattle.execlog.specs.Rows.{FollowsRows, IsBlank, IsFrame, IsPart, IsRow, LaysOut, Row, gap_of, laid, line_column, padded, row_with, source_column, time_columns, traced}
 
 -- ---- spaces
 
@@ -51,6 +51,55 @@ colon_put k colon start text rest mid room is le blank first then =
 -- the digits of a number
 pub digits_fit : (n : ℕ) → n < 2 ^ 64 → length (decimal n) ≤ 20
 digits_fit n small = length-decimal-le 20 n (omega arith) (omega arith) small
+
+-- ---- what is around a line
+
+-- the end of a row, whose line takes the place of spaces
+cut_spaces : (w n : ℕ) (rest : List ℕ) → drop (w - (w - n)) (replicate {A = ℕ} w 32 ++ rest) ≡ replicate {A = ℕ} (w - n) 32 ++ rest
+cut_spaces w n rest =
+    let few : w - (w - n) ≤ length (replicate {A = ℕ} w 32) = omega (arith, length-replicate {A = ℕ} w 32) in
+    let many : w - (w - (w - n)) ≡ w - n = omega arith in
+    drop-append-le (w - (w - n)) (replicate {A = ℕ} w 32) rest few
+    ∙ ap (λ (l : List ℕ). l ++ rest) (drop-replicate (w - (w - n)) w 32 ∙ ap (λ (k : ℕ). replicate {A = ℕ} k 32) many)
+
+four_parts : (r x y z : List ℕ) → ((r ++ x) ++ y) ++ z ≡ r ++ (x ++ (y ++ z))
+four_parts r x y z = append_assoc (r ++ x) y z ∙ append_assoc r x (y ++ z)
+
+cut_parts : (w n : ℕ) (x y z : List ℕ)
+    → drop (w - (w - n)) (((replicate {A = ℕ} w 32 ++ x) ++ y) ++ z) ≡ ((replicate {A = ℕ} (w - n) 32 ++ x) ++ y) ++ z
+cut_parts w n x y z =
+    ap (λ (l : List ℕ). drop (w - (w - n)) l) (four_parts (replicate {A = ℕ} w 32) x y z)
+    ∙ cut_spaces w n (x ++ (y ++ z))
+    ∙ sym (four_parts (replicate {A = ℕ} (w - n) 32) x y z)
+
+end_cut : (n : ℕ) (source : List ℕ) → drop (gap_of source - (gap_of source - n)) (source_column 0 source ++ 10 ∷ []) ≡ source_column n source ++ 10 ∷ []
+end_cut n [] = let none : 0 - (0 - n) ≡ 0 = omega arith in ap (λ (k : ℕ). drop {A = ℕ} k (10 ∷ [])) none
+end_cut n (c ∷ source) = cut_parts 43 n (codes "  ") (c ∷ source) (10 ∷ [])
+
+row_parts : (t l s x y z : List ℕ) → t ++ ((l ++ s) ++ (x ++ (y ++ z))) ≡ ((((t ++ l) ++ s) ++ x) ++ y) ++ z
+row_parts t l s x y z =
+    sym (append_assoc t (l ++ s) (x ++ (y ++ z)))
+    ∙ ap (λ (f : List ℕ). f ++ (x ++ (y ++ z))) (sym (append_assoc t l s))
+    ∙ sym (append_assoc ((t ++ l) ++ s) x (y ++ z))
+    ∙ sym (append_assoc (((t ++ l) ++ s) ++ x) y z)
+
+-- a line of the trace with what is around it is a row
+pub row_framed : {line : Option ℕ} {source before after : List ℕ} {gap : ℕ} (m : Moment) (head text : List ℕ) → IsFrame line source before after gap
+    → head ≡ time_columns m → head ++ (before ++ (text ++ drop (gap - (gap - length text)) after)) ≡ row_with m line text source
+row_framed {line} {source} {before} {after} {gap} m head text frame told =
+    let e : drop (gap - (gap - length text)) after ≡ source_column (length text) source ++ 10 ∷ [] =
+    ap (λ (l : List ℕ). drop (gap - (gap - length text)) l) frame.after_is
+    ∙ ap (λ (g : ℕ). drop (g - (g - length text)) (source_column 0 source ++ 10 ∷ [])) frame.gap_is
+    ∙ end_cut (length text) source in
+    ap (λ (h : List ℕ). h ++ (before ++ (text ++ drop (gap - (gap - length text)) after))) told
+    ∙ ap (λ (b : List ℕ). time_columns m ++ (b ++ (text ++ drop (gap - (gap - length text)) after))) frame.before_is
+    ∙ ap (λ (l : List ℕ). time_columns m ++ ((line_column line ++ codes "  ") ++ (text ++ l))) e
+    ∙ row_parts (time_columns m) (line_column line) (codes "  ") text (source_column (length text) source) (10 ∷ [])
+
+-- the spaces before the text of a command, by a test
+pub gap_tested : (source : List ℕ) (gap : ℕ) → (length source ≡ 0 → gap ≡ 0) → (length source ≢ 0 → gap ≡ 43) → gap ≡ gap_of source
+gap_tested [] gap none some = none refl
+gap_tested (c ∷ source) gap none some = some (λ e. absurd (omega (arith, e)))
 
 -- ---- rows one after another
 
@@ -133,3 +182,13 @@ pub lays_nothing : {All : Type 0} {m : Moment} {number : Option ℕ} {text page 
 lays_nothing {All} {m} {number} {text} {page} none =
     subst (λ (t : List ℕ). Gains (LaysOut All m number t) page page) (sym (nil_from_length text none))
     (lays_none (λ k within. absurd (omega (arith, within))) (sym (append-nil page)))
+
+pub lays_empty : {All : Type 0} {m : Moment} {number : Option ℕ} → LaysOut All m number [] []
+lays_empty {All} {m} {number} = no_row [] (λ k within. absurd (omega (arith, within)))
+
+pub follows_nothing : {All : Type 0} {m : Moment} {text page : List ℕ} → length text ≡ 0 → Gains (FollowsRows All m text) page page
+follows_nothing {All} {m} {text} {page} none = record {
+  bytes = text;
+  shows = part_follows text (λ k within. absurd (omega (arith, within, none)));
+  added = sym (append-nil page) ∙ ap (λ (t : List ℕ). page ++ t) (sym (nil_from_length text none));
+}

@@ -6,21 +6,22 @@ use Rattle.std.proofs.lemmas.Grind.{flat_map-append}
 use Rattle.std.proofs.lemmas.List.{length-append, length-replicate, take_more}
 use Rattle.std.proofs.lemmas.List.Sums.{sum_by-cons, sum_by-drop_more, sum_by_more, sum_by_more_le}
 use Rattle.std.proofs.Math.Nat.{suc-mul}
-use Rattle.exectrace.specs.Sink.{Tape, Breaks, Puts, TakesAll}
+use Rattle.exectrace.specs.Sink.{Tape, Adds, Breaks, Puts, TakesAll}
 use Rattle.exectrace.specs.declared.sinks.SinkState.{SinkState}
 use Rattle.exectrace.specs.declared.sinks.SinkState.TheVariants.{Good}
 use Rattle.exectrace.specs.Trace.{printed, printed_line}
-use Rattle.exectrace.proofs.Pieces.{put_all, put_part, puts_none, puts_then}
+use Rattle.exectrace.proofs.Pieces.{adds_all, adds_fitting, adds_none, adds_then, put_all, put_part}
 use Rattle.taskscript.specs.Events.{ticks as ticks_of}
 use Rattle.taskscript.specs.File.{MachineData}
 use Rattle.taskscript.specs.declared.event.Event.{Event}
 use Rattle.taskscript.specs.declared.event.Event.TheVariants.{Run, Tick, Irq}
 use Rattle.scheduler.specs.Schedule.{Schedule}
-use Rattle.execmodel.specs.State.{Memory, Scripts, State, Outcome, andthen, booted}
+use Rattle.execmodel.specs.State.{Memory, Timer, Scripts, State, Outcome, andthen, booted}
 use Rattle.execmodel.specs.Pending.{next_softint}
-use Rattle.execmodel.specs.Step.{starts, event, events, run}
+use Rattle.execmodel.specs.Step.{starts, event, events, run, steps}
 use Rattle.execmodel.proofs.Moments.{events_more}
 use Rattle.execsim.specs.Actions.{softint_seen}
+use Rattle.execsim.specs.Advancing.{Advances, IsSilent}
 use Rattle.execsim.specs.Agreement.{Seen, Agrees}
 use Rattle.execsim.specs.Headline.{Acts, Shown}
 use Rattle.execsim.specs.declared.machine.Flow.{Flow}
@@ -28,9 +29,10 @@ use Rattle.execsim.specs.Time.{HasTimeFor}
 use Rattle.execsim.proofs.Clock.{time_for_fewer}
 use Rattle.execsim.proofs.Serving.{softint_same}
 use Rattle.execlog.specs.declared.moment.Actor.{Actor}
-use Rattle.execlog.specs.Log.{Entry, LogsTellTheTrace, ShowsLog, actor_at, actor_of, acts_next, entries_after, entry_after, log_of, turns, unit_of, units}
-use Rattle.execlog.specs.Runs.{Logs, Wrote, actor_now}
-use Rattle.execlog.proofs.UnitRuns.{units_same}
+use Rattle.execlog.specs.declared.moment.Moment.{Moment}
+use Rattle.execlog.specs.Log.{Entry, Gains, LogsTellTheTrace, ShowsLog, actor_at, actor_of, acts_next, entries_after, entry_after, log_of, turns, unit_of, units}
+use Rattle.execlog.specs.Runs.{Extends, Logs, Output, Wrote, actor_now}
+use Rattle.execlog.proofs.UnitRuns.{steps_same, units_same}
 
 -- ---- the texts of a log
 
@@ -79,25 +81,25 @@ shows_both shows (e ∷ some) more x y first second = record {
 }
 
 -- what was put in one way and then in another
-wrote_both : {First Second All : List ℕ → Type 0} {a b c : Tape} → ((x y : List ℕ) → First x → Second y → All (x ++ y))
-    → Wrote (Puts a b) First → Wrote (Puts b c) Second → Wrote (Puts a c) All
+wrote_both : {First Second All : List ℕ → Type 0} {a b c : Output} → ((x y : List ℕ) → First x → Second y → All (x ++ y))
+    → Wrote (Extends a b) First → Wrote (Extends b c) Second → Wrote (Extends a c) All
 wrote_both {First} {Second} {All} {a} {b} {c} both first second = record {
   bytes = first.bytes ++ second.bytes;
   shows = both first.bytes second.bytes first.shows second.shows;
-  goes = puts_then _ first.goes second.goes refl;
+  goes = adds_then _ first.goes second.goes refl;
 }
 
 module _ (shows : Entry → List ℕ → Type 0) where
   -- no event
-  pub logs_none : (n : ℕ) (m : Seen) (a : Tape) → Logs shows [] n m m a a
+  pub logs_none : (n : ℕ) (m : Seen) (a : Output) → Logs shows [] n m m a a
   unfolding events
-  logs_none n m a = record { agrees = λ s e. e; puts = λ s e. record { bytes = []; shows = refl; goes = puts_none a } }
+  logs_none n m a = record { agrees = λ s e. e; puts = λ s e. record { bytes = []; shows = refl; goes = adds_none a.tape a.page } }
 
-  pub logs_more : {m n o : Seen} {a b c : Tape} (k : ℕ) (some more : List Event)
+  pub logs_more : {m n o : Seen} {a b c : Output} (k : ℕ) (some more : List Event)
       → Logs shows some k m n a b → Logs shows more (k + length some) n o b c → Logs shows (some ++ more) k m o a c
   logs_more {m} {n} {o} {a} {b} {c} k some more first second = record {
     agrees = λ s e. subst (λ (t : State). Agrees o t) (sym (more_state some more s)) (second.agrees (events some s).state (first.agrees s e));
-    puts = λ s e. subst (λ (l : List Entry). Wrote (Puts a c) (ShowsLog shows l)) (sym (more_entries k some more s))
+    puts = λ s e. subst (λ (l : List Entry). Wrote (Extends a c) (ShowsLog shows l)) (sym (more_entries k some more s))
         (wrote_both (shows_both shows (entries_after k some s) (entries_after (k + length some) more (events some s).state))
         (first.puts s e) (second.puts (events some s).state (first.agrees s e)));
   }
@@ -127,12 +129,12 @@ shows_one shows e x h = record { first = x; rest = []; whole = sym (append-nil x
 pub wrote_as : {Goes First Other : List ℕ → Type 0} → ((x : List ℕ) → First x → Other x) → Wrote Goes First → Wrote Goes Other
 wrote_as other wrote = record { bytes = wrote.bytes; shows = other wrote.bytes wrote.shows; goes = wrote.goes }
 
-module _ (shows : Entry → List ℕ → Type 0) {old new : Shown} {x b : List ℕ} {p q : SinkState} {flow : Flow} {a c : Tape} where
+module _ (shows : Entry → List ℕ → Type 0) {old new : Shown} {x b : List ℕ} {p q : SinkState} {flow : Flow} {a c : Output} where
   -- the bytes that show what an event has printed
   pub entered : (n clock : ℕ) (e : Event) (actor : Option Actor)
       → Acts (event e) old new (record { taken = Some x; state = p }) (record { taken = Some b; state = q }) (Ok flow)
       → x ≡ [] → actor ≡ actor_now e old.seen → clock ≡ new.seen.memory.timer.clock
-      → Wrote (Puts a c) (shows (record { moment = record { number = n; clock = clock; actor = actor }; text = b }))
+      → Wrote (Extends a c) (shows (record { moment = record { number = n; clock = clock; actor = actor }; text = b }))
       → Logs shows (e ∷ []) n old.seen new.seen a c
   unfolding events andthen
   entered n clock e actor acts blank acting timed wrote = record {
@@ -150,8 +152,8 @@ module _ (shows : Entry → List ℕ → Type 0) {old new : Shown} {x b : List �
   -- the bytes that show what the start has printed
   pub began : (n clock : ℕ) → Acts starts old new (record { taken = Some x; state = p }) (record { taken = Some b; state = q }) (Ok flow)
       → n ≡ 0 → x ≡ [] → clock ≡ new.seen.memory.timer.clock
-      → Wrote (Puts a c) (shows (record { moment = record { number = n; clock = clock; actor = None }; text = b }))
-      → (m : MachineData) → Agrees old.seen (booted m) → Wrote (Puts a c) (shows (entry_after 0 None (starts (booted m))))
+      → Wrote (Extends a c) (shows (record { moment = record { number = n; clock = clock; actor = None }; text = b }))
+      → (m : MachineData) → Agrees old.seen (booted m) → Wrote (Extends a c) (shows (entry_after 0 None (starts (booted m))))
   began n clock acts begins blank timed wrote m h =
       let o = starts (booted m) in
       let prints : b ≡ printed o.lines = (acts.writes (booted m) h).took ∙ ap (λ (y : List ℕ). y ++ printed o.lines) blank in
@@ -159,9 +161,65 @@ module _ (shows : Entry → List ℕ → Type 0) {old new : Shown} {x b : List �
       ap (λ (k : ℕ). record { moment = record { number = k; clock = clock; actor = None }; text = b }) begins
       ∙ ap (λ (k : ℕ). record { moment = record { number = 0; clock = k; actor = None }; text = b }) (timed ∙ clock_same o.state (acts.agrees (booted m) h refl))
       ∙ ap (λ (x : List ℕ). record { moment = record { number = 0; clock = o.state.memory.timer.clock; actor = None }; text = x }) prints in
-      subst (λ (e : Entry). Wrote (Puts a c) (shows e)) same wrote
+      subst (λ (e : Entry). Wrote (Extends a c) (shows e)) same wrote
+
+-- ---- a step, and those after it that print nothing
+
+-- no byte shows entries that printed nothing
+silent_entries : (shows : Entry → List ℕ → Type 0) → ((m : Moment) → shows (record { moment = m; text = [] }) []) → (k n : ℕ) (s : State) → IsSilent k s
+    → ShowsLog shows (entries_after n (replicate k (Run 1)) s) []
+silent_entries shows hides zero n s silent = refl
+silent_entries shows hides (suc k) n s silent =
+    let e = entry_after n (actor_of (Run 1) s) (event (Run 1) s) in
+    record {
+      first = [];
+      rest = [];
+      whole = refl;
+      shows = subst (λ (t : List ℕ). shows (record { moment = e.moment; text = t }) []) (sym silent.0) (hides e.moment);
+      rests = silent_entries shows hides k (suc n) (event (Run 1) s).state silent.1;
+    }
+
+-- there is none, or none is shown
+quiet_entries : (shows : Entry → List ℕ → Type 0) (k : ℕ) → (0 < k → (m : Moment) → shows (record { moment = m; text = [] }) []) → (n : ℕ) (s : State)
+    → IsSilent k s → ShowsLog shows (entries_after n (replicate k (Run 1)) s) []
+quiet_entries shows zero hides n s silent = refl
+quiet_entries shows (suc k) hides n s silent = let some : 0 < suc k = omega arith in silent_entries shows (hides some) (suc k) n s silent
+
+-- bytes that show an entry, after which no byte shows the others
+shows_first : (shows : Entry → List ℕ → Type 0) (e : Entry) (rest : List Entry) (x : List ℕ) → shows e x → ShowsLog shows rest [] → ShowsLog shows (e ∷ rest) x
+shows_first shows e rest x h others = record { first = x; rest = []; whole = sym (append-nil x); shows = h; rests = others }
+
+module _ (shows : Entry → List ℕ → Type 0) {old new : Shown} {x b : List ℕ} {p q : SinkState} {a c : Output} {more : ℕ} where
+  pub advanced : (n clock k : ℕ) (actor : Option Actor)
+      → Advances more old new (record { taken = Some x; state = p }) (record { taken = Some b; state = q }) (Ok k)
+      → (0 < k → (m : Moment) → shows (record { moment = m; text = [] }) [])
+      → x ≡ [] → actor ≡ actor_now (Run 1) old.seen → clock ≡ new.seen.memory.timer.clock
+      → Wrote (Extends a c) (shows (record { moment = record { number = n; clock = clock; actor = actor }; text = b }))
+      → Logs shows (replicate (k + 1) (Run 1)) n old.seen new.seen a c
+  advanced n clock k actor does hides blank acting timed wrote =
+      let more : k + 1 ≡ suc k = omega arith in
+      record {
+        agrees = λ s h. subst (λ (o : Outcome). Agrees new.seen o.state) (sym (steps_same (k + 1) s)) (does.agrees s h);
+        puts = λ s h.
+            let o = event (Run 1) s in
+            let prints : b ≡ printed o.lines = (does.writes s h).took ∙ ap (λ (y : List ℕ). y ++ printed o.lines) blank in
+            let clocks : clock ≡ o.state.memory.timer.clock = timed ∙ clock_same (steps (k + 1) s).state (does.agrees s h) ∙ ap (λ (t : Timer). t.clock) (does.timer s h) in
+            let same : record { moment = record { number = n; clock = clock; actor = actor }; text = b } ≡ entry_after n (actor_of (Run 1) s) o =
+            ap (λ (x : Option Actor). record { moment = record { number = n; clock = clock; actor = x }; text = b }) (acting ∙ actor_same (Run 1) s h)
+            ∙ ap (λ (k : ℕ). record { moment = record { number = n; clock = k; actor = actor_of (Run 1) s }; text = b }) clocks
+            ∙ ap (λ (x : List ℕ). record { moment = record { number = n; clock = o.state.memory.timer.clock; actor = actor_of (Run 1) s }; text = x }) prints in
+            subst (λ (j : ℕ). Wrote (Extends a c) (ShowsLog shows (entries_after n (replicate j (Run 1)) s))) (sym more)
+            (wrote_as (λ y w. shows_first shows (entry_after n (actor_of (Run 1) s) o) (entries_after (suc n) (replicate k (Run 1)) o.state) y
+            (subst (λ (z : Entry). shows z y) same w) (quiet_entries shows k hides (suc n) o.state (does.silent s h))) wrote);
+      }
 
 -- ---- many events
+
+replicate_both : {A : Type 0} (j k : ℕ) (x : A) → replicate j x ++ replicate k x ≡ replicate (j + k) x
+replicate_both zero k x = let all : 0 + k ≡ k = omega arith in ap (λ (i : ℕ). replicate i x) (sym all)
+replicate_both {A} (suc j) k x =
+    let all : suc j + k ≡ suc (j + k) = omega arith in
+    ap (λ (l : List A). x ∷ l) (replicate_both j k x) ∙ ap (λ (i : ℕ). replicate i x) (sym all)
 
 replicate_more : {A : Type 0} (k : ℕ) (x : A) → replicate k x ++ x ∷ [] ≡ replicate (suc k) x
 replicate_more zero x = refl
@@ -171,7 +229,7 @@ pub turns_of_all : (list : List Event) → length (units list) ≡ sum_by turns 
 turns_of_all [] = refl
 turns_of_all (e ∷ rest) = omega (arith, length-append (unit_of e) (units rest), turns_of_all rest, sum_by-cons turns e rest)
 
-module _ (shows : Entry → List ℕ → Type 0) {m n o : Seen} {a b c : Tape} (k : ℕ) where
+module _ (shows : Entry → List ℕ → Type 0) {m n o : Seen} {a b c : Output} (k : ℕ) where
   -- an event once more
   pub logs_again : (j : ℕ) (e : Event) → Logs shows (replicate j e) k m n a b → Logs shows (e ∷ []) (k + j) n o b c
       → Logs shows (replicate (j + 1) e) k m o a c
@@ -180,6 +238,14 @@ module _ (shows : Entry → List ℕ → Type 0) {m n o : Seen} {a b c : Tape} (
       let more : suc j ≡ j + 1 = omega arith in
       subst (λ (l : List Event). Logs shows l k m o a c) (replicate_more j e ∙ ap (λ (x : ℕ). replicate x e) more)
       (logs_more shows k (replicate j e) (e ∷ []) before (subst (λ (x : ℕ). Logs shows (e ∷ []) x n o b c) many last))
+
+  -- an event many times more
+  pub logs_further : (j i : ℕ) (e : Event) → Logs shows (replicate j e) k m n a b → Logs shows (replicate i e) (k + j) n o b c
+      → Logs shows (replicate (j + i) e) k m o a c
+  logs_further j i e before last =
+      let many : k + j ≡ k + length (replicate j e) = ap (λ (x : ℕ). k + x) (sym (length-replicate j e)) in
+      subst (λ (l : List Event). Logs shows l k m o a c) (replicate_both j i e)
+      (logs_more shows k (replicate j e) (replicate i e) before (subst (λ (x : ℕ). Logs shows (replicate i e) x n o b c) many last))
 
   -- one event more
   pub logs_turn : (list : List Event) (i : ℕ) (d : Event) → i < length list
@@ -194,7 +260,7 @@ module _ (shows : Entry → List ℕ → Type 0) {m n o : Seen} {a b c : Tape} (
       (logs_more shows k (units (take i list)) (unit_of one) before (subst (λ (x : ℕ). Logs shows (unit_of one) x n o b c) many last))
 
 -- the entries of the next events, by the form with which the first ones began
-pub logs_next : {F : Type 0} (shows : F → Entry → List ℕ → Type 0) {p q : F} {j k : ℕ} {list : List Event} {m n : Seen} {a b : Tape}
+pub logs_next : {F : Type 0} (shows : F → Entry → List ℕ → Type 0) {p q : F} {j k : ℕ} {list : List Event} {m n : Seen} {a b : Output}
     → p ≡ q → j ≡ k → Logs (shows p) list j m n a b → Logs (shows q) list k m n a b
 logs_next shows {p} {q} {j} {k} {list} {m} {n} {a} {b} same number logs =
     subst (λ x. Logs (shows x) list k m n a b) same (subst (λ (x : ℕ). Logs (shows p) list x m n a b) number logs)
@@ -221,13 +287,37 @@ module _ (list : List Event) (i : ℕ) (d : Event) (within : i < length list) wh
 
 -- ---- the whole run
 
-pub logged : (shows : Entry → List ℕ → Type 0) {mid new : Seen} {a b c : Tape} (machine : MachineData) (list : List Event)
-    → Wrote (Puts a b) (shows (entry_after 0 None (starts (booted machine)))) → Agrees mid (starts (booted machine)).state
-    → Logs shows (units list) 1 mid new b c → Wrote (Puts a c) (ShowsLog shows (log_of machine list))
+pub logged : (shows : Entry → List ℕ → Type 0) {mid new : Seen} {a b c : Output} (machine : MachineData) (list : List Event)
+    → Wrote (Extends a b) (shows (entry_after 0 None (starts (booted machine)))) → Agrees mid (starts (booted machine)).state
+    → Logs shows (units list) 1 mid new b c → Wrote (Extends a c) (ShowsLog shows (log_of machine list))
 logged shows machine list first agrees rest =
     let e = entry_after 0 None (starts (booted machine)) in
     wrote_both (shows_both shows (e ∷ []) (entries_after 1 (units list) (starts (booted machine)).state))
     (wrote_as (λ x h. shows_one shows e x h) first) (rest.puts (starts (booted machine)).state agrees)
+
+-- ---- rows that are kept
+
+-- what is kept is put
+pub page_put : {a b : Tape} {before after : List ℕ} → Puts a b before → after ≡ [] → Adds a b before after []
+page_put {a} {b} {before} {after} p e = record { handed = before; puts = p; whole = ap (λ (z : List ℕ). before ++ z) (sym e) }
+
+-- it is kept further
+pub page_kept : (a : Tape) (page : List ℕ) → Adds a a page page []
+page_kept a page = adds_none a page
+
+-- bytes after what is kept, of which all may be put then
+pub page_gains : {Shows : List ℕ → Type 0} {a b : Tape} {before between after : List ℕ} → Gains Shows before between → Adds a b between after []
+    → Wrote (Extends (record { tape = a; page = before }) (record { tape = b; page = after })) Shows
+page_gains {Shows} {a} {b} {before} {between} {after} gains turned = record {
+  bytes = gains.bytes;
+  shows = gains.shows;
+  goes = adds_then _ (adds_fitting a before between gains.bytes gains.added) turned (sym (append-nil gains.bytes));
+}
+
+-- at the end the rest of what is kept is put
+pub page_ends : {Shows : List ℕ → Type 0} {a b c : Tape} {before after : List ℕ} → before ≡ []
+    → Wrote (Extends (record { tape = a; page = before }) (record { tape = b; page = after })) Shows → Puts b c after → Wrote (Puts a c) Shows
+page_ends empty wrote puts = record { bytes = wrote.bytes; shows = wrote.shows; goes = adds_all empty wrote.goes puts }
 
 -- ---- whether all was taken
 

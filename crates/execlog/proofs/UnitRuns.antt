@@ -50,6 +50,11 @@ many_ticks (suc n) s =
     ∙ sym (tick_cut 1 n [] s)
     ∙ ap (λ (k : ℕ). events (Tick k ∷ []) s) whole
 
+-- steps one after another
+pub steps_same : (n : ℕ) (s : State) → events (replicate n (Run 1)) s ≡ steps n s
+unfolding event
+steps_same n s = many_steps n s ∙ alone (Run n) s
+
 unit_same : (e : Event) (s : State) → events (unit_of e) s ≡ event e s
 unit_same (Run n) s = many_steps n s ∙ alone (Run n) s
 unit_same (Tick n) s = many_ticks n s ∙ alone (Tick n) s

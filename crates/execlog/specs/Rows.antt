@@ -35,6 +35,17 @@ abbrev pub source_column : ℕ → List ℕ → List ℕ
 source_column taken [] = []
 source_column taken (c ∷ source) = replicate (43 - taken) 32 ++ codes "  " ++ c ∷ source
 
+-- how many of the spaces before the text of a command a line of the trace takes the place of, at most; with no text there are none
+abbrev pub gap_of : List ℕ → ℕ
+gap_of [] = 0
+gap_of (c ∷ source) = 43
+
+-- The bytes are the column of a line, and what is after a line of the trace that has no byte: the text of its command, and the line feed.
+pub record IsFrame (line : Option ℕ) (source before after : List ℕ) (gap : ℕ) : Type 0 where
+  pub before_is : before ≡ line_column line ++ codes "  "
+  pub after_is : after ≡ source_column 0 source ++ 10 ∷ []
+  pub gap_is : gap ≡ gap_of source
+
 -- the bytes are spaces up to a place
 abbrev pub IsBlank : ℕ → List ℕ → Type 0
 IsBlank place room = take place room ≡ replicate {A = ℕ} place 32

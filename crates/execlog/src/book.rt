@@ -1,8 +1,11 @@
 //! What is written where in a machine file: the names of its bodies, and of each command the line of the file and the text.
-ghost use Rattle.std.specs.Prelude.{◌≡◌};
-ghost use Rattle.execlog.specs.Books.{line_at, row_line};
+ghost use Rattle.std.specs.Prelude.{◌≡◌, option_copied, string_bytes, IfOk};
+ghost use Rattle.execlog.specs.Rows.{IsFrame};
 
+use crate::frame::{Around, Frame};
+use crate::index::Index;
 use crate::moment::Actor;
+use std::alloc::{AllocError, Global};
 use taskscript::{Command, Name};
 
 /// A command as it is written.
@@ -16,6 +19,8 @@ pub struct Place {
     pub is_silent: bool,
     /// What it says.
     pub command: Command,
+    frame: Frame,
+    ghost framed: { IsFrame line (string_bytes source) frame.before.items frame.after.items frame.gap },
 }
 
 /// A body: a task, a software interrupt or a server.
@@ -34,14 +39,51 @@ pub struct Book {
     pub tasks: Vec<Body>,
     /// The software interrupts, and after them the servers, each in the order of the file.
     pub interrupts: Vec<Body>,
+    index: Index,
 }
 
 impl Place {
-    /// The line of the row of the command; none if its line is not known, or it prints nothing.
-    fn row_line(&self) -> Option<u32>
-        ensures { result ≡ row_line self.now }
+    /// A command.
+    ///
+    /// # Errors
+    ///
+    /// When memory is refused.
+    ///
+    /// Source: project rule.
+    pub fn new(
+        alloc: Global,
+        line: Option<u32>,
+        source: String,
+        is_silent: bool,
+        command: Command,
+    ) -> Result<Place, AllocError>
+        ensures line { IfOk result (λ p. p.line ≡ line) }
+        ensures source { IfOk result (λ p. p.source ≡ source) }
+        ensures is_silent { IfOk result (λ p. p.is_silent ≡ is_silent) }
+        ensures command { IfOk result (λ p. p.command ≡ command) }
     {
-        if self.is_silent { None } else { self.line }
+        let frame = Frame::new(alloc, line, source.as_str().as_bytes())?;
+        Ok(Place {
+            line,
+            source,
+            is_silent,
+            command,
+            frame,
+        })
+    }
+
+    /// What is around the line of the command in its row.
+    #[inline(always)]
+    pub(crate) fn around(&self) -> Around<'_>
+        ensures { result.line ≡ self.now.line }
+    {
+        Around {
+            line: self.line,
+            source: self.source.as_str().as_bytes(),
+            before: &self.frame.before,
+            after: &self.frame.after,
+            gap: self.frame.gap,
+        }
     }
 }
 
@@ -60,21 +102,32 @@ impl Body {
 }
 
 impl Book {
-    /// The line of the command at which a task is; none for no task, if the line is not known, and if the command prints nothing.
+    ghost use Rattle.execlog.specs.Books.{command_at};
+
+    /// The bodies of a machine file.
     ///
     /// Source: project rule.
-    pub fn line_at(&self, actor: Option<Actor>) -> Option<u32>
-        ensures { result ≡ line_at self.now actor }
+    pub fn new(tasks: Vec<Body>, interrupts: Vec<Body>) -> Book
+        ensures tasks { result.tasks ≡ tasks }
+        ensures interrupts { result.interrupts ≡ interrupts }
     {
-        match actor {
+        let index = Index::new(&interrupts);
+        Book {
+            tasks,
+            interrupts,
+            index,
+        }
+    }
+
+    /// The command at which a task is, if it is at one.
+    ///
+    /// Source: project rule.
+    pub fn command_at(&self, actor: Actor) -> Option<&Place>
+        ensures { option_copied result ≡ command_at self.now actor }
+    {
+        match self.tasks.get(actor.task) {
             None => None,
-            Some(actor) => match self.tasks.get(actor.task) {
-                None => None,
-                Some(task) => match task.places.get(actor.place) {
-                    None => None,
-                    Some(place) => place.row_line(),
-                },
-            },
+            Some(task) => task.places.get(actor.place),
         }
     }
 
@@ -82,23 +135,33 @@ impl Book {
     ///
     /// Source: project rule.
     pub fn interrupt_named(&self, name: &[u8]) -> Option<usize> {
-        for (i, body) in self.interrupts.iter().enumerate() {
-            if body.name.as_str().as_bytes() == name {
-                return Some(i);
+        let place = self.index.place_of(name);
+        match self.interrupts.get(place) {
+            None => None,
+            Some(body) => {
+                if body.name.as_str().as_bytes() == name {
+                    Some(place)
+                } else {
+                    place_named(&self.interrupts, name)
+                }
             }
         }
-        None
     }
 
     /// The task of a name, by its number from 0.
     ///
     /// Source: project rule.
     pub fn task_named(&self, name: &[u8]) -> Option<usize> {
-        for (i, body) in self.tasks.iter().enumerate() {
-            if body.name.as_str().as_bytes() == name {
-                return Some(i);
-            }
-        }
-        None
+        place_named(&self.tasks, name)
     }
+}
+
+/// The place of the first body of a name.
+fn place_named(bodies: &[Body], name: &[u8]) -> Option<usize> {
+    for (i, body) in bodies.iter().enumerate() {
+        if body.name.as_str().as_bytes() == name {
+            return Some(i);
+        }
+    }
+    None
 }

@@ -39,6 +39,14 @@ impl Cursor {
         Cursor { actor, body: None }
     }
 
+    /// Behind the line of the task's command.
+    pub(crate) fn behind_task() -> Cursor {
+        Cursor {
+            actor: None,
+            body: None,
+        }
+    }
+
     /// The place of the line of the task's command, if there is one.
     fn of_task(&mut self, book: &Book) -> Option<Spot> {
         let actor = self.actor?;

@@ -1,5 +1,5 @@
 //! How the entries of a log are written.
-ghost use Rattle.std.specs.Prelude.{List, OnOk, ℕ};
+ghost use Rattle.std.specs.Prelude.{◌≡◌, [], false, List, OnOk, ℕ};
 ghost use Rattle.execlog.specs.Log.{Entry, Gains};
 
 use crate::moment::{Actor, Moment};
@@ -33,8 +33,18 @@ pub trait Form {
     /// How bytes show an entry.
     ghost shows: { Self → Entry → List ℕ → Type 0 };
 
-    /// Notes what the form needs of a machine before a step, a tick or a request.
-    fn note<S: ListSpace>(&self, machine: &Machine<S>, actor: Option<Actor>, before: &mut Before);
+    /// Notes what the form needs of a machine before the step, tick or request of that number.
+    fn note<S: ListSpace>(
+        &self,
+        machine: &Machine<S>,
+        number: u64,
+        actor: Option<Actor>,
+        before: &mut Before,
+    );
+
+    /// Whether entries that printed nothing are shown.
+    fn shows_silent(&self) -> bool
+        ensures { result ≡ false → (moment : Moment) → shows self.now (record { moment = moment; text = [] }) [] };
 
     /// Adds bytes that show an entry to a page: what is known of it, and the text that it printed.
     fn push_entry(

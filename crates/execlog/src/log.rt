@@ -1,6 +1,6 @@
-//! A run, one step and one tick at a time, with a row for each line of its trace.
-ghost use Rattle.std.specs.Prelude.{◌≡◌, ◌+◌, ◌*◌, ◌∷◌, ◌<◌, ◌^◌, ℕ, [], false, replicate, sum_by, None, OnOk};
-ghost use Rattle.exectrace.specs.Sink.{Puts};
+//! A run with an entry for each step, tick and request. Steps that print nothing are done together if they are not shown.
+ghost use Rattle.std.specs.Prelude.{◌≡◌, ◌+◌, ◌*◌, ◌∷◌, ◌<◌, ◌≤◌, ◌^◌, ℕ, [], false, replicate, sum_by, None, IfOk, OnOk};
+ghost use Rattle.exectrace.specs.Sink.{Adds};
 ghost use Rattle.exectrace.specs.declared.sinks.SinkState.{SinkState};
 ghost use Rattle.taskscript.specs.Events.{ticks as ticks_of};
 ghost use Rattle.taskscript.specs.File.{MachineData};
@@ -8,8 +8,9 @@ ghost use Rattle.execmodel.specs.State.{booted};
 ghost use Rattle.execmodel.specs.Step.{starts};
 ghost use Rattle.execsim.specs.Agreement.{Agrees};
 ghost use Rattle.execsim.specs.Time.{HasTimeFor};
+ghost use Rattle.execlog.specs.declared.moment.Moment.{Moment};
 ghost use Rattle.execlog.specs.Log.{Entry, ShowsLog, entry_after, log_of, turns, unit_of, units};
-ghost use Rattle.execlog.specs.Runs.{Logs, LogsRun, Wrote};
+ghost use Rattle.execlog.specs.Runs.{Extends, Logs, LogsRun, Wrote};
 
 use crate::buffer::Buffer;
 use crate::form::{Before, Form};
@@ -33,6 +34,9 @@ pub enum LogFault {
     Write,
 }
 
+/// How many bytes of rows are put together, or a few more.
+const MOST_KEPT: usize = 2_048;
+
 /// What is kept from one entry to the next.
 #[derive(Drop)]
 struct Log<'a, F> {
@@ -43,16 +47,18 @@ struct Log<'a, F> {
     before: Before,
     /// What the machine has printed since the last entry.
     text: Buffer,
-    /// The bytes that show an entry.
+    /// The rows that are not put yet.
     page: Vec<u8>,
 }
 
-/// Puts the bytes that show an entry, of which there are often none.
-fn put_page<W: Sink>(page: &[u8], out: &mut W)
-    ensures { Puts (W.tape out.old) (W.tape out.new) page.now }
+/// Puts the rows of a page if there are many, and begins it anew.
+#[tactic(auto, using(crate::proofs::Logging::page_put, crate::proofs::Logging::page_kept))]
+fn turn_page<W: Sink>(page: &mut Vec<u8>, out: &mut W)
+    ensures { Adds (W.tape out.old) (W.tape out.new) page.old.items page.new.items [] }
 {
-    if !page.is_empty() {
+    if page.len() >= MOST_KEPT {
         put(page, out);
+        page.clear();
     }
 }
 
@@ -65,7 +71,7 @@ impl<'a, F: Form> Log<'a, F> {
         out: &mut W,
     ) -> Result<(), AllocError>
         requires { self.old.number < 2 ^ 63 }
-        ensures shows { OnOk result (Wrote (Puts (W.tape out.old) (W.tape out.new)) (F.shows self.old.form.now (record {
+        ensures shows { OnOk result (Wrote (Extends (record { tape = W.tape out.old; page = self.old.page.items }) (record { tape = W.tape out.new; page = self.new.page.items })) (F.shows self.old.form.now (record {
           moment = record { number = self.old.number; clock = clock; actor = actor };
           text = self.old.text.bytes.items;
         }))) }
@@ -79,10 +85,9 @@ impl<'a, F: Form> Log<'a, F> {
             actor,
         };
         self.number += 1;
-        self.page.clear();
         self.form
             .push_entry(&self.before, &moment, &self.text.bytes, &mut self.page)?;
-        put_page(&self.page, out);
+        turn_page(&mut self.page, out);
         Ok(())
     }
 }
@@ -98,7 +103,7 @@ fn begin<S: ListSpace, F: Form, W: Sink>(
     requires blank { log.old.text.bytes.items ≡ [] }
     requires number { log.old.number ≡ 0 }
     ensures agrees { OnOk result ((m : MachineData) → Agrees machine.old.seen (booted m) → Agrees machine.new.seen (starts (booted m)).state) }
-    ensures rows { OnOk result ((m : MachineData) → Agrees machine.old.seen (booted m) → Wrote (Puts (W.tape out.old) (W.tape out.new)) (F.shows log.old.form.now (entry_after 0 None (starts (booted m))))) }
+    ensures rows { OnOk result ((m : MachineData) → Agrees machine.old.seen (booted m) → Wrote (Extends (record { tape = W.tape out.old; page = log.old.page.items }) (record { tape = W.tape out.new; page = log.new.page.items })) (F.shows log.old.form.now (entry_after 0 None (starts (booted m))))) }
     ensures going { OnOk result (machine.new.failed ≡ false) }
     ensures good { OnOk result (log.new.text.state ≡ SinkState.Good) }
     ensures number { OnOk result (log.new.number ≡ 1) }
@@ -114,7 +119,7 @@ fn begin<S: ListSpace, F: Form, W: Sink>(
     }
 }
 
-/// Does one step, tick or request, and adds its entry.
+/// Does one tick or request, or one step, and adds its entry.
 fn advance<S: ListSpace, F: Form, W: Sink>(
     machine: &mut Machine<S>,
     one: Event,
@@ -125,7 +130,7 @@ fn advance<S: ListSpace, F: Form, W: Sink>(
     requires good { log.old.text.state ≡ SinkState.Good }
     requires number { log.old.number < 2 ^ 63 }
     requires time { HasTimeFor (ticks_of one) machine.old.seen }
-    ensures logs { OnOk result (Logs (F.shows log.old.form.now) (one ∷ []) log.old.number machine.old.seen machine.new.seen (W.tape out.old) (W.tape out.new)) }
+    ensures logs { OnOk result (Logs (F.shows log.old.form.now) (one ∷ []) log.old.number machine.old.seen machine.new.seen (record { tape = W.tape out.old; page = log.old.page.items }) (record { tape = W.tape out.new; page = log.new.page.items })) }
     ensures going { OnOk result (machine.new.failed ≡ false) }
     ensures good { OnOk result (log.new.text.state ≡ SinkState.Good) }
     ensures number { OnOk result (log.new.number ≡ log.old.number + 1) }
@@ -133,7 +138,7 @@ fn advance<S: ListSpace, F: Form, W: Sink>(
     ensures time { OnOk result ((ticks : ℕ) → HasTimeFor (ticks_of one + ticks) machine.old.seen → HasTimeFor ticks machine.new.seen) }
 {
     let actor = actor_of(machine, one);
-    log.form.note(machine, actor, &mut log.before);
+    log.form.note(machine, log.number, actor, &mut log.before);
     log.text.clear();
     match machine.event(one, &mut log.text) {
         Ok(_) => {
@@ -156,7 +161,7 @@ fn advance_many<S: ListSpace, F: Form, W: Sink>(
     requires good { log.old.text.state ≡ SinkState.Good }
     requires number { log.old.number + many < 2 ^ 63 }
     requires time { HasTimeFor (many * ticks_of one) machine.old.seen }
-    ensures logs { OnOk result (Logs (F.shows log.old.form.now) (replicate many one) log.old.number machine.old.seen machine.new.seen (W.tape out.old) (W.tape out.new)) }
+    ensures logs { OnOk result (Logs (F.shows log.old.form.now) (replicate many one) log.old.number machine.old.seen machine.new.seen (record { tape = W.tape out.old; page = log.old.page.items }) (record { tape = W.tape out.new; page = log.new.page.items })) }
     ensures going { OnOk result (machine.new.failed ≡ false) }
     ensures good { OnOk result (log.new.text.state ≡ SinkState.Good) }
     ensures number { OnOk result (log.new.number ≡ log.old.number + many) }
@@ -169,7 +174,73 @@ fn advance_many<S: ListSpace, F: Form, W: Sink>(
     Ok(())
 }
 
-/// Does one event, one step and one tick at a time.
+/// How many steps that print nothing may come after a step with no entries of their own, at most that many: none if they are shown.
+fn most_silent<F: Form>(form: &F, more: u32) -> u32
+    ensures within { result ≤ more }
+    ensures hidden { 0 < result → (moment : Moment) → F.shows form.now (record { moment = moment; text = [] }) [] }
+{
+    if form.shows_silent() { 0 } else { more }
+}
+
+/// Does a step, and those after it that print nothing and are not shown, at most that many; adds the entry, and answers how many these were.
+fn advance_step<S: ListSpace, F: Form, W: Sink>(
+    machine: &mut Machine<S>,
+    more: u32,
+    log: &mut Log<'_, F>,
+    out: &mut W,
+) -> Result<u32, AllocError>
+    requires going { machine.old.failed ≡ false }
+    requires good { log.old.text.state ≡ SinkState.Good }
+    requires number { log.old.number + more + 1 < 2 ^ 63 }
+    ensures within { IfOk result (λ silent. silent ≤ more) }
+    ensures logs { IfOk result (λ silent. Logs (F.shows log.old.form.now) (replicate (silent + 1) (Event.Run 1)) log.old.number machine.old.seen machine.new.seen (record { tape = W.tape out.old; page = log.old.page.items }) (record { tape = W.tape out.new; page = log.new.page.items })) }
+    ensures going { OnOk result (machine.new.failed ≡ false) }
+    ensures good { OnOk result (log.new.text.state ≡ SinkState.Good) }
+    ensures number { IfOk result (λ silent. log.new.number ≡ log.old.number + (silent + 1)) }
+    ensures form { log.new.form ≡ log.old.form }
+    ensures time { OnOk result ((ticks : ℕ) → HasTimeFor ticks machine.old.seen → HasTimeFor ticks machine.new.seen) }
+{
+    let actor = actor_of(machine, Event::Run(1));
+    log.form.note(machine, log.number, actor, &mut log.before);
+    log.text.clear();
+    let most = most_silent(log.form, more);
+    match machine.advance(most, &mut log.text) {
+        Ok(silent) => {
+            let clock = machine.view().clock;
+            log.enter(clock, actor, out)?;
+            log.number += u64::from(silent);
+            Ok(silent)
+        }
+        Err(_) => Err(AllocError),
+    }
+}
+
+/// Does that many steps.
+fn advance_steps<S: ListSpace, F: Form, W: Sink>(
+    machine: &mut Machine<S>,
+    many: u32,
+    log: &mut Log<'_, F>,
+    out: &mut W,
+) -> Result<(), AllocError>
+    requires going { machine.old.failed ≡ false }
+    requires good { log.old.text.state ≡ SinkState.Good }
+    requires number { log.old.number + many < 2 ^ 63 }
+    ensures logs { OnOk result (Logs (F.shows log.old.form.now) (replicate many (Event.Run 1)) log.old.number machine.old.seen machine.new.seen (record { tape = W.tape out.old; page = log.old.page.items }) (record { tape = W.tape out.new; page = log.new.page.items })) }
+    ensures going { OnOk result (machine.new.failed ≡ false) }
+    ensures good { OnOk result (log.new.text.state ≡ SinkState.Good) }
+    ensures number { OnOk result (log.new.number ≡ log.old.number + many) }
+    ensures form { log.new.form ≡ log.old.form }
+    ensures time { OnOk result ((ticks : ℕ) → HasTimeFor ticks machine.old.seen → HasTimeFor ticks machine.new.seen) }
+{
+    let mut done = 0;
+    while done < many {
+        let silent = advance_step(machine, many - done - 1, log, out)?;
+        done += silent + 1;
+    }
+    Ok(())
+}
+
+/// Does one event, and adds its entries.
 fn advance_event<S: ListSpace, F: Form, W: Sink>(
     machine: &mut Machine<S>,
     one: Event,
@@ -180,7 +251,7 @@ fn advance_event<S: ListSpace, F: Form, W: Sink>(
     requires good { log.old.text.state ≡ SinkState.Good }
     requires number { log.old.number + turns one < 2 ^ 63 }
     requires time { HasTimeFor (ticks_of one) machine.old.seen }
-    ensures logs { OnOk result (Logs (F.shows log.old.form.now) (unit_of one) log.old.number machine.old.seen machine.new.seen (W.tape out.old) (W.tape out.new)) }
+    ensures logs { OnOk result (Logs (F.shows log.old.form.now) (unit_of one) log.old.number machine.old.seen machine.new.seen (record { tape = W.tape out.old; page = log.old.page.items }) (record { tape = W.tape out.new; page = log.new.page.items })) }
     ensures going { OnOk result (machine.new.failed ≡ false) }
     ensures good { OnOk result (log.new.text.state ≡ SinkState.Good) }
     ensures number { OnOk result (log.new.number ≡ log.old.number + turns one) }
@@ -188,13 +259,13 @@ fn advance_event<S: ListSpace, F: Form, W: Sink>(
     ensures time { OnOk result ((ticks : ℕ) → HasTimeFor (ticks_of one + ticks) machine.old.seen → HasTimeFor ticks machine.new.seen) }
 {
     match one {
-        Event::Run(n) => advance_many(machine, Event::Run(1), n, log, out),
+        Event::Run(n) => advance_steps(machine, n, log, out),
         Event::Tick(n) => advance_many(machine, Event::Tick(1), n, log, out),
         Event::Irq(_) => advance_many(machine, one, 1, log, out),
     }
 }
 
-/// Does some events, one step and one tick at a time.
+/// Does some events, and adds their entries.
 fn advance_all<S: ListSpace, F: Form, W: Sink>(
     machine: &mut Machine<S>,
     list: &[Event],
@@ -205,7 +276,7 @@ fn advance_all<S: ListSpace, F: Form, W: Sink>(
     requires good { log.old.text.state ≡ SinkState.Good }
     requires number { log.old.number + sum_by turns list.now < 2 ^ 63 }
     requires time { HasTimeFor (sum_by ticks_of list.now) machine.old.seen }
-    ensures { OnOk result (Logs (F.shows log.old.form.now) (units list.now) log.old.number machine.old.seen machine.new.seen (W.tape out.old) (W.tape out.new)) }
+    ensures { OnOk result (Logs (F.shows log.old.form.now) (units list.now) log.old.number machine.old.seen machine.new.seen (record { tape = W.tape out.old; page = log.old.page.items }) (record { tape = W.tape out.new; page = log.new.page.items })) }
 {
     for one in list {
         advance_event(machine, *one, log, out)?;
@@ -213,7 +284,7 @@ fn advance_all<S: ListSpace, F: Form, W: Sink>(
     Ok(())
 }
 
-/// Starts a machine and does some events, one step and one tick at a time.
+/// Starts a machine and does some events, and adds their entries.
 fn log_all<S: ListSpace, F: Form, W: Sink>(
     machine: &mut Machine<S>,
     list: &[Event],
@@ -226,7 +297,7 @@ fn log_all<S: ListSpace, F: Form, W: Sink>(
     requires number { log.old.number ≡ 0 }
     requires few { sum_by turns list.now < 2 ^ 62 }
     requires time { HasTimeFor (sum_by ticks_of list.now) machine.old.seen }
-    ensures { OnOk result ((m : MachineData) → Agrees machine.old.seen (booted m) → Wrote (Puts (W.tape out.old) (W.tape out.new)) (ShowsLog (F.shows log.old.form.now) (log_of m list.now))) }
+    ensures { OnOk result ((m : MachineData) → Agrees machine.old.seen (booted m) → Wrote (Extends (record { tape = W.tape out.old; page = log.old.page.items }) (record { tape = W.tape out.new; page = log.new.page.items })) (ShowsLog (F.shows log.old.form.now) (log_of m list.now))) }
 {
     begin(machine, log, out)?;
     advance_all(machine, list, log, out)
@@ -262,9 +333,12 @@ pub fn write_log<S: ListSpace, F: Form, W: Sink>(
     };
     match log_all(machine, events, &mut log, out) {
         Err(_) => Err(LogFault::Memory),
-        Ok(()) => match written(out) {
-            Ok(()) => Ok(()),
-            Err(_) => Err(LogFault::Write),
-        },
+        Ok(()) => {
+            put(&log.page, out);
+            match written(out) {
+                Ok(()) => Ok(()),
+                Err(_) => Err(LogFault::Write),
+            }
+        }
     }
 }

@@ -1,13 +1,17 @@
 //! The rows of a log: columns before and after a line of the trace. The columns before it are put into room of a fixed size, the last one first.
 ghost use Rattle.std.specs.Prelude.{◌≡◌, ◌∷◌, ◌≤◌, ◌<◌, ◌++◌, ◌+◌, ◌-◌, ◌/◌, codes, decimal, drop, length, replicate, take, OnOk};
-ghost use Rattle.execlog.specs.Rows.{IsBlank, digit, front, line_column, millis, padded, row_with, source_column};
+ghost use Rattle.execlog.specs.Rows.{IsBlank, digit, front, line_column, millis, padded, row_with, source_column, time_columns};
 
+use crate::frame::Around;
 use crate::moment::Moment;
 use itoa::write_digits;
 use std::alloc::AllocError;
 
-/// How many bytes there is room for before a line of the trace, which is enough for all numbers.
-const ROOM: usize = 96;
+/// How many bytes there is room for, which is enough for all numbers and times.
+pub(crate) const ROOM: usize = 64;
+
+/// Blank room.
+pub(crate) const BLANK: [u8; ROOM] = [b' '; ROOM];
 
 /// The most spaces between a line of the trace and the text of its command.
 const SPACES: [u8; 45] = [b' '; 45];
@@ -83,6 +87,11 @@ fn put_millis(room: &mut [u8], end: usize, micros: u64) -> usize
     ensures blank { IsBlank result room.new }
     ensures room { length room.new ≡ length room.old }
 {
+    // With no tick yet no digit is calculated.
+    if micros == 0 {
+        let point = put_places(room, end, 0);
+        return put_column(room, point, 0);
+    }
     let point = put_places(room, end, micros);
     put_column(room, point, micros / 1000)
 }
@@ -116,25 +125,35 @@ fn put_line(room: &mut [u8], end: usize, line: Option<u32>) -> usize
     }
 }
 
-/// Puts all that is before a line of the trace at the end of blank room, and answers where it begins.
-fn put_front(room: &mut [u8], line: Option<u32>, moment: &Moment) -> usize
-    requires { room.old ≡ replicate 96 32 }
-    ensures within { result ≤ 96 }
-    ensures put { drop result room.new ≡ front line moment.now }
-    ensures room { length room.new ≡ 96 }
+/// Puts the number and the time at the end of blank room, and answers where they begin.
+#[inline(always)]
+pub(crate) fn put_head(room: &mut [u8], moment: &Moment) -> usize
+    requires { room.old ≡ replicate 64 32 }
+    ensures within { result ≤ 64 }
+    ensures put { drop result room.new ≡ time_columns moment.now }
+    ensures room { length room.new ≡ 64 }
 {
-    let from_line = put_line(room, ROOM - 2, line);
-    let from_time = put_millis(room, from_line, moment.clock);
+    let from_time = put_millis(room, ROOM, moment.clock);
     put_column(room, from_time, moment.number)
+}
+
+/// Adds the column of a line, and the two spaces after it.
+pub(crate) fn push_line_column(page: &mut Vec<u8>, line: Option<u32>) -> Result<(), AllocError>
+    ensures { OnOk result (page.new.items ≡ page.old.items ++ (line_column line ++ codes "  ")) }
+{
+    let mut room = BLANK;
+    let start = put_line(&mut room, ROOM - 2, line);
+    page.extend_from_slice(&room[start..])
 }
 
 /// Adds all that is before a line of the trace.
 fn push_front(page: &mut Vec<u8>, line: Option<u32>, moment: &Moment) -> Result<(), AllocError>
     ensures { OnOk result (page.new.items ≡ page.old.items ++ front line moment.now) }
 {
-    let mut room = [b' '; ROOM];
-    let start = put_front(&mut room, line, moment);
-    page.extend_from_slice(&room[start..])
+    let mut room = BLANK;
+    let start = put_head(&mut room, moment);
+    page.extend_from_slice(&room[start..])?;
+    push_line_column(page, line)
 }
 
 /// Adds the spaces after that many bytes of a line.
@@ -145,7 +164,7 @@ fn push_gap(page: &mut Vec<u8>, taken: usize) -> Result<(), AllocError>
 }
 
 /// Adds the column of the text of a command, after that many bytes of a line; nothing if there is no text.
-fn push_source(page: &mut Vec<u8>, taken: usize, source: &[u8]) -> Result<(), AllocError>
+pub(crate) fn push_source(page: &mut Vec<u8>, taken: usize, source: &[u8]) -> Result<(), AllocError>
     ensures { OnOk result (page.new.items ≡ page.old.items ++ source_column taken source.now) }
 {
     if source.is_empty() {
@@ -172,4 +191,21 @@ pub fn push_row(
     push_source(page, text.len(), source)?;
     page.push(b'\n')?;
     Ok(())
+}
+
+/// Adds a row: the number and the time, and a line of the trace within what is around it.
+#[inline(never)]
+pub(crate) fn push_framed(
+    page: &mut Vec<u8>,
+    head: &[u8],
+    around: Around<'_>,
+    text: &[u8],
+) -> Result<(), AllocError>
+    ensures { OnOk result (page.new.items ≡ page.old.items ++ (head.now ++ (around.entry.before.now ++ (text.now ++ drop (around.entry.gap - (around.entry.gap - length text.now)) around.entry.after.now)))) }
+{
+    page.extend_from_slice(head)?;
+    page.extend_from_slice(around.before)?;
+    page.extend_from_slice(text)?;
+    let taken = around.gap - around.gap.saturating_sub(text.len());
+    page.extend_from_slice(&around.after[taken..])
 }

@@ -134,42 +134,27 @@ stands t s q x status running ready queues = record {
 -- ---- what a known state reports
 
 ready_is : (x : TaskState) → is_ready x ≡ true → x ≡ Ready
-ready_is Absent e = true_is_not_false (sym e)
 ready_is Ready e = refl
-ready_is Running e = true_is_not_false (sym e)
-ready_is (Waiting why) e = true_is_not_false (sym e)
-ready_is Removed e = true_is_not_false (sym e)
+ready_is _ e = true_is_not_false (sym e)
 
 running_is : (x : TaskState) → is_running x ≡ true → x ≡ Running
-running_is Absent e = true_is_not_false (sym e)
-running_is Ready e = true_is_not_false (sym e)
 running_is Running e = refl
-running_is (Waiting why) e = true_is_not_false (sym e)
-running_is Removed e = true_is_not_false (sym e)
+running_is _ e = true_is_not_false (sym e)
 
 absent_is : (x : TaskState) → is_absent x ≡ true → x ≡ Absent
 absent_is Absent e = refl
-absent_is Ready e = true_is_not_false (sym e)
-absent_is Running e = true_is_not_false (sym e)
-absent_is (Waiting why) e = true_is_not_false (sym e)
-absent_is Removed e = true_is_not_false (sym e)
+absent_is _ e = true_is_not_false (sym e)
 
 pub at_semaphore_is : (x : TaskState) → is_at_semaphore x ≡ true → x ≡ Waiting Sem
-at_semaphore_is Absent e = true_is_not_false (sym e)
-at_semaphore_is Ready e = true_is_not_false (sym e)
-at_semaphore_is Running e = true_is_not_false (sym e)
 at_semaphore_is (Waiting (Signals mask)) e = true_is_not_false (sym e)
 at_semaphore_is (Waiting Sem) e = refl
-at_semaphore_is Removed e = true_is_not_false (sym e)
+at_semaphore_is _ e = true_is_not_false (sym e)
 
 -- for which of what comes a task waits
 pub awaiting_is : (x : TaskState) (received : ℕ) → awaits x received ≡ true → (mask : ℕ) × (x ≡ Waiting (Signals mask))
 awaiting_is Absent received e = true_is_not_false (sym e)
-awaiting_is Ready received e = true_is_not_false (sym e)
-awaiting_is Running received e = true_is_not_false (sym e)
 awaiting_is (Waiting (Signals mask)) received e = (mask, refl)
-awaiting_is (Waiting Sem) received e = true_is_not_false (sym e)
-awaiting_is Removed received e = true_is_not_false (sym e)
+awaiting_is _ received e = true_is_not_false (sym e)
 
 runs_at : (t : ℕ) (s : Schedule) (q : ℕ → List ℕ) (x : TaskState) → status_of s t ≡ x → Agrees t s q → is_at s.running t ≡ is_running x
 runs_at t s q x status old = old.runs ∙ ap is_running status

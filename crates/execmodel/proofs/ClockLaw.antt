@@ -15,25 +15,12 @@ use Rattle.taskscript.specs.File.{MachineData}
 use Rattle.execmodel.specs.State.{Call, Timer, State, Outcome, quiet, andthen, booted, on_schedule}
 use Rattle.scheduler.specs.Dispatch.{rescheduled}
 use Rattle.execmodel.specs.Pending.{source_named}
-use Rattle.execmodel.specs.Keeping.{beside_plain, beside_signals, beside_nestings, beside_memory, beside_ports, beside_requests, beside_interrupts, beside_semaphores, beside_tasks}
-use Rattle.execmodel.specs.Plain.{does_plain}
-use Rattle.execmodel.specs.Signals.{does_signals}
-use Rattle.execmodel.specs.Nesting.{does_nesting}
-use Rattle.execmodel.specs.Tasks.{does_tasks}
-use Rattle.execmodel.specs.Lists.{does_lists}
-use Rattle.execmodel.specs.Memory.{does_memory}
-use Rattle.execmodel.specs.Ports.{does_ports}
-use Rattle.execmodel.specs.Semaphores.{does_semaphores}
-use Rattle.execmodel.specs.Causing.{does_interrupts}
-use Rattle.execmodel.specs.Libraries.{does_libraries}
-use Rattle.execmodel.specs.Requests.{does_requests}
 use Rattle.execmodel.specs.Step.{ends, switches, step, steps, request, tick, ticks, event, events, starts, run}
 use Rattle.execmodel.specs.Laws.{TheClockCountsTicks}
 use Rattle.execmodel.proofs.Heaps.{true_is_not_false}
-use Rattle.execmodel.proofs.Itself.{word_itself}
+use Rattle.execmodel.proofs.Itself.{word_itself, word_keeps}
 use Rattle.execmodel.proofs.Stopped.{step_stopped, request_stopped}
 use Rattle.execmodel.proofs.Stretches.{Relation, HoldsOfEach, clock_gains, of_request, of_step, of_starts}
-use Rattle.execmodel.proofs.Keeping.{plain_words_change_scripts, signal_words_change_signals_and_states, nesting_words_change_nestings, task_words_change_states_priorities_and_objects, list_words_change_the_memory, memory_words_change_the_memory, port_words_change_ports_signals_and_states, semaphore_words_change_states_and_objects, interrupt_words_change_what_is_caused, library_words_change_the_memory, request_words_keep}
 use Rattle.execmodel.proofs.Commands.{body_alters}
 use Rattle.execmodel.proofs.Asking.{finishing}
 use Rattle.execmodel.proofs.TidyLaw.{quietly, switches_quiet}
@@ -44,27 +31,13 @@ use Rattle.execmodel.proofs.TidyLaw.{quietly, switches_quiet}
 abbrev Stands : Relation
 Stands old marks new = (new.memory.timer.clock ≡ old.memory.timer.clock) × (new.memory.timer.tick_micros ≡ old.memory.timer.tick_micros)
 
--- what a group leaves as it is has the clock
-left : (part : State → State) → ((x : State) → (part x).memory.timer.clock ≡ x.memory.timer.clock)
-    → ((x : State) → (part x).memory.timer.tick_micros ≡ x.memory.timer.tick_micros) → (s : State) (o : Outcome) → part o.state ≡ part s
-    → Stands s o.marks o.state
-left part clock micros s o e = (
-  sym (clock o.state) ∙ ap (λ (x : State). x.memory.timer.clock) e ∙ clock s,
-  sym (micros o.state) ∙ ap (λ (x : State). x.memory.timer.tick_micros) e ∙ micros s,
-)
-
 pub word_stands : (word : Word) (t : ℕ) (call : Call) (s : State) → Stands s (word_itself word t call s).marks (word_itself word t call s).state
-word_stands (group.Plain word) t call s = left (beside_plain t) (λ x. refl) (λ x. refl) s (does_plain word t call s) (plain_words_change_scripts word t call s)
-word_stands (group.Signals word) t call s = left beside_signals (λ x. refl) (λ x. refl) s (does_signals word t call s) (signal_words_change_signals_and_states word t call s)
-word_stands (group.Nesting word) t call s = left beside_nestings (λ x. refl) (λ x. refl) s (does_nesting word t call s) (nesting_words_change_nestings word t call s)
-word_stands (group.Tasks word) t call s = left beside_tasks (λ x. refl) (λ x. refl) s (does_tasks word t call s) (task_words_change_states_priorities_and_objects word t call s)
-word_stands (group.Lists word) t call s = left beside_memory (λ x. refl) (λ x. refl) s (does_lists word t call s) (list_words_change_the_memory word t call s)
-word_stands (group.Memory word) t call s = left beside_memory (λ x. refl) (λ x. refl) s (does_memory word t call s) (memory_words_change_the_memory word t call s)
-word_stands (group.Ports word) t call s = left beside_ports (λ x. refl) (λ x. refl) s (does_ports word t call s) (port_words_change_ports_signals_and_states word t call s)
-word_stands (group.Semaphores word) t call s = left beside_semaphores (λ x. refl) (λ x. refl) s (does_semaphores word t call s) (semaphore_words_change_states_and_objects word t call s)
-word_stands (group.Interrupts word) t call s = left beside_interrupts (λ x. refl) (λ x. refl) s (does_interrupts word t call s) (interrupt_words_change_what_is_caused word t call s)
-word_stands (group.Libraries word) t call s = left beside_memory (λ x. refl) (λ x. refl) s (does_libraries word t call s) (library_words_change_the_memory word t call s)
-word_stands (group.Requests word) t call s = left beside_requests (λ x. refl) (λ x. refl) s (does_requests word t call s) (request_words_keep word t call s)
+word_stands (group.Requests word) t call s =
+    let same = word_keeps (group.Requests word) t call s in
+    (ap (λ (x : State). x.memory.timer.clock) same, ap (λ (x : State). x.memory.timer.tick_micros) same)
+word_stands word t call s =
+    let same = word_keeps word t call s in
+    (ap (λ (x : State). x.memory.timer.clock) same, ap (λ (x : State). x.memory.timer.tick_micros) same)
 
 stands : HoldsOfEach Stands
 unfolding ends

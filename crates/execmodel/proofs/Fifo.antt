@@ -9,7 +9,7 @@ use Rattle.memlist.proofs.Answered.{nat_eq-same, nat_eq-other, cases_eq}
 use Rattle.execlist.specs.Order.{first}
 use Rattle.execlist.specs.Order.{without}
 use Rattle.iorequest.specs.declared.request.Request.{Request as TimerRequest}
-use Rattle.execmodel.specs.State.{Call, Object, Plain, ListHead, Node, MsgPort, Message, Semaphore, Library, Request, Block, Heap, Waiting as Queued, Mark, out, State}
+use Rattle.execmodel.specs.State.{Call, Object, Plain, ListHead, MsgPort, Message, Semaphore, Library, Block, Heap, Waiting as Queued, Mark, out, State}
 use Rattle.execmodel.specs.Requests.{with_request}
 use Rattle.execmodel.specs.Objects.{object_at, is_kind, replaced}
 use Rattle.execmodel.specs.Memory.{extents, block_at}
@@ -59,54 +59,24 @@ no_port kind none None is = refl
 no_port kind none (Some object) is = none object is
 
 list_none : (object : Object) → is_list object ≡ true → messages_in object ≡ []
-list_none Plain is = refl
-list_none (ListHead nodes) is = refl
-list_none (Node key) is = refl
 list_none (MsgPort port messages) is = true_is_not_false (sym is)
-list_none (Message content) is = refl
-list_none (Semaphore sem waiters) is = refl
-list_none (Library number count delayed) is = refl
-list_none (Request content) is = refl
+list_none _ is = refl
 
 message_none : (object : Object) → is_message object ≡ true → messages_in object ≡ []
-message_none Plain is = refl
-message_none (ListHead nodes) is = refl
-message_none (Node key) is = refl
 message_none (MsgPort port messages) is = true_is_not_false (sym is)
-message_none (Message content) is = refl
-message_none (Semaphore sem waiters) is = refl
-message_none (Library number count delayed) is = refl
-message_none (Request content) is = refl
+message_none _ is = refl
 
 semaphore_none : (object : Object) → is_semaphore object ≡ true → messages_in object ≡ []
-semaphore_none Plain is = refl
-semaphore_none (ListHead nodes) is = refl
-semaphore_none (Node key) is = refl
 semaphore_none (MsgPort port messages) is = true_is_not_false (sym is)
-semaphore_none (Message content) is = refl
-semaphore_none (Semaphore sem waiters) is = refl
-semaphore_none (Library number count delayed) is = refl
-semaphore_none (Request content) is = refl
+semaphore_none _ is = refl
 
 library_none : (object : Object) → is_library object ≡ true → messages_in object ≡ []
-library_none (Library number count delayed) is = refl
-library_none (Request content) is = refl
-library_none Plain is = refl
-library_none (ListHead nodes) is = refl
-library_none (Node key) is = refl
 library_none (MsgPort port messages) is = true_is_not_false (sym is)
-library_none (Message content) is = refl
-library_none (Semaphore sem waiters) is = refl
+library_none _ is = refl
 
 new_none : (heap : Heap) (object : Object) → IsNew heap object → messages_in object ≡ []
-new_none heap Plain is = refl
-new_none heap (ListHead nodes) is = refl
-new_none heap (Node key) is = refl
 new_none heap (MsgPort port messages) is = is
-new_none heap (Message content) is = refl
-new_none heap (Semaphore sem waiters) is = refl
-new_none heap (Library number count delayed) is = refl
-new_none heap (Request content) is = refl
+new_none heap _ is = refl
 
 pub first_none : (messages : List ℕ) → first messages ≡ None → messages ≡ []
 first_none [] e = refl
@@ -114,14 +84,9 @@ first_none (m ∷ messages) e = none_some e
 
 gone_none : (found : Option Object) → MayGo found → messages_of_object found ≡ []
 gone_none None may = refl
-gone_none (Some Plain) may = refl
-gone_none (Some (ListHead nodes)) may = refl
-gone_none (Some (Node key)) may = refl
 gone_none (Some (MsgPort port messages)) may = first_none messages may
-gone_none (Some (Message content)) may = refl
-gone_none (Some (Semaphore sem waiters)) may = refl
 gone_none (Some (Library number count delayed)) may = absurd may
-gone_none (Some (Request content)) may = refl
+gone_none (Some _) may = refl
 
 -- ---- what begins at an address becomes another
 
@@ -149,23 +114,11 @@ all_remade f same p heap = ap (λ found. messages_of_object found) (object_remad
 
 left_same : (node : ℕ) (object : Object) → messages_in (left_by node object) ≡ messages_in object
 left_same node Plain = refl
-left_same node (ListHead nodes) = refl
-left_same node (Node key) = refl
-left_same node (MsgPort port messages) = refl
-left_same node (Message content) = refl
-left_same node (Semaphore sem waiters) = refl
-left_same node (Library number count delayed) = refl
-left_same node (Request content) = refl
+left_same node _ = refl
 
 task_left_same : (t : ℕ) (object : Object) → messages_in (left_by_task t object) ≡ messages_in object
 task_left_same t Plain = refl
-task_left_same t (ListHead nodes) = refl
-task_left_same t (Node key) = refl
-task_left_same t (MsgPort port messages) = refl
-task_left_same t (Message content) = refl
-task_left_same t (Semaphore sem waiters) = refl
-task_left_same t (Library number count delayed) = refl
-task_left_same t (Request content) = refl
+task_left_same t _ = refl
 
 -- ---- what a port has
 
@@ -193,14 +146,8 @@ port_elsewhere p port act messages heap apart =
 
 port_and_message : (found : Option Object) → is_kind is_port found ≡ true → is_kind is_message found ≡ true → ⊥
 port_and_message None is also = true_is_not_false (sym is)
-port_and_message (Some Plain) is also = true_is_not_false (sym is)
-port_and_message (Some (ListHead nodes)) is also = true_is_not_false (sym is)
-port_and_message (Some (Node key)) is also = true_is_not_false (sym is)
 port_and_message (Some (MsgPort port messages)) is also = true_is_not_false (sym also)
-port_and_message (Some (Message content)) is also = true_is_not_false (sym is)
-port_and_message (Some (Semaphore sem waiters)) is also = true_is_not_false (sym is)
-port_and_message (Some (Library number count delayed)) is also = true_is_not_false (sym is)
-port_and_message (Some (Request content)) is also = true_is_not_false (sym is)
+port_and_message (Some _) is also = true_is_not_false (sym is)
 
 -- a port stays one if a message gets another content
 pub port_stays : (port message : ℕ) (content : Content) (heap : Heap) → is_port_at port heap ≡ true → is_message_at message heap ≡ true
@@ -302,7 +249,7 @@ expunged_still base p heap is =
     ∙ sym (ap (λ a. messages_of_object (object_at a heap)) same ∙ no_port is_library library_none (object_at base heap) is))
     (λ apart. ap (λ found. messages_of_object found) (object_rid_there p base heap apart))
 
-takes_still : (regions : List Region) (old new : Heap) → Takes regions old new → IsWellFormed regions (extents old)
+takes_still : {asks : Bool} (regions : List Region) (old new : Heap) → Takes asks regions old new → IsWellFormed regions (extents old)
     → (p : ℕ) → messages_of p new ≡ messages_of p old
 takes_still regions old new nothing formed p = refl
 takes_still regions old new (places size reqs address object is fits) formed p =
@@ -314,10 +261,10 @@ takes_still regions old new (places size reqs address object is fits) formed p =
 takes_still regions old new (recounts base count delayed is more rest) formed p =
     takes_still regions (with_library base count delayed old) new rest (counted_formed regions base count delayed old formed) p
     ∙ counted_still base count delayed p old (is formed)
-takes_still regions old new (yields base is none rest) formed p =
+takes_still regions old new (yields base is none may rest) formed p =
     takes_still regions (rid base old) new rest (rid_formed regions base old formed) p ∙ expunged_still base p old (is formed)
 
-pub moves_follow : (regions : List Region) (t : ℕ) (call : Call) (old : Heap) (marks : List Mark) (new : Heap) → Moves regions t call old marks new
+pub moves_follow : {asks : Bool} (regions : List Region) (t : ℕ) (call : Call) (old : Heap) (marks : List Mark) (new : Heap) → Moves asks regions t call old marks new
     → IsWellFormed regions (extents old) → (p : ℕ) → Follows (messages_of p old) (turns_at_port p marks) (messages_of p new)
 unfolding with_nodes unlinked with_action entered queued dropped handed_on released_once is_list_at
 moves_follow regions t call old marks new (touches how) formed p = touched_follow old marks new how p

@@ -96,16 +96,16 @@ pub rid_formed : (regions : List Region) (address : ℕ) (heap : Heap) → IsWel
 rid_formed regions address heap formed =
     subst (λ bs. IsWellFormed regions bs) (sym (extents_rid address heap)) (freed_well_formed regions (extents heap) address formed)
 
-takes_formed : (regions : List Region) (old new : Heap) → Takes regions old new → IsWellFormed regions (extents old) → IsWellFormed regions (extents new)
+takes_formed : {asks : Bool} (regions : List Region) (old new : Heap) → Takes asks regions old new → IsWellFormed regions (extents old) → IsWellFormed regions (extents new)
 takes_formed regions old new nothing formed = formed
 takes_formed regions old new (places size reqs address object is fits) formed =
     subst (λ bs. IsWellFormed regions bs) (sym (extents_put address (round size) object old))
     (fitted_well_formed regions (extents old) size reqs 0 address formed fits)
 takes_formed regions old new (recounts base count delayed is more rest) formed =
     takes_formed regions (with_library base count delayed old) new rest (counted_formed regions base count delayed old formed)
-takes_formed regions old new (yields base is none rest) formed = takes_formed regions (rid base old) new rest (rid_formed regions base old formed)
+takes_formed regions old new (yields base is none may rest) formed = takes_formed regions (rid base old) new rest (rid_formed regions base old formed)
 
-pub moves_formed : (regions : List Region) (t : ℕ) (call : Call) (old : Heap) (marks : List Mark) (new : Heap) → Moves regions t call old marks new
+pub moves_formed : {asks : Bool} (regions : List Region) (t : ℕ) (call : Call) (old : Heap) (marks : List Mark) (new : Heap) → Moves asks regions t call old marks new
     → IsWellFormed regions (extents old) → IsWellFormed regions (extents new)
 unfolding with_nodes unlinked with_action with_port with_semaphore entered queued dropped handed_on released_once
 moves_formed regions t call old marks new (touches how) formed = touched_formed regions old marks new how formed

@@ -141,5 +141,5 @@ pub only_closed_libraries_give_way : OnlyClosedLibrariesGiveWay
 only_closed_libraries_give_way size reqs machine list is =
     let memory = (run machine list).state.memory in
     let asked = (after_asking size reqs memory).heap in
-    asking_before memory.regions _ (only_closed_before memory.regions asked) size reqs memory (λ formed. unchanged asked)
+    asking_before memory.regions _ size reqs memory (λ asks. only_closed_before memory.regions asked) (λ formed. unchanged asked)
     (tidy_in_every_state machine list is).formed

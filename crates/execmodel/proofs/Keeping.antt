@@ -6,7 +6,7 @@ use Rattle.execlist.specs.Order.{first}
 use Rattle.execlist.specs.Disciplines.{by_arrival}
 use Rattle.signals.specs.Signals.{grant, taken_signals}
 use Rattle.taskq.specs.Tasks.{is_ready, is_live}
-use Rattle.scheduler.specs.Schedule.{Schedule, status_of, signals_of, come_for, nesting_of, is_absent, is_at_semaphore, leaves, removed, waits_at_semaphore, allocates as allocates_signal, frees, sets_signals, awaits, waits_for, takes, after_wait, clears_and_waits}
+use Rattle.scheduler.specs.Schedule.{Schedule, status_of, signals_of, come_for, nesting_of, is_absent, leaves, removed, waits_at_semaphore, allocates as allocates_signal, frees, sets_signals, awaits, waits_for, takes, after_wait, clears_and_waits}
 use Rattle.forbid.specs.Nesting.{Nesting, after_forbid, after_permit, after_disable, after_enable}
 use Rattle.taskscript.specs.declared.variable.Variable.{Variable}
 use Rattle.taskscript.specs.declared.variable.Variable.TheVariants.{Private, Shared}
@@ -14,8 +14,6 @@ use Rattle.taskscript.specs.declared.word.plain.PlainWord.TheVariants as plain
 use Rattle.taskscript.specs.declared.word.task_signals.SignalWord.TheVariants as signals
 use Rattle.taskscript.specs.declared.word.nesting.NestingWord.TheVariants as nesting
 use Rattle.taskscript.specs.declared.word.tasks.TaskWord.TheVariants as tasks
-use Rattle.taskscript.specs.declared.word.lists.ListWord.TheVariants as lists
-use Rattle.taskscript.specs.declared.word.memory.MemoryWord.TheVariants as memory
 use Rattle.taskscript.specs.declared.word.ports.PortWord.TheVariants as ports
 use Rattle.taskscript.specs.declared.word.semaphores.SemaphoreWord.TheVariants as semaphores
 use Rattle.taskscript.specs.declared.word.interrupts.InterruptWord.TheVariants as interrupts
@@ -26,19 +24,19 @@ use Rattle.taskscript.specs.File.{SoftintData}
 use Rattle.exectrace.specs.Trace.{Timer as TimerLine}
 use Rattle.timerdev.specs.Timing.{looked_at, until_next}
 use Rattle.iorequest.specs.declared.request.ReqState.{ReqState}
-use Rattle.iorequest.specs.declared.request.ReqState.TheVariants.{Idle, UnderWay, Quick, Replied}
+use Rattle.iorequest.specs.declared.request.ReqState.TheVariants.{UnderWay}
 use Rattle.iorequest.specs.declared.request.Begun.{Begun}
-use Rattle.iorequest.specs.declared.request.Begun.TheVariants.{Finish, Queue, Until, NewTime}
+use Rattle.iorequest.specs.declared.request.Begun.TheVariants.{Queue}
 use Rattle.iorequest.specs.Request.{is_under_way}
 use Rattle.sigsem.specs.declared.semaphore.Obtained.{Obtained}
 use Rattle.msgport.specs.declared.action.Action.{Action}
 use Rattle.msgport.specs.declared.action.Action.TheVariants as action
 use Rattle.sigsem.specs.declared.semaphore.Obtained.TheVariants.{Owner, Waits}
-use Rattle.execmodel.specs.State.{Call, Object, Plain, ListHead, Library, Timer, Memory, Pending, Program, Scripts, State, Outcome, no_program, says, andthen, on_schedule, on_scripts, on_memory, on_timer}
+use Rattle.execmodel.specs.State.{Call, Heap, Object, Library, Timer, Memory, Pending, Program, Scripts, State, Outcome, no_program, says, andthen, on_schedule, on_scripts, on_memory, on_timer}
 use Rattle.execmodel.specs.Pending.{arrived, is_caused, causes, softint_named}
 use Rattle.execmodel.specs.Causing.{does_cause}
 use Rattle.execmodel.specs.Libraries.{base_of, count_of, is_delayed, library_at, library_to_open, ready_to_open, library_opened, entered_or_loaded, opened, closed, removed as library_removed, library_alert, close_alert, does_open_library, does_close_library, does_rem_library, does_lib_open_cnt}
-use Rattle.execmodel.specs.GivingWay.{after_asking, after_asking_for_object}
+use Rattle.execmodel.specs.GivingWay.{after_asking_for_object}
 use Rattle.scheduler.specs.Dispatch.{arrives, added, reprioritized, signalled}
 use Rattle.execmodel.specs.Calls.{argument, name_argument, stored, goes_on, done, answered, waiting, silent, alerted, unless}
 use Rattle.execmodel.specs.Plain.{does_set, does_add, does_sub, does_and, does_or, jumps, does_jump, does_jump_zero, does_jump_not_zero, does_print}
@@ -46,15 +44,16 @@ use Rattle.execmodel.specs.Signals.{mask_alert, free_signal_alert, signal_alert,
 use Rattle.execmodel.specs.Nesting.{gives_nesting, does_forbid, does_permit, does_disable, does_enable}
 use Rattle.execmodel.specs.Tasks.{live_task_alert, set_task_pri_alert, add_task_alert, is_caller, ends_other, does_set_task_pri, does_add_task, does_rem_task, does_find_task}
 use Rattle.execmodel.specs.Objects.{place_for_object}
-use Rattle.execmodel.specs.Memory.{allocates, makes_object, placed, place_for, alloc_alert, free_alert, avail_alert, does_alloc_mem, does_free_mem, does_avail_mem}
-use Rattle.execmodel.specs.Lists.{is_list, list_size, is_node, node_size, free_list_alert, new_node_alert, free_node_alert, link_alert, insert_alert, linked_alert, list_alert, find_alert, does_new_list, does_free_list, does_new_node, does_free_node, does_add_head, does_add_tail, does_enqueue, does_insert, does_remove, does_rem_head, does_rem_tail, does_first, does_last, does_succ, does_pred, does_find_name}
+use Rattle.execmodel.specs.Memory.{allocates, makes_object, placed, place_for, memory_deed}
+use Rattle.execmodel.specs.Lists.{list_deed}
+use Rattle.execmodel.specs.Deeds.{Deed, concluded, performs}
 use Rattle.execmodel.specs.Ports.{is_port, is_message, port_size, message_size, after_asking_for_port, port_created, port_alert, message_alert, port_of, loses, messages_of, content_of, delete_alert, add_port_alert, rem_port_alert, reply_port_alert, loose_alert, put_alert, reply_alert, wait_alert, made_public, made_private, replied, delivered, performed, taken, looked, does_create_msg_port, does_delete_msg_port, does_add_port, does_rem_port, does_find_port, does_port_signal, does_port_cause, does_port_ignore, does_new_msg, does_free_msg, does_msg_word, does_set_msg_word, does_msg_type, does_put_msg, does_get_msg, does_wait_port, does_reply_msg}
 use Rattle.execmodel.specs.Semaphores.{awaited_by, free_sem_alert, heir, is_semaphore, is_tried_again, leaving_queue, obtain_alert, obtains, passes, release_alert, sem_of, semaphore_size, does_new_sem, does_free_sem, does_obtain_semaphore, does_attempt_semaphore, does_release_semaphore}
 use Rattle.sigsem.specs.Semaphores.{outcome_for}
 use Rattle.execmodel.specs.Requests.{does_requests, finishes, finishes_each, finishes_set, is_request, request_size, request_of, request_alert, resting_alert, delete_request_alert, send_alert, do_alert, wait_io_alert, set_io_alert, answering_port, acting_at, with_reply, ended, outcome_at, timer_begun, begun_at, replying_port, looks_for, aborts, does_create_io_request, does_delete_io_request, does_open_device, does_close_device, does_set_io, does_do_io, does_send_io, does_check_io, does_wait_io, does_abort_io, does_io_secs, does_io_micros, does_io_error, does_io_flags}
 use Rattle.execmodel.specs.Keeping.{Keeps, without_progress, without_progress_of, without_states, without_priorities, without_signals, without_blocks, beside_plain, beside_signals, beside_nestings, beside_memory, beside_ports, beside_interrupts, beside_semaphores, beside_tasks, beside_requests, without_caused, clock_alone, without_blocks_system_and_waiting, PlainWordsChangeScripts, SignalWordsChangeSignalsAndStates, NestingWordsChangeNestings, TaskWordsChangeStatesPrioritiesAndObjects, ListWordsChangeTheMemory, MemoryWordsChangeTheMemory, PortWordsChangePortsSignalsAndStates, SemaphoreWordsChangeStatesAndObjects, InterruptWordsChangeWhatIsCaused, LibraryWordsChangeTheMemory, RequestWordsChangeRequestsPortsSignalsAndStates}
 use Rattle.execmodel.proofs.BodyActions.{finishes_found}
-use Rattle.execmodel.proofs.GivingWay.{either_memory, removed_keeps, asking_keeps, asking_for_object_keeps, asking_for_port_keeps, ready_keeps}
+use Rattle.execmodel.proofs.GivingWay.{either_memory, removed_keeps, asking_for_object_keeps, asking_for_port_keeps, ready_keeps}
 
 -- a part that both ways keep
 pub either : {A : Type 0} (part : State → A) (a : A) (test : Bool) (o p : Outcome) → part o.state ≡ a → part p.state ≡ a
@@ -119,15 +118,11 @@ silent_keeps t call value s = ap (λ (scripts : Scripts). record s { scripts = s
 
 pub plain_words_change_scripts : PlainWordsChangeScripts
 unfolding does_set does_add does_sub does_and does_or jumps does_jump does_jump_zero does_jump_not_zero does_print done
-plain_words_change_scripts plain.Set t call s = silent_keeps t call _ s
-plain_words_change_scripts plain.Add t call s = silent_keeps t call _ s
-plain_words_change_scripts plain.Sub t call s = silent_keeps t call _ s
-plain_words_change_scripts plain.And t call s = silent_keeps t call _ s
-plain_words_change_scripts plain.Or t call s = silent_keeps t call _ s
 plain_words_change_scripts plain.Jump t call s = goes_keeps t _ s
 plain_words_change_scripts plain.JumpZ t call s = goes_keeps t _ s
 plain_words_change_scripts plain.JumpNZ t call s = goes_keeps t _ s
 plain_words_change_scripts plain.Print t call s = goes_keeps t _ s
+plain_words_change_scripts _ t call s = silent_keeps t call _ s
 
 -- ---- signals
 
@@ -222,55 +217,23 @@ blocks_change : (f : Memory → Memory) (s : State) → without_blocks (f s.memo
     → beside_memory (on_memory f s) ≡ beside_memory s
 blocks_change f s keeps = ap (λ (memory : Memory). record (beside_memory s) { memory = memory }) keeps
 
+-- a call that is such a value changes the blocks alone, and its caller's progress
+concluded_keeps : (answer : Option ℕ) (heap : Memory → Heap) (t : ℕ) (call : Call) (s : State)
+    → beside_memory (concluded answer t call (on_memory (λ memory. record memory { heap = heap memory }) s)).state ≡ beside_memory s
+unfolding done answered
+concluded_keeps None heap t call s = refl
+concluded_keeps (Some value) heap t call s = refl
+
+pub performs_keeps : (deed : Deed) (t : ℕ) (call : Call) (s : State) → beside_memory (performs deed t call s).state ≡ beside_memory s
+unfolding performs
+performs_keeps deed t call s =
+    unless_keeps beside_memory (deed.alert s.memory) t call _ s refl (concluded_keeps (deed.answer s.memory) deed.heap t call s)
+
 pub list_words_change_the_memory : ListWordsChangeTheMemory
-unfolding does_new_list does_free_list does_new_node does_free_node does_add_head does_add_tail does_enqueue does_insert does_remove does_rem_head does_rem_tail does_first does_last does_succ does_pred does_find_name done answered
-list_words_change_the_memory lists.NewList t call s =
-    makes_keeps beside_memory is_list list_size (ListHead []) t call (asking_for_object is_list list_size s) refl (λ address. refl)
-    ∙ blocks_change (after_asking_for_object is_list list_size) s (asking_for_object_keeps is_list list_size s.memory)
-list_words_change_the_memory lists.FreeList t call s =
-    unless_keeps beside_memory (free_list_alert (argument 0 call) s.memory.heap) t call _ s refl refl
-list_words_change_the_memory lists.NewNode t call s =
-    unless_keeps beside_memory (new_node_alert (cast_signed w32 (argument 0 call))) t call _ s refl
-    (makes_keeps beside_memory is_node node_size _ t call (asking_for_object is_node node_size s) refl (λ address. refl)
-    ∙ blocks_change (after_asking_for_object is_node node_size) s (asking_for_object_keeps is_node node_size s.memory))
-list_words_change_the_memory lists.FreeNode t call s =
-    unless_keeps beside_memory (free_node_alert (argument 0 call) s.memory.heap) t call _ s refl refl
-list_words_change_the_memory lists.AddHead t call s =
-    unless_keeps beside_memory (link_alert (argument 0 call) (argument 1 call) s.memory.heap) t call _ s refl refl
-list_words_change_the_memory lists.AddTail t call s =
-    unless_keeps beside_memory (link_alert (argument 0 call) (argument 1 call) s.memory.heap) t call _ s refl refl
-list_words_change_the_memory lists.Enqueue t call s =
-    unless_keeps beside_memory (link_alert (argument 0 call) (argument 1 call) s.memory.heap) t call _ s refl refl
-list_words_change_the_memory lists.Insert t call s =
-    unless_keeps beside_memory (insert_alert (argument 0 call) (argument 1 call) (argument 2 call) s.memory.heap) t call _ s refl refl
-list_words_change_the_memory lists.Remove t call s =
-    unless_keeps beside_memory (linked_alert (argument 0 call) s.memory.heap) t call _ s refl refl
-list_words_change_the_memory lists.RemHead t call s =
-    unless_keeps beside_memory (list_alert (argument 0 call) s.memory.heap) t call _ s refl refl
-list_words_change_the_memory lists.RemTail t call s =
-    unless_keeps beside_memory (list_alert (argument 0 call) s.memory.heap) t call _ s refl refl
-list_words_change_the_memory lists.First t call s =
-    unless_keeps beside_memory (list_alert (argument 0 call) s.memory.heap) t call _ s refl refl
-list_words_change_the_memory lists.Last t call s =
-    unless_keeps beside_memory (list_alert (argument 0 call) s.memory.heap) t call _ s refl refl
-list_words_change_the_memory lists.Succ t call s =
-    unless_keeps beside_memory (linked_alert (argument 0 call) s.memory.heap) t call _ s refl refl
-list_words_change_the_memory lists.Pred t call s =
-    unless_keeps beside_memory (linked_alert (argument 0 call) s.memory.heap) t call _ s refl refl
-list_words_change_the_memory lists.FindName t call s =
-    unless_keeps beside_memory (find_alert (argument 0 call) s.memory.heap) t call _ s refl refl
+list_words_change_the_memory word t call s = performs_keeps (list_deed word call) t call s
 
 pub memory_words_change_the_memory : MemoryWordsChangeTheMemory
-unfolding does_alloc_mem does_free_mem does_avail_mem done answered
-memory_words_change_the_memory memory.AllocMem t call s =
-    unless_keeps beside_memory (alloc_alert (argument 1 call)) t call _ s refl
-    (allocates_keeps beside_memory (argument 0 call) Plain _ t call (on_memory (after_asking (argument 0 call) (argument 1 call)) s) refl
-    (λ address. refl)
-    ∙ blocks_change (after_asking (argument 0 call) (argument 1 call)) s (asking_keeps (argument 0 call) (argument 1 call) s.memory))
-memory_words_change_the_memory memory.FreeMem t call s =
-    unless_keeps beside_memory (free_alert (argument 0 call) (argument 1 call) s.memory.heap) t call _ s refl refl
-memory_words_change_the_memory memory.AvailMem t call s =
-    unless_keeps beside_memory (avail_alert (argument 0 call)) t call _ s refl refl
+memory_words_change_the_memory word t call s = performs_keeps (memory_deed word call) t call s
 
 port_blocks_change : (f : Memory → Memory) (s : State) → without_blocks (f s.memory) ≡ without_blocks s.memory
     → beside_ports (on_memory f s) ≡ beside_ports s
@@ -330,12 +293,6 @@ port_words_change_ports_signals_and_states ports.AddPort t call s =
 port_words_change_ports_signals_and_states ports.RemPort t call s =
     unless_keeps beside_ports (rem_port_alert (argument 0 call) s.memory) t call _ s refl refl
 port_words_change_ports_signals_and_states ports.FindPort t call s = refl
-port_words_change_ports_signals_and_states ports.PortSignal t call s =
-    unless_keeps beside_ports (port_alert (argument 0 call) s.memory.heap) t call _ s refl refl
-port_words_change_ports_signals_and_states ports.PortCause t call s =
-    unless_keeps beside_ports (port_alert (argument 0 call) s.memory.heap) t call _ s refl refl
-port_words_change_ports_signals_and_states ports.PortIgnore t call s =
-    unless_keeps beside_ports (port_alert (argument 0 call) s.memory.heap) t call _ s refl refl
 port_words_change_ports_signals_and_states ports.NewMsg t call s =
     unless_keeps beside_ports (reply_port_alert (argument 0 call) s.memory.heap) t call _ s refl
     (makes_keeps beside_ports is_message message_size _ t call (asking_for_object is_message message_size s) refl (λ address. refl)
@@ -360,6 +317,8 @@ port_words_change_ports_signals_and_states ports.WaitPort t call s =
 port_words_change_ports_signals_and_states ports.ReplyMsg t call s =
     unless_keeps beside_ports (reply_alert (argument 0 call) s.memory.heap) t call _ s refl
     (replied_keeps (content_of (argument 0 call) s.memory.heap).reply t call (argument 0 call) s)
+port_words_change_ports_signals_and_states _ t call s =
+    unless_keeps beside_ports (port_alert (argument 0 call) s.memory.heap) t call _ s refl refl
 
 -- a state in whose schedule the tasks' states change alone, or their priorities too
 states_change : (f : Schedule → Schedule) (s : State) → without_states (f s.schedule) ≡ without_states s.schedule
@@ -495,9 +454,7 @@ reply_keeps (Some port) request o s keeps = keeps
 
 timer_keeps : (how : Begun) (request : ℕ) (timer : Timer) → clock_alone (timer_begun how request timer) ≡ clock_alone timer
 timer_keeps (Queue due) request timer = refl
-timer_keeps (Until at) request timer = refl
-timer_keeps (Finish error) request timer = refl
-timer_keeps (NewTime time) request timer = refl
+timer_keeps _ request timer = refl
 
 begun_keeps : (quick : Bool) (request : ℕ) (s : State) → beside_requests (on_memory (begun_at quick request) s) ≡ beside_requests s
 unfolding begun_at
@@ -508,10 +465,8 @@ begun_keeps quick request s =
 looks_keeps : (how : ReqState) (request t : ℕ) (call : Call) (s r : State) → beside_requests r ≡ beside_requests s
     → beside_requests (looks_for how request t call r).state ≡ beside_requests s
 unfolding waiting answered
-looks_keeps Idle request t call s r keeps = keeps
 looks_keeps UnderWay request t call s r keeps = request_signals_change (clears_and_waits t _) r (clears_keeps t _ r.schedule) ∙ keeps
-looks_keeps Quick request t call s r keeps = keeps
-looks_keeps Replied request t call s r keeps = keeps
+looks_keeps _ request t call s r keeps = keeps
 
 wait_io_keeps : (t : ℕ) (call : Call) (s : State) → beside_requests (does_wait_io t call s).state ≡ beside_requests s
 unfolding does_wait_io
@@ -558,19 +513,11 @@ request_words_keep requests.SendIO t call s =
     let next = on_memory (begun_at false (argument 0 call)) s in
     unless_keeps beside_requests (send_alert (argument 0 call) s.memory.heap) t call _ s refl
     (reply_keeps port (argument 0 call) (done t call (performed act next)) s (acted_keeps act next ∙ begun_keeps false (argument 0 call) s))
-request_words_keep requests.CheckIO t call s =
-    unless_keeps beside_requests (request_alert (argument 0 call) s.memory.heap) t call _ s refl refl
 request_words_keep requests.WaitIO t call s = wait_io_keeps t call s
 request_words_keep requests.AbortIO t call s =
     unless_keeps beside_requests (request_alert (argument 0 call) s.memory.heap) t call _ s refl
     (aborts_keeps (is_under_way (request_of (argument 0 call) s.memory.heap)) (argument 0 call) t call s)
-request_words_keep requests.IOSecs t call s =
-    unless_keeps beside_requests (request_alert (argument 0 call) s.memory.heap) t call _ s refl refl
-request_words_keep requests.IOMicros t call s =
-    unless_keeps beside_requests (request_alert (argument 0 call) s.memory.heap) t call _ s refl refl
-request_words_keep requests.IOError t call s =
-    unless_keeps beside_requests (request_alert (argument 0 call) s.memory.heap) t call _ s refl refl
-request_words_keep requests.IOFlags t call s =
+request_words_keep _ t call s =
     unless_keeps beside_requests (request_alert (argument 0 call) s.memory.heap) t call _ s refl refl
 
 finish_keeps : (request : ℕ) (s : State) → beside_requests (finishes request s).state ≡ beside_requests s

@@ -7,6 +7,7 @@ pub mod Chains
 pub mod Choices
 pub mod ClockLaw
 pub mod Commands
+pub mod Deeds
 pub mod Keeping
 pub mod Fifo
 pub mod FifoLaw

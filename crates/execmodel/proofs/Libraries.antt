@@ -12,7 +12,7 @@ use Rattle.memlist.specs.Memory.{IsWellFormed}
 use Rattle.memlist.proofs.Answered.{nat_eq-same, nat_eq-other, cases_eq, key_other}
 use Rattle.iorequest.specs.declared.request.Request.{Request as TimerRequest}
 use Rattle.execmodel.specs.Requests.{is_request, is_request_at, with_request}
-use Rattle.execmodel.specs.State.{Call, Object, Plain, ListHead, Node, MsgPort, Message, Semaphore, Library, Request, Block, Heap, Waiting as Queued, Mark, State, Outcome, quiet, andthen, on_schedule}
+use Rattle.execmodel.specs.State.{Call, Object, ListHead, Semaphore, Library, Request, Block, Heap, Waiting as Queued, Mark, State, Outcome, quiet, andthen, on_schedule}
 use Rattle.execmodel.specs.Calls.{next_call}
 use Rattle.scheduler.specs.Dispatch.{rescheduled}
 use Rattle.execmodel.specs.Pending.{next_softint}
@@ -24,14 +24,14 @@ use Rattle.execmodel.specs.Ports.{is_port, is_message, is_port_at, is_message_at
 use Rattle.execmodel.specs.Semaphores.{is_semaphore, is_semaphore_at, with_semaphore, left_by_task, entered, queued, dropped, handed_on, released_once}
 use Rattle.execmodel.specs.Libraries.{is_library, is_library_at, library_number, number_of, count_in, count_of, with_library}
 use Rattle.execmodel.specs.Step.{switches, settle, ends, call_step, task_step, softint_or_task_step, acting, acts, step, tick, run}
-use Rattle.execmodel.specs.Laws.{Action, OneStep, OneTick, OneRequest, outcome_of, IsLastClose, StaysLoaded, OpenLibrariesStay}
+use Rattle.execmodel.specs.Laws.{Action, OneStep, OneTick, OneRequest, outcome_of, IsToCall, IsRemoval, IsLastClose, StaysLoaded, OpenLibrariesStay, UnaskedLibrariesStay}
 use Rattle.execmodel.proofs.Heaps.{block_remade, found_rid, rid, filled, true_is_not_false}
 use Rattle.execmodel.proofs.Itself.{does_itself, ends_followed}
 use Rattle.execmodel.proofs.Formed.{placed_fresh, counted_formed, rid_formed}
 use Rattle.execmodel.proofs.Stretches.{Relation, HoldsOfInterrupts, of_softint, of_set, of_settle, of_request, ticked}
 use Rattle.execmodel.proofs.Commands.{Touches, remains, fills, puts, gets, body_alters}
 use Rattle.execmodel.proofs.Taking.{Takes, nothing, places, recounts, yields}
-use Rattle.execmodel.proofs.Moves.{IsLastClosing, MayGo, Moves, touches, takes, frees, relists, unlinks, sets, enters, queues, hands, opens, releases, counts, expunges, drops}
+use Rattle.execmodel.proofs.Moves.{MayExpunge, MayGo, Moves, touches, takes, frees, relists, unlinks, sets, enters, queues, hands, opens, releases, counts, expunges, drops}
 use Rattle.execmodel.specs.Requests.{finishes}
 use Rattle.execmodel.proofs.Posts.{IsTidy}
 use Rattle.execmodel.proofs.Asking.{Asks, writes, answers, written, without_reply, finishing}
@@ -49,13 +49,7 @@ pub record IsAlone (object : Object) : Type 0 where
 
 alone : (object : Object) → is_library object ≡ true → IsAlone object
 alone (Library number count delayed) is = record { list = refl; port = refl; message = refl; semaphore = refl; request = refl }
-alone (Request content) is = true_is_not_false (sym is)
-alone Plain is = true_is_not_false (sym is)
-alone (ListHead nodes) is = true_is_not_false (sym is)
-alone (Node key) is = true_is_not_false (sym is)
-alone (MsgPort port messages) is = true_is_not_false (sym is)
-alone (Message content) is = true_is_not_false (sym is)
-alone (Semaphore sem waiters) is = true_is_not_false (sym is)
+alone _ is = true_is_not_false (sym is)
 
 kinds_apart : (kind : Object → Bool) → ((object : Object) → is_library object ≡ true → kind object ≡ false) → (found : Option Object)
     → is_kind is_library found ≡ true → is_kind kind found ≡ true → ⊥
@@ -70,14 +64,8 @@ apart_from kind other base address heap is also = λ same.
 
 not_gone : (found : Option Object) → MayGo found → is_kind is_library found ≡ true → ⊥
 not_gone None may is = true_is_not_false (sym is)
-not_gone (Some Plain) may is = true_is_not_false (sym is)
-not_gone (Some (ListHead nodes)) may is = true_is_not_false (sym is)
-not_gone (Some (Node key)) may is = true_is_not_false (sym is)
-not_gone (Some (MsgPort port messages)) may is = true_is_not_false (sym is)
-not_gone (Some (Message content)) may is = true_is_not_false (sym is)
-not_gone (Some (Semaphore sem waiters)) may is = true_is_not_false (sym is)
 not_gone (Some (Library number count delayed)) may is = may
-not_gone (Some (Request content)) may is = true_is_not_false (sym is)
+not_gone (Some _) may is = true_is_not_false (sym is)
 
 -- ---- the block at an address if nothing changes
 
@@ -115,24 +103,12 @@ block_remade_alike f same a heap is =
     block_remade (λ k block. record block { object = f block.object }) a heap ∙ same_found f same (block_at a heap) is
 
 left_alone : (node : ℕ) (object : Object) → is_library object ≡ true → left_by node object ≡ object
-left_alone node (Library number count delayed) is = refl
-left_alone node (Request content) is = refl
-left_alone node Plain is = refl
 left_alone node (ListHead nodes) is = true_is_not_false (sym is)
-left_alone node (Node key) is = refl
-left_alone node (MsgPort port messages) is = refl
-left_alone node (Message content) is = refl
-left_alone node (Semaphore sem waiters) is = refl
+left_alone node _ is = refl
 
 task_left_alone : (t : ℕ) (object : Object) → is_library object ≡ true → left_by_task t object ≡ object
-task_left_alone t (Library number count delayed) is = refl
-task_left_alone t (Request content) is = refl
-task_left_alone t Plain is = refl
-task_left_alone t (ListHead nodes) is = refl
-task_left_alone t (Node key) is = refl
-task_left_alone t (MsgPort port messages) is = refl
-task_left_alone t (Message content) is = refl
 task_left_alone t (Semaphore sem waiters) is = true_is_not_false (sym is)
+task_left_alone t _ is = refl
 
 -- ---- what stays loaded
 
@@ -185,10 +161,14 @@ counted_there base count delayed old is =
     subst (λ new. IsCounted (option_map_or library_number (object_at base old) 0) count (block_at base old) new) (sym there)
     (counted_found (option_map_or library_number (object_at base old) 0) count delayed (block_at base old) is)
 
--- a library that is open stays loaded and open
-record StaysOpen (base : ℕ) (old new : Heap) : Type 0 where
+-- a library is not expunged because memory is low: it is open, or none is asked
+abbrev IsKept : Bool → ℕ → Heap → Type 0
+IsKept asks base heap = (1 ≤ count_of base heap) ⊎ (asks ≡ false)
+
+-- such a library stays loaded, and stays so
+record StaysKept (asks : Bool) (base : ℕ) (old new : Heap) : Type 0 where
   stays : StaysLoaded base old new
-  opened : 1 ≤ count_of base new
+  kept : IsKept asks base new
 
 pub counted : (base count : ℕ) (delayed : Bool) (old : Heap) → is_library_at base old ≡ true → StaysLoaded base old (with_library base count delayed old)
 unfolding is_library_at number_of
@@ -199,27 +179,38 @@ pub counted_open : (base count : ℕ) (delayed : Bool) (old : Heap) → is_libra
 unfolding count_of
 counted_open base count delayed old is = (counted_there base count delayed old is).count
 
-still_open : (base : ℕ) (old new : Heap) → is_library_at base old ≡ true → 1 ≤ count_of base old → block_at base new ≡ block_at base old
-    → StaysOpen base old new
-still_open base old new is opened e =
-    record { stays = still base old new is e; opened = subst (λ n. 1 ≤ n) (sym (same_count base old new e)) opened }
+still_kept : (asks : Bool) (base : ℕ) (old new : Heap) → (1 ≤ count_of base old → 1 ≤ count_of base new) → IsKept asks base old → IsKept asks base new
+still_kept asks base old new more (inl opened) = inl (more opened)
+still_kept asks base old new more (inr unasked) = inr unasked
 
-recounted : (base other count : ℕ) (delayed : Bool) (old : Heap) → is_library_at base old ≡ true → 1 ≤ count_of base old
-    → is_library_at other old ≡ true → count_of other old ≤ count → StaysOpen base old (with_library other count delayed old)
-recounted base other count delayed old is opened there more =
+same_kept : (asks : Bool) (base : ℕ) (old new : Heap) → is_library_at base old ≡ true → IsKept asks base old → block_at base new ≡ block_at base old
+    → StaysKept asks base old new
+same_kept asks base old new is kept e = record {
+  stays = still base old new is e;
+  kept = still_kept asks base old new (λ opened. subst (λ n. 1 ≤ n) (sym (same_count base old new e)) opened) kept;
+}
+
+recounted : (asks : Bool) (base other count : ℕ) (delayed : Bool) (old : Heap) → is_library_at base old ≡ true → IsKept asks base old
+    → is_library_at other old ≡ true → count_of other old ≤ count → StaysKept asks base old (with_library other count delayed old)
+recounted asks base other count delayed old is kept there more =
     cases_eq base other
-    (λ same. subst (λ k. StaysOpen k old (with_library other count delayed old)) (sym same) (record {
+    (λ same. subst (λ k. StaysKept asks k old (with_library other count delayed old)) (sym same) (record {
       stays = counted other count delayed old there;
-      opened = subst (λ n. 1 ≤ n) (sym (counted_open other count delayed old there))
-          (most (count_of other old) (subst (λ k. 1 ≤ count_of k old) same opened) more);
+      kept = still_kept asks other old (with_library other count delayed old)
+          (λ opened. subst (λ n. 1 ≤ n) (sym (counted_open other count delayed old there)) (most (count_of other old) opened more))
+          (subst (λ k. IsKept asks k old) same kept);
     }))
-    (λ apart. still_open base old (with_library other count delayed old) is opened (unfold with_library in block_elsewhere base other _ old apart))
+    (λ apart. same_kept asks base old (with_library other count delayed old) is kept (unfold with_library in block_elsewhere base other _ old apart))
   where
     most : (n : ℕ) → 1 ≤ n → n ≤ count → 1 ≤ count
     most n one more = omega (arith, one, more)
 
 pub never : (n : ℕ) → n ≡ 0 → 1 ≤ n → ⊥
 never n e opened = omega (arith, e, opened)
+
+not_expunged : (asks : Bool) (base : ℕ) (heap : Heap) → count_of base heap ≡ 0 → asks ≡ true → IsKept asks base heap → ⊥
+not_expunged asks base heap none asked (inl opened) = never (count_of base heap) none opened
+not_expunged asks base heap none asked (inr unasked) = true_is_not_false (sym asked ∙ unasked)
 
 -- ---- whatever a call does
 
@@ -268,60 +259,57 @@ unfolding is_semaphore_at
 at_semaphore base semaphore heap is there =
     apart_from is_semaphore (λ object l. (alone object l).semaphore) base semaphore heap is there
 
-takes_keep : (regions : List Region) (old new : Heap) → Takes regions old new → IsWellFormed regions (extents old) → (base : ℕ)
-    → is_library_at base old ≡ true → 1 ≤ count_of base old → StaysLoaded base old new
-takes_keep regions old new nothing formed base is opened = still base old old is refl
-takes_keep regions old new (places size reqs address object fresh fits) formed base is opened =
+takes_keep : (asks : Bool) (regions : List Region) (old new : Heap) → Takes asks regions old new → IsWellFormed regions (extents old) → (base : ℕ)
+    → is_library_at base old ≡ true → IsKept asks base old → StaysLoaded base old new
+takes_keep asks regions old new nothing formed base is kept = still base old old is refl
+takes_keep asks regions old new (places size reqs address object fresh fits) formed base is kept =
     still base old new is (block_placed_there base address _ old
     (λ same. fresh_apart (object_at base old) (unfold is_library_at in is) (ap (λ a. object_at a old) same ∙ placed_fresh regions size reqs address old formed fits)))
-takes_keep regions old new (recounts other count delayed there more rest) formed base is opened =
+takes_keep asks regions old new (recounts other count delayed there more rest) formed base is kept =
     let mid = with_library other count delayed old in
-    let one = recounted base other count delayed old is opened (there formed) more in
+    let one = recounted asks base other count delayed old is kept (there formed) more in
     joined base old mid new one.stays
-    (takes_keep regions mid new rest (counted_formed regions other count delayed old formed) base one.stays.loaded one.opened)
-takes_keep regions old new (yields other there none rest) formed base is opened =
-    let one = still_open base old (rid other old) is opened (block_rid_there base other old
-    (λ same. never (count_of base old) (ap (λ k. count_of k old) same ∙ none) opened)) in
+    (takes_keep asks regions mid new rest (counted_formed regions other count delayed old formed) base one.stays.loaded one.kept)
+takes_keep asks regions old new (yields other there none may rest) formed base is kept =
+    let one = same_kept asks base old (rid other old) is kept (block_rid_there base other old
+    (λ same. not_expunged asks other old none may (subst (λ k. IsKept asks k old) same kept))) in
     joined base old (rid other old) new one.stays
-    (takes_keep regions (rid other old) new rest (rid_formed regions other old formed) base one.stays.loaded one.opened)
+    (takes_keep asks regions (rid other old) new rest (rid_formed regions other old formed) base one.stays.loaded one.kept)
 
-moves_keep : (regions : List Region) (t : ℕ) (call : Call) (old : Heap) (marks : List Mark) (new : Heap) → Moves regions t call old marks new
-    → IsWellFormed regions (extents old) → (base : ℕ) → is_library_at base old ≡ true → 1 ≤ count_of base old
-    → StaysLoaded base old new ⊎ IsLastClosing call base old
+moves_keep : (asks : Bool) (regions : List Region) (t : ℕ) (call : Call) (old : Heap) (marks : List Mark) (new : Heap)
+    → Moves asks regions t call old marks new → IsWellFormed regions (extents old) → (base : ℕ) → is_library_at base old ≡ true → IsKept asks base old
+    → StaysLoaded base old new ⊎ MayExpunge call base old
 unfolding with_nodes unlinked with_action with_port with_semaphore entered queued dropped handed_on released_once is_list_at is_port_at
-moves_keep regions t call old marks new (touches how) formed base is opened = inl (still base old new is (touched_keep old marks new how base is))
-moves_keep regions t call old marks new (takes how) formed base is opened = inl (takes_keep regions old new how formed base is opened)
-moves_keep regions t call old marks new (frees address may unneeded) formed base is opened =
+moves_keep asks regions t call old marks new (touches how) formed base is kept = inl (still base old new is (touched_keep old marks new how base is))
+moves_keep asks regions t call old marks new (takes how) formed base is kept = inl (takes_keep asks regions old new how formed base is kept)
+moves_keep asks regions t call old marks new (frees address may unneeded) formed base is kept =
     inl (still base old new is (block_rid_there base address old
     (λ same. not_gone (object_at address old) may (subst (λ a. is_kind is_library (object_at a old) ≡ true) same (unfold is_library_at in is)))))
-moves_keep regions t call old marks new (relists list nodes there) formed base is opened =
+moves_keep asks regions t call old marks new (relists list nodes there) formed base is kept =
     inl (still base old new is (block_elsewhere base list _ old (apart_from is_list (λ object l. (alone object l).list) base list old is there)))
-moves_keep regions t call old marks new (unlinks node) formed base is opened =
+moves_keep asks regions t call old marks new (unlinks node) formed base is kept =
     inl (still base old new is (block_remade_alike (left_by node) (left_alone node) base old is))
-moves_keep regions t call old marks new (sets act port there) formed base is opened =
+moves_keep asks regions t call old marks new (sets act port there) formed base is kept =
     inl (still base old new is (block_elsewhere base port _ old (apart_from is_port (λ object l. (alone object l).port) base port old is there)))
-moves_keep regions t call old marks new (enters semaphore there e) formed base is opened =
+moves_keep asks regions t call old marks new (enters semaphore there e) formed base is kept =
     inl (still base old new is (block_elsewhere base semaphore _ old (at_semaphore base semaphore old is there)))
-moves_keep regions t call old marks new (queues semaphore there e) formed base is opened =
+moves_keep asks regions t call old marks new (queues semaphore there e) formed base is kept =
     inl (still base old new is (block_elsewhere base semaphore _ old (at_semaphore base semaphore old is there)))
-moves_keep regions t call old marks new (hands semaphore owner release there last e) formed base is opened =
+moves_keep asks regions t call old marks new (hands semaphore owner release there last e) formed base is kept =
     inl (still base old new is (block_elsewhere base semaphore _ old (at_semaphore base semaphore old is there)))
-moves_keep regions t call old marks new (opens semaphore release there last e) formed base is opened =
+moves_keep asks regions t call old marks new (opens semaphore release there last e) formed base is kept =
     inl (still base old new is (block_elsewhere base semaphore _ old (at_semaphore base semaphore old is there)))
-moves_keep regions t call old marks new (releases semaphore there last) formed base is opened =
+moves_keep asks regions t call old marks new (releases semaphore there last) formed base is kept =
     inl (still base old new is (block_elsewhere base semaphore _ old (at_semaphore base semaphore old is there)))
-moves_keep regions t call old marks new (counts other count delayed there) formed base is opened =
+moves_keep asks regions t call old marks new (counts other count delayed there) formed base is kept =
     cases_eq base other
     (λ same. inl (subst (λ k. StaysLoaded k old new) (sym same) (counted other count delayed old (there formed))))
     (λ apart. inl (still base old new is (unfold with_library in block_elsewhere base other _ old apart)))
-moves_keep regions t call old marks new (expunges other there may) formed base is opened =
+moves_keep asks regions t call old marks new (expunges other there may) formed base is kept =
     cases_eq base other
-    (λ same. elim may [
-      | inl none ↦ absurd (never (count_of base old) (ap (λ k. count_of k old) same ∙ none) opened)
-      | inr last ↦ inr (subst (λ k. IsLastClosing call k old) (sym same) last)
-    ])
+    (λ same. inr (subst (λ k. MayExpunge call k old) (sym same) may))
     (λ apart. inl (still base old new is (block_rid_there base other old apart)))
-moves_keep regions t call old marks new (drops other apart) formed base is opened =
+moves_keep asks regions t call old marks new (drops other apart) formed base is kept =
     inl (still base old new is (block_remade_alike (left_by_task other) (task_left_alone other) base old is))
 
 -- ---- over every action
@@ -344,18 +332,25 @@ kept base = record {
   switching = λ s. quietly (Kept base) s (switches s) (on_schedule (rescheduled by_arrival) s) (switches_quiet s) (λ is. refl);
 }
 
--- an open library stays in that heap, or is closed for the last time
-abbrev Keeps : ℕ → State → Heap → Type 0
-Keeps base s heap = StaysLoaded base s.memory.heap heap ⊎ IsLastClose base s
+-- the running task expunges a library
+record IsToExpunge (base : ℕ) (s : State) : Type 0 where
+  t : ℕ
+  call : Call
+  calls : IsToCall t call s
+  may : MayExpunge call base s.memory.heap
 
-module _ (base : ℕ) (s : State) (tidy : IsTidy s) (is : is_library_at base s.memory.heap ≡ true) (opened : 1 ≤ count_of base s.memory.heap) where
+-- a library stays in that heap, or is expunged by the running task
+abbrev Keeps : ℕ → State → Heap → Type 0
+Keeps base s heap = StaysLoaded base s.memory.heap heap ⊎ IsToExpunge base s
+
+module _ (base : ℕ) (s : State) (tidy : IsTidy s) (is : is_library_at base s.memory.heap ≡ true) (keeps : IsKept s.memory.asks base s.memory.heap) where
   itself : StaysLoaded base s.memory.heap s.memory.heap
   itself = still base s.memory.heap s.memory.heap is refl
 
   called_keep : (t : ℕ) (call : Call) (o : Outcome) → Works t call s o
-      → StaysLoaded base s.memory.heap o.state.memory.heap ⊎ IsLastClosing call base s.memory.heap
+      → StaysLoaded base s.memory.heap o.state.memory.heap ⊎ MayExpunge call base s.memory.heap
   called_keep t call o (by_moves makes same) =
-      moves_keep s.memory.regions t call s.memory.heap o.marks o.state.memory.heap makes.1 tidy.formed base is opened
+      moves_keep s.memory.asks s.memory.regions t call s.memory.heap o.marks o.state.memory.heap makes.1 tidy.formed base is keeps
   called_keep t call o (by_asking regions asks) =
       inl (still base s.memory.heap o.state.memory.heap is (asked_keep s o.marks o.state.memory.heap o.state.memory.timer.waiting asks base is))
   called_keep t call o (by_taking port request regions same marks heap lives) =
@@ -370,15 +365,7 @@ module _ (base : ℕ) (s : State) (tidy : IsTidy s) (is : is_library_at base s.m
       elim (called_keep t call (does_itself t call s) (call_works t call s)) [
         | inl stays ↦ inl (ends_followed (λ r. StaysLoaded base s.memory.heap r.memory.heap)
             (λ r there. further base s.memory.heap r.memory.heap _ there (of_set (Kept base) (kept base) r)) t call s stays)
-        | inr last ↦ inr (record {
-          t = t;
-          call = call;
-          calls = record { first = first; runs = runs; calls = calls };
-          word = last.word;
-          names = last.names;
-          once = last.once;
-          delayed = last.delayed;
-        })
+        | inr may ↦ inr (record { t = t; call = call; calls = record { first = first; runs = runs; calls = calls }; may = may })
       ]
 
   tried : (running : Option ℕ) → next_softint s ≡ None → s.schedule.running ≡ running → Keeps base s (task_step running s).state.memory.heap
@@ -398,13 +385,35 @@ module _ (base : ℕ) (s : State) (tidy : IsTidy s) (is : is_library_at base s.m
   settled r (inl stays) = inl (further base s.memory.heap r.memory.heap _ stays (of_settle (Kept base) (kept base) r))
   settled r (inr last) = inr last
 
-  at_action : (action : Action) → StaysLoaded base s.memory.heap (outcome_of action s).state.memory.heap ⊎ ((action ≡ OneStep) × IsLastClose base s)
+  at_action : (action : Action) → StaysLoaded base s.memory.heap (outcome_of action s).state.memory.heap ⊎ ((action ≡ OneStep) × IsToExpunge base s)
   unfolding step tick andthen acts
   at_action OneStep =
       elim (settled (acts s).state (acted s.stopped)) [ inl stays ↦ inl stays | inr last ↦ inr (refl, last) ]
   at_action OneTick = inl (still base s.memory.heap _ is (ticked (Kept base) (kept base) (λ r there. refl) s is))
   at_action (OneRequest asks) = inl (still base s.memory.heap _ is (of_request (Kept base) (kept base) asks s is))
 
+open_stays : (base : ℕ) (s : State) → 1 ≤ count_of base s.memory.heap → IsToExpunge base s → IsLastClose base s
+open_stays base s opened e = elim e.may [
+  | inl removing ↦ absurd (never (count_of base s.memory.heap) removing.none opened)
+  | inr last ↦ record { t = e.t; call = e.call; calls = e.calls; word = last.word; names = last.names; once = last.once; delayed = last.delayed }
+]
+
 pub open_libraries_stay : OpenLibrariesStay
 open_libraries_stay base machine list action is there opened =
-    at_action base (run machine list).state (tidy_in_every_state machine list is) there opened action
+    elim (at_action base (run machine list).state (tidy_in_every_state machine list is) there (inl opened) action) [
+      | inl stays ↦ inl stays
+      | inr gone ↦ inr (gone.0, open_stays base (run machine list).state opened gone.1)
+    ]
+
+expunged_by : (base : ℕ) (s : State) → IsToExpunge base s → IsRemoval base s ⊎ IsLastClose base s
+expunged_by base s e = elim e.may [
+  | inl removing ↦ inl (record { t = e.t; call = e.call; calls = e.calls; word = removing.word; names = removing.names; none = removing.none })
+  | inr last ↦ inr (record { t = e.t; call = e.call; calls = e.calls; word = last.word; names = last.names; once = last.once; delayed = last.delayed })
+]
+
+pub unasked_libraries_stay : UnaskedLibrariesStay
+unasked_libraries_stay base machine list action is unasked there =
+    elim (at_action base (run machine list).state (tidy_in_every_state machine list is) there (inr unasked) action) [
+      | inl stays ↦ inl stays
+      | inr gone ↦ inr (gone.0, expunged_by base (run machine list).state gone.1)
+    ]

@@ -8,7 +8,7 @@ use Rattle.memlist.proofs.Answered.{cases_eq, key_same, key_other}
 use Rattle.memlist.proofs.Slots.{AllFrom}
 use Rattle.memlist.proofs.Merged.{IsRising}
 use Rattle.memlist.proofs.Keeping.{rising_sorted}
-use Rattle.execmodel.specs.State.{Object, Plain, ListHead, Node, MsgPort, Message, Semaphore, Library, Request, Block, Heap}
+use Rattle.execmodel.specs.State.{Object, Library, Block, Heap}
 use Rattle.execmodel.specs.Memory.{block_at, extents}
 use Rattle.execmodel.specs.Objects.{object_at, is_kind}
 use Rattle.execmodel.specs.Libraries.{is_library, is_library_at, is_numbered, base_of}
@@ -17,13 +17,7 @@ use Rattle.execmodel.proofs.Commands.{none_some}
 
 numbered_is : (i : ℕ) (object : Object) → is_numbered i object ≡ true → is_library object ≡ true
 numbered_is i (Library number count delayed) e = refl
-numbered_is i (Request content) e = true_is_not_false (sym e)
-numbered_is i Plain e = true_is_not_false (sym e)
-numbered_is i (ListHead nodes) e = true_is_not_false (sym e)
-numbered_is i (Node key) e = true_is_not_false (sym e)
-numbered_is i (MsgPort port messages) e = true_is_not_false (sym e)
-numbered_is i (Message content) e = true_is_not_false (sym e)
-numbered_is i (Semaphore sem waiters) e = true_is_not_false (sym e)
+numbered_is i _ e = true_is_not_false (sym e)
 
 some_same : {x y : ℕ} → Some x ≡ Some y → x ≡ y
 some_same {x} {y} e = cc

@@ -46,8 +46,9 @@ use Rattle.execmodel.specs.Nesting.{gives_nesting, does_nesting, does_forbid, do
 use Rattle.execmodel.specs.Tasks.{live_task_alert, set_task_pri_alert, add_task_alert, is_caller, ends_other, does_tasks, does_set_task_pri, does_add_task, does_rem_task, does_find_task}
 use Rattle.execmodel.specs.Objects.{object_at, is_kind, is_allowed, place_for_object}
 use Rattle.execmodel.specs.GivingWay.{after_asking, after_asking_for_object}
-use Rattle.execmodel.specs.Memory.{extents, allocates, makes_object, placed, freed, place_for, block_at, is_named, is_plain, alloc_alert, free_alert, avail_alert, does_memory, does_alloc_mem, does_free_mem, does_avail_mem}
-use Rattle.execmodel.specs.Lists.{is_list, list_size, is_node, node_size, is_list_at, is_node_at, with_nodes, unlinked, free_list_alert, new_node_alert, free_node_alert, link_alert, insert_alert, linked_alert, list_alert, find_alert, added_head, added_tail, enqueued, inserted, removed_head, removed_tail, does_lists, does_new_list, does_free_list, does_new_node, does_free_node, does_add_head, does_add_tail, does_enqueue, does_insert, does_remove, does_rem_head, does_rem_tail, does_first, does_last, does_succ, does_pred, does_find_name}
+use Rattle.execmodel.specs.Memory.{extents, allocates, makes_object, placed, freed, place_for, block_at, is_named, is_plain, does_memory, memory_deed}
+use Rattle.execmodel.specs.Lists.{is_list, list_size, is_node, node_size, is_list_at, is_node_at, with_nodes, unlinked, free_list_alert, free_node_alert, link_alert, insert_alert, list_alert, added_head, added_tail, enqueued, inserted, removed_head, removed_tail, does_lists, list_deed}
+use Rattle.execmodel.specs.Deeds.{Deed, concluded, performs}
 use Rattle.execmodel.specs.Ports.{is_port, is_message, is_port_at, is_message_at, port_size, message_size, port_created, makes_port, after_asking_for_port, port_alert, message_alert, messages_of, messages_of_object, loses, with_action, with_word, is_queued, is_public, is_awaited_at, delete_alert, add_port_alert, rem_port_alert, reply_port_alert, loose_alert, wait_alert, made_public, made_private, looked, does_ports, does_create_msg_port, does_delete_msg_port, does_add_port, does_rem_port, does_find_port, does_port_signal, does_port_cause, does_port_ignore, does_new_msg, does_free_msg, does_msg_word, does_set_msg_word, does_msg_type, does_put_msg, does_get_msg, does_wait_port, does_reply_msg}
 use Rattle.execmodel.specs.Semaphores.{awaited_by, dropped, entered, queued, handed_on, released_once, obtained, attempted, released, is_semaphore_at, waiters_of, free_sem_alert, heir, is_semaphore, is_tried_again, leaving_queue, obtain_alert, obtains, passes, release_alert, sem_of, sem_of_object, semaphore_size, does_semaphores, does_new_sem, does_free_sem, does_obtain_semaphore, does_attempt_semaphore, does_release_semaphore}
 use Rattle.execmodel.specs.Causing.{does_interrupts, does_cause}
@@ -60,15 +61,11 @@ use Rattle.execmodel.proofs.Commands.{Touches, remains, IsAltered, none_some, pa
 
 -- an object that may be freed: a port has to be empty, a semaphore free, and a request not under way
 abbrev pub MayGo : Option Object → Type 0
-MayGo None = Unit {0}
-MayGo (Some Plain) = Unit {0}
-MayGo (Some (ListHead nodes)) = Unit {0}
-MayGo (Some (Node key)) = Unit {0}
 MayGo (Some (MsgPort port messages)) = first messages ≡ None
-MayGo (Some (Message content)) = Unit {0}
 MayGo (Some (Semaphore sem waiters)) = is_owned sem ≡ false
 MayGo (Some (Library number count delayed)) = ⊥
 MayGo (Some (Request content)) = is_under_way content ≡ false
+MayGo _ = Unit {0}
 
 -- nothing needs what begins at an address: no request under way has it as reply port, and no port has it
 pub record IsUnneeded (address : ℕ) (heap : Heap) : Type 0 where
@@ -93,39 +90,45 @@ pub record IsLastClosing (call : Call) (base : ℕ) (heap : Heap) : Type 0 where
   pub once : count_of base heap ≡ 1
   pub delayed : is_delayed base heap ≡ true
 
--- a library is expunged if it is not open, or closed for the last time
+-- a call removes a library that is not open
+pub record IsRemoving (call : Call) (base : ℕ) (heap : Heap) : Type 0 where
+  pub word : call.word ≡ group.Libraries libraries.RemLibrary
+  pub names : argument 0 call ≡ base
+  pub none : count_of base heap ≡ 0
+
+-- a call expunges a library: it removes one that is not open, or closes one for the last time
 abbrev pub MayExpunge : Call → ℕ → Heap → Type 0
-MayExpunge call base heap = (count_of base heap ≡ 0) ⊎ IsLastClosing call base heap
+MayExpunge call base heap = IsRemoving call base heap ⊎ IsLastClosing call base heap
 
 -- what a call of task t may make of the blocks, and the marks that it leaves
-pub data Moves (regions : List Region) (t : ℕ) (call : Call) : Heap → List Mark → Heap → Type 0 where
-  touches : {old new : Heap} {marks : List Mark} → Touches old marks new → Moves regions t call old marks new
-  takes : {old new : Heap} → Takes regions old new → Moves regions t call old [] new
-  frees : {heap : Heap} (address : ℕ) → MayGo (object_at address heap) → IsUnneeded address heap → Moves regions t call heap [] (rid address heap)
-  relists : {heap : Heap} (list : ℕ) (nodes : List ℕ) → is_list_at list heap ≡ true → Moves regions t call heap [] (with_nodes list nodes heap)
-  unlinks : {heap : Heap} (node : ℕ) → Moves regions t call heap [] (unlinked node heap)
-  sets : {heap : Heap} (act : PortAction) (port : ℕ) → is_port_at port heap ≡ true → Moves regions t call heap [] (with_action act port heap)
+pub data Moves (asks : Bool) (regions : List Region) (t : ℕ) (call : Call) : Heap → List Mark → Heap → Type 0 where
+  touches : {old new : Heap} {marks : List Mark} → Touches old marks new → Moves asks regions t call old marks new
+  takes : {old new : Heap} → Takes asks regions old new → Moves asks regions t call old [] new
+  frees : {heap : Heap} (address : ℕ) → MayGo (object_at address heap) → IsUnneeded address heap → Moves asks regions t call heap [] (rid address heap)
+  relists : {heap : Heap} (list : ℕ) (nodes : List ℕ) → is_list_at list heap ≡ true → Moves asks regions t call heap [] (with_nodes list nodes heap)
+  unlinks : {heap : Heap} (node : ℕ) → Moves asks regions t call heap [] (unlinked node heap)
+  sets : {heap : Heap} (act : PortAction) (port : ℕ) → is_port_at port heap ≡ true → Moves asks regions t call heap [] (with_action act port heap)
   enters : {heap : Heap} (semaphore : ℕ) → is_semaphore_at semaphore heap ≡ true → is_open t (sem_of semaphore heap) ≡ true
-      → Moves regions t call heap [] (entered semaphore t heap)
+      → Moves asks regions t call heap [] (entered semaphore t heap)
   queues : {heap : Heap} (semaphore : ℕ) → is_semaphore_at semaphore heap ≡ true → is_open t (sem_of semaphore heap) ≡ false
-      → Moves regions t call heap (asked semaphore t ∷ []) (queued semaphore t heap)
+      → Moves asks regions t call heap (asked semaphore t ∷ []) (queued semaphore t heap)
   hands : {heap : Heap} (semaphore owner : ℕ) → IsRelease t call semaphore heap → is_semaphore_at semaphore heap ≡ true → is_last (sem_of semaphore heap) ≡ true
-      → first (waiters_of semaphore heap) ≡ Some owner → Moves regions t call heap (passed semaphore owner ∷ []) (handed_on semaphore heap)
+      → first (waiters_of semaphore heap) ≡ Some owner → Moves asks regions t call heap (passed semaphore owner ∷ []) (handed_on semaphore heap)
   opens : {heap : Heap} (semaphore : ℕ) → IsRelease t call semaphore heap → is_semaphore_at semaphore heap ≡ true → is_last (sem_of semaphore heap) ≡ true
-      → first (waiters_of semaphore heap) ≡ None → Moves regions t call heap [] (handed_on semaphore heap)
+      → first (waiters_of semaphore heap) ≡ None → Moves asks regions t call heap [] (handed_on semaphore heap)
   releases : {heap : Heap} (semaphore : ℕ) → is_semaphore_at semaphore heap ≡ true → is_last (sem_of semaphore heap) ≡ false
-      → Moves regions t call heap [] (released_once semaphore heap)
+      → Moves asks regions t call heap [] (released_once semaphore heap)
   counts : {heap : Heap} (base count : ℕ) (delayed : Bool) → (IsWellFormed regions (extents heap) → is_library_at base heap ≡ true)
-      → Moves regions t call heap [] (with_library base count delayed heap)
-  expunges : {heap : Heap} (base : ℕ) → is_library_at base heap ≡ true → MayExpunge call base heap → Moves regions t call heap [] (rid base heap)
-  drops : {heap : Heap} (other : ℕ) → other ≢ t → Moves regions t call heap (leaving_marks (awaited_by other heap) other) (dropped other heap)
+      → Moves asks regions t call heap [] (with_library base count delayed heap)
+  expunges : {heap : Heap} (base : ℕ) → is_library_at base heap ≡ true → MayExpunge call base heap → Moves asks regions t call heap [] (rid base heap)
+  drops : {heap : Heap} (other : ℕ) → other ≢ t → Moves asks regions t call heap (leaving_marks (awaited_by other heap) other) (dropped other heap)
 
 -- an outcome makes such a thing of the blocks, and leaves the regions as they are
 abbrev pub Makes : ℕ → Call → State → Outcome → Type 0
-Makes t call s o = (o.state.memory.regions ≡ s.memory.regions) × Moves s.memory.regions t call s.memory.heap o.marks o.state.memory.heap
+Makes t call s o = (o.state.memory.regions ≡ s.memory.regions) × Moves s.memory.asks s.memory.regions t call s.memory.heap o.marks o.state.memory.heap
 
 -- nothing changes
-pub stays : {regions : List Region} {t : ℕ} {call : Call} {heap : Heap} → Moves regions t call heap [] heap
+pub stays : {asks : Bool} {regions : List Region} {t : ℕ} {call : Call} {heap : Heap} → Moves asks regions t call heap [] heap
 stays = touches remains
 
 -- what any caller may make of the blocks
@@ -178,13 +181,7 @@ cases_bool false c e f = true_is_not_false (sym f ∙ e)
 
 plain_object : (object : Object) (b c : Bool) → (is_plain object && b && c) ≡ true → MayGo (Some object)
 plain_object Plain b c e = tt
-plain_object (ListHead nodes) b c e = tt
-plain_object (Node key) b c e = tt
-plain_object (MsgPort port messages) b c e = true_is_not_false (sym e)
-plain_object (Message content) b c e = tt
-plain_object (Semaphore sem waiters) b c e = true_is_not_false (sym e)
-plain_object (Library number count delayed) b c e = true_is_not_false (sym e)
-plain_object (Request content) b c e = true_is_not_false (sym e)
+plain_object _ b c e = true_is_not_false (sym e)
 
 -- ---- calls that may be refused
 
@@ -202,7 +199,7 @@ unless_makes t call s (Some code) effect makes = (refl, stays)
 -- a call that takes memory
 pub taking_makes : (t : ℕ) (call : Call) (s : State) (o : Outcome) → IsTaking s o → Makes t call s o
 taking_makes t call s o taking =
-    (taking.regions, subst (λ ms. Moves s.memory.regions t call s.memory.heap ms o.state.memory.heap) (sym taking.silent) (takes taking.blocks))
+    (taking.regions, subst (λ ms. Moves s.memory.asks s.memory.regions t call s.memory.heap ms o.state.memory.heap) (sym taking.silent) (takes taking.blocks))
 
 allocates_taking : (t : ℕ) (call : Call) (s : State) (size reqs : ℕ) (object : Object) (place : Option ℕ) → IsNew s.memory.heap object
     → ((address : ℕ) → place ≡ Some address → fit s.memory.regions (extents s.memory.heap) size reqs ≡ Some address)
@@ -235,14 +232,7 @@ object_makes t call s kind size object new =
 pub plain_makes : (word : PlainWord) (t : ℕ) (call : Call) (s : State) → Makes t call s (does_plain word t call s)
 unfolding does_set does_add does_sub does_and does_or jumps does_jump does_jump_zero does_jump_not_zero does_print done silent
 plain_makes plain.Set t call s = (refl, stays)
-plain_makes plain.Add t call s = (refl, stays)
-plain_makes plain.Sub t call s = (refl, stays)
-plain_makes plain.And t call s = (refl, stays)
-plain_makes plain.Or t call s = (refl, stays)
-plain_makes plain.Jump t call s = (refl, stays)
-plain_makes plain.JumpZ t call s = (refl, stays)
-plain_makes plain.JumpNZ t call s = (refl, stays)
-plain_makes plain.Print t call s = (refl, stays)
+plain_makes _ t call s = (refl, stays)
 
 waited_makes : (t : ℕ) (call : Call) (come : Option ℕ) (f : Schedule → Schedule) (s : State) → Makes t call s (waited t call come (on_schedule f s))
 unfolding waiting answered
@@ -277,12 +267,12 @@ nesting_makes nesting.Enable t call s = counted_makes t call (after_enable (nest
 -- ---- tasks
 
 leaves_queue : (t other : ℕ) (call : Call) (s : State) (semaphore : Option ℕ) (o : Outcome) → o.state.memory.regions ≡ s.memory.regions → o.marks ≡ []
-    → Moves s.memory.regions t call s.memory.heap (leaving_marks semaphore other) o.state.memory.heap
+    → Moves s.memory.asks s.memory.regions t call s.memory.heap (leaving_marks semaphore other) o.state.memory.heap
     → Makes t call s (leaving_queue semaphore other o)
 leaves_queue t other call s None o regions none moves =
-    (regions, subst (λ ms. Moves s.memory.regions t call s.memory.heap ms o.state.memory.heap) (sym none) moves)
+    (regions, subst (λ ms. Moves s.memory.asks s.memory.regions t call s.memory.heap ms o.state.memory.heap) (sym none) moves)
 leaves_queue t other call s (Some semaphore) o regions none moves =
-    (regions, subst (λ ms. Moves s.memory.regions t call s.memory.heap (left semaphore other ∷ ms) o.state.memory.heap) (sym none) moves)
+    (regions, subst (λ ms. Moves s.memory.asks s.memory.regions t call s.memory.heap (left semaphore other ∷ ms) o.state.memory.heap) (sym none) moves)
 
 pub no_caller : (t number : ℕ) → is_caller t number ≡ false → number - 1 ≢ t
 no_caller t number is same = cases_bool (nat_eq number 0) (nat_eq (number - 1) t) is (ap (λ k. nat_eq k t) same ∙ nat_eq-same t)
@@ -306,75 +296,52 @@ tasks_make tasks.FindTask t call s = (refl, stays)
 
 list_goes : (found : Option Object) → is_kind is_list found ≡ true → MayGo found
 list_goes None is = tt
-list_goes (Some Plain) is = tt
 list_goes (Some (ListHead nodes)) is = tt
-list_goes (Some (Node key)) is = tt
-list_goes (Some (MsgPort port messages)) is = true_is_not_false (sym is)
-list_goes (Some (Message content)) is = tt
-list_goes (Some (Semaphore sem waiters)) is = true_is_not_false (sym is)
-list_goes (Some (Library number count delayed)) is = true_is_not_false (sym is)
-list_goes (Some (Request content)) is = true_is_not_false (sym is)
+list_goes (Some _) is = true_is_not_false (sym is)
 
 node_goes : (found : Option Object) → is_kind is_node found ≡ true → MayGo found
 node_goes None is = tt
-node_goes (Some Plain) is = tt
-node_goes (Some (ListHead nodes)) is = tt
 node_goes (Some (Node key)) is = tt
-node_goes (Some (MsgPort port messages)) is = true_is_not_false (sym is)
-node_goes (Some (Message content)) is = tt
-node_goes (Some (Semaphore sem waiters)) is = true_is_not_false (sym is)
-node_goes (Some (Library number count delayed)) is = true_is_not_false (sym is)
-node_goes (Some (Request content)) is = true_is_not_false (sym is)
+node_goes (Some _) is = true_is_not_false (sym is)
+
+concluded_makes : (answer : Option ℕ) (t : ℕ) (call : Call) (s : State) (heap : Memory → Heap)
+    → Moves s.memory.asks s.memory.regions t call s.memory.heap [] (heap s.memory)
+    → Makes t call s (concluded answer t call (on_memory (λ memory. record memory { heap = heap memory }) s))
+unfolding done answered
+concluded_makes None t call s heap moves = (refl, moves)
+concluded_makes (Some value) t call s heap moves = (refl, moves)
+
+performs_makes : (deed : Deed) (t : ℕ) (call : Call) (s : State)
+    → (deed.alert s.memory ≡ None → Moves s.memory.asks s.memory.regions t call s.memory.heap [] (deed.heap s.memory))
+    → Makes t call s (performs deed t call s)
+unfolding performs
+performs_makes deed t call s moves =
+    unless_makes t call s (deed.alert s.memory) _ (λ none. concluded_makes (deed.answer s.memory) t call s deed.heap (moves none))
+
+list_moves : (word : ListWord) (t : ℕ) (call : Call) (s : State) → (list_deed word call).alert s.memory ≡ None
+    → Moves s.memory.asks s.memory.regions t call s.memory.heap [] ((list_deed word call).heap s.memory)
+unfolding list_deed is_list_at is_node_at free_list_alert free_node_alert link_alert insert_alert list_alert added_head added_tail enqueued inserted removed_head removed_tail answered
+list_moves lists.NewList t call s none = (object_makes t call s is_list list_size (ListHead []) (λ heap. refl)).1
+list_moves lists.NewNode t call s none =
+    (object_makes t call s is_node node_size (Node (record { pri = cast_signed w32 (argument 0 call); name = name_argument 1 call })) (λ heap. tt)).1
+list_moves lists.FreeList t call s none =
+    let there = (passed_first (is_list_at (argument 0 call) s.memory.heap) _ _ none).0 in
+    frees (argument 0 call) (list_goes (object_at (argument 0 call) s.memory.heap) there)
+    (other_unneeded (argument 0 call) s.memory.heap (list_other (object_at (argument 0 call) s.memory.heap) there))
+list_moves lists.FreeNode t call s none =
+    let there = (passed_first (is_node_at (argument 0 call) s.memory.heap) _ _ none).0 in
+    frees (argument 0 call) (node_goes (object_at (argument 0 call) s.memory.heap) there)
+    (other_unneeded (argument 0 call) s.memory.heap (node_other (object_at (argument 0 call) s.memory.heap) there))
+list_moves lists.Remove t call s none = unlinks (argument 0 call)
+list_moves lists.First t call s none = stays
+list_moves lists.Last t call s none = stays
+list_moves lists.Succ t call s none = stays
+list_moves lists.Pred t call s none = stays
+list_moves lists.FindName t call s none = stays
+list_moves _ t call s none = relists (argument 0 call) _ (passed_first (is_list_at (argument 0 call) s.memory.heap) _ _ none).0
 
 pub lists_make : (word : ListWord) (t : ℕ) (call : Call) (s : State) → Makes t call s (does_lists word t call s)
-unfolding does_new_list does_free_list does_new_node does_free_node does_add_head does_add_tail does_enqueue does_insert does_remove does_rem_head does_rem_tail does_first does_last does_succ does_pred does_find_name done answered is_list_at is_node_at free_list_alert free_node_alert link_alert insert_alert list_alert added_head added_tail enqueued inserted removed_head removed_tail
-lists_make lists.NewList t call s = object_makes t call s is_list list_size (ListHead []) (λ heap. refl)
-lists_make lists.FreeList t call s =
-    unless_makes t call s (free_list_alert (argument 0 call) s.memory.heap) _
-    (λ none. (
-      refl,
-      frees (argument 0 call) (list_goes (object_at (argument 0 call) s.memory.heap)
-          (passed_first (is_list_at (argument 0 call) s.memory.heap) _ _ none).0)
-          (other_unneeded (argument 0 call) s.memory.heap (list_other (object_at (argument 0 call) s.memory.heap)
-          (passed_first (is_list_at (argument 0 call) s.memory.heap) _ _ none).0)),
-    ))
-lists_make lists.NewNode t call s =
-    unless_makes t call s (new_node_alert (cast_signed w32 (argument 0 call))) _
-    (λ none. object_makes t call s is_node node_size (Node (record { pri = cast_signed w32 (argument 0 call); name = name_argument 1 call })) (λ heap. tt))
-lists_make lists.FreeNode t call s =
-    unless_makes t call s (free_node_alert (argument 0 call) s.memory.heap) _
-    (λ none. (
-      refl,
-      frees (argument 0 call) (node_goes (object_at (argument 0 call) s.memory.heap)
-          (passed_first (is_node_at (argument 0 call) s.memory.heap) _ _ none).0)
-          (other_unneeded (argument 0 call) s.memory.heap (node_other (object_at (argument 0 call) s.memory.heap)
-          (passed_first (is_node_at (argument 0 call) s.memory.heap) _ _ none).0)),
-    ))
-lists_make lists.AddHead t call s =
-    unless_makes t call s (link_alert (argument 0 call) (argument 1 call) s.memory.heap) _
-    (λ none. (refl, relists (argument 0 call) _ (passed_first (is_list_at (argument 0 call) s.memory.heap) _ _ none).0))
-lists_make lists.AddTail t call s =
-    unless_makes t call s (link_alert (argument 0 call) (argument 1 call) s.memory.heap) _
-    (λ none. (refl, relists (argument 0 call) _ (passed_first (is_list_at (argument 0 call) s.memory.heap) _ _ none).0))
-lists_make lists.Enqueue t call s =
-    unless_makes t call s (link_alert (argument 0 call) (argument 1 call) s.memory.heap) _
-    (λ none. (refl, relists (argument 0 call) _ (passed_first (is_list_at (argument 0 call) s.memory.heap) _ _ none).0))
-lists_make lists.Insert t call s =
-    unless_makes t call s (insert_alert (argument 0 call) (argument 1 call) (argument 2 call) s.memory.heap) _
-    (λ none. (refl, relists (argument 0 call) _ (passed_first (is_list_at (argument 0 call) s.memory.heap) _ _ none).0))
-lists_make lists.Remove t call s =
-    unless_makes t call s (linked_alert (argument 0 call) s.memory.heap) _ (λ none. (refl, unlinks (argument 0 call)))
-lists_make lists.RemHead t call s =
-    unless_makes t call s (list_alert (argument 0 call) s.memory.heap) _
-    (λ none. (refl, relists (argument 0 call) _ (passed_first (is_list_at (argument 0 call) s.memory.heap) _ _ none).0))
-lists_make lists.RemTail t call s =
-    unless_makes t call s (list_alert (argument 0 call) s.memory.heap) _
-    (λ none. (refl, relists (argument 0 call) _ (passed_first (is_list_at (argument 0 call) s.memory.heap) _ _ none).0))
-lists_make lists.First t call s = unless_makes t call s (list_alert (argument 0 call) s.memory.heap) _ (λ none. (refl, stays))
-lists_make lists.Last t call s = unless_makes t call s (list_alert (argument 0 call) s.memory.heap) _ (λ none. (refl, stays))
-lists_make lists.Succ t call s = unless_makes t call s (linked_alert (argument 0 call) s.memory.heap) _ (λ none. (refl, stays))
-lists_make lists.Pred t call s = unless_makes t call s (linked_alert (argument 0 call) s.memory.heap) _ (λ none. (refl, stays))
-lists_make lists.FindName t call s = unless_makes t call s (find_alert (argument 0 call) s.memory.heap) _ (λ none. (refl, stays))
+lists_make word t call s = performs_makes (list_deed word call) t call s (list_moves word t call s)
 
 -- ---- memory
 
@@ -382,24 +349,24 @@ plain_goes : (size : ℕ) (found : Option Block) → is_named size found ≡ tru
 plain_goes size None is = tt
 plain_goes size (Some block) is = plain_object block.object _ _ is
 
+memory_moves : (word : MemoryWord) (t : ℕ) (call : Call) (s : State) → (memory_deed word call).alert s.memory ≡ None
+    → Moves s.memory.asks s.memory.regions t call s.memory.heap [] ((memory_deed word call).heap s.memory)
+unfolding memory_deed answered
+memory_moves memory.AllocMem t call s none =
+    let size = argument 0 call in
+    let reqs = argument 1 call in
+    let asked = on_memory (after_asking size reqs) s in
+    (taking_makes t call s _ (after_asking_taking size reqs s _
+    (allocates_taking t call asked size reqs Plain (place_for size reqs asked.memory) tt (λ address e. e)))).1
+memory_moves memory.FreeMem t call s none =
+    let named = (passed_first _ _ _ none).0 in
+    frees (argument 0 call)
+    (plain_goes (argument 1 call) (block_at (argument 0 call) s.memory.heap) named)
+    (other_unneeded (argument 0 call) s.memory.heap (plain_other (argument 1 call) (block_at (argument 0 call) s.memory.heap) named))
+memory_moves memory.AvailMem t call s none = stays
+
 pub memory_makes : (word : MemoryWord) (t : ℕ) (call : Call) (s : State) → Makes t call s (does_memory word t call s)
-unfolding does_alloc_mem does_free_mem does_avail_mem done answered
-memory_makes memory.AllocMem t call s =
-    unless_makes t call s (alloc_alert (argument 1 call)) _
-    (λ none. let asked = on_memory (after_asking (argument 0 call) (argument 1 call)) s in
-    taking_makes t call s _ (after_asking_taking (argument 0 call) (argument 1 call) s _
-    (allocates_taking t call asked (argument 0 call) (argument 1 call) Plain (place_for (argument 0 call) (argument 1 call) asked.memory) tt
-    (λ address e. e))))
-memory_makes memory.FreeMem t call s =
-    unless_makes t call s (free_alert (argument 0 call) (argument 1 call) s.memory.heap) _
-    (λ none. (
-      refl,
-      frees (argument 0 call)
-          (plain_goes (argument 1 call) (block_at (argument 0 call) s.memory.heap) (passed_first _ _ _ none).0)
-          (other_unneeded (argument 0 call) s.memory.heap
-          (plain_other (argument 1 call) (block_at (argument 0 call) s.memory.heap) (passed_first _ _ _ none).0)),
-    ))
-memory_makes memory.AvailMem t call s = unless_makes t call s (avail_alert (argument 0 call)) _ (λ none. (refl, stays))
+memory_makes word t call s = performs_makes (memory_deed word call) t call s (memory_moves word t call s)
 
 -- ---- ports
 
@@ -426,15 +393,9 @@ port_makes t call bit s =
 port_goes : (found : Option Object) (rest : Option (List ℕ)) → is_kind is_port found ≡ true
     → (if is_some (first (messages_of_object found)) then Some (codes "PORT") else rest) ≡ None → MayGo found
 port_goes None rest is e = tt
-port_goes (Some Plain) rest is e = tt
-port_goes (Some (ListHead nodes)) rest is e = tt
-port_goes (Some (Node key)) rest is e = tt
 port_goes (Some (MsgPort port [])) rest is e = refl
 port_goes (Some (MsgPort port (message ∷ messages))) rest is e = none_some e
-port_goes (Some (Message content)) rest is e = tt
-port_goes (Some (Semaphore sem waiters)) rest is e = true_is_not_false (sym is)
-port_goes (Some (Library number count delayed)) rest is e = true_is_not_false (sym is)
-port_goes (Some (Request content)) rest is e = true_is_not_false (sym is)
+port_goes (Some _) rest is e = true_is_not_false (sym is)
 
 deletes : (port : ℕ) (memory : Memory) → delete_alert port memory ≡ None → MayGo (object_at port memory.heap)
 unfolding delete_alert is_port_at messages_of
@@ -452,14 +413,8 @@ unneeded_port port memory none =
 
 message_goes : (found : Option Object) → is_kind is_message found ≡ true → MayGo found
 message_goes None is = tt
-message_goes (Some Plain) is = tt
-message_goes (Some (ListHead nodes)) is = tt
-message_goes (Some (Node key)) is = tt
-message_goes (Some (MsgPort port messages)) is = true_is_not_false (sym is)
 message_goes (Some (Message content)) is = tt
-message_goes (Some (Semaphore sem waiters)) is = true_is_not_false (sym is)
-message_goes (Some (Library number count delayed)) is = true_is_not_false (sym is)
-message_goes (Some (Request content)) is = true_is_not_false (sym is)
+message_goes (Some _) is = true_is_not_false (sym is)
 
 frees_message : (message : ℕ) (heap : Heap) → loose_alert message heap ≡ None → MayGo (object_at message heap)
 unfolding is_message_at
@@ -490,15 +445,6 @@ ports_make ports.AddPort t call s =
     unless_makes t call s (add_port_alert (argument 0 call) (cast_signed w32 (argument 2 call)) s.memory) _ (λ none. (refl, stays))
 ports_make ports.RemPort t call s = unless_makes t call s (rem_port_alert (argument 0 call) s.memory) _ (λ none. (refl, stays))
 ports_make ports.FindPort t call s = (refl, stays)
-ports_make ports.PortSignal t call s =
-    unless_makes t call s (port_alert (argument 0 call) s.memory.heap) _
-    (λ none. (refl, sets _ (argument 0 call) (is_port_there (argument 0 call) s.memory.heap none)))
-ports_make ports.PortCause t call s =
-    unless_makes t call s (port_alert (argument 0 call) s.memory.heap) _
-    (λ none. (refl, sets _ (argument 0 call) (is_port_there (argument 0 call) s.memory.heap none)))
-ports_make ports.PortIgnore t call s =
-    unless_makes t call s (port_alert (argument 0 call) s.memory.heap) _
-    (λ none. (refl, sets _ (argument 0 call) (is_port_there (argument 0 call) s.memory.heap none)))
 ports_make ports.NewMsg t call s =
     unless_makes t call s (reply_port_alert (argument 0 call) s.memory.heap) _
     (λ none. object_makes t call s is_message message_size _ (λ heap. tt))
@@ -519,19 +465,16 @@ ports_make ports.WaitPort t call s =
     unless_makes t call s (wait_alert t (argument 0 call) s.memory.heap) _
     (λ none. looked_makes (first (messages_of (argument 0 call) s.memory.heap)) _ t call (loses t call.awaited) s)
 ports_make ports.ReplyMsg t call s = any_makes t call s (does_reply_msg t call s) (reply_alters (ByTask t) call s)
+ports_make _ t call s =
+    unless_makes t call s (port_alert (argument 0 call) s.memory.heap) _
+    (λ none. (refl, sets _ (argument 0 call) (is_port_there (argument 0 call) s.memory.heap none)))
 
 -- ---- semaphores
 
 semaphore_goes : (found : Option Object) → is_kind is_semaphore found ≡ true → is_owned (sem_of_object found) ≡ false → MayGo found
 semaphore_goes None is free = tt
-semaphore_goes (Some Plain) is free = tt
-semaphore_goes (Some (ListHead nodes)) is free = tt
-semaphore_goes (Some (Node key)) is free = tt
-semaphore_goes (Some (MsgPort port messages)) is free = true_is_not_false (sym is)
-semaphore_goes (Some (Message content)) is free = tt
 semaphore_goes (Some (Semaphore sem waiters)) is free = free
-semaphore_goes (Some (Library number count delayed)) is free = true_is_not_false (sym is)
-semaphore_goes (Some (Request content)) is free = true_is_not_false (sym is)
+semaphore_goes (Some _) is free = true_is_not_false (sym is)
 
 frees_semaphore : (semaphore : ℕ) (heap : Heap) → free_sem_alert semaphore heap ≡ None → MayGo (object_at semaphore heap)
 unfolding free_sem_alert is_semaphore_at sem_of
@@ -674,13 +617,15 @@ closed_makes true base t call s word names is e =
     ))
 closed_makes false base t call s word names is e = (refl, counts base _ _ (λ formed. is))
 
-removed_makes : (test : Bool) (base t : ℕ) (call : Call) (s : State) → is_library_at base s.memory.heap ≡ true
+removed_makes : (test : Bool) (base t : ℕ) (call : Call) (s : State) → call.word ≡ group.Libraries libraries.RemLibrary → argument 0 call ≡ base
+    → is_library_at base s.memory.heap ≡ true
     → nat_eq (count_of base s.memory.heap) 0 ≡ test
     → Makes t call s (done t call (on_memory (λ memory. if test then freed base memory
     else on_heap (with_library base (count_of base memory.heap) true) memory) s))
 unfolding done
-removed_makes true base t call s is e = (refl, expunges base is (inl (number_is (count_of base s.memory.heap) 0 e)))
-removed_makes false base t call s is e = (refl, counts base _ true (λ formed. is))
+removed_makes true base t call s word names is e =
+    (refl, expunges base is (inl (record { word = word; names = names; none = number_is (count_of base s.memory.heap) 0 e })))
+removed_makes false base t call s word names is e = (refl, counts base _ true (λ formed. is))
 
 pub libraries_make : (word : LibraryWord) (t : ℕ) (call : Call) (s : State) → call.word ≡ group.Libraries word → Makes t call s (does_libraries word t call s)
 unfolding does_open_library does_close_library does_rem_library does_lib_open_cnt opened closed removed library_alert close_alert
@@ -693,7 +638,7 @@ libraries_make libraries.CloseLibrary t call s word =
     (passed_first (is_library_at (argument 0 call) s.memory.heap) _ _ none).0 refl))
 libraries_make libraries.RemLibrary t call s word =
     unless_makes t call s (library_alert (argument 0 call) s.memory.heap) _
-    (λ none. removed_makes (nat_eq (count_of (argument 0 call) s.memory.heap) 0) (argument 0 call) t call s
+    (λ none. removed_makes (nat_eq (count_of (argument 0 call) s.memory.heap) 0) (argument 0 call) t call s word refl
     (is_library_there (is_library_at (argument 0 call) s.memory.heap) _ none) refl)
 libraries_make libraries.LibOpenCnt t call s word =
     unless_makes t call s (library_alert (argument 0 call) s.memory.heap) _ (λ none. unfold answered in (refl, stays))

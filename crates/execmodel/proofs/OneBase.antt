@@ -14,7 +14,7 @@ use Rattle.iorequest.specs.declared.request.Request.{Request as TimerRequest}
 use Rattle.taskscript.specs.File.{MachineData}
 use Rattle.taskscript.specs.Machines.{IsMachine}
 use Rattle.taskscript.specs.declared.event.Event.{Event}
-use Rattle.execmodel.specs.State.{Call, Object, Plain, ListHead, Node, MsgPort, Message, Semaphore, Library, Request, Block, Heap, Memory, Waiting as Queued, Mark, State, Outcome, andthen, on_schedule, booted}
+use Rattle.execmodel.specs.State.{Call, Object, ListHead, Message, Library, Request, Block, Heap, Memory, Waiting as Queued, Mark, State, Outcome, andthen, on_schedule, booted}
 use Rattle.execmodel.specs.Objects.{object_at, is_kind, replaced}
 use Rattle.execmodel.specs.Memory.{extents, block_at}
 use Rattle.execmodel.specs.Bodies.{body_step}
@@ -84,23 +84,11 @@ replaced_less address object heap none i a is =
 
 left_less : (node i : ℕ) (object : Object) → is_numbered i (left_by node object) ≡ true → is_numbered i object ≡ true
 left_less node i (Library number count delayed) is = is
-left_less node i (Request content) is = is
-left_less node i Plain is = is
-left_less node i (ListHead nodes) is = is
-left_less node i (Node key) is = is
-left_less node i (MsgPort port messages) is = is
-left_less node i (Message content) is = is
-left_less node i (Semaphore sem waiters) is = is
+left_less node i _ is = is
 
 task_left_less : (t i : ℕ) (object : Object) → is_numbered i (left_by_task t object) ≡ true → is_numbered i object ≡ true
 task_left_less t i (Library number count delayed) is = is
-task_left_less t i (Request content) is = is
-task_left_less t i Plain is = is
-task_left_less t i (ListHead nodes) is = is
-task_left_less t i (Node key) is = is
-task_left_less t i (MsgPort port messages) is = is
-task_left_less t i (Message content) is = is
-task_left_less t i (Semaphore sem waiters) is = is
+task_left_less t i _ is = is
 
 gone_less : (test : Bool) (i : ℕ) (found : Option Block) → Numbered i (option_map (λ (block : Block). block.object) (cond test found None))
     → Numbered i (option_map (λ (block : Block). block.object) found)
@@ -116,13 +104,7 @@ rid_less address heap i a is =
 
 number_found : (i : ℕ) (object : Object) → is_library object ≡ true → nat_eq (library_number object) i ≡ true → is_numbered i object ≡ true
 number_found i (Library number count delayed) is e = e
-number_found i (Request content) is e = true_is_not_false (sym is)
-number_found i Plain is e = true_is_not_false (sym is)
-number_found i (ListHead nodes) is e = true_is_not_false (sym is)
-number_found i (Node key) is e = true_is_not_false (sym is)
-number_found i (MsgPort port messages) is e = true_is_not_false (sym is)
-number_found i (Message content) is e = true_is_not_false (sym is)
-number_found i (Semaphore sem waiters) is e = true_is_not_false (sym is)
+number_found i _ is e = true_is_not_false (sym is)
 
 counted_found : (test : Bool) (i number count : ℕ) (delayed : Bool) (found : Option Block)
     → (test ≡ true → (is_kind is_library (option_map (λ (block : Block). block.object) found) ≡ true)
@@ -166,13 +148,7 @@ found_nowhere i (entry ∷ rest) none b is =
 
 new_absent : (heap : Heap) (object : Object) → IsNew heap object → (i : ℕ) → is_numbered i object ≡ true → base_of i heap ≡ None
 new_absent heap (Library number count delayed) new i is = subst (λ k. base_of k heap ≡ None) (number_is number i is) new
-new_absent heap (Request content) new i is = true_is_not_false (sym is)
-new_absent heap Plain new i is = true_is_not_false (sym is)
-new_absent heap (ListHead nodes) new i is = true_is_not_false (sym is)
-new_absent heap (Node key) new i is = true_is_not_false (sym is)
-new_absent heap (MsgPort port messages) new i is = true_is_not_false (sym is)
-new_absent heap (Message content) new i is = true_is_not_false (sym is)
-new_absent heap (Semaphore sem waiters) new i is = true_is_not_false (sym is)
+new_absent heap _ new i is = true_is_not_false (sym is)
 
 module _ (address size : ℕ) (object : Object) (heap : Heap) (new : IsNew heap object) (once : Once heap) where
   abbrev placed_heap : Heap
@@ -196,14 +172,14 @@ module _ (address size : ℕ) (object : Object) (heap : Heap) (new : IsNew heap 
 
 -- ---- whatever a call does
 
-takes_once : (regions : List Region) (old new : Heap) → Takes regions old new → IsWellFormed regions (extents old) → Once old → Once new
+takes_once : {asks : Bool} (regions : List Region) (old new : Heap) → Takes asks regions old new → IsWellFormed regions (extents old) → Once old → Once new
 takes_once regions old new nothing formed once = once
 takes_once regions old new (places size reqs address object is fits) formed once = placed_once address (round size) object old is once
 takes_once regions old new (recounts base count delayed there more rest) formed once =
     let mid = with_library base count delayed old in
     takes_once regions mid new rest (counted_formed regions base count delayed old formed)
     (still_once old mid (counted_less base count delayed old (there formed)) once)
-takes_once regions old new (yields base there none rest) formed once =
+takes_once regions old new (yields base there none may rest) formed once =
     takes_once regions (rid base old) new rest (rid_formed regions base old formed) (still_once old (rid base old) (rid_less base old) once)
 
 touched_less : (old : Heap) (marks : List Mark) (new : Heap) → Touches old marks new → NoMore old new
@@ -230,7 +206,7 @@ taken_less : (port request : ℕ) (heap : Heap) → NoMore heap (without_reply p
 unfolding with_port
 taken_less port request heap = replaced_less port _ heap (λ i. refl)
 
-moves_once : (regions : List Region) (t : ℕ) (call : Call) (old : Heap) (marks : List Mark) (new : Heap) → Moves regions t call old marks new
+moves_once : {asks : Bool} (regions : List Region) (t : ℕ) (call : Call) (old : Heap) (marks : List Mark) (new : Heap) → Moves asks regions t call old marks new
     → IsWellFormed regions (extents old) → Once old → Once new
 unfolding with_nodes unlinked with_action with_port with_semaphore entered queued dropped handed_on released_once
 moves_once regions t call old marks new (touches how) formed once = still_once old new (touched_less old marks new how) once

@@ -8,11 +8,12 @@ use Rattle.memlist.proofs.Tiling.{tiled}
 use Rattle.memlist.proofs.Fitting.{disjoint}
 use Rattle.taskscript.specs.File.{MachineData}
 use Rattle.taskscript.specs.declared.event.Event.{Event}
-use Rattle.execmodel.specs.State.{Call, Object, Plain, ListHead, Node, MsgPort, Message, Semaphore, Library, Request, Block, State, Outcome, booted, andthen, on_schedule}
+use Rattle.execmodel.specs.State.{Call, Object, Plain, Block, State, Outcome, booted, andthen, on_schedule}
 use Rattle.execmodel.specs.Calls.{argument, alerted, unless}
 use Rattle.scheduler.specs.Dispatch.{rescheduled}
 use Rattle.execmodel.specs.Bodies.{body_step}
-use Rattle.execmodel.specs.Memory.{extents, block_at, is_plain, is_named, does_free_mem}
+use Rattle.execmodel.specs.Memory.{extents, block_at, is_plain, is_named, memory_deed}
+use Rattle.execmodel.specs.Deeds.{performs}
 use Rattle.execmodel.specs.Step.{switches, ends, starts, run}
 use Rattle.execmodel.specs.Laws.{EachByteHasOneOwner, FreeMemRefusesObjects}
 use Rattle.execmodel.proofs.Heaps.{true_is_not_false}
@@ -79,13 +80,7 @@ each_byte_has_one_owner machine list is =
 
 not_plain : (object : Object) → object ≢ Plain → is_plain object ≡ false
 not_plain Plain other = absurd (other refl)
-not_plain (ListHead nodes) other = refl
-not_plain (Node key) other = refl
-not_plain (MsgPort port messages) other = refl
-not_plain (Message content) other = refl
-not_plain (Semaphore sem waiters) other = refl
-not_plain (Library number count delayed) other = refl
-not_plain (Request content) other = refl
+not_plain _ other = refl
 
 refused : (size : ℕ) (found : Option Block) (object : Object) → option_map (λ (block : Block). block.object) found ≡ Some object
     → is_plain object ≡ false → is_named size found ≡ false
@@ -98,7 +93,7 @@ stops true t call effect s e = true_is_not_false e
 stops false t call effect s e = refl
 
 pub free_mem_refuses_objects : FreeMemRefusesObjects
-unfolding does_free_mem
+unfolding performs memory_deed
 free_mem_refuses_objects t call s object there is =
     stops (is_named (argument 1 call) (block_at (argument 0 call) s.memory.heap)) t call _ s
     (refused (argument 1 call) (block_at (argument 0 call) s.memory.heap) object there (not_plain object is))

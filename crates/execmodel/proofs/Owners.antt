@@ -10,7 +10,7 @@ use Rattle.execlist.specs.Order.{first, without}
 use Rattle.execlist.specs.Lists.{is_at}
 use Rattle.sigsem.specs.declared.semaphore.Sem.{Sem}
 use Rattle.iorequest.specs.declared.request.Request.{Request as TimerRequest}
-use Rattle.execmodel.specs.State.{Call, Object, Plain, ListHead, Node, MsgPort, Message, Semaphore, Library, Request, Block, Heap, Waiting as Queued, Mark, State}
+use Rattle.execmodel.specs.State.{Call, Object, Plain, ListHead, Semaphore, Library, Request, Block, Heap, Waiting as Queued, Mark, State}
 use Rattle.execmodel.specs.Requests.{is_request, is_request_at, with_request}
 use Rattle.execmodel.specs.Objects.{object_at, is_kind, replaced}
 use Rattle.execmodel.specs.Memory.{extents}
@@ -56,34 +56,16 @@ idle_remade f keeps heap idle a =
     subst (λ found. Idle found) (sym (object_remade f a heap)) (idle_mapped f keeps (object_at a heap) (idle a))
 
 left_idle : (node : ℕ) (object : Object) → Idle (Some object) → Idle (Some (left_by node object))
-left_idle node Plain idle = idle
 left_idle node (ListHead nodes) idle = λ e. refl
-left_idle node (Node key) idle = idle
-left_idle node (MsgPort port messages) idle = idle
-left_idle node (Message content) idle = idle
-left_idle node (Semaphore sem waiters) idle = idle
-left_idle node (Library number count delayed) idle = idle
-left_idle node (Request content) idle = idle
+left_idle node _ idle = idle
 
 task_left_idle : (t : ℕ) (object : Object) → Idle (Some object) → Idle (Some (left_by_task t object))
-task_left_idle t Plain idle = idle
-task_left_idle t (ListHead nodes) idle = idle
-task_left_idle t (Node key) idle = idle
-task_left_idle t (MsgPort port messages) idle = idle
-task_left_idle t (Message content) idle = idle
 task_left_idle t (Semaphore sem waiters) idle = λ e. ap (λ q. without t q) (idle e)
-task_left_idle t (Library number count delayed) idle = idle
-task_left_idle t (Request content) idle = idle
+task_left_idle t _ idle = idle
 
 new_idle : (heap : Heap) (object : Object) → IsNew heap object → Idle (Some object)
-new_idle heap Plain is = λ e. refl
-new_idle heap (ListHead nodes) is = λ e. refl
-new_idle heap (Node key) is = λ e. refl
-new_idle heap (MsgPort port messages) is = λ e. refl
-new_idle heap (Message content) is = λ e. refl
 new_idle heap (Semaphore sem waiters) is = λ e. is.1
-new_idle heap (Library number count delayed) is = λ e. refl
-new_idle heap (Request content) is = λ e. refl
+new_idle heap _ is = λ e. refl
 
 -- a semaphore that a task does not get at once has an owner
 closed_owned : (t : ℕ) (sem : Sem) → is_open t sem ≡ false → sem.owner ≡ None → ⊥
@@ -113,7 +95,7 @@ counted_idle : (base count : ℕ) (delayed : Bool) (heap : Heap) → AllIdle hea
 unfolding with_library
 counted_idle base count delayed heap idle = idle_replaced base _ heap (λ e. refl) idle
 
-takes_idle : (regions : List Region) (old new : Heap) → Takes regions old new → AllIdle old → AllIdle new
+takes_idle : {asks : Bool} (regions : List Region) (old new : Heap) → Takes asks regions old new → AllIdle old → AllIdle new
 takes_idle regions old new nothing idle = idle
 takes_idle regions old new (places size reqs address object is fits) idle = λ a.
     cases_eq a address
@@ -121,9 +103,9 @@ takes_idle regions old new (places size reqs address object is fits) idle = λ a
     (λ apart. subst (λ found. Idle found) (sym (object_placed_there a address _ old apart)) (idle a))
 takes_idle regions old new (recounts base count delayed is more rest) idle =
     takes_idle regions (with_library base count delayed old) new rest (counted_idle base count delayed old idle)
-takes_idle regions old new (yields base is none rest) idle = takes_idle regions (rid base old) new rest (rid_idle base old idle)
+takes_idle regions old new (yields base is none may rest) idle = takes_idle regions (rid base old) new rest (rid_idle base old idle)
 
-pub moves_idle : (regions : List Region) (t : ℕ) (call : Call) (old : Heap) (marks : List Mark) (new : Heap) → Moves regions t call old marks new
+pub moves_idle : {asks : Bool} (regions : List Region) (t : ℕ) (call : Call) (old : Heap) (marks : List Mark) (new : Heap) → Moves asks regions t call old marks new
     → AllIdle old → AllIdle new
 unfolding with_nodes unlinked with_action with_port with_semaphore entered queued dropped handed_on released_once sem_of waiters_of
 moves_idle regions t call old marks new (touches how) idle = touched_idle old marks new how idle
@@ -163,44 +145,20 @@ no_owner kind none None is = refl
 no_owner kind none (Some object) is = none object is
 
 list_free : (object : Object) → is_list object ≡ true → (sem_in object).owner ≡ None
-list_free Plain is = refl
-list_free (ListHead nodes) is = refl
-list_free (Node key) is = refl
-list_free (MsgPort port messages) is = refl
-list_free (Message content) is = refl
 list_free (Semaphore sem waiters) is = true_is_not_false (sym is)
-list_free (Library number count delayed) is = refl
-list_free (Request content) is = refl
+list_free _ is = refl
 
 port_free : (object : Object) → is_port object ≡ true → (sem_in object).owner ≡ None
-port_free Plain is = refl
-port_free (ListHead nodes) is = refl
-port_free (Node key) is = refl
-port_free (MsgPort port messages) is = refl
-port_free (Message content) is = refl
 port_free (Semaphore sem waiters) is = true_is_not_false (sym is)
-port_free (Library number count delayed) is = refl
-port_free (Request content) is = refl
+port_free _ is = refl
 
 message_free : (object : Object) → is_message object ≡ true → (sem_in object).owner ≡ None
-message_free Plain is = refl
-message_free (ListHead nodes) is = refl
-message_free (Node key) is = refl
-message_free (MsgPort port messages) is = refl
-message_free (Message content) is = refl
 message_free (Semaphore sem waiters) is = true_is_not_false (sym is)
-message_free (Library number count delayed) is = refl
-message_free (Request content) is = refl
+message_free _ is = refl
 
 library_free : (object : Object) → is_library object ≡ true → (sem_in object).owner ≡ None
-library_free (Library number count delayed) is = refl
-library_free (Request content) is = refl
-library_free Plain is = refl
-library_free (ListHead nodes) is = refl
-library_free (Node key) is = refl
-library_free (MsgPort port messages) is = refl
-library_free (Message content) is = refl
 library_free (Semaphore sem waiters) is = true_is_not_false (sym is)
+library_free _ is = refl
 
 pub free_owner : (sem : Sem) → is_owned sem ≡ false → sem.owner ≡ None
 free_owner sem e = none_owner sem.owner e
@@ -211,24 +169,13 @@ free_owner sem e = none_owner sem.owner e
 
 gone_free : (found : Option Object) → MayGo found → owner_in found ≡ None
 gone_free None may = refl
-gone_free (Some Plain) may = refl
-gone_free (Some (ListHead nodes)) may = refl
-gone_free (Some (Node key)) may = refl
-gone_free (Some (MsgPort port messages)) may = refl
-gone_free (Some (Message content)) may = refl
 gone_free (Some (Semaphore sem waiters)) may = free_owner sem may
 gone_free (Some (Library number count delayed)) may = absurd may
-gone_free (Some (Request content)) may = refl
+gone_free (Some _) may = refl
 
 new_free : (heap : Heap) (object : Object) → IsNew heap object → (sem_in object).owner ≡ None
-new_free heap Plain is = refl
-new_free heap (ListHead nodes) is = refl
-new_free heap (Node key) is = refl
-new_free heap (MsgPort port messages) is = refl
-new_free heap (Message content) is = refl
 new_free heap (Semaphore sem waiters) is = ap (λ (s : Sem). s.owner) is.0
-new_free heap (Library number count delayed) is = refl
-new_free heap (Request content) is = refl
+new_free heap _ is = refl
 
 elsewhere : (a address : ℕ) (object : Object) (heap : Heap) → a ≢ address
     → object_at a (map (replaced address object) heap) ≡ object_at a heap
@@ -256,23 +203,11 @@ mapped_owner f same (Some object) = same object
 
 left_owner : (node : ℕ) (object : Object) → (sem_in (left_by node object)).owner ≡ (sem_in object).owner
 left_owner node Plain = refl
-left_owner node (ListHead nodes) = refl
-left_owner node (Node key) = refl
-left_owner node (MsgPort port messages) = refl
-left_owner node (Message content) = refl
-left_owner node (Semaphore sem waiters) = refl
-left_owner node (Library number count delayed) = refl
-left_owner node (Request content) = refl
+left_owner node _ = refl
 
 task_left_owner : (t : ℕ) (object : Object) → (sem_in (left_by_task t object)).owner ≡ (sem_in object).owner
 task_left_owner t Plain = refl
-task_left_owner t (ListHead nodes) = refl
-task_left_owner t (Node key) = refl
-task_left_owner t (MsgPort port messages) = refl
-task_left_owner t (Message content) = refl
-task_left_owner t (Semaphore sem waiters) = refl
-task_left_owner t (Library number count delayed) = refl
-task_left_owner t (Request content) = refl
+task_left_owner t _ = refl
 
 remade_owner : (f : Object → Object) → ((object : Object) → (sem_in (f object)).owner ≡ (sem_in object).owner) → (a : ℕ) (heap : Heap)
     → owner_in (object_at a (map (λ (entry : ℕ × Block). (entry.0, record entry.1 { object = f entry.1.object })) heap)) ≡ owner_in (object_at a heap)
@@ -333,7 +268,7 @@ expunged_unowned base a heap is =
     ∙ sym (ap (λ k. owner_in (object_at k heap)) same ∙ no_owner is_library library_free (object_at base heap) is))
     (λ apart. ap (λ found. owner_in found) (object_rid_there a base heap apart))
 
-takes_own : (regions : List Region) (old new : Heap) → Takes regions old new → IsWellFormed regions (extents old)
+takes_own : {asks : Bool} (regions : List Region) (old new : Heap) → Takes asks regions old new → IsWellFormed regions (extents old)
     → (a : ℕ) → owner_in (object_at a new) ≡ owner_in (object_at a old)
 takes_own regions old new nothing formed a = refl
 takes_own regions old new (places size reqs address object is fits) formed a =
@@ -345,10 +280,10 @@ takes_own regions old new (places size reqs address object is fits) formed a =
 takes_own regions old new (recounts base count delayed is more rest) formed a =
     takes_own regions (with_library base count delayed old) new rest (counted_formed regions base count delayed old formed) a
     ∙ counted_unowned base count delayed a old (is formed)
-takes_own regions old new (yields base is none rest) formed a =
+takes_own regions old new (yields base is none may rest) formed a =
     takes_own regions (rid base old) new rest (rid_formed regions base old formed) a ∙ expunged_unowned base a old (is formed)
 
-pub moves_own : (regions : List Region) (t : ℕ) (call : Call) (old : Heap) (marks : List Mark) (new : Heap) → Moves regions t call old marks new
+pub moves_own : {asks : Bool} (regions : List Region) (t : ℕ) (call : Call) (old : Heap) (marks : List Mark) (new : Heap) → Moves asks regions t call old marks new
     → IsWellFormed regions (extents old) → (a : ℕ) → Owns t call a old new
 unfolding with_nodes unlinked with_action with_port with_semaphore entered queued dropped handed_on released_once sem_of is_list_at is_port_at
 moves_own regions t call old marks new (touches how) formed a = inl (touched_own old marks new how a)

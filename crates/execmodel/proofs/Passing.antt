@@ -8,7 +8,7 @@ use Rattle.memlist.specs.Memory.{IsWellFormed}
 use Rattle.memlist.proofs.Answered.{nat_eq-same, nat_eq-other, cases_eq}
 use Rattle.execlist.specs.Order.{without}
 use Rattle.iorequest.specs.declared.request.Request.{Request as TimerRequest}
-use Rattle.execmodel.specs.State.{Call, Object, Plain, ListHead, Node, MsgPort, Message, Semaphore, Library, Request, Block, Heap, Waiting as Queued, Mark, out, State}
+use Rattle.execmodel.specs.State.{Call, Object, Plain, ListHead, MsgPort, Message, Semaphore, Library, Request, Block, Heap, Waiting as Queued, Mark, out, State}
 use Rattle.execmodel.specs.Requests.{is_request, is_request_at, with_request}
 use Rattle.execmodel.specs.Objects.{object_at, is_kind, replaced}
 use Rattle.execmodel.specs.Memory.{extents}
@@ -51,65 +51,30 @@ no_port kind none None is = refl
 no_port kind none (Some object) is = none object is
 
 list_none : (object : Object) → is_list object ≡ true → waiters_in object ≡ []
-list_none Plain is = refl
-list_none (ListHead nodes) is = refl
-list_none (Node key) is = refl
-list_none (MsgPort port messages) is = refl
-list_none (Message content) is = refl
 list_none (Semaphore sem waiters) is = true_is_not_false (sym is)
-list_none (Library number count delayed) is = refl
-list_none (Request content) is = refl
+list_none _ is = refl
 
 message_none : (object : Object) → is_message object ≡ true → waiters_in object ≡ []
-message_none Plain is = refl
-message_none (ListHead nodes) is = refl
-message_none (Node key) is = refl
-message_none (MsgPort port messages) is = refl
-message_none (Message content) is = refl
 message_none (Semaphore sem waiters) is = true_is_not_false (sym is)
-message_none (Library number count delayed) is = refl
-message_none (Request content) is = refl
+message_none _ is = refl
 
 port_none : (object : Object) → is_port object ≡ true → waiters_in object ≡ []
-port_none Plain is = refl
-port_none (ListHead nodes) is = refl
-port_none (Node key) is = refl
-port_none (MsgPort port messages) is = refl
-port_none (Message content) is = refl
 port_none (Semaphore sem waiters) is = true_is_not_false (sym is)
-port_none (Library number count delayed) is = refl
-port_none (Request content) is = refl
+port_none _ is = refl
 
 library_none : (object : Object) → is_library object ≡ true → waiters_in object ≡ []
-library_none (Library number count delayed) is = refl
-library_none (Request content) is = refl
-library_none Plain is = refl
-library_none (ListHead nodes) is = refl
-library_none (Node key) is = refl
-library_none (MsgPort port messages) is = refl
-library_none (Message content) is = refl
 library_none (Semaphore sem waiters) is = true_is_not_false (sym is)
+library_none _ is = refl
 
 new_none : (heap : Heap) (object : Object) → IsNew heap object → waiters_in object ≡ []
-new_none heap Plain is = refl
-new_none heap (ListHead nodes) is = refl
-new_none heap (Node key) is = refl
-new_none heap (MsgPort port messages) is = refl
-new_none heap (Message content) is = refl
 new_none heap (Semaphore sem waiters) is = is.1
-new_none heap (Library number count delayed) is = refl
-new_none heap (Request content) is = refl
+new_none heap _ is = refl
 
 gone_none : (found : Option Object) → MayGo found → Idle found → waiters_of_object found ≡ []
 gone_none None may idle = refl
-gone_none (Some Plain) may idle = refl
-gone_none (Some (ListHead nodes)) may idle = refl
-gone_none (Some (Node key)) may idle = refl
-gone_none (Some (MsgPort port messages)) may idle = refl
-gone_none (Some (Message content)) may idle = refl
 gone_none (Some (Semaphore sem waiters)) may idle = idle (free_owner sem may)
 gone_none (Some (Library number count delayed)) may idle = absurd may
-gone_none (Some (Request content)) may idle = refl
+gone_none (Some _) may idle = refl
 
 -- ---- what begins at an address becomes another
 
@@ -137,13 +102,7 @@ all_remade f same p heap = ap (λ found. waiters_of_object found) (object_remade
 
 left_same : (node : ℕ) (object : Object) → waiters_in (left_by node object) ≡ waiters_in object
 left_same node Plain = refl
-left_same node (ListHead nodes) = refl
-left_same node (Node key) = refl
-left_same node (MsgPort port messages) = refl
-left_same node (Message content) = refl
-left_same node (Semaphore sem waiters) = refl
-left_same node (Library number count delayed) = refl
-left_same node (Request content) = refl
+left_same node _ = refl
 
 -- ---- tasks that leave
 
@@ -153,15 +112,9 @@ without_away t (x ∷ q) away =
     ap (λ test. cond (not test) (x ∷ without t q) (without t q)) (nat_eq-other x t (λ e. away.0 (sym e))) ∙ ap (λ r. x ∷ r) (without_away t q away.1)
 
 task_left : (t : ℕ) (found : Option Object) → waiters_of_object (option_map (left_by_task t) found) ≡ without t (waiters_of_object found)
-task_left t None = refl
 task_left t (Some Plain) = refl
-task_left t (Some (ListHead nodes)) = refl
-task_left t (Some (Node key)) = refl
-task_left t (Some (MsgPort port messages)) = refl
-task_left t (Some (Message content)) = refl
-task_left t (Some (Semaphore sem waiters)) = refl
-task_left t (Some (Library number count delayed)) = refl
-task_left t (Some (Request content)) = refl
+task_left t None = refl
+task_left t (Some _) = refl
 
 pub dropped_left : (t p : ℕ) (heap : Heap) → waiters_of p (dropped t heap) ≡ without t (waiters_of p heap)
 unfolding waiters_of dropped
@@ -243,7 +196,7 @@ expunged_still base p heap is =
     ∙ sym (ap (λ a. waiters_of_object (object_at a heap)) same ∙ no_port is_library library_none (object_at base heap) is))
     (λ apart. ap (λ found. waiters_of_object found) (object_rid_there p base heap apart))
 
-takes_still : (regions : List Region) (old new : Heap) → Takes regions old new → IsWellFormed regions (extents old)
+takes_still : {asks : Bool} (regions : List Region) (old new : Heap) → Takes asks regions old new → IsWellFormed regions (extents old)
     → (p : ℕ) → waiters_of p new ≡ waiters_of p old
 takes_still regions old new nothing formed p = refl
 takes_still regions old new (places size reqs address object is fits) formed p =
@@ -255,10 +208,10 @@ takes_still regions old new (places size reqs address object is fits) formed p =
 takes_still regions old new (recounts base count delayed is more rest) formed p =
     takes_still regions (with_library base count delayed old) new rest (counted_formed regions base count delayed old formed) p
     ∙ counted_still base count delayed p old (is formed)
-takes_still regions old new (yields base is none rest) formed p =
+takes_still regions old new (yields base is none may rest) formed p =
     takes_still regions (rid base old) new rest (rid_formed regions base old formed) p ∙ expunged_still base p old (is formed)
 
-pub moves_pass : (regions : List Region) (t : ℕ) (call : Call) (old : Heap) (marks : List Mark) (new : Heap) → Moves regions t call old marks new
+pub moves_pass : {asks : Bool} (regions : List Region) (t : ℕ) (call : Call) (old : Heap) (marks : List Mark) (new : Heap) → Moves asks regions t call old marks new
     → IsWellFormed regions (extents old) → AllIdle old → IsNowhere t old → ((other : ℕ) → WaitsAtOne other old (awaited_by other old))
     → (p : ℕ) → Follows (waiters_of p old) (turns_at_semaphore p marks) (waiters_of p new)
 unfolding with_nodes unlinked with_action entered queued handed_on released_once is_list_at

@@ -9,7 +9,7 @@ use Rattle.taskq.specs.Tasks.{state_at, is_live}
 use Rattle.taskq.specs.declared.TaskState.{TaskState}
 use Rattle.taskq.specs.declared.TaskState.TheVariants.{Ready, Running, Waiting, Removed}
 use Rattle.taskq.specs.declared.Why.TheVariants.{Signals, Sem}
-use Rattle.scheduler.specs.Schedule.{Schedule, status_of, signals_of, is_absent, is_at_semaphore, awaits, begins, renewed, is_switching_allowed, is_quantum_over, leaves as leaves_for_good, removed, ticked, ticked_for, waits_for, waits_at_semaphore, with_signals}
+use Rattle.scheduler.specs.Schedule.{Schedule, status_of, signals_of, is_absent, awaits, begins, renewed, is_switching_allowed, is_quantum_over, leaves as leaves_for_good, removed, ticked, ticked_for, waits_for, waits_at_semaphore, with_signals}
 use Rattle.scheduler.specs.declared.Switch.{Switch}
 use Rattle.scheduler.specs.declared.Switch.TheVariants.{To, Idle}
 use Rattle.taskscript.specs.File.{MachineData}

@@ -25,9 +25,7 @@ use Rattle.taskscript.specs.declared.word.nesting.NestingWord.TheVariants as nes
 use Rattle.taskscript.specs.declared.word.tasks.TaskWord.{TaskWord}
 use Rattle.taskscript.specs.declared.word.tasks.TaskWord.TheVariants as tasks
 use Rattle.taskscript.specs.declared.word.lists.ListWord.{ListWord}
-use Rattle.taskscript.specs.declared.word.lists.ListWord.TheVariants as lists
 use Rattle.taskscript.specs.declared.word.memory.MemoryWord.{MemoryWord}
-use Rattle.taskscript.specs.declared.word.memory.MemoryWord.TheVariants as memory
 use Rattle.taskscript.specs.declared.word.ports.PortWord.{PortWord}
 use Rattle.taskscript.specs.declared.word.ports.PortWord.TheVariants as ports
 use Rattle.taskscript.specs.declared.word.semaphores.SemaphoreWord.{SemaphoreWord}
@@ -50,8 +48,9 @@ use Rattle.execmodel.specs.Signals.{is_task, mask_alert, free_signal_alert, wait
 use Rattle.execmodel.specs.Nesting.{gives_nesting, does_nesting, does_forbid, does_permit, does_disable, does_enable}
 use Rattle.execmodel.specs.Tasks.{live_task_alert, set_task_pri_alert, add_task_alert, is_caller, does_tasks, does_set_task_pri, does_add_task, does_rem_task, does_find_task}
 use Rattle.execmodel.specs.Objects.{place_for_object}
-use Rattle.execmodel.specs.Memory.{alloc_alert, free_alert, avail_alert, does_memory, does_alloc_mem, does_free_mem, does_avail_mem}
-use Rattle.execmodel.specs.Lists.{free_list_alert, new_node_alert, free_node_alert, link_alert, insert_alert, linked_alert, list_alert, find_alert, does_lists, does_new_list, does_free_list, does_new_node, does_free_node, does_add_head, does_add_tail, does_enqueue, does_insert, does_remove, does_rem_head, does_rem_tail, does_first, does_last, does_succ, does_pred, does_find_name}
+use Rattle.execmodel.specs.Memory.{does_memory, memory_deed}
+use Rattle.execmodel.specs.Lists.{does_lists, list_deed}
+use Rattle.execmodel.specs.Deeds.{Deed, concluded, performs}
 use Rattle.execmodel.specs.Ports.{is_port, port_size, after_asking_for_port, messages_of, port_of, port_created, delete_alert, port_alert, reply_port_alert, loose_alert, message_alert, add_port_alert, rem_port_alert, wait_alert, looked, loses, made_public, made_private, performed, does_ports, does_create_msg_port, does_delete_msg_port, does_add_port, does_rem_port, does_find_port, does_port_signal, does_port_cause, does_port_ignore, does_new_msg, does_free_msg, does_msg_word, does_set_msg_word, does_msg_type, does_put_msg, does_get_msg, does_wait_port, does_reply_msg}
 use Rattle.execmodel.specs.Semaphores.{awaited_by, dropped, sem_of, free_sem_alert, obtain_alert, release_alert, obtains, passes, heir, is_tried_again, leaving_queue, does_semaphores, does_new_sem, does_free_sem, does_obtain_semaphore, does_attempt_semaphore, does_release_semaphore}
 use Rattle.sigsem.specs.Semaphores.{outcome_for}
@@ -180,15 +179,11 @@ unless_shifts t call s (Some code) effect shifts = (refl, stays (λ p. refl) (sa
 
 plain_shifts : (word : PlainWord) (t : ℕ) (call : Call) (s : State) → Shifted t call s (does_plain word t call s)
 unfolding does_set does_add does_sub does_and does_or does_jump does_jump_zero does_jump_not_zero does_print
-plain_shifts plain.Set t call s = silent_stays t call _ s
-plain_shifts plain.Add t call s = silent_stays t call _ s
-plain_shifts plain.Sub t call s = silent_stays t call _ s
-plain_shifts plain.And t call s = silent_stays t call _ s
-plain_shifts plain.Or t call s = silent_stays t call _ s
 plain_shifts plain.Jump t call s = jumps_stays t call _ s
 plain_shifts plain.JumpZ t call s = jumps_stays t call _ s
 plain_shifts plain.JumpNZ t call s = jumps_stays t call _ s
 plain_shifts plain.Print t call s = done_stays t call s s.memory
+plain_shifts _ t call s = silent_stays t call _ s
 
 nothing_there : (n : ℕ) → nat_eq n 0 ≡ true → n ≡ 0
 nothing_there n e = cases_eq n 0 (λ is. is) (λ apart. true_is_not_false (sym e ∙ nat_eq-other n 0 apart))
@@ -289,50 +284,20 @@ tasks_shift tasks.FindTask t call s = answered_stays t call _ s s.memory
 
 -- ---- lists and memory
 
+concluded_shifts : (answer : Option ℕ) (t : ℕ) (call : Call) (s : State) (memory : Memory)
+    → Shifted t call s (concluded answer t call (record s { memory = memory }))
+concluded_shifts None t call s memory = done_stays t call s memory
+concluded_shifts (Some value) t call s memory = answered_stays t call value s memory
+
+performs_shifts : (deed : Deed) (t : ℕ) (call : Call) (s : State) → Shifted t call s (performs deed t call s)
+unfolding performs
+performs_shifts deed t call s = unless_shifts t call s (deed.alert s.memory) _ (λ none. concluded_shifts (deed.answer s.memory) t call s _)
+
 lists_shift : (word : ListWord) (t : ℕ) (call : Call) (s : State) → Shifted t call s (does_lists word t call s)
-unfolding does_new_list does_free_list does_new_node does_free_node does_add_head does_add_tail does_enqueue does_insert does_remove does_rem_head does_rem_tail does_first does_last does_succ does_pred does_find_name
-lists_shift lists.NewList t call s = answered_stays t call _ s _
-lists_shift lists.FreeList t call s =
-    unless_shifts t call s (free_list_alert (argument 0 call) s.memory.heap) _ (λ none. done_stays t call s _)
-lists_shift lists.NewNode t call s =
-    unless_shifts t call s (new_node_alert (cast_signed w32 (argument 0 call))) _ (λ none. answered_stays t call _ s _)
-lists_shift lists.FreeNode t call s =
-    unless_shifts t call s (free_node_alert (argument 0 call) s.memory.heap) _ (λ none. done_stays t call s _)
-lists_shift lists.AddHead t call s =
-    unless_shifts t call s (link_alert (argument 0 call) (argument 1 call) s.memory.heap) _ (λ none. done_stays t call s _)
-lists_shift lists.AddTail t call s =
-    unless_shifts t call s (link_alert (argument 0 call) (argument 1 call) s.memory.heap) _ (λ none. done_stays t call s _)
-lists_shift lists.Enqueue t call s =
-    unless_shifts t call s (link_alert (argument 0 call) (argument 1 call) s.memory.heap) _ (λ none. done_stays t call s _)
-lists_shift lists.Insert t call s =
-    unless_shifts t call s (insert_alert (argument 0 call) (argument 1 call) (argument 2 call) s.memory.heap) _
-    (λ none. done_stays t call s _)
-lists_shift lists.Remove t call s =
-    unless_shifts t call s (linked_alert (argument 0 call) s.memory.heap) _ (λ none. done_stays t call s _)
-lists_shift lists.RemHead t call s =
-    unless_shifts t call s (list_alert (argument 0 call) s.memory.heap) _ (λ none. answered_stays t call _ s _)
-lists_shift lists.RemTail t call s =
-    unless_shifts t call s (list_alert (argument 0 call) s.memory.heap) _ (λ none. answered_stays t call _ s _)
-lists_shift lists.First t call s =
-    unless_shifts t call s (list_alert (argument 0 call) s.memory.heap) _ (λ none. answered_stays t call _ s s.memory)
-lists_shift lists.Last t call s =
-    unless_shifts t call s (list_alert (argument 0 call) s.memory.heap) _ (λ none. answered_stays t call _ s s.memory)
-lists_shift lists.Succ t call s =
-    unless_shifts t call s (linked_alert (argument 0 call) s.memory.heap) _ (λ none. answered_stays t call _ s s.memory)
-lists_shift lists.Pred t call s =
-    unless_shifts t call s (linked_alert (argument 0 call) s.memory.heap) _ (λ none. answered_stays t call _ s s.memory)
-lists_shift lists.FindName t call s =
-    unless_shifts t call s (find_alert (argument 0 call) s.memory.heap) _ (λ none. answered_stays t call _ s s.memory)
+lists_shift word t call s = performs_shifts (list_deed word call) t call s
 
 memory_shifts : (word : MemoryWord) (t : ℕ) (call : Call) (s : State) → Shifted t call s (does_memory word t call s)
-unfolding does_alloc_mem does_free_mem does_avail_mem
-memory_shifts memory.AllocMem t call s =
-    unless_shifts t call s (alloc_alert (argument 1 call)) _
-    (λ none. answered_stays t call _ s _)
-memory_shifts memory.FreeMem t call s =
-    unless_shifts t call s (free_alert (argument 0 call) (argument 1 call) s.memory.heap) _ (λ none. done_stays t call s _)
-memory_shifts memory.AvailMem t call s =
-    unless_shifts t call s (avail_alert (argument 0 call)) _ (λ none. answered_stays t call _ s s.memory)
+memory_shifts word t call s = performs_shifts (memory_deed word call) t call s
 
 -- ---- ports
 
@@ -385,12 +350,6 @@ ports_shift ports.AddPort t call s word =
 ports_shift ports.RemPort t call s word =
     unless_shifts t call s (rem_port_alert (argument 0 call) s.memory) _ (λ none. done_stays t call s _)
 ports_shift ports.FindPort t call s word = answered_stays t call _ s s.memory
-ports_shift ports.PortSignal t call s word =
-    unless_shifts t call s (port_alert (argument 0 call) s.memory.heap) _ (λ none. done_stays t call s _)
-ports_shift ports.PortCause t call s word =
-    unless_shifts t call s (port_alert (argument 0 call) s.memory.heap) _ (λ none. done_stays t call s _)
-ports_shift ports.PortIgnore t call s word =
-    unless_shifts t call s (port_alert (argument 0 call) s.memory.heap) _ (λ none. done_stays t call s _)
 ports_shift ports.NewMsg t call s word =
     unless_shifts t call s (reply_port_alert (argument 0 call) s.memory.heap) _ (λ none. answered_stays t call _ s _)
 ports_shift ports.FreeMsg t call s word =
@@ -407,6 +366,8 @@ ports_shift ports.WaitPort t call s word =
     unless_shifts t call s (wait_alert t (argument 0 call) s.memory.heap) _
     (λ none. looked_shifts (first (messages_of (argument 0 call) s.memory.heap)) _ t call s (ap is_own_taking word))
 ports_shift ports.ReplyMsg t call s word = any_shifts t call s (does_reply_msg t call s) (reply_alters (ByTask t) call s)
+ports_shift _ t call s word =
+    unless_shifts t call s (port_alert (argument 0 call) s.memory.heap) _ (λ none. done_stays t call s _)
 
 -- ---- semaphores
 
@@ -539,19 +500,11 @@ requests_shift requests.SendIO t call s word =
     unless_shifts t call s (send_alert (argument 0 call) s.memory.heap) _
     (λ none. let port = replying_port false (argument 0 call) s.memory in
     sends_shift port (argument 0 call) t call (acting_at port s.memory.heap) s (begun_at false (argument 0 call) s.memory))
-requests_shift requests.CheckIO t call s word =
-    unless_shifts t call s (request_alert (argument 0 call) s.memory.heap) _ (λ none. answered_stays t call _ s s.memory)
 requests_shift requests.WaitIO t call s word = wait_io_shifts t call s (ap is_own_taking word)
 requests_shift requests.AbortIO t call s word =
     unless_shifts t call s (request_alert (argument 0 call) s.memory.heap) _
     (λ none. aborts_shift (is_under_way (request_of (argument 0 call) s.memory.heap)) (argument 0 call) t call s)
-requests_shift requests.IOSecs t call s word =
-    unless_shifts t call s (request_alert (argument 0 call) s.memory.heap) _ (λ none. answered_stays t call _ s s.memory)
-requests_shift requests.IOMicros t call s word =
-    unless_shifts t call s (request_alert (argument 0 call) s.memory.heap) _ (λ none. answered_stays t call _ s s.memory)
-requests_shift requests.IOError t call s word =
-    unless_shifts t call s (request_alert (argument 0 call) s.memory.heap) _ (λ none. answered_stays t call _ s s.memory)
-requests_shift requests.IOFlags t call s word =
+requests_shift _ t call s word =
     unless_shifts t call s (request_alert (argument 0 call) s.memory.heap) _ (λ none. answered_stays t call _ s s.memory)
 
 -- ---- any word

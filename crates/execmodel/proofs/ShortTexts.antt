@@ -30,8 +30,7 @@ use Rattle.execmodel.specs.Ports.{performed, delivered, put_alert, port_alert, r
 use Rattle.execmodel.specs.Bodies.{does_plain_by, does_signals_by, does_ports_by, does_interrupts_by, does_word_by, does_in_body, body_step}
 use Rattle.execmodel.specs.Requests.{answering_port, acting_at, with_reply, ended, finishes}
 use Rattle.execmodel.specs.Interrupts.{softint_at, server_at}
-use Rattle.execmodel.proofs.Itself.{word_itself, does_itself}
-use Rattle.execmodel.proofs.Keeping.{plain_words_change_scripts, signal_words_change_signals_and_states, nesting_words_change_nestings, task_words_change_states_priorities_and_objects, list_words_change_the_memory, memory_words_change_the_memory, port_words_change_ports_signals_and_states, semaphore_words_change_states_and_objects, interrupt_words_change_what_is_caused, library_words_change_the_memory, request_words_keep}
+use Rattle.execmodel.proofs.Itself.{word_itself, does_itself, word_keeps}
 use Rattle.execmodel.proofs.Commands.{performed_scripts}
 use Rattle.execmodel.proofs.ShortLines.{IsShort, IsShortText, AreShort, timer_short, call_short, alert_short}
 use Rattle.execmodel.proofs.ShortWords.{word_short}
@@ -102,17 +101,7 @@ going_says next one s = either_says s.stopped s (quiet s) (next s) (quiet_says s
 -- ---- calls of tasks
 
 word_texts : (word : Word) (t : ℕ) (call : Call) (s : State) → texts_of (word_itself word t call s).state ≡ texts_of s
-word_texts (group.Plain word) t call s = ap texts_of (plain_words_change_scripts word t call s)
-word_texts (group.Signals word) t call s = ap texts_of (signal_words_change_signals_and_states word t call s)
-word_texts (group.Nesting word) t call s = ap texts_of (nesting_words_change_nestings word t call s)
-word_texts (group.Tasks word) t call s = ap texts_of (task_words_change_states_priorities_and_objects word t call s)
-word_texts (group.Lists word) t call s = ap texts_of (list_words_change_the_memory word t call s)
-word_texts (group.Memory word) t call s = ap texts_of (memory_words_change_the_memory word t call s)
-word_texts (group.Ports word) t call s = ap texts_of (port_words_change_ports_signals_and_states word t call s)
-word_texts (group.Semaphores word) t call s = ap texts_of (semaphore_words_change_states_and_objects word t call s)
-word_texts (group.Interrupts word) t call s = ap texts_of (interrupt_words_change_what_is_caused word t call s)
-word_texts (group.Libraries word) t call s = ap texts_of (library_words_change_the_memory word t call s)
-word_texts (group.Requests word) t call s = ap texts_of (request_words_keep word t call s)
+word_texts word t call s = ap texts_of (word_keeps word t call s)
 
 own_short : (name : List ℕ) (call : Call) (line : TraceLine) → IsShortText name → AreShort call.arguments → IsOwn name call line
     → IsShort line

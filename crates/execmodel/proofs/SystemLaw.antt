@@ -6,7 +6,7 @@ use Rattle.execlist.specs.Disciplines.{by_arrival}
 use Rattle.softint.specs.declared.source.Source.TheVariants.{Vertb}
 use Rattle.msgport.specs.declared.action.Action.{Action}
 use Rattle.iorequest.specs.declared.request.ReqState.{ReqState}
-use Rattle.iorequest.specs.declared.request.ReqState.TheVariants.{Idle, UnderWay, Quick, Replied}
+use Rattle.iorequest.specs.declared.request.ReqState.TheVariants.{Idle}
 use Rattle.iorequest.specs.declared.request.Begun.TheVariants.{Finish, Queue, Until, NewTime}
 use Rattle.iorequest.specs.Request.{is_under_way, is_to_wait, is_until, due_of, error_of, sets_time, time_of}
 use Rattle.taskscript.specs.declared.word.Word.{Word}
@@ -18,24 +18,15 @@ use Rattle.execmodel.specs.State.{Call, Timer, Memory, State, Outcome, quiet, an
 use Rattle.scheduler.specs.Dispatch.{rescheduled}
 use Rattle.execmodel.specs.Calls.{argument, done, answered, waiting, alerted, next_call, unless}
 use Rattle.execmodel.specs.Pending.{next_softint}
-use Rattle.execmodel.specs.Plain.{does_plain}
-use Rattle.execmodel.specs.Signals.{does_signals}
-use Rattle.execmodel.specs.Nesting.{does_nesting}
-use Rattle.execmodel.specs.Tasks.{does_tasks}
-use Rattle.execmodel.specs.Lists.{does_lists}
-use Rattle.execmodel.specs.Memory.{does_memory}
-use Rattle.execmodel.specs.Causing.{does_interrupts}
-use Rattle.execmodel.specs.Libraries.{does_libraries}
-use Rattle.execmodel.specs.Ports.{loses, performed as performed_action, port_alert, does_ports}
-use Rattle.execmodel.specs.Semaphores.{is_tried_again, does_semaphores}
+use Rattle.execmodel.specs.Ports.{loses, performed as performed_action, port_alert}
+use Rattle.execmodel.specs.Semaphores.{is_tried_again}
 use Rattle.execmodel.specs.Requests.{is_request, request_size, request_of, request_alert, resting_alert, delete_request_alert, send_alert, do_alert, wait_io_alert, set_io_alert, answering_port, acting_at, with_reply, ended, timer_begun, begun_at, replying_port, looks_for, begins_and_looks, aborts, finishes_set, does_requests, does_create_io_request, does_delete_io_request, does_open_device, does_close_device, does_set_io, does_do_io, does_send_io, does_check_io, does_wait_io, does_abort_io, does_io_secs, does_io_micros, does_io_error, does_io_flags}
 use Rattle.execmodel.specs.Step.{switches, settle, ends, call_step, task_step, softint_or_task_step, acting, acts, step, tick, request, run}
-use Rattle.execmodel.specs.Keeping.{beside_plain, beside_signals, beside_nestings, beside_memory, beside_ports, beside_interrupts, beside_semaphores, beside_tasks}
 use Rattle.execmodel.specs.Laws.{Action as Act, OneStep, OneTick, OneRequest, outcome_of, IsSetting, SystemTimeGoesWithTheClock}
-use Rattle.execmodel.proofs.Itself.{word_itself, ends_followed}
+use Rattle.execmodel.proofs.Itself.{word_itself, word_keeps, ends_followed}
 use Rattle.execmodel.proofs.Stretches.{Relation, HoldsOfInterrupts, clock_gains, of_softint, of_set, of_settle, of_request}
 use Rattle.execmodel.proofs.GivingWay.{asking_for_object_keeps}
-use Rattle.execmodel.proofs.Keeping.{either, unless_keeps, makes_keeps, asking_for_object, plain_words_change_scripts, signal_words_change_signals_and_states, nesting_words_change_nestings, task_words_change_states_priorities_and_objects, list_words_change_the_memory, memory_words_change_the_memory, port_words_change_ports_signals_and_states, semaphore_words_change_states_and_objects, interrupt_words_change_what_is_caused, library_words_change_the_memory}
+use Rattle.execmodel.proofs.Keeping.{either, unless_keeps, makes_keeps, asking_for_object}
 use Rattle.execmodel.proofs.Commands.{body_alters, performed_memory}
 use Rattle.execmodel.proofs.Asking.{finishing, state_of}
 use Rattle.execmodel.proofs.ClockLaw.{word_stands}
@@ -116,9 +107,7 @@ looks_same : (how : ReqState) (request t : ℕ) (call : Call) (s : State)
     → (looks_for how request t call s).state.memory.timer ≡ s.memory.timer
 unfolding waiting answered
 looks_same Idle request t call s = refl
-looks_same UnderWay request t call s = refl
-looks_same Quick request t call s = refl
-looks_same Replied request t call s = refl
+looks_same _ request t call s = refl
 
 wait_io_same : (t : ℕ) (call : Call) (s : State) → system_of (does_wait_io t call s).state ≡ system_of s
 unfolding does_wait_io
@@ -174,19 +163,11 @@ requests_leave requests.SendIO t call s =
     let port = replying_port false (argument 0 call) s.memory in
     unless_leaves (Leaves requests.SendIO (argument 0 call) s) (send_alert (argument 0 call) s.memory.heap) t call _ s (inl refl)
     (sends_leaves (argument 0 call) t call port (acting_at port s.memory.heap) s)
-requests_leave requests.CheckIO t call s =
-    inl (unless_keeps system_of (request_alert (argument 0 call) s.memory.heap) t call _ s refl refl)
 requests_leave requests.WaitIO t call s = inl (wait_io_same t call s)
 requests_leave requests.AbortIO t call s =
     inl (unless_keeps system_of (request_alert (argument 0 call) s.memory.heap) t call _ s refl
     (aborts_same (is_under_way (request_of (argument 0 call) s.memory.heap)) (argument 0 call) t call s))
-requests_leave requests.IOSecs t call s =
-    inl (unless_keeps system_of (request_alert (argument 0 call) s.memory.heap) t call _ s refl refl)
-requests_leave requests.IOMicros t call s =
-    inl (unless_keeps system_of (request_alert (argument 0 call) s.memory.heap) t call _ s refl refl)
-requests_leave requests.IOError t call s =
-    inl (unless_keeps system_of (request_alert (argument 0 call) s.memory.heap) t call _ s refl refl)
-requests_leave requests.IOFlags t call s =
+requests_leave _ t call s =
     inl (unless_keeps system_of (request_alert (argument 0 call) s.memory.heap) t call _ s refl refl)
 
 -- ---- any call
@@ -196,11 +177,6 @@ record SetsBy (call : Call) (s : State) (system : ℕ) : Type 0 where
   begins : (call.word ≡ group.Requests requests.SendIO) ⊎ (call.word ≡ group.Requests requests.DoIO)
   sets : sets_time (request_of (argument 0 call) s.memory.heap) ≡ true
   becomes : system ≡ time_of (request_of (argument 0 call) s.memory.heap)
-
--- what a group leaves as it is has system time
-left : (part : State → State) → ((x : State) → system_of (part x) ≡ system_of x) → (s r : State) → part r ≡ part s
-    → system_of r ≡ system_of s
-left part system s r e = sym (system r) ∙ ap system_of e ∙ system s
 
 named : (word : RequestWord) (call : Call) → call.word ≡ group.Requests word → (word ≡ requests.SendIO) ⊎ (word ≡ requests.DoIO)
     → (call.word ≡ group.Requests requests.SendIO) ⊎ (call.word ≡ group.Requests requests.DoIO)
@@ -214,29 +190,9 @@ by_requests word call s r is (inr sets) = inr (record { begins = named word call
 
 word_leaves : (word : Word) (t : ℕ) (call : Call) (s : State) → call.word ≡ word
     → (system_of (word_itself word t call s).state ≡ system_of s) ⊎ SetsBy call s (system_of (word_itself word t call s).state)
-word_leaves (group.Plain word) t call s is =
-    inl (left (beside_plain t) (λ x. refl) s (does_plain word t call s).state (plain_words_change_scripts word t call s))
-word_leaves (group.Signals word) t call s is =
-    inl (left beside_signals (λ x. refl) s (does_signals word t call s).state (signal_words_change_signals_and_states word t call s))
-word_leaves (group.Nesting word) t call s is =
-    inl (left beside_nestings (λ x. refl) s (does_nesting word t call s).state (nesting_words_change_nestings word t call s))
-word_leaves (group.Tasks word) t call s is =
-    inl (left beside_tasks (λ x. refl) s (does_tasks word t call s).state (task_words_change_states_priorities_and_objects word t call s))
-word_leaves (group.Lists word) t call s is =
-    inl (left beside_memory (λ x. refl) s (does_lists word t call s).state (list_words_change_the_memory word t call s))
-word_leaves (group.Memory word) t call s is =
-    inl (left beside_memory (λ x. refl) s (does_memory word t call s).state (memory_words_change_the_memory word t call s))
-word_leaves (group.Ports word) t call s is =
-    inl (left beside_ports (λ x. refl) s (does_ports word t call s).state (port_words_change_ports_signals_and_states word t call s))
-word_leaves (group.Semaphores word) t call s is =
-    inl (left beside_semaphores (λ x. refl) s (does_semaphores word t call s).state
-    (semaphore_words_change_states_and_objects word t call s))
-word_leaves (group.Interrupts word) t call s is =
-    inl (left beside_interrupts (λ x. refl) s (does_interrupts word t call s).state (interrupt_words_change_what_is_caused word t call s))
-word_leaves (group.Libraries word) t call s is =
-    inl (left beside_memory (λ x. refl) s (does_libraries word t call s).state (library_words_change_the_memory word t call s))
 word_leaves (group.Requests word) t call s is =
     by_requests word call s (does_requests word t call s).state is (requests_leave word t call s)
+word_leaves word t call s is = inl (ap system_of (word_keeps word t call s))
 
 -- ---- every action
 

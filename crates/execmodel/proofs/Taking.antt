@@ -11,7 +11,7 @@ use Rattle.memlist.specs.Memory.{IsWellFormed}
 use Rattle.memlist.proofs.Answered.{nat_eq-other, cases_eq}
 use Rattle.sigsem.specs.Semaphores.{free_sem}
 use Rattle.iorequest.specs.Request.{is_under_way}
-use Rattle.execmodel.specs.State.{Object, Plain, ListHead, Node, MsgPort, Message, Semaphore, Library, Request, Heap, Memory, State, Outcome, on_memory}
+use Rattle.execmodel.specs.State.{Object, ListHead, MsgPort, Semaphore, Library, Request, Heap, Memory, State, Outcome, on_memory}
 use Rattle.execmodel.specs.Places.{extents, place_for, freed}
 use Rattle.execmodel.specs.Objects.{is_allowed}
 use Rattle.execlib.specs.Libraries.{public_memory}
@@ -27,31 +27,29 @@ use Rattle.execmodel.proofs.GivingWay.{asking_keeps, asking_for_object_keeps}
 -- a new object: an empty list or port, a semaphore that no task owns and none waits for, a library that was at no base, a request that is not
 -- under way, or what has no queue
 abbrev pub IsNew : Heap → Object → Type 0
-IsNew heap Plain = Unit {0}
 IsNew heap (ListHead nodes) = nodes ≡ []
-IsNew heap (Node key) = Unit {0}
 IsNew heap (MsgPort port messages) = messages ≡ []
-IsNew heap (Message content) = Unit {0}
 IsNew heap (Semaphore sem waiters) = (sem ≡ free_sem) × (waiters ≡ [])
 IsNew heap (Library number count delayed) = base_of number heap ≡ None
 IsNew heap (Request content) = is_under_way content ≡ false
+IsNew heap _ = Unit {0}
 
 -- Taking memory ends if nothing changes or an object is placed; before that a library is marked or open once more, or one that is not open
--- is freed. A library begins at its base if the blocks are well formed.
-pub data Takes (regions : List Region) : Heap → Heap → Type 0 where
-  nothing : {heap : Heap} → Takes regions heap heap
+-- is freed, if libraries are asked at all. A library begins at its base if the blocks are well formed.
+pub data Takes (asks : Bool) (regions : List Region) : Heap → Heap → Type 0 where
+  nothing : {heap : Heap} → Takes asks regions heap heap
   places : {heap : Heap} (size reqs address : ℕ) (object : Object) → IsNew heap object → fit regions (extents heap) size reqs ≡ Some address
-      → Takes regions heap (put_entry nat_cmp address (record { size = round size; object = object }) heap)
+      → Takes asks regions heap (put_entry nat_cmp address (record { size = round size; object = object }) heap)
   recounts : {old new : Heap} (base count : ℕ) (delayed : Bool) → (IsWellFormed regions (extents old) → is_library_at base old ≡ true)
-      → count_of base old ≤ count → Takes regions (with_library base count delayed old) new → Takes regions old new
+      → count_of base old ≤ count → Takes asks regions (with_library base count delayed old) new → Takes asks regions old new
   yields : {old new : Heap} (base : ℕ) → (IsWellFormed regions (extents old) → is_library_at base old ≡ true) → count_of base old ≡ 0
-      → Takes regions (rid base old) new → Takes regions old new
+      → asks ≡ true → Takes asks regions (rid base old) new → Takes asks regions old new
 
 -- an outcome takes memory so, leaves no mark, and leaves the regions as they are
 pub record IsTaking (s : State) (o : Outcome) : Type 0 where
   pub regions : o.state.memory.regions ≡ s.memory.regions
   pub silent : o.marks ≡ []
-  pub blocks : Takes s.memory.regions s.memory.heap o.state.memory.heap
+  pub blocks : Takes s.memory.asks s.memory.regions s.memory.heap o.state.memory.heap
 
 -- ---- libraries are expunged under low memory
 
@@ -95,48 +93,51 @@ module _ (regions : List Region) (Holds : Heap → Type 0) (before : HoldsBefore
       either_before Holds (is_some (place_for size reqs memory)) memory (gives_way i memory) memory (λ e asked. asked) (λ e. gives_way_before i memory)
       (each_before size reqs others (asked_one size reqs i memory) holds)
 
-  pub asking_before : (size reqs : ℕ) (memory : Memory) → Holds (after_asking size reqs memory).heap → Holds memory.heap
-  unfolding after_asking
-  asking_before size reqs memory =
-      either_before Holds (memory.asks && not (nat_eq size 0)) _ memory memory
-      (λ e. each_before size reqs (range_with_len 0 (length memory.libraries)) memory) (λ e same. same)
+first_true : (b c : Bool) → (b && c) ≡ true → b ≡ true
+first_true true c e = refl
+first_true false c e = e
 
-  pub asking_for_object_before : (kind : Object → Bool) (size : ℕ) (memory : Memory) → Holds (after_asking_for_object kind size memory).heap
-      → Holds memory.heap
-  unfolding after_asking_for_object
-  asking_for_object_before kind size memory =
-      either_before Holds (is_allowed kind memory) _ memory memory (λ e. asking_before size public_memory memory) (λ e same. same)
+pub asking_before : (regions : List Region) (Holds : Heap → Type 0) (size reqs : ℕ) (memory : Memory) → (memory.asks ≡ true → HoldsBefore regions Holds)
+    → Holds (after_asking size reqs memory).heap → Holds memory.heap
+unfolding after_asking
+asking_before regions Holds size reqs memory before =
+    either_before Holds (memory.asks && not (nat_eq size 0)) _ memory memory
+    (λ e. each_before regions Holds (before (first_true memory.asks _ e)) size reqs (range_with_len 0 (length memory.libraries)) memory) (λ e same. same)
+
+asking_for_object_before : (regions : List Region) (Holds : Heap → Type 0) (kind : Object → Bool) (size : ℕ) (memory : Memory)
+    → (memory.asks ≡ true → HoldsBefore regions Holds) → Holds (after_asking_for_object kind size memory).heap → Holds memory.heap
+unfolding after_asking_for_object
+asking_for_object_before regions Holds kind size memory before =
+    either_before Holds (is_allowed kind memory) _ memory memory (λ e. asking_before regions Holds size public_memory memory before) (λ e same. same)
 
 -- blocks of which a call takes memory
-takes_before : (regions : List Region) (new : Heap) → HoldsBefore regions (λ heap. Takes regions heap new)
-takes_before regions new = record {
+takes_before : (asks : Bool) (regions : List Region) (new : Heap) → asks ≡ true → HoldsBefore regions (λ heap. Takes asks regions heap new)
+takes_before asks regions new asked = record {
   marking = λ base heap there rest. recounts base (count_of base heap) true there (omega arith) rest;
-  freeing = λ base heap there none rest. yields base there none rest;
+  freeing = λ base heap there none rest. yields base there none asked rest;
 }
 
 -- ---- what a call takes once libraries were asked, it takes
 
 once_asked : (asked : Memory) (s : State) (o : Outcome) → without_blocks asked ≡ without_blocks s.memory
-    → (Takes s.memory.regions asked.heap o.state.memory.heap → Takes s.memory.regions s.memory.heap o.state.memory.heap)
+    → (Takes s.memory.asks s.memory.regions asked.heap o.state.memory.heap → Takes s.memory.asks s.memory.regions s.memory.heap o.state.memory.heap)
     → IsTaking (on_memory (λ memory. asked) s) o → IsTaking s o
-once_asked asked s o same all taking =
-    let regions : asked.regions ≡ s.memory.regions = ap (λ (memory : Memory). memory.regions) same in
-    record {
-      regions = taking.regions ∙ regions;
-      silent = taking.silent;
-      blocks = all (subst (λ r. Takes r asked.heap o.state.memory.heap) regions taking.blocks);
-    }
+once_asked asked s o same all taking = record {
+  regions = taking.regions ∙ ap (λ (memory : Memory). memory.regions) same;
+  silent = taking.silent;
+  blocks = all (subst (λ (memory : Memory). Takes memory.asks memory.regions asked.heap o.state.memory.heap) same taking.blocks);
+}
 
 pub after_asking_taking : (size reqs : ℕ) (s : State) (o : Outcome) → IsTaking (on_memory (after_asking size reqs) s) o → IsTaking s o
 after_asking_taking size reqs s o taking =
     once_asked (after_asking size reqs s.memory) s o (asking_keeps size reqs s.memory)
-    (asking_before s.memory.regions _ (takes_before s.memory.regions o.state.memory.heap) size reqs s.memory) taking
+    (asking_before s.memory.regions _ size reqs s.memory (takes_before s.memory.asks s.memory.regions o.state.memory.heap)) taking
 
 pub after_asking_for_object_taking : (kind : Object → Bool) (size : ℕ) (s : State) (o : Outcome)
     → IsTaking (on_memory (after_asking_for_object kind size) s) o → IsTaking s o
 after_asking_for_object_taking kind size s o taking =
     once_asked (after_asking_for_object kind size s.memory) s o (asking_for_object_keeps kind size s.memory)
-    (asking_for_object_before s.memory.regions _ (takes_before s.memory.regions o.state.memory.heap) kind size s.memory) taking
+    (asking_for_object_before s.memory.regions _ kind size s.memory (takes_before s.memory.asks s.memory.regions o.state.memory.heap)) taking
 
 pub after_asking_for_port_taking : (bit : Option ℕ) (s : State) (o : Outcome) → IsTaking (on_memory (after_asking_for_port bit) s) o → IsTaking s o
 after_asking_for_port_taking None s o taking = taking

@@ -1,7 +1,7 @@
 -- What a word prints, and what it makes of the programs: its own line or its alert, and its caller's progress.
 use Rattle.std.proofs.Common.{◌≡◌, ℕ, Bool, true, false, List, Option, None, Some, refl, zero, suc, [], ◌∷◌, sym, subst}
 use Rattle.std.specs.Prelude.{◌-◌, negsuc, if◌then◌else◌, nat_eq, All, IfSome, slice_index_or, slice_set, is_some}
-use Rattle.execmodel.specs.State.{Call, State, Outcome, on_memory, quiet, on_schedule, Program, Scripts, Mark, leaving, no_program}
+use Rattle.execmodel.specs.State.{Call, Memory, State, Outcome, on_memory, quiet, on_schedule, Program, Scripts, Mark, leaving, no_program}
 use Rattle.execmodel.specs.Calls.{argument, done, answered, waiting, silent, alerted, unless, ByBody, unless_by, Caller, ByTask, stored, stored_shared, goes_on, done_by, answered_by, silent_by}
 use Rattle.execmodel.specs.Causing.{does_interrupts, does_cause, does_cause_by}
 use Rattle.execmodel.specs.Libraries.{library_alert, close_alert, does_libraries, does_open_library, does_close_library, does_rem_library, does_lib_open_cnt}
@@ -33,8 +33,9 @@ use Rattle.execmodel.specs.Signals.{does_signals, mask_alert, free_signal_alert,
 use Rattle.execmodel.specs.Nesting.{does_nesting, gives_nesting, does_forbid, does_permit, does_disable, does_enable, nest_alert}
 use Rattle.execmodel.specs.Tasks.{does_tasks, live_task_alert, set_task_pri_alert, add_task_alert, is_caller, ends_other, does_set_task_pri, does_add_task, does_rem_task, does_find_task}
 use Rattle.execmodel.specs.Objects.{place_for_object}
-use Rattle.execmodel.specs.Memory.{does_memory, alloc_alert, free_alert, avail_alert, does_alloc_mem, does_free_mem, does_avail_mem}
-use Rattle.execmodel.specs.Lists.{does_lists, free_list_alert, new_node_alert, free_node_alert, link_alert, insert_alert, linked_alert, list_alert, find_alert, does_new_list, does_free_list, does_new_node, does_free_node, does_add_head, does_add_tail, does_enqueue, does_insert, does_remove, does_rem_head, does_rem_tail, does_first, does_last, does_succ, does_pred, does_find_name}
+use Rattle.execmodel.specs.Memory.{does_memory, memory_deed}
+use Rattle.execmodel.specs.Lists.{does_lists, list_deed}
+use Rattle.execmodel.specs.Deeds.{Deed, concluded, performs}
 use Rattle.execmodel.specs.Ports.{does_ports, is_port, port_size, after_asking_for_port, port_created, port_alert, message_alert, messages_of, content_of, delete_alert, add_port_alert, rem_port_alert, reply_port_alert, loose_alert, put_alert, reply_alert, wait_alert, looked, does_create_msg_port, does_delete_msg_port, does_add_port, does_rem_port, does_find_port, does_port_signal, does_port_cause, does_port_ignore, does_new_msg, does_free_msg, does_msg_word, does_set_msg_word, does_msg_type, does_put_msg, does_get_msg, does_wait_port, does_reply_msg, delivered, taken_by, replied_by, does_put_msg_by, does_get_msg_by, does_reply_msg_by}
 use Rattle.execmodel.specs.Semaphores.{does_semaphores, awaited_by, free_sem_alert, heir, is_tried_again, leaving_queue, obtain_alert, obtains, passes, release_alert, sem_of, does_new_sem, does_free_sem, does_obtain_semaphore, does_attempt_semaphore, does_release_semaphore}
 use Rattle.sigsem.specs.Semaphores.{outcome_for}
@@ -50,7 +51,7 @@ use Rattle.taskscript.specs.Words.{word_text}
 use Rattle.execmodel.proofs.Commands.{performed_scripts}
 use Rattle.execmodel.proofs.ShortLines.{IsShortText}
 use Rattle.execmodel.proofs.ShortCalls.{IsBrief, HasArguments}
-use Rattle.execmodel.proofs.ShortAlerts.{mask_short, free_signal_short, signal_short, nest_short, live_task_short, set_task_pri_short, add_task_short, alloc_short, free_short, avail_short, free_list_short, new_node_short, free_node_short, link_short, insert_short, linked_short, list_short, find_short, library_short, close_short, port_short, message_short, delete_short, add_port_short, rem_port_short, reply_port_short, loose_short, put_short, reply_short, wait_short, free_sem_short, obtain_short, release_short, request_short, resting_short, delete_request_short, send_short, do_short, wait_io_short, set_io_short, IsShortAlert, coded}
+use Rattle.execmodel.proofs.ShortAlerts.{uncoded, mask_short, free_signal_short, signal_short, nest_short, live_task_short, set_task_pri_short, add_task_short, alloc_short, free_short, avail_short, free_list_short, new_node_short, free_node_short, link_short, insert_short, linked_short, list_short, find_short, library_short, close_short, port_short, message_short, delete_short, add_port_short, rem_port_short, reply_port_short, loose_short, put_short, reply_short, wait_short, free_sem_short, obtain_short, release_short, request_short, resting_short, delete_request_short, send_short, do_short, wait_io_short, set_io_short, IsShortAlert, coded}
 use Rattle.taskscript.specs.declared.word.Word.TheVariants as group
 use Rattle.taskscript.specs.declared.word.plain.PlainWord.TheVariants as plain
 use Rattle.taskscript.specs.declared.word.task_signals.SignalWord.TheVariants as signals
@@ -346,15 +347,11 @@ aborts_tells false request t call s = answered_tells (ByTask t) call _ s s refl
 
 plain_tells : (word : PlainWord) (t : ℕ) (call : Call) (s : State) → Tells (ByTask t) call s (does_plain word t call s)
 unfolding does_set does_add does_sub does_and does_or does_jump does_jump_zero does_jump_not_zero does_print
-plain_tells plain.Set t call s = silent_tells (ByTask t) call _ s
-plain_tells plain.Add t call s = silent_tells (ByTask t) call _ s
-plain_tells plain.Sub t call s = silent_tells (ByTask t) call _ s
-plain_tells plain.And t call s = silent_tells (ByTask t) call _ s
-plain_tells plain.Or t call s = silent_tells (ByTask t) call _ s
 plain_tells plain.Jump t call s = jumps_tells t call _ s
 plain_tells plain.JumpZ t call s = jumps_tells t call _ s
 plain_tells plain.JumpNZ t call s = jumps_tells t call _ s
 plain_tells plain.Print t call s = done_tells (ByTask t) call s _ refl
+plain_tells _ t call s = silent_tells (ByTask t) call _ s
 
 signals_tells : (word : SignalWord) (t : ℕ) (call : Call) (s : State) → Tells (ByTask t) call s (does_signals word t call s)
 unfolding does_alloc_signal does_free_signal does_set_signal does_signal does_wait
@@ -392,69 +389,45 @@ tasks_tells tasks.RemTask t call s =
     t call _ s (ended_tells (argument 0 call - 1) t call s))
 tasks_tells tasks.FindTask t call s = answered_tells (ByTask t) call _ s _ refl
 
+concluded_tells : (answer : Option ℕ) (t : ℕ) (call : Call) (s r : State) → r.scripts ≡ s.scripts → Tells (ByTask t) call s (concluded answer t call r)
+concluded_tells None t call s r same = done_tells (ByTask t) call s r same
+concluded_tells (Some value) t call s r same = answered_tells (ByTask t) call value s r same
+
+performs_tells : (deed : Deed) (t : ℕ) (call : Call) (s : State) → IsShortAlert (deed.alert s.memory) → Tells (ByTask t) call s (performs deed t call s)
+unfolding performs
+performs_tells deed t call s short =
+    unless_tells (deed.alert s.memory) short t call _ s (concluded_tells (deed.answer s.memory) t call s _ refl)
+
+list_alert_short : (word : ListWord) (call : Call) (memory : Memory) → IsShortAlert ((list_deed word call).alert memory)
+unfolding list_deed
+list_alert_short lists.NewList call memory = uncoded
+list_alert_short lists.FreeList call memory = free_list_short _ memory.heap
+list_alert_short lists.NewNode call memory = new_node_short (cast_signed w32 (argument 0 call))
+list_alert_short lists.FreeNode call memory = free_node_short _ memory.heap
+list_alert_short lists.AddHead call memory = link_short _ _ memory.heap
+list_alert_short lists.AddTail call memory = link_short _ _ memory.heap
+list_alert_short lists.Enqueue call memory = link_short _ _ memory.heap
+list_alert_short lists.Insert call memory = insert_short _ _ _ memory.heap
+list_alert_short lists.Remove call memory = linked_short _ memory.heap
+list_alert_short lists.RemHead call memory = list_short _ memory.heap
+list_alert_short lists.RemTail call memory = list_short _ memory.heap
+list_alert_short lists.First call memory = list_short _ memory.heap
+list_alert_short lists.Last call memory = list_short _ memory.heap
+list_alert_short lists.Succ call memory = linked_short _ memory.heap
+list_alert_short lists.Pred call memory = linked_short _ memory.heap
+list_alert_short lists.FindName call memory = find_short _ memory.heap
+
 lists_tells : (word : ListWord) (t : ℕ) (call : Call) (s : State) → Tells (ByTask t) call s (does_lists word t call s)
-unfolding does_new_list does_free_list does_new_node does_free_node does_add_head does_add_tail does_enqueue does_insert does_remove does_rem_head does_rem_tail does_first does_last does_succ does_pred does_find_name
-lists_tells lists.NewList t call s = answered_tells (ByTask t) call _ s _ refl
-lists_tells lists.FreeList t call s =
-    unless_tells (free_list_alert (argument 0 call) s.memory.heap) (free_list_short (argument 0 call) s.memory.heap)
-    t call _ s (done_tells (ByTask t) call s _ refl)
-lists_tells lists.NewNode t call s =
-    unless_tells (new_node_alert (cast_signed w32 (argument 0 call))) (new_node_short (cast_signed w32 (argument 0 call)))
-    t call _ s (answered_tells (ByTask t) call _ s _ refl)
-lists_tells lists.FreeNode t call s =
-    unless_tells (free_node_alert (argument 0 call) s.memory.heap) (free_node_short (argument 0 call) s.memory.heap)
-    t call _ s (done_tells (ByTask t) call s _ refl)
-lists_tells lists.AddHead t call s =
-    unless_tells (link_alert (argument 0 call) (argument 1 call) s.memory.heap)
-    (link_short (argument 0 call) (argument 1 call) s.memory.heap)
-    t call _ s (done_tells (ByTask t) call s _ refl)
-lists_tells lists.AddTail t call s =
-    unless_tells (link_alert (argument 0 call) (argument 1 call) s.memory.heap)
-    (link_short (argument 0 call) (argument 1 call) s.memory.heap)
-    t call _ s (done_tells (ByTask t) call s _ refl)
-lists_tells lists.Enqueue t call s =
-    unless_tells (link_alert (argument 0 call) (argument 1 call) s.memory.heap)
-    (link_short (argument 0 call) (argument 1 call) s.memory.heap)
-    t call _ s (done_tells (ByTask t) call s _ refl)
-lists_tells lists.Insert t call s =
-    unless_tells (insert_alert (argument 0 call) (argument 1 call) (argument 2 call) s.memory.heap)
-    (insert_short (argument 0 call) (argument 1 call) (argument 2 call) s.memory.heap)
-    t call _ s (done_tells (ByTask t) call s _ refl)
-lists_tells lists.Remove t call s =
-    unless_tells (linked_alert (argument 0 call) s.memory.heap) (linked_short (argument 0 call) s.memory.heap)
-    t call _ s (done_tells (ByTask t) call s _ refl)
-lists_tells lists.RemHead t call s =
-    unless_tells (list_alert (argument 0 call) s.memory.heap) (list_short (argument 0 call) s.memory.heap)
-    t call _ s (answered_tells (ByTask t) call _ s _ refl)
-lists_tells lists.RemTail t call s =
-    unless_tells (list_alert (argument 0 call) s.memory.heap) (list_short (argument 0 call) s.memory.heap)
-    t call _ s (answered_tells (ByTask t) call _ s _ refl)
-lists_tells lists.First t call s =
-    unless_tells (list_alert (argument 0 call) s.memory.heap) (list_short (argument 0 call) s.memory.heap)
-    t call _ s (answered_tells (ByTask t) call _ s _ refl)
-lists_tells lists.Last t call s =
-    unless_tells (list_alert (argument 0 call) s.memory.heap) (list_short (argument 0 call) s.memory.heap)
-    t call _ s (answered_tells (ByTask t) call _ s _ refl)
-lists_tells lists.Succ t call s =
-    unless_tells (linked_alert (argument 0 call) s.memory.heap) (linked_short (argument 0 call) s.memory.heap)
-    t call _ s (answered_tells (ByTask t) call _ s _ refl)
-lists_tells lists.Pred t call s =
-    unless_tells (linked_alert (argument 0 call) s.memory.heap) (linked_short (argument 0 call) s.memory.heap)
-    t call _ s (answered_tells (ByTask t) call _ s _ refl)
-lists_tells lists.FindName t call s =
-    unless_tells (find_alert (argument 0 call) s.memory.heap) (find_short (argument 0 call) s.memory.heap)
-    t call _ s (answered_tells (ByTask t) call _ s _ refl)
+lists_tells word t call s = performs_tells (list_deed word call) t call s (list_alert_short word call s.memory)
+
+memory_alert_short : (word : MemoryWord) (call : Call) (memory : Memory) → IsShortAlert ((memory_deed word call).alert memory)
+unfolding memory_deed
+memory_alert_short memory.AllocMem call m = alloc_short (argument 1 call)
+memory_alert_short memory.FreeMem call m = free_short _ _ m.heap
+memory_alert_short memory.AvailMem call m = avail_short (argument 0 call)
 
 memory_tells : (word : MemoryWord) (t : ℕ) (call : Call) (s : State) → Tells (ByTask t) call s (does_memory word t call s)
-unfolding does_alloc_mem does_free_mem does_avail_mem
-memory_tells memory.AllocMem t call s =
-    unless_tells (alloc_alert (argument 1 call)) (alloc_short (argument 1 call)) t call _ s (answered_tells (ByTask t) call _ s _ refl)
-memory_tells memory.FreeMem t call s =
-    unless_tells (free_alert (argument 0 call) (argument 1 call) s.memory.heap)
-    (free_short (argument 0 call) (argument 1 call) s.memory.heap)
-    t call _ s (done_tells (ByTask t) call s _ refl)
-memory_tells memory.AvailMem t call s =
-    unless_tells (avail_alert (argument 0 call)) (avail_short (argument 0 call)) t call _ s (answered_tells (ByTask t) call _ s _ refl)
+memory_tells word t call s = performs_tells (memory_deed word call) t call s (memory_alert_short word call s.memory)
 
 ports_tells : (word : PortWord) (t : ℕ) (call : Call) (s : State) → Tells (ByTask t) call s (does_ports word t call s)
 unfolding does_create_msg_port does_delete_msg_port does_add_port does_rem_port does_find_port does_port_signal does_port_cause does_port_ignore does_new_msg does_free_msg does_msg_word does_set_msg_word does_msg_type does_put_msg does_get_msg does_wait_port does_reply_msg
@@ -474,15 +447,6 @@ ports_tells ports.RemPort t call s =
     unless_tells (rem_port_alert (argument 0 call) s.memory) (rem_port_short (argument 0 call) s.memory)
     t call _ s (done_tells (ByTask t) call s _ refl)
 ports_tells ports.FindPort t call s = answered_tells (ByTask t) call _ s _ refl
-ports_tells ports.PortSignal t call s =
-    unless_tells (port_alert (argument 0 call) s.memory.heap) (port_short (argument 0 call) s.memory.heap)
-    t call _ s (done_tells (ByTask t) call s _ refl)
-ports_tells ports.PortCause t call s =
-    unless_tells (port_alert (argument 0 call) s.memory.heap) (port_short (argument 0 call) s.memory.heap)
-    t call _ s (done_tells (ByTask t) call s _ refl)
-ports_tells ports.PortIgnore t call s =
-    unless_tells (port_alert (argument 0 call) s.memory.heap) (port_short (argument 0 call) s.memory.heap)
-    t call _ s (done_tells (ByTask t) call s _ refl)
 ports_tells ports.NewMsg t call s =
     unless_tells (reply_port_alert (argument 0 call) s.memory.heap) (reply_port_short (argument 0 call) s.memory.heap)
     t call _ s (answered_tells (ByTask t) call _ s _ refl)
@@ -504,6 +468,9 @@ ports_tells ports.WaitPort t call s =
     unless_tells (wait_alert t (argument 0 call) s.memory.heap) (wait_short t (argument 0 call) s.memory.heap)
     t call _ s (looked_tells (first (messages_of (argument 0 call) s.memory.heap)) _ t call s _ refl)
 ports_tells ports.ReplyMsg t call s = reply_tells (ByTask t) call s
+ports_tells _ t call s =
+    unless_tells (port_alert (argument 0 call) s.memory.heap) (port_short (argument 0 call) s.memory.heap)
+    t call _ s (done_tells (ByTask t) call s _ refl)
 
 semaphores_tells : (word : SemaphoreWord) (t : ℕ) (call : Call) (s : State) → Tells (ByTask t) call s (does_semaphores word t call s)
 unfolding does_new_sem does_free_sem does_obtain_semaphore does_attempt_semaphore does_release_semaphore
@@ -569,23 +536,11 @@ requests_tells requests.SendIO t call s =
     unless_tells (send_alert (argument 0 call) s.memory.heap) (send_short (argument 0 call) s.memory.heap) t call _ s
     (replying_tells (replying_port false (argument 0 call) s.memory) (argument 0 call) t call s _
     (done_tells (ByTask t) call s _ (performed_scripts _ _)))
-requests_tells requests.CheckIO t call s =
-    unless_tells (request_alert (argument 0 call) s.memory.heap) (request_short (argument 0 call) s.memory.heap)
-    t call _ s (answered_tells (ByTask t) call _ s _ refl)
 requests_tells requests.WaitIO t call s = wait_io_tells t call s
 requests_tells requests.AbortIO t call s =
     unless_tells (request_alert (argument 0 call) s.memory.heap) (request_short (argument 0 call) s.memory.heap) t call _ s
     (aborts_tells (is_under_way (request_of (argument 0 call) s.memory.heap)) (argument 0 call) t call s)
-requests_tells requests.IOSecs t call s =
-    unless_tells (request_alert (argument 0 call) s.memory.heap) (request_short (argument 0 call) s.memory.heap)
-    t call _ s (answered_tells (ByTask t) call _ s _ refl)
-requests_tells requests.IOMicros t call s =
-    unless_tells (request_alert (argument 0 call) s.memory.heap) (request_short (argument 0 call) s.memory.heap)
-    t call _ s (answered_tells (ByTask t) call _ s _ refl)
-requests_tells requests.IOError t call s =
-    unless_tells (request_alert (argument 0 call) s.memory.heap) (request_short (argument 0 call) s.memory.heap)
-    t call _ s (answered_tells (ByTask t) call _ s _ refl)
-requests_tells requests.IOFlags t call s =
+requests_tells _ t call s =
     unless_tells (request_alert (argument 0 call) s.memory.heap) (request_short (argument 0 call) s.memory.heap)
     t call _ s (answered_tells (ByTask t) call _ s _ refl)
 

@@ -198,7 +198,7 @@ module _ (waiting : List Queued) where
       (ap messages_at other) (ap (λ x. is_under_way (asked_at x)) other) refl refl
       (λ a. order.stands base a (ap (may_stand a) other)) (other_needless old base other order)
 
-  takes_order : (regions : List Region) (old new : Heap) → Takes regions old new → IsWellFormed regions (extents old) → AreInOrder (post_at old) waiting
+  takes_order : {asks : Bool} (regions : List Region) (old new : Heap) → Takes asks regions old new → IsWellFormed regions (extents old) → AreInOrder (post_at old) waiting
       → AreInOrder (post_at new) waiting
   takes_order regions old new nothing formed order = order
   takes_order regions old new (places size reqs address object is fits) formed order =
@@ -211,10 +211,10 @@ module _ (waiting : List Queued) where
   takes_order regions old new (recounts base count delayed is more rest) formed order =
       takes_order regions (with_library base count delayed old) new rest (counted_formed regions base count delayed old formed)
       (counted_order base count delayed old (is formed) order)
-  takes_order regions old new (yields base is none rest) formed order =
+  takes_order regions old new (yields base is none may rest) formed order =
       takes_order regions (rid base old) new rest (rid_formed regions base old formed) (expunged_order base old (is formed) order)
 
-  pub moves_order : (regions : List Region) (t : ℕ) (call : Call) (old : Heap) (marks : List Mark) (new : Heap) → Moves regions t call old marks new
+  pub moves_order : {asks : Bool} (regions : List Region) (t : ℕ) (call : Call) (old : Heap) (marks : List Mark) (new : Heap) → Moves asks regions t call old marks new
       → IsWellFormed regions (extents old) → AreInOrder (post_at old) waiting → AreInOrder (post_at new) waiting
   unfolding with_nodes unlinked with_action with_port with_semaphore entered queued dropped handed_on released_once
   moves_order regions t call old marks new (touches how) formed order = touched_order old marks new how order

@@ -8,7 +8,7 @@ use Rattle.taskq.specs.Tasks.{Tasks, is_live}
 use Rattle.taskq.specs.declared.TaskState.{TaskState}
 use Rattle.taskq.specs.declared.TaskState.TheVariants.{Absent, Running, Removed, Waiting}
 use Rattle.taskq.specs.declared.Why.TheVariants.{Signals}
-use Rattle.scheduler.specs.Schedule.{Schedule, status_of, signals_of, is_absent, is_at_semaphore, awaits, begins, renewed, is_switching_allowed, is_quantum_over, leaves as leaves_for_good, removed, departs, ticked, ticked_for, waits_for, waits_at_semaphore, with_signals}
+use Rattle.scheduler.specs.Schedule.{Schedule, status_of, signals_of, is_absent, awaits, begins, renewed, is_switching_allowed, is_quantum_over, leaves as leaves_for_good, removed, departs, ticked, ticked_for, waits_for, waits_at_semaphore, with_signals}
 use Rattle.scheduler.specs.declared.Switch.{Switch}
 use Rattle.scheduler.specs.declared.Switch.TheVariants.{To, Idle}
 use Rattle.taskscript.specs.File.{MachineData}
@@ -40,7 +40,7 @@ use Rattle.execmodel.proofs.Passing.{dropped_left, touched_pass, moves_pass, ask
 use Rattle.execmodel.proofs.Shifts.{Shifts, call_shifts, reaches, rearrives, adds, takes, sleeps, asks, wakes, leaves, removes}
 use Rattle.execmodel.proofs.Agreement.{AllAgree, all_absent, absent_agrees, alike_agrees, rearrives_agrees, added_agrees, signalled_agrees, stops_agrees, asks_agrees, wakes_agrees, removed_agrees, rescheduled_agrees, waits_at, running_state}
 use Rattle.execmodel.proofs.Waiting.{waits_at_one, runs_nowhere}
-use Rattle.execmodel.proofs.Versions.{word_keeps}
+use Rattle.execmodel.proofs.Versions.{word_settings}
 
 -- ---- there are as many states as programs
 
@@ -253,7 +253,7 @@ called t call s runs is sound =
         tidy = tidies.calling t call s runs is sound.tidy;
         idle = called_idle t call s o (call_works t call s) sound.idle;
         counted = shifts.0 ∙ sound.counted ∙ sym (shifts_count t call s o shifts.1);
-        roomy = ap how_many (word_keeps call.word t call s) ∙ sound.roomy ∙ sym (shifts_count t call s o shifts.1);
+        roomy = ap how_many (word_settings call.word t call s) ∙ sound.roomy ∙ sym (shifts_count t call s o shifts.1);
         agrees = shifts_agree t call s o shifts.1 runs sound.counted follows sound.agrees;
       },
       follows,

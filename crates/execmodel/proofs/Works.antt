@@ -12,7 +12,7 @@ use Rattle.scheduler.specs.Schedule.{Schedule}
 use Rattle.msgport.specs.declared.action.Action.{Action}
 use Rattle.iorequest.specs.declared.request.Request.{Request as TimerRequest}
 use Rattle.iorequest.specs.declared.request.ReqState.{ReqState}
-use Rattle.iorequest.specs.declared.request.ReqState.TheVariants.{Idle, UnderWay, Quick, Replied}
+use Rattle.iorequest.specs.declared.request.ReqState.TheVariants.{Replied}
 use Rattle.iorequest.specs.declared.request.Begun.{Begun}
 use Rattle.iorequest.specs.declared.request.Begun.TheVariants.{Finish, Queue, Until, NewTime}
 use Rattle.iorequest.specs.Request.{idle_request, is_under_way, is_to_wait, is_until, is_open, asks_time, sets_time, told, begun, finished, done_state, outcome, reply_port}
@@ -20,28 +20,19 @@ use Rattle.taskscript.specs.declared.word.Word.{Word}
 use Rattle.taskscript.specs.declared.word.Word.TheVariants as group
 use Rattle.taskscript.specs.declared.word.requests.RequestWord.{RequestWord}
 use Rattle.taskscript.specs.declared.word.requests.RequestWord.TheVariants as requests
-use Rattle.execmodel.specs.State.{Call, Object, Request, Block, Heap, Due, AtClock, AtSystem, Timer, Memory, Mark, out, put, State, Outcome, on_schedule, on_memory}
+use Rattle.execmodel.specs.State.{Call, Object, Request, Block, Heap, Due, AtClock, AtSystem, Waiting as Queued, Memory, Mark, out, put, State, Outcome, on_schedule, on_memory}
 use Rattle.execmodel.specs.Calls.{argument, done, answered, waiting, alerted, unless}
 use Rattle.execmodel.specs.Objects.{object_at, is_kind, place_for_object}
 use Rattle.execmodel.specs.GivingWay.{after_asking_for_object}
-use Rattle.execmodel.specs.Memory.{extents, block_at, placed, makes_object, does_memory}
-use Rattle.execmodel.specs.Ports.{is_port_at, is_queued, has_message, messages_in, messages_of, messages_of_object, loses, performed, port_alert, wait_alert, does_ports}
-use Rattle.execmodel.specs.Semaphores.{is_tried_again, does_semaphores}
+use Rattle.execmodel.specs.Memory.{extents, block_at, placed, makes_object}
+use Rattle.execmodel.specs.Ports.{is_port_at, is_queued, has_message, messages_in, messages_of, messages_of_object, loses, performed, port_alert, wait_alert}
+use Rattle.execmodel.specs.Semaphores.{is_tried_again}
 use Rattle.execmodel.specs.Requests.{is_request, is_request_at, request_size, request_of, request_of_object, with_request, opened_for, closed_device, with_command, is_command, request_alert, resting_alert, delete_request_alert, set_io_alert, can_begin, begin_alert, send_alert, do_alert, state_alert, wait_io_alert, answering_port, where_port, acting_at, appended_at, finished_at, with_reply, ended, heap_begun, timer_begun, outcome_at, begun_at, answering_begun, replying_port, reply_taken, looks_for, begins_and_looks, aborts, does_requests, does_create_io_request, does_delete_io_request, does_open_device, does_close_device, does_set_io, does_do_io, does_send_io, does_check_io, does_wait_io, does_abort_io, does_io_secs, does_io_micros, does_io_error, does_io_flags}
-use Rattle.execmodel.specs.Plain.{does_plain}
-use Rattle.execmodel.specs.Signals.{does_signals}
-use Rattle.execmodel.specs.Nesting.{does_nesting}
-use Rattle.execmodel.specs.Tasks.{does_tasks}
-use Rattle.execmodel.specs.Lists.{does_lists}
-use Rattle.execmodel.specs.Causing.{does_interrupts}
-use Rattle.execmodel.specs.Libraries.{does_libraries}
-use Rattle.execmodel.specs.Keeping.{beside_plain, beside_signals, beside_nestings, beside_memory, beside_ports, beside_interrupts, beside_semaphores, beside_tasks}
 use Rattle.execmodel.specs.Agreement.{once_if}
 use Rattle.execmodel.specs.Laws.{times_waiting}
 use Rattle.execmodel.proofs.Heaps.{true_is_not_false}
-use Rattle.execmodel.proofs.Itself.{word_itself, does_itself}
+use Rattle.execmodel.proofs.Itself.{word_itself, does_itself, word_keeps}
 use Rattle.execmodel.proofs.GivingWay.{asking_for_object_keeps}
-use Rattle.execmodel.proofs.Keeping.{plain_words_change_scripts, signal_words_change_signals_and_states, nesting_words_change_nestings, task_words_change_states_priorities_and_objects, list_words_change_the_memory, memory_words_change_the_memory, port_words_change_ports_signals_and_states, semaphore_words_change_states_and_objects, interrupt_words_change_what_is_caused, library_words_change_the_memory}
 use Rattle.execmodel.proofs.Queues.{IsAway}
 use Rattle.execmodel.proofs.Posts.{Post, APort, post_at, messages_at, is_a_port, may_stand, IsTidy, messages_are, request_is, port_is, request_there}
 use Rattle.execmodel.proofs.Asking.{Asks, writes, IsLoose, IsRewritten, ports_written, request_written, written_again, waits_last, finished_rests, answering, reply_marks, reply_asks, ended_asks, without_reply}
@@ -435,12 +426,10 @@ waits_works : (how : ReqState) (t : ℕ) (call : Call) (request : ℕ) (f : Sche
     → (request_of request s.memory.heap).state ≡ how → is_request_at request s.memory.heap ≡ true → state_alert how t request s.memory.heap ≡ None
     → Works t call s (looks_for how request t call (on_schedule f s))
 unfolding waiting answered reply_taken
-waits_works Idle t call request f s e there none = by_moves (refl, stays) refl
-waits_works UnderWay t call request f s e there none = by_moves (refl, stays) refl
-waits_works Quick t call request f s e there none = by_moves (refl, stays) refl
 waits_works Replied t call request f s e there none =
     by_taking (request_of request s.memory.heap).port request refl refl refl refl
     (queued_lives request s there (replied_there (is_queued request s.memory.heap) _ none))
+waits_works _ t call request f s e there none = by_moves (refl, stays) refl
 
 wait_io_works : (t : ℕ) (call : Call) (s : State) → Works t call s (does_wait_io t call s)
 unfolding does_wait_io wait_io_alert
@@ -453,10 +442,8 @@ looks_works : (how : ReqState) (t : ℕ) (call : Call) (request : ℕ) (s : Stat
     → memory.regions ≡ s.memory.regions → Asks s [] memory.heap memory.timer.waiting
     → Works t call s (looks_for how request t call (record s { memory = memory }))
 unfolding waiting answered is_replied
-looks_works Idle t call request s memory quiet regions asks = by_asking regions asks
-looks_works UnderWay t call request s memory quiet regions asks = by_asking regions asks
-looks_works Quick t call request s memory quiet regions asks = by_asking regions asks
 looks_works Replied t call request s memory quiet regions asks = true_is_not_false quiet
+looks_works _ t call request s memory quiet regions asks = by_asking regions asks
 
 begins_works : (t : ℕ) (call : Call) (request : ℕ) (s : State) → MayBegin request s.memory.heap
     → Works t call s (begins_and_looks request t call s)
@@ -499,50 +486,30 @@ requests_work requests.DoIO t call s =
 requests_work requests.SendIO t call s =
     unless_works t call s (send_alert (argument 0 call) s.memory.heap) _
     (λ none. sends_works t call (argument 0 call) s (may_send (argument 0 call) s.memory.heap none))
-requests_work requests.CheckIO t call s =
-    unless_works t call s (request_alert (argument 0 call) s.memory.heap) _ (λ none. by_moves (refl, stays) refl)
 requests_work requests.WaitIO t call s = wait_io_works t call s
 requests_work requests.AbortIO t call s =
     unless_works t call s (request_alert (argument 0 call) s.memory.heap) _
     (λ none. aborts_works (is_under_way (request_of (argument 0 call) s.memory.heap)) t call (argument 0 call) s refl)
-requests_work requests.IOSecs t call s =
-    unless_works t call s (request_alert (argument 0 call) s.memory.heap) _ (λ none. by_moves (refl, stays) refl)
-requests_work requests.IOMicros t call s =
-    unless_works t call s (request_alert (argument 0 call) s.memory.heap) _ (λ none. by_moves (refl, stays) refl)
-requests_work requests.IOError t call s =
-    unless_works t call s (request_alert (argument 0 call) s.memory.heap) _ (λ none. by_moves (refl, stays) refl)
-requests_work requests.IOFlags t call s =
+requests_work _ t call s =
     unless_works t call s (request_alert (argument 0 call) s.memory.heap) _ (λ none. by_moves (refl, stays) refl)
 
 -- ---- any word
 
--- a word of a group that leaves the timer as it is
-grouped : (t : ℕ) (call : Call) (s : State) (part : State → State) → ((x : State) → (part x).memory.timer ≡ x.memory.timer) → (o : Outcome)
-    → Makes t call s o → part o.state ≡ part s → Works t call s o
-grouped t call s part kept o makes e =
-    by_moves makes (ap (λ (timer : Timer). timer.waiting) (sym (kept o.state) ∙ ap (λ (x : State). x.memory.timer) e ∙ kept s))
+-- a word of the other groups leaves the timer as it is
+abbrev waiting_of : State → List Queued
+waiting_of s = s.memory.timer.waiting
 
 word_works : (word : Word) (t : ℕ) (call : Call) (s : State) → call.word ≡ word → Works t call s (word_itself word t call s)
-word_works (group.Plain word) t call s is =
-    grouped t call s (beside_plain t) (λ x. refl) (does_plain word t call s) (plain_makes word t call s) (plain_words_change_scripts word t call s)
-word_works (group.Signals word) t call s is =
-    grouped t call s beside_signals (λ x. refl) (does_signals word t call s) (signals_make word t call s) (signal_words_change_signals_and_states word t call s)
-word_works (group.Nesting word) t call s is =
-    grouped t call s beside_nestings (λ x. refl) (does_nesting word t call s) (nesting_makes word t call s) (nesting_words_change_nestings word t call s)
-word_works (group.Tasks word) t call s is =
-    grouped t call s beside_tasks (λ x. refl) (does_tasks word t call s) (tasks_make word t call s) (task_words_change_states_priorities_and_objects word t call s)
-word_works (group.Lists word) t call s is =
-    grouped t call s beside_memory (λ x. refl) (does_lists word t call s) (lists_make word t call s) (list_words_change_the_memory word t call s)
-word_works (group.Memory word) t call s is =
-    grouped t call s beside_memory (λ x. refl) (does_memory word t call s) (memory_makes word t call s) (memory_words_change_the_memory word t call s)
-word_works (group.Ports word) t call s is =
-    grouped t call s beside_ports (λ x. refl) (does_ports word t call s) (ports_make word t call s) (port_words_change_ports_signals_and_states word t call s)
-word_works (group.Semaphores word) t call s is =
-    grouped t call s beside_semaphores (λ x. refl) (does_semaphores word t call s) (semaphores_make word t call s is) (semaphore_words_change_states_and_objects word t call s)
-word_works (group.Interrupts word) t call s is =
-    grouped t call s beside_interrupts (λ x. refl) (does_interrupts word t call s) (interrupts_make word t call s) (interrupt_words_change_what_is_caused word t call s)
-word_works (group.Libraries word) t call s is =
-    grouped t call s beside_memory (λ x. refl) (does_libraries word t call s) (libraries_make word t call s is) (library_words_change_the_memory word t call s)
+word_works (group.Plain word) t call s is = by_moves (plain_makes word t call s) (ap waiting_of (word_keeps (group.Plain word) t call s))
+word_works (group.Signals word) t call s is = by_moves (signals_make word t call s) (ap waiting_of (word_keeps (group.Signals word) t call s))
+word_works (group.Nesting word) t call s is = by_moves (nesting_makes word t call s) (ap waiting_of (word_keeps (group.Nesting word) t call s))
+word_works (group.Tasks word) t call s is = by_moves (tasks_make word t call s) (ap waiting_of (word_keeps (group.Tasks word) t call s))
+word_works (group.Lists word) t call s is = by_moves (lists_make word t call s) (ap waiting_of (word_keeps (group.Lists word) t call s))
+word_works (group.Memory word) t call s is = by_moves (memory_makes word t call s) (ap waiting_of (word_keeps (group.Memory word) t call s))
+word_works (group.Ports word) t call s is = by_moves (ports_make word t call s) (ap waiting_of (word_keeps (group.Ports word) t call s))
+word_works (group.Semaphores word) t call s is = by_moves (semaphores_make word t call s is) (ap waiting_of (word_keeps (group.Semaphores word) t call s))
+word_works (group.Interrupts word) t call s is = by_moves (interrupts_make word t call s) (ap waiting_of (word_keeps (group.Interrupts word) t call s))
+word_works (group.Libraries word) t call s is = by_moves (libraries_make word t call s is) (ap waiting_of (word_keeps (group.Libraries word) t call s))
 word_works (group.Requests word) t call s is = requests_work word t call s
 
 pub call_works : (t : ℕ) (call : Call) (s : State) → Works t call s (does_itself t call s)

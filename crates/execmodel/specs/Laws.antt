@@ -27,19 +27,18 @@ use Rattle.taskscript.specs.declared.word.semaphores.SemaphoreWord.TheVariants.{
 use Rattle.execmodel.specs.State.{Call, Scripts, Object, Plain, Block, Heap, Memory, Waiting as Queued, Mark, State, Outcome, on_schedule, on_memory, on_pending, on_timer, booted}
 use Rattle.execmodel.specs.Calls.{argument, alerted, next_call, call_in_body}
 use Rattle.std.specs.Option.{option_map}
-use Rattle.taskscript.specs.declared.word.libraries.LibraryWord.TheVariants.{CloseLibrary}
+use Rattle.taskscript.specs.declared.word.libraries.LibraryWord.TheVariants.{CloseLibrary, RemLibrary}
+use Rattle.taskscript.specs.declared.word.memory.MemoryWord.TheVariants.{FreeMem}
 use Rattle.execmodel.specs.Keeping.{without_blocks}
 use Rattle.execmodel.specs.GivingWay.{gives_way, after_asking, after_asking_for_object}
-use Rattle.execmodel.specs.Earlier.{earlier_alloc_mem, earlier_new_list, earlier_new_node, earlier_create_msg_port, earlier_new_msg, earlier_new_sem, earlier_create_io_request, earlier_open_library, earlier_run}
-use Rattle.execmodel.specs.Libraries.{is_library_at, number_of, count_of, is_delayed, ready_to_open, does_open_library}
-use Rattle.execmodel.specs.Memory.{block_at, extents, place_for, does_alloc_mem, does_free_mem}
-use Rattle.execmodel.specs.Lists.{does_new_list, does_new_node}
+use Rattle.execmodel.specs.Libraries.{is_library_at, number_of, count_of, is_delayed, ready_to_open}
+use Rattle.execmodel.specs.Memory.{block_at, extents, place_for, does_memory}
 use Rattle.execmodel.specs.Objects.{object_at}
-use Rattle.execmodel.specs.Ports.{is_port_at, messages_of, does_create_msg_port, does_new_msg}
-use Rattle.execmodel.specs.Requests.{request_of, does_create_io_request}
+use Rattle.execmodel.specs.Ports.{is_port_at, messages_of, after_asking_for_port}
+use Rattle.execmodel.specs.Requests.{request_of}
 use Rattle.iorequest.specs.Request.{is_under_way, sets_time, time_of}
 use Rattle.timerdev.specs.Timing.{offset, ticked}
-use Rattle.execmodel.specs.Semaphores.{sem_of, waiters_of, does_new_sem}
+use Rattle.execmodel.specs.Semaphores.{sem_of, waiters_of}
 use Rattle.execmodel.specs.Pending.{allows_interrupts, next_softint, with_latch_of}
 use Rattle.execmodel.specs.Interrupts.{interrupts, runs_softint, softint_at, server_at}
 use Rattle.execmodel.specs.Step.{does, ends, acts, step, tick, request, settle, switches, all_added, starts, events, run}
@@ -85,7 +84,7 @@ EachByteHasOneOwner =
 abbrev pub FreeMemRefusesObjects : Type 0
 FreeMemRefusesObjects =
     (t : ℕ) (call : Call) (s : State) (object : Object) → object_at (argument 0 call) s.memory.heap ≡ Some object → object ≢ Plain
-    → does_free_mem t call s ≡ alerted (codes "MEM") t call s
+    → does_memory FreeMem t call s ≡ alerted (codes "MEM") t call s
 
 -- ---- actions
 
@@ -306,6 +305,15 @@ pub record IsLastClose (base : ℕ) (s : State) : Type 0 where
   pub once : count_of base s.memory.heap ≡ 1
   pub delayed : is_delayed base s.memory.heap ≡ true
 
+-- the running task is to remove a library that is not open
+pub record IsRemoval (base : ℕ) (s : State) : Type 0 where
+  pub t : ℕ
+  pub call : Call
+  pub calls : IsToCall t call s
+  pub word : call.word ≡ group.Libraries RemLibrary
+  pub names : argument 0 call ≡ base
+  pub none : count_of base s.memory.heap ≡ 0
+
 -- the same library lies at a base in both heaps, in a block of the same size
 pub record StaysLoaded (base : ℕ) (old new : Heap) : Type 0 where
   pub loaded : is_library_at base new ≡ true
@@ -332,25 +340,20 @@ abbrev pub LibrariesAreAskedInVersionTwo : Type 0
 LibrariesAreAskedInVersionTwo =
     (machine : MachineData) (list : List Event) → IsMachine machine → (run machine list).state.memory.asks ≡ nat_eq machine.version 2
 
--- Each word that takes memory takes it as it is: no library is asked before.
-pub record TakesMemoryAsItIs (t : ℕ) (call : Call) (s : State) : Type 0 where
-  pub alloc_mem : does_alloc_mem t call s ≡ earlier_alloc_mem t call s
-  pub new_list : does_new_list t call s ≡ earlier_new_list t call s
-  pub new_node : does_new_node t call s ≡ earlier_new_node t call s
-  pub create_msg_port : does_create_msg_port t call s ≡ earlier_create_msg_port t call s
-  pub new_msg : does_new_msg t call s ≡ earlier_new_msg t call s
-  pub new_sem : does_new_sem t call s ≡ earlier_new_sem t call s
-  pub create_io_request : does_create_io_request t call s ≡ earlier_create_io_request t call s
-  pub open_library : does_open_library t call s ≡ earlier_open_library t call s
+-- Where libraries are not asked, a loaded library keeps its base and its block, open or not, whatever word takes memory: only the running task
+-- expunges it, by removing it while it is not open, or by closing it for the last time.
+abbrev pub UnaskedLibrariesStay : Type 0
+UnaskedLibrariesStay =
+    (base : ℕ) → OfEveryAction (λ action s o.
+    s.memory.asks ≡ false → is_library_at base s.memory.heap ≡ true
+    → StaysLoaded base s.memory.heap o.state.memory.heap ⊎ ((action ≡ OneStep) × (IsRemoval base s ⊎ IsLastClose base s)))
 
--- If libraries are not asked, each word that takes memory takes it as it is.
-abbrev pub UnaskedWordsTakeMemoryAsItIs : Type 0
-UnaskedWordsTakeMemoryAsItIs = (t : ℕ) (call : Call) (s : State) → s.memory.asks ≡ false → TakesMemoryAsItIs t call s
-
--- Each run of a machine of version 1 is the run in which all words that take memory take it as it is.
-abbrev pub VersionOneIsTheMachineAsItWas : Type 0
-VersionOneIsTheMachineAsItWas =
-    (machine : MachineData) (list : List Event) → IsMachine machine → machine.version ≡ 1 → run machine list ≡ earlier_run machine list
+-- Memory is taken as it is where libraries are not asked: what asks them before a block, an object, a port or a library is taken changes nothing.
+pub record UnaskedMemoryStays : Type 0 where
+  pub for_a_block : (size reqs : ℕ) (memory : Memory) → memory.asks ≡ false → after_asking size reqs memory ≡ memory
+  pub for_an_object : (kind : Object → Bool) (size : ℕ) (memory : Memory) → memory.asks ≡ false → after_asking_for_object kind size memory ≡ memory
+  pub for_a_port : (bit : Option ℕ) (memory : Memory) → memory.asks ≡ false → after_asking_for_port bit memory ≡ memory
+  pub for_a_library : (found : Option ℕ) (memory : Memory) → memory.asks ≡ false → ready_to_open found memory ≡ memory
 
 -- In any version, asking libraries to be expunged under low memory changes the blocks alone; and nothing, if the block has a place already.
 pub record AskingChangesTheBlocks : Type 0 where

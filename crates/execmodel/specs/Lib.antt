@@ -9,6 +9,7 @@ pub mod Places
 pub mod Objects
 pub mod Loaded
 pub mod GivingWay
+pub mod Deeds
 pub mod Memory
 pub mod Semaphores
 pub mod Lists
@@ -20,7 +21,6 @@ pub mod Bodies
 pub mod Requests
 pub mod Interrupts
 pub mod Step
-pub mod Earlier
 pub mod Keeping
 pub mod Runs
 pub mod RulesBesideLaws

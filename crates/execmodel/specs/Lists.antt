@@ -8,10 +8,9 @@ use Rattle.execlist.specs.Order.{enqueue, first, without}
 use Rattle.execlist.specs.Lists.{Key, blank, last, name_is, part_after, part_before, put_after}
 use Rattle.taskscript.specs.declared.word.lists.ListWord.{ListWord}
 use Rattle.taskscript.specs.declared.word.lists.ListWord.TheVariants as word
-use Rattle.execmodel.specs.State.{Call, Object, ListHead, Node, Block, Heap, State, Outcome, on_memory, on_heap}
-use Rattle.execmodel.specs.Calls.{argument, name_argument, done, answered, unless}
-use Rattle.execmodel.specs.GivingWay.{after_asking_for_object}
-use Rattle.execmodel.specs.Memory.{makes_object, freed}
+use Rattle.execmodel.specs.State.{Call, Object, ListHead, Node, Block, Heap, State, Outcome}
+use Rattle.execmodel.specs.Calls.{argument, name_argument}
+use Rattle.execmodel.specs.Deeds.{Deed, performs, changes, takes, reads, frees, makes}
 use Rattle.execmodel.specs.Objects.{object_at, is_kind}
 use Rattle.execmodel.specs.Tasks.{is_priority}
 
@@ -108,45 +107,21 @@ list_size = 14
 abbrev pub node_size : ℕ
 node_size = 14
 
--- NewList: answers the address of a new empty list, or 0 (autodoc amiga.lib/NewList; that it takes the memory: project rule)
-unfoldable pub does_new_list : ℕ → Call → State → Outcome
-does_new_list t call s = makes_object t call is_list list_size (ListHead []) (on_memory (after_asking_for_object is_list list_size) s)
-
 -- the alert of a call that frees a list: it has to be empty
 unfoldable pub free_list_alert : ℕ → Heap → Option (List ℕ)
 free_list_alert list heap =
     if not (is_list_at list heap) then Some (codes "HANDLE")
     else (if is_some (first (nodes_of list heap)) then Some (codes "LINK") else None)
 
--- FreeList list: an empty list is freed (project rule)
-unfoldable pub does_free_list : ℕ → Call → State → Outcome
-does_free_list t call s =
-    let list = argument 0 call in
-    unless (free_list_alert list s.memory.heap) t call (λ s. done t call (on_memory (freed list) s)) s
-
 -- the alert of NewNode: the priority has to be one that a task may have
 abbrev pub new_node_alert : ℤ → Option (List ℕ)
 new_node_alert pri = if not (is_priority pri) then Some (codes "VALUE") else None
-
--- NewNode pri name: answers the address of a new node that is not linked, or 0; the priority is read as a signed word (project rule)
-unfoldable pub does_new_node : ℕ → Call → State → Outcome
-does_new_node t call s =
-    let pri = cast_signed w32 (argument 0 call) in
-    let key : Key = record { pri = pri; name = name_argument 1 call } in
-    unless (new_node_alert pri) t call
-    (λ s. makes_object t call is_node node_size (Node key) (on_memory (after_asking_for_object is_node node_size) s)) s
 
 -- the alert of a call that frees a node: it must not be linked
 unfoldable pub free_node_alert : ℕ → Heap → Option (List ℕ)
 free_node_alert node heap =
     if not (is_node_at node heap) then Some (codes "HANDLE")
     else (if is_linked node heap then Some (codes "LINK") else None)
-
--- FreeNode node: a node that is not linked is freed (project rule)
-unfoldable pub does_free_node : ℕ → Call → State → Outcome
-does_free_node t call s =
-    let node = argument 0 call in
-    unless (free_node_alert node s.memory.heap) t call (λ s. done t call (on_memory (freed node) s)) s
 
 -- ---- linking
 
@@ -161,34 +136,13 @@ link_alert list node heap =
 unfoldable pub added_head : ℕ → ℕ → Heap → Heap
 added_head list node heap = with_nodes list (node ∷ nodes_of list heap) heap
 
--- AddHead list node (autodoc exec.library/AddHead)
-unfoldable pub does_add_head : ℕ → Call → State → Outcome
-does_add_head t call s =
-    let list = argument 0 call in
-    let node = argument 1 call in
-    unless (link_alert list node s.memory.heap) t call (λ s. done t call (on_memory (on_heap (added_head list node)) s)) s
-
 -- the node is put last
 unfoldable pub added_tail : ℕ → ℕ → Heap → Heap
 added_tail list node heap = with_nodes list (nodes_of list heap ++ node ∷ []) heap
 
--- AddTail list node (autodoc exec.library/AddTail)
-unfoldable pub does_add_tail : ℕ → Call → State → Outcome
-does_add_tail t call s =
-    let list = argument 0 call in
-    let node = argument 1 call in
-    unless (link_alert list node s.memory.heap) t call (λ s. done t call (on_memory (on_heap (added_tail list node)) s)) s
-
 -- the node is put before the first node of lower priority, or last if there is none
 unfoldable pub enqueued : ℕ → ℕ → Heap → Heap
 enqueued list node heap = with_nodes list (enqueue (λ other. (key_of other heap).pri) (nodes_of list heap) node) heap
-
--- Enqueue list node (autodoc exec.library/Enqueue)
-unfoldable pub does_enqueue : ℕ → Call → State → Outcome
-does_enqueue t call s =
-    let list = argument 0 call in
-    let node = argument 1 call in
-    unless (link_alert list node s.memory.heap) t call (λ s. done t call (on_memory (on_heap (enqueued list node)) s)) s
 
 -- an address as a predecessor: 0 is none
 abbrev pub predecessor : ℕ → Option ℕ
@@ -222,14 +176,6 @@ insert_alert list node pred heap =
 unfoldable pub inserted : ℕ → ℕ → ℕ → Heap → Heap
 inserted list node pred heap = with_nodes list (put_after (predecessor pred) node (nodes_of list heap)) heap
 
--- Insert list node pred (autodoc exec.library/Insert)
-unfoldable pub does_insert : ℕ → Call → State → Outcome
-does_insert t call s =
-    let list = argument 0 call in
-    let node = argument 1 call in
-    let pred = argument 2 call in
-    unless (insert_alert list node pred s.memory.heap) t call (λ s. done t call (on_memory (on_heap (inserted list node pred)) s)) s
-
 -- ---- unlinking
 
 -- the alert of a call on a linked node
@@ -237,12 +183,6 @@ unfoldable pub linked_alert : ℕ → Heap → Option (List ℕ)
 linked_alert node heap =
     if not (is_node_at node heap) then Some (codes "HANDLE")
     else (if not (is_linked node heap) then Some (codes "LINK") else None)
-
--- Remove node: the node leaves the list that has it (autodoc exec.library/Remove)
-unfoldable pub does_remove : ℕ → Call → State → Outcome
-does_remove t call s =
-    let node = argument 0 call in
-    unless (linked_alert node s.memory.heap) t call (λ s. done t call (on_memory (on_heap (unlinked node)) s)) s
 
 -- the alert of a call on a list
 unfoldable pub list_alert : ℕ → Heap → Option (List ℕ)
@@ -264,33 +204,7 @@ removed_head list heap = with_nodes list (drop 1 (nodes_of list heap)) heap
 unfoldable pub removed_tail : ℕ → Heap → Heap
 removed_tail list heap = with_nodes list (take (length (nodes_of list heap) - 1) (nodes_of list heap)) heap
 
--- RemHead list: answers the first node, which leaves the list, or 0 for an empty one (autodoc exec.library/RemHead)
-unfoldable pub does_rem_head : ℕ → Call → State → Outcome
-does_rem_head t call s =
-    let list = argument 0 call in
-    unless (list_alert list s.memory.heap) t call
-    (λ s. answered t call (first_of list s.memory.heap) (on_memory (on_heap (removed_head list)) s)) s
-
--- RemTail list: answers the last node, which leaves the list, or 0 for an empty one (autodoc exec.library/RemTail)
-unfoldable pub does_rem_tail : ℕ → Call → State → Outcome
-does_rem_tail t call s =
-    let list = argument 0 call in
-    unless (list_alert list s.memory.heap) t call
-    (λ s. answered t call (last_of list s.memory.heap) (on_memory (on_heap (removed_tail list)) s)) s
-
 -- ---- scanning
-
--- First list: answers the first node, or 0 for an empty list (RKM Libraries, Exec Lists and Queues: scanning a list)
-unfoldable pub does_first : ℕ → Call → State → Outcome
-does_first t call s =
-    let list = argument 0 call in
-    unless (list_alert list s.memory.heap) t call (λ s. answered t call (first_of list s.memory.heap) s) s
-
--- Last list: answers the last node, or 0 for an empty list (RKM Libraries, Exec Lists and Queues: scanning a list)
-unfoldable pub does_last : ℕ → Call → State → Outcome
-does_last t call s =
-    let list = argument 0 call in
-    unless (list_alert list s.memory.heap) t call (λ s. answered t call (last_of list s.memory.heap) s) s
 
 -- the node after a node in the list that has it, or 0 if it is the last
 unfoldable pub succ_of : ℕ → Heap → ℕ
@@ -299,18 +213,6 @@ succ_of node heap = or_none (first (part_after node (sequence_with node heap)))
 -- the node before a node in the list that has it, or 0 if it is the first
 unfoldable pub pred_of : ℕ → Heap → ℕ
 pred_of node heap = or_none (last (part_before node (sequence_with node heap)))
-
--- Succ node: answers the node after a linked one, or 0 (RKM Libraries, Exec Lists and Queues: ln_Succ)
-unfoldable pub does_succ : ℕ → Call → State → Outcome
-does_succ t call s =
-    let node = argument 0 call in
-    unless (linked_alert node s.memory.heap) t call (λ s. answered t call (succ_of node s.memory.heap) s) s
-
--- Pred node: answers the node before a linked one, or 0 (RKM Libraries, Exec Lists and Queues: ln_Pred)
-unfoldable pub does_pred : ℕ → Call → State → Outcome
-does_pred t call s =
-    let node = argument 0 call in
-    unless (linked_alert node s.memory.heap) t call (λ s. answered t call (pred_of node s.memory.heap) s) s
 
 -- the alert of FindName: it begins at a list, or after a linked node
 unfoldable pub find_alert : ℕ → Heap → Option (List ℕ)
@@ -328,31 +230,47 @@ has_name name heap node = name_is (key_of node heap).name name
 unfoldable pub found_node : ℕ → List ℕ → Heap → ℕ
 found_node start name heap = or_none (find (has_name name heap) (searched start heap))
 
+-- ---- the words of this group
+
+-- what a word on lists does: what refuses it, what it makes of the lists and nodes, and what it answers
+unfoldable pub list_deed : ListWord → Call → Deed
+-- NewList: answers the address of a new empty list, or 0 (autodoc amiga.lib/NewList; that it takes the memory: project rule)
+list_deed word.NewList call = makes None is_list list_size (ListHead [])
+-- FreeList list: an empty list is freed (project rule)
+list_deed word.FreeList call = frees (free_list_alert (argument 0 call)) (argument 0 call)
+-- NewNode pri name: answers the address of a new node that is not linked, or 0; the priority is read as a signed word (project rule)
+list_deed word.NewNode call =
+    let pri = cast_signed w32 (argument 0 call) in
+    makes (new_node_alert pri) is_node node_size (Node (record { pri = pri; name = name_argument 1 call }))
+-- FreeNode node: a node that is not linked is freed (project rule)
+list_deed word.FreeNode call = frees (free_node_alert (argument 0 call)) (argument 0 call)
+-- AddHead list node: the node is put first (autodoc exec.library/AddHead)
+list_deed word.AddHead call = changes (link_alert (argument 0 call) (argument 1 call)) (added_head (argument 0 call) (argument 1 call))
+-- AddTail list node: the node is put last (autodoc exec.library/AddTail)
+list_deed word.AddTail call = changes (link_alert (argument 0 call) (argument 1 call)) (added_tail (argument 0 call) (argument 1 call))
+-- Enqueue list node: the node is put by its priority (autodoc exec.library/Enqueue)
+list_deed word.Enqueue call = changes (link_alert (argument 0 call) (argument 1 call)) (enqueued (argument 0 call) (argument 1 call))
+-- Insert list node pred: the node is put after its predecessor (autodoc exec.library/Insert)
+list_deed word.Insert call =
+    changes (insert_alert (argument 0 call) (argument 1 call) (argument 2 call)) (inserted (argument 0 call) (argument 1 call) (argument 2 call))
+-- Remove node: the node leaves the list that has it (autodoc exec.library/Remove)
+list_deed word.Remove call = changes (linked_alert (argument 0 call)) (unlinked (argument 0 call))
+-- RemHead list: answers the first node, which leaves the list, or 0 for an empty one (autodoc exec.library/RemHead)
+list_deed word.RemHead call = takes (list_alert (argument 0 call)) (first_of (argument 0 call)) (removed_head (argument 0 call))
+-- RemTail list: answers the last node, which leaves the list, or 0 for an empty one (autodoc exec.library/RemTail)
+list_deed word.RemTail call = takes (list_alert (argument 0 call)) (last_of (argument 0 call)) (removed_tail (argument 0 call))
+-- First list: answers the first node, or 0 for an empty list (RKM Libraries, Exec Lists and Queues: scanning a list)
+list_deed word.First call = reads (list_alert (argument 0 call)) (first_of (argument 0 call))
+-- Last list: answers the last node, or 0 for an empty list (RKM Libraries, Exec Lists and Queues: scanning a list)
+list_deed word.Last call = reads (list_alert (argument 0 call)) (last_of (argument 0 call))
+-- Succ node: answers the node after a linked one, or 0 (RKM Libraries, Exec Lists and Queues: ln_Succ)
+list_deed word.Succ call = reads (linked_alert (argument 0 call)) (succ_of (argument 0 call))
+-- Pred node: answers the node before a linked one, or 0 (RKM Libraries, Exec Lists and Queues: ln_Pred)
+list_deed word.Pred call = reads (linked_alert (argument 0 call)) (pred_of (argument 0 call))
 -- FindName start name: answers the first node of that name in a list, or after a node of it, or 0 (autodoc exec.library/FindName; that
 -- the start may be a node: RKM Libraries, Exec Lists and Queues: searching by name)
-unfoldable pub does_find_name : ℕ → Call → State → Outcome
-does_find_name t call s =
-    let start = argument 0 call in
-    unless (find_alert start s.memory.heap) t call
-    (λ s. answered t call (found_node start (unwrap_or (name_argument 1 call) []) s.memory.heap) s) s
-
--- ---- the words of this group
+list_deed word.FindName call = reads (find_alert (argument 0 call)) (found_node (argument 0 call) (unwrap_or (name_argument 1 call) []))
 
 -- a word on lists of a task
 abbrev pub does_lists : ListWord → ℕ → Call → State → Outcome
-does_lists word.NewList t call s = does_new_list t call s
-does_lists word.FreeList t call s = does_free_list t call s
-does_lists word.NewNode t call s = does_new_node t call s
-does_lists word.FreeNode t call s = does_free_node t call s
-does_lists word.AddHead t call s = does_add_head t call s
-does_lists word.AddTail t call s = does_add_tail t call s
-does_lists word.Enqueue t call s = does_enqueue t call s
-does_lists word.Insert t call s = does_insert t call s
-does_lists word.Remove t call s = does_remove t call s
-does_lists word.RemHead t call s = does_rem_head t call s
-does_lists word.RemTail t call s = does_rem_tail t call s
-does_lists word.First t call s = does_first t call s
-does_lists word.Last t call s = does_last t call s
-does_lists word.Succ t call s = does_succ t call s
-does_lists word.Pred t call s = does_pred t call s
-does_lists word.FindName t call s = does_find_name t call s
+does_lists word t call s = performs (list_deed word call) t call s

@@ -13,18 +13,14 @@ abbrev pub port_turn : ℕ → Mark → List Turn
 port_turn address (put port message) = turn_at address port (Came message)
 port_turn address (got port message) = turn_at address port (Served message)
 port_turn address (out port message) = turn_at address port (Left message)
-port_turn address (asked semaphore task) = []
-port_turn address (passed semaphore task) = []
-port_turn address (left semaphore task) = []
+port_turn address _ = []
 
 -- at a semaphore a task comes if it has to wait, is served if a release makes it the owner, and leaves if it is removed
 abbrev pub semaphore_turn : ℕ → Mark → List Turn
-semaphore_turn address (put port message) = []
-semaphore_turn address (got port message) = []
-semaphore_turn address (out port message) = []
 semaphore_turn address (asked semaphore task) = turn_at address semaphore (Came task)
 semaphore_turn address (passed semaphore task) = turn_at address semaphore (Served task)
 semaphore_turn address (left semaphore task) = turn_at address semaphore (Left task)
+semaphore_turn address _ = []
 
 abbrev pub turns_at_port : ℕ → List Mark → List Turn
 turns_at_port port marks = flat_map (port_turn port) marks

@@ -1,7 +1,7 @@
 -- Whole traces of small machines for rules that no law of every run reports: how long a quantum lasts, who is after its equals, which
 -- signals a Wait takes, how often an owner has to release, and that each word which takes memory asks for it.
 use Rattle.std.specs.Prelude.{◌≡◌, pos, List, [], ◌∷◌, codes}
-use Rattle.taskscript.specs.declared.word.Word.TheVariants.{Signals, Tasks, Lists, Ports, Semaphores, Libraries, Requests}
+use Rattle.taskscript.specs.declared.word.Word.TheVariants.{Signals, Tasks, Lists, Ports, Semaphores, Requests}
 use Rattle.taskscript.specs.declared.word.task_signals.SignalWord.TheVariants.{Signal, Wait}
 use Rattle.taskscript.specs.declared.word.tasks.TaskWord.TheVariants.{SetTaskPri}
 use Rattle.taskscript.specs.declared.word.lists.ListWord.TheVariants.{NewList}

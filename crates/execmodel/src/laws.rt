@@ -2,7 +2,7 @@
 ghost use Rattle.std.specs.Prelude.{◌≡◌, true, List};
 ghost use Rattle.taskscript.specs.declared.event.Event.{Event};
 ghost use Rattle.execmodel.specs.Keeping.{PlainWordsChangeScripts, SignalWordsChangeSignalsAndStates, NestingWordsChangeNestings, TaskWordsChangeStatesPrioritiesAndObjects, ListWordsChangeTheMemory, MemoryWordsChangeTheMemory, PortWordsChangePortsSignalsAndStates, SemaphoreWordsChangeStatesAndObjects, InterruptWordsChangeWhatIsCaused, LibraryWordsChangeTheMemory, RequestWordsChangeRequestsPortsSignalsAndStates};
-ghost use Rattle.execmodel.specs.Laws.{FirstInFirstOut, EachByteHasOneOwner, FreeMemRefusesObjects, OwnersChangeAtTheLastRelease, FreeSemaphoresHaveNoWaiters, SemaphoresPassInOrder, QueuesAgreeWithTheSchedule, EachStateIsSettled, SwitchesGoToTheChosen, EachSwitchLineIsAChoice, OnlySwitchesSaySo, WaitersHaveReceivedNone, ReceivedSignalsStay, InterruptsKeepNestings, ThreeServingsAtMost, OpenLibrariesStay, LibrariesHaveOneBase, LibrariesAreAskedInVersionTwo, UnaskedWordsTakeMemoryAsItIs, VersionOneIsTheMachineAsItWas, AskingChangesTheBlocks, ReplyPortsLive, RequestsUnderWayWait, TheClockCountsTicks, SystemTimeGoesWithTheClock, CallsFitTheirWords, LinesAreShort, LibrariesGiveWayAsFarAsNeeded, OnlyClosedLibrariesGiveWay};
+ghost use Rattle.execmodel.specs.Laws.{FirstInFirstOut, EachByteHasOneOwner, FreeMemRefusesObjects, OwnersChangeAtTheLastRelease, FreeSemaphoresHaveNoWaiters, SemaphoresPassInOrder, QueuesAgreeWithTheSchedule, EachStateIsSettled, SwitchesGoToTheChosen, EachSwitchLineIsAChoice, OnlySwitchesSaySo, WaitersHaveReceivedNone, ReceivedSignalsStay, InterruptsKeepNestings, ThreeServingsAtMost, OpenLibrariesStay, LibrariesHaveOneBase, LibrariesAreAskedInVersionTwo, UnaskedLibrariesStay, UnaskedMemoryStays, AskingChangesTheBlocks, ReplyPortsLive, RequestsUnderWayWait, TheClockCountsTicks, SystemTimeGoesWithTheClock, CallsFitTheirWords, LinesAreShort, LibrariesGiveWayAsFarAsNeeded, OnlyClosedLibrariesGiveWay};
 ghost use Rattle.execmodel.specs.State.{State, Outcome, quiet, andthen, unless_stopped};
 ghost use Rattle.execmodel.specs.Step.{event, events};
 
@@ -130,14 +130,15 @@ pub fn libraries_have_one_base()
     ensures { LibrariesHaveOneBase }
 {}
 
-/// In version 1 of the rules no library is expunged under low memory: each run of a machine of version 1 is the run of the machine as it was, in which AllocMem,
-/// NewList, NewNode, CreateMsgPort, NewMsg, NewSem, CreateIORequest and OpenLibrary take memory as it is. In every state of every run libraries
-/// are asked exactly if the machine is of version 2, and if they are not, each of these words does what it did. In any version asking
-/// changes the blocks and the objects in them alone, and nothing if the block has a place already.
+/// In version 1 of the rules no library is expunged under low memory. In every state of every run libraries are asked exactly if the machine is of
+/// version 2. If they are not, what asks them before a word takes memory changes nothing; and whatever a step, a tick or a request does, a loaded
+/// library keeps its base, its number and its block, open or not, unless the running task in this step removes it while it is not open, or closes
+/// it for the last time and it was to be expunged then. In any version asking changes the blocks and the objects in them alone, and nothing if the
+/// block has a place already.
 pub fn version_one()
-    ensures run { VersionOneIsTheMachineAsItWas }
     ensures asked { LibrariesAreAskedInVersionTwo }
-    ensures words { UnaskedWordsTakeMemoryAsItIs }
+    ensures unasked { UnaskedMemoryStays }
+    ensures stay { UnaskedLibrariesStay }
     ensures beside { AskingChangesTheBlocks }
 {}
 

@@ -196,7 +196,7 @@ pub fn nothing_is_asked_for_what_is_never_taken()
     ensures { NothingIsAskedForWhatIsNeverTaken }
 {}
 
-/// A library that is to be loaded makes another one are expunged under low memory that is not open; an open one is marked, and the opening answers 0.
+/// If memory is low, another library that is not open is expunged before a library is loaded; an open one is marked, and the opening answers 0.
 pub fn a_library_gives_way_to_another()
     ensures { ALibraryGivesWayToAnother }
 {}

@@ -13,7 +13,9 @@ mod slices;
 use crate::deeds::{Deed, read_deeds, read_states};
 use crate::fault::PictureFault;
 use crate::film::{Point, Shown, Watch, film};
+use crate::forms::Json;
 use crate::objects::Objects;
+use crate::page::Page;
 use crate::stretch::Stretch;
 use exectrace::Sink;
 use exectrace::sinks::{put, written};
@@ -43,7 +45,7 @@ struct Chrome<'a, W> {
     objects: Objects<'a>,
     slices: Slices,
     /// What is to be written next.
-    page: String,
+    page: Page,
     out: &'a mut W,
 }
 
@@ -65,40 +67,40 @@ impl<'a, W: Sink> Chrome<'a, W> {
             flows: 0,
             objects: Objects::new(alloc, file),
             slices: Slices::new(alloc, file.machine.tasks().len())?,
-            page: String::new(alloc),
+            page: Page::new(alloc),
             out,
         })
     }
 
     /// Hands over what is to be written.
-    fn flush(&mut self) {
-        put(self.page.as_bytes(), self.out);
+    fn flush(&mut self) -> Result<(), AllocError> {
+        put(self.page.text()?.as_bytes(), self.out);
         self.page.clear();
+        Ok(())
     }
 
     /// Writes the beginning of the document.
     fn begin(&mut self, title: &str) -> Result<(), AllocError> {
-        let shown = crate::page::Json(title);
+        let shown = Json(title);
         write!(
             self.page,
             "{{\"displayTimeUnit\":\"ns\",\"otherData\":{{\"run\":{shown},\"time\":\"one microsecond is one step, tick or request of an interrupt\"}},\"traceEvents\":[\n"
-        )?;
-        write_process(Process::Tasks, &mut self.page)?;
-        write_process(Process::Interrupts, &mut self.page)?;
-        write_process(Process::Objects, &mut self.page)?;
-        write_process(Process::Ports, &mut self.page)?;
-        write_threads(self.file, &mut self.page)?;
-        self.flush();
-        Ok(())
+        );
+        write_process(Process::Tasks, &mut self.page);
+        write_process(Process::Interrupts, &mut self.page);
+        write_process(Process::Objects, &mut self.page);
+        write_process(Process::Ports, &mut self.page);
+        write_threads(self.file, &mut self.page);
+        self.flush()
     }
 
     /// Writes what was done since the point before.
     fn write_turn(&mut self, machine: &Shown, point: &Point, text: &str) -> Result<(), AllocError> {
         let file = &self.file.machine;
         read_deeds(file, machine, &self.states, text, &mut self.deeds)?;
-        write_calls(file, point, text, &mut self.page)?;
-        write_served(point, text, &mut self.page)?;
-        self.flows = write_flows(&self.deeds, point.number, self.flows, &mut self.page)?;
+        write_calls(file, point, text, &mut self.page);
+        write_served(point, text, &mut self.page);
+        self.flows = write_flows(&self.deeds, point.number, self.flows, &mut self.page);
         Ok(())
     }
 
@@ -116,20 +118,18 @@ impl<'a, W: Sink> Chrome<'a, W> {
             .note(machine, &self.objects, point.number, &mut self.page)?;
         if self.clock != Some(point.clock) {
             self.clock = Some(point.clock);
-            write_clock(point, &mut self.page)?;
+            write_clock(point, &mut self.page);
         }
-        self.flush();
-        Ok(())
+        self.flush()
     }
 
     /// Writes what is still open, and the end of the document.
     fn finish(&mut self) -> Result<(), AllocError> {
         let end = self.last.saturating_add(1);
-        self.slices.close(&self.objects, end, &mut self.page)?;
-        write_name("done", end, &mut self.page)?;
-        self.page.push_str("]}\n")?;
-        self.flush();
-        Ok(())
+        self.slices.close(&self.objects, end, &mut self.page);
+        write_name("done", end, &mut self.page);
+        self.page.push_str("]}\n");
+        self.flush()
     }
 }
 

@@ -10,6 +10,7 @@ mod chrome;
 mod deeds;
 mod fault;
 mod film;
+mod forms;
 mod lines;
 mod objects;
 mod page;

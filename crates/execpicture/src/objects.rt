@@ -1,7 +1,7 @@
 //! The objects of a run that a picture names: semaphores, message ports and timer requests.
 use crate::film::Point;
+use crate::forms::Hex;
 use crate::lines::{CallLine, TraceLine, read_line};
-use crate::page::Hex;
 use crate::seen::Kind;
 use std::alloc::{AllocError, Global};
 use taskscript::{Command, Listed, PortWord, RequestWord, SemaphoreWord, Variable, Word};

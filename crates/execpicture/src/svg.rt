@@ -17,6 +17,7 @@ mod tasks;
 
 use crate::fault::PictureFault;
 use crate::film::{Ending, film};
+use crate::page::Page;
 use crate::scene::Scene;
 use crate::stretch::Stretch;
 use exectrace::Sink;
@@ -34,19 +35,20 @@ fn draw(
     scene: &Scene<'_>,
     list: &[Event],
     title: &str,
-    page: &mut String,
+    page: &mut Page,
 ) -> Result<(), AllocError> {
     let plan = plan_of(alloc, scene)?;
-    frame::write_head(scene, &plan, title, page)?;
-    columns::write_columns(scene, &plan, page)?;
-    ruler::write_ruler(alloc, scene, &plan, list, page)?;
-    interrupts::write_interrupts(scene, &plan, page)?;
-    tasks::write_tasks(alloc, scene, &plan, page)?;
-    objects::write_objects(alloc, scene, &plan, page)?;
-    arrows::write_arrows(alloc, scene, &plan, page)?;
-    tasks::write_labels(alloc, scene, &plan, page)?;
-    calls::write_calls(scene, &plan, page)?;
-    frame::write_foot(&plan, page)
+    frame::write_head(scene, &plan, title, page);
+    columns::write_columns(scene, &plan, page);
+    ruler::write_ruler(alloc, scene, &plan, list, page);
+    interrupts::write_interrupts(scene, &plan, page);
+    tasks::write_tasks(alloc, scene, &plan, page);
+    objects::write_objects(alloc, scene, &plan, page);
+    arrows::write_arrows(alloc, scene, &plan, page);
+    tasks::write_labels(alloc, scene, &plan, page);
+    calls::write_calls(scene, &plan, page);
+    frame::write_foot(&plan, page);
+    Ok(())
 }
 
 /// Runs the machine of a file over the events, and writes one picture of a part of the run to `out`, which is good: an SVG document that
@@ -81,9 +83,9 @@ pub fn write_svg<W: Sink>(
     if last - part.from > u64::from(LIMIT) {
         return Err(PictureFault::TooLong(last - part.from));
     }
-    let mut page = String::new(alloc);
+    let mut page = Page::new(alloc);
     draw(alloc, &scene, events.list(), title, &mut page)?;
-    put(page.as_bytes(), out);
+    put(page.text()?.as_bytes(), out);
     match written(out) {
         Ok(()) => Ok(stopped),
         Err(_) => Err(PictureFault::Write),

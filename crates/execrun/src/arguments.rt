@@ -6,6 +6,7 @@ ghost use Rattle.execrun.specs.Ending.{status_of};
 use crate::command_line::not_text_error;
 use crate::ending::{Ending, Status, report};
 use crate::fault::Fault;
+use crate::paged::Paged;
 use crate::running::run;
 use std::alloc::Global;
 use std::env::Env;
@@ -32,10 +33,10 @@ fn run_buffered<R: Env + Files + AllocGlobal, W: Write + Drop, E: Write>(
     let alloc = rt.alloc();
     let arguments: Vec<String> = env::args(rt)?.skip(1).collect(alloc)?;
     let words: Vec<&str> = arguments.iter().map(|word| word.as_str()).collect(alloc)?;
-    let mut out = BufWriter::with_capacity(alloc, OUTPUT_BUFFER, out)?;
+    let mut out = Paged::new(BufWriter::with_capacity(alloc, OUTPUT_BUFFER, out)?);
     let status = run(rt, alloc, &words, &mut out, err);
     // All was flushed by now, or a write failed: what is left then is not handed over once more.
-    let _unwritten = out.into_parts();
+    let _unwritten = out.into_inner().into_parts();
     Ok(status)
 }
 

@@ -7,6 +7,7 @@ mod ending;
 mod fault;
 mod files;
 mod lent;
+mod paged;
 mod running;
 mod texts;
 

@@ -1,13 +1,17 @@
 -- How the machine follows the words of memory.
-use Rattle.std.proofs.Common.{◌≡◌, ℕ, true, false, Option, None, Some, refl, sym}
+use Rattle.std.proofs.Common.{◌≡◌, ℕ, true, false, Option, None, Some, refl, sym, ◌∙◌}
 use Rattle.std.specs.Prelude.{codes}
 use Rattle.std.specs.Option.{unwrap_or}
 use Rattle.exectrace.specs.Sink.{Tape}
 use Rattle.memlist.specs.Fit.{avail}
-use Rattle.execmodel.specs.State.{Call, Memory, Object, Plain, on_memory}
+use Rattle.taskscript.specs.declared.word.memory.MemoryWord.TheVariants as words
+use Rattle.execmodel.specs.State.{Call, Memory, Object, Plain, State, Outcome, on_memory}
 use Rattle.execmodel.specs.Calls.{argument, done, answered, alerted}
-use Rattle.execmodel.specs.Memory.{has_only, alloc_bits, can_be_asked, allocates, block_at, extents, is_named, place_for, placed, freed, takes_block, does_alloc_mem, does_free_mem, does_avail_mem}
+use Rattle.execmodel.specs.Memory.{has_only, alloc_bits, can_be_asked, allocates, block_at, extents, is_named, place_for, placed, freed, alloc_alert, does_memory, memory_deed}
+use Rattle.execmodel.specs.Deeds.{performs}
 use Rattle.execmodel.specs.GivingWay.{after_asking}
+use Rattle.execmodel.proofs.Deeds.{allotting}
+use Rattle.execmodel.proofs.GivingWay.{asking_keeps}
 use Rattle.execsim.specs.Agreement.{Seen, Follows, queues_in_order}
 use Rattle.execsim.proofs.GivingWay.{asking-in_order}
 use Rattle.execsim.proofs.Following.{reads_memory, moves_memory, follows_as, follows_change}
@@ -17,9 +21,13 @@ pub placed-in_order : (size : ℕ) (object : Object) (place : Option ℕ) (y : M
 placed-in_order size object None y = refl
 placed-in_order size object (Some address) y = refl
 
+-- a plain block is taken where it fits
+abbrev takes_block : ℕ → Call → (size reqs : ℕ) → State → Outcome
+takes_block t call size reqs s = allocates t call size Plain (place_for size reqs s.memory) s
+
 module _ {m n : Seen} {a b : Tape} (t : ℕ) (call : Call) where
-  pub alloc_refused : has_only alloc_bits (argument 1 call) ≡ false → Follows (alerted (codes "VALUE") t call) m n a b → Follows (does_alloc_mem t call) m n a b
-  unfolding does_alloc_mem
+  pub alloc_refused : has_only alloc_bits (argument 1 call) ≡ false → Follows (alerted (codes "VALUE") t call) m n a b → Follows (does_memory words.AllocMem t call) m n a b
+  unfolding performs memory_deed
   alloc_refused refused follows = follows_as (λ s e. rw refused refl) follows
 
   -- a plain block is taken if it fits
@@ -38,19 +46,22 @@ module _ {m n o : Seen} {a b : Tape} (t : ℕ) (call : Call) where
   pub alloc_tried : (place : Option ℕ) → has_only alloc_bits (argument 1 call) ≡ true
       → place ≡ place_for (argument 0 call) (argument 1 call) (after_asking (argument 0 call) (argument 1 call) m.memory)
       → n ≡ record m { memory = placed (argument 0 call) Plain place (after_asking (argument 0 call) (argument 1 call) m.memory) }
-      → Follows (answered t call (unwrap_or place 0)) n o a b → Follows (does_alloc_mem t call) m o a b
-  unfolding does_alloc_mem
+      → Follows (answered t call (unwrap_or place 0)) n o a b → Follows (does_memory words.AllocMem t call) m o a b
+  unfolding memory_deed
   alloc_tried place allowed fits is follows =
       let size = argument 0 call in
       let reqs = argument 1 call in
-      follows_as {g = λ s. takes_block t call size reqs (on_memory (after_asking size reqs) s)} (λ s e. rw allowed refl)
+      follows_as {g = λ s. takes_block t call size reqs (on_memory (after_asking size reqs) s)}
+      (λ s e.
+      allotting (alloc_alert reqs) (after_asking size reqs) (place_for size reqs) size Plain t call s (asking_keeps size reqs s.memory)
+      ∙ rw allowed refl)
       (follows_change (moves_memory {m = m} (after_asking size reqs) (after_asking size reqs) (asking-in_order size reqs) refl)
       (block_taken t call size reqs place fits is follows))
 
 module _ {m n : Seen} {a b : Tape} (t : ℕ) (call : Call) where
   pub free_refused : is_named (argument 1 call) (block_at (argument 0 call) m.memory.heap) ≡ false
-      → Follows (alerted (codes "MEM") t call) m n a b → Follows (does_free_mem t call) m n a b
-  unfolding does_free_mem
+      → Follows (alerted (codes "MEM") t call) m n a b → Follows (does_memory words.FreeMem t call) m n a b
+  unfolding performs memory_deed
   free_refused refused follows = follows_as
       (λ s e.
       let same : is_named (argument 1 call) (block_at (argument 0 call) s.memory.heap) ≡ false =
@@ -59,8 +70,8 @@ module _ {m n : Seen} {a b : Tape} (t : ℕ) (call : Call) where
 
   pub free_done : {o : Seen} → is_named (argument 1 call) (block_at (argument 0 call) m.memory.heap) ≡ true
       → n ≡ record m { memory = freed (argument 0 call) m.memory }
-      → Follows (done t call) n o a b → Follows (does_free_mem t call) m o a b
-  unfolding does_free_mem
+      → Follows (done t call) n o a b → Follows (does_memory words.FreeMem t call) m o a b
+  unfolding performs memory_deed
   free_done named is follows = follows_as
       {g = λ s. done t call (on_memory (freed (argument 0 call)) s)}
       (λ s e.
@@ -70,14 +81,14 @@ module _ {m n : Seen} {a b : Tape} (t : ℕ) (call : Call) where
       (follows_change (moves_memory (freed (argument 0 call)) (freed (argument 0 call)) (λ y. refl) is) follows)
 
   pub avail_refused : can_be_asked (argument 0 call) ≡ false
-      → Follows (alerted (codes "VALUE") t call) m n a b → Follows (does_avail_mem t call) m n a b
-  unfolding does_avail_mem
+      → Follows (alerted (codes "VALUE") t call) m n a b → Follows (does_memory words.AvailMem t call) m n a b
+  unfolding performs memory_deed
   avail_refused refused follows = follows_as (λ s e. rw refused refl) follows
 
   pub avail_answered : (answer : ℕ) → can_be_asked (argument 0 call) ≡ true
       → answer ≡ avail m.memory.regions (extents m.memory.heap) (argument 0 call)
-      → Follows (answered t call answer) m n a b → Follows (does_avail_mem t call) m n a b
-  unfolding does_avail_mem
+      → Follows (answered t call answer) m n a b → Follows (does_memory words.AvailMem t call) m n a b
+  unfolding performs memory_deed
   avail_answered answer allowed is follows = follows_as
       {g = answered t call answer}
       (λ s e.

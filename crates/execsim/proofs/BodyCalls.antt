@@ -1,24 +1,27 @@
 -- How the machine follows the body of a software interrupt or of a server.
 use Rattle.std.proofs.Common.{◌≡◌, ℕ, zero, suc, ◌+◌, ◌≤◌, true, false, List, [], ◌∷◌, length, take, Option, None, Some, refl, ap, sym, ◌∙◌, subst, add-one, map}
-use Rattle.std.specs.Prelude.{IfSome, slice_get}
+use Rattle.std.specs.Prelude.{IfSome, codes, slice_get}
 use Rattle.std.specs.Option.{option_map}
 use Rattle.std.proofs.lemmas.Option.{slice_get-map}
 use Rattle.std.proofs.lemmas.List.{take_all}
 use Rattle.exectrace.specs.Sink.{Tape, Puts}
 use Rattle.exectrace.specs.Trace.{printed_line, Server, Softint}
+use Rattle.exectrace.specs.Trace as trace
 use Rattle.taskscript.specs.declared.command.Command.{Command}
 use Rattle.taskscript.specs.declared.variable.Variable.{Variable}
 use Rattle.taskscript.specs.declared.word.Word.TheVariants.{Plain}
 use Rattle.taskscript.specs.declared.word.plain.PlainWord.{PlainWord}
+use Rattle.taskscript.specs.declared.word.plain.PlainWord.TheVariants as plain
+use Rattle.taskscript.specs.Words.{word_text}
 use Rattle.taskscript.specs.Commands.{CommandData, command_view}
 use Rattle.execmodel.specs.State.{Timer as Clock, Bodies, Call, State, quiet, says, andthen, unless_stopped, on_scripts}
 use Rattle.execmodel.specs.Bodies.{body_step, does_in_body, does_plain_by, does_word_by, runs_body}
-use Rattle.execmodel.specs.Calls.{Caller, ByBody, call_in_body, silent_by, stored_shared}
+use Rattle.execmodel.specs.Calls.{Caller, ByBody, call_in_body, done_by, silent_by, stored_shared}
 use Rattle.execmodel.specs.Interrupts.{runs_server, server_at, softint_at}
 use Rattle.execsim.specs.declared.bodies.Body.{Body}
 use Rattle.execsim.specs.Actions.{does_at_place, softint_body}
 use Rattle.execsim.specs.Agreement.{Seen, Agrees, Follows}
-use Rattle.execsim.specs.Views.{code_of_body, name_of_body}
+use Rattle.execsim.specs.Views.{code_of_body}
 use Rattle.execsim.proofs.Following.{andthen-assoc, andthen-quiet, andthen-second, follows_as, follows_known, follows_nothing, follows_quietly, follows_says, follows_then, guarded_going, guarded_stopped, moves_scripts, reads_scripts}
 use Rattle.execsim.proofs.Keeping.{body_keeps}
 
@@ -53,6 +56,15 @@ pub stored_as : {m n : Seen} {a b : Tape} (name : List ℕ) (command : CommandDa
     → ((name : List ℕ) (s : State) → does_in_body name call s ≡ silent_by (ByBody name) call value s)
     → Follows (silent_by (ByBody name) call value) m n a b → Follows (body_step name command) m n a b
 stored_as name command call value is same follows = step_as name command call is (follows_as {g = silent_by (ByBody name) call value} (λ s e. same name s) follows)
+
+-- Print prints the line of its call
+pub printed_as : {m : Seen} {a b : Tape} (name : List ℕ) (command : CommandData) → command.word ≡ Plain plain.Print
+    → Puts a b (printed_line (trace.Call name (codes "Print") (call_in_body command m.scripts).arguments trace.Done)) → Follows (body_step name command) m m a b
+unfolding does_in_body
+printed_as {m} {a} {b} name command is puts =
+    let call = call_in_body command m.scripts in
+    step_as name command call refl (follows_as {g = done_by (ByBody name) call} (λ s e. ap (λ w. does_word_by w (ByBody name) call s) is)
+    (follows_says _ (subst (λ w. Puts a b (printed_line (trace.Call name (word_text w) call.arguments trace.Done))) (sym is) puts)))
 
 module _ {m : Seen} (name : List ℕ) (here : Option CommandData) where
   pub place_stopped : (t : Tape) → m.stopped ≡ true → Follows (does_at_place name here) m m t t
@@ -103,12 +115,10 @@ more_commands {m} {n} {o} {a} {b} {c} body name code place is before last = rw a
     same_code : (s : State) → Agrees m s → code_of_body body n.bodies ≡ code
     same_code s e = ap (code_of_body body) (same_bodies s e) ∙ sym is
 
-pub all_commands : {m n : Seen} {a b : Tape} (body : Body) (name : List ℕ) (code : List CommandData) (place : ℕ) → name ≡ name_of_body body m.bodies
-    → code ≡ code_of_body body m.bodies → length code ≤ place → Follows (runs_body name (take place code)) m n a b
-    → Follows (runs_body (name_of_body body m.bodies) (code_of_body body m.bodies)) m n a b
-all_commands {m} {n} {a} {b} body name code place named is all follows =
-    subst (λ (x : List ℕ). Follows (runs_body x (code_of_body body m.bodies)) m n a b) named
-    (subst (λ (x : List CommandData). Follows (runs_body name x) m n a b) (take_all place code all ∙ is) follows)
+pub all_commands : {m n : Seen} {a b : Tape} (name : List ℕ) (code : List CommandData) (place : ℕ) → length code ≤ place
+    → Follows (runs_body name (take place code)) m n a b → Follows (runs_body name code) m n a b
+all_commands {m} {n} {a} {b} name code place all follows =
+    subst (λ (x : List CommandData). Follows (runs_body name x) m n a b) (take_all place code all) follows
 
 -- ---- a software interrupt, and a server
 

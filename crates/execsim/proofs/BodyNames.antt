@@ -3,10 +3,14 @@ use Rattle.std.proofs.Common.{◌≡◌, ◌≢◌, ℕ, suc, ◌+◌, ◌<◌, 
 use Rattle.std.specs.Prelude.{◌||◌, nat_lt, bytes_eq}
 use Rattle.std.specs.List.{AllPairs, list_any, position, position_or_len}
 use Rattle.std.proofs.lemmas.Bool.{ltb-false}
-use Rattle.std.proofs.lemmas.List.{get_or-take, length-map, length-take-le, map_push, take-map, take_more}
+use Rattle.std.proofs.lemmas.List.{get_or-take, get_or_default, length-map, length-take-le, map_push, take-map, take_more}
 use Rattle.std.proofs.Math.ListN.{get_or-map as default_map}
-use Rattle.std.proofs.lemmas.List.Sums.{prefix_len-le-length}
+use Rattle.std.proofs.lemmas.List.Sums.{position_or_len_is, prefix_len-le-length}
 use Rattle.std.proofs.lemmas.Slice.Eq.{bytes_eq-Decides}
+use Rattle.taskscript.specs.File.{SoftintData}
+use Rattle.taskscript.specs.Machines.{softint_names}
+use Rattle.execmodel.specs.Interrupts.{no_softint}
+use Rattle.execmodel.specs.Pending.{softint_named}
 
 no_bytes : (n x : List ℕ) → n ≢ x → bytes_eq n x ≡ false
 no_bytes n x other = by_case (bytes_eq n x) refl where
@@ -15,6 +19,21 @@ no_bytes n x other = by_case (bytes_eq n x) refl where
   by_case false e = refl
 
 -- ---- the number of a name
+
+-- a name that is at a place among names that differ
+place_named : (name : List ℕ) (names : List (List ℕ)) (i : ℕ) → AllPairs (λ s t. s ≢ t) names → i < length names → get_or names i name ≡ name
+    → i ≡ position_or_len (bytes_eq name) names
+place_named name names i differ within here = sym (position_or_len_is (bytes_eq name) names i name (omega (arith, within))
+    (λ k before. no_bytes name (get_or names k name) (λ e. differ k i name before within (sym e ∙ sym here)))
+    (λ _. (bytes_eq-Decides name (get_or names i name)).1 (sym here)))
+
+-- a software interrupt that has the name
+pub softint_placed : (softints : List SoftintData) (i : ℕ) (name : List ℕ) → AllPairs (λ s t. s ≢ t) (softint_names softints) → i < length softints
+    → (get_or softints i no_softint).name ≡ name → i ≡ softint_named name softints
+softint_placed softints i name differ within is =
+    let inside : i < length (map (λ (s : SoftintData). s.name) softints) = rw length-map within in
+    place_named name (map (λ (s : SoftintData). s.name) softints) i differ inside
+    (get_or_default (map (λ (s : SoftintData). s.name) softints) i name no_softint.name inside ∙ default_map (λ (s : SoftintData). s.name) softints i no_softint ∙ is)
 
 module _ {X : Type 0} (bytes : X → List ℕ) (name : List ℕ) where
   abbrev has_name : X → Bool

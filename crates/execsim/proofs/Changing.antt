@@ -1,23 +1,30 @@
 -- How the machine follows a plain word that is done on its command, with no call between.
-use Rattle.std.proofs.Common.{◌≡◌, ℕ, ◌+◌, ◌-◌, ◌%◌, ◌^◌, List, None, Some, refl, ap, sym, ◌∙◌, map, take}
+use Rattle.std.proofs.Common.{◌≡◌, ℕ, ◌+◌, ◌-◌, ◌%◌, ◌^◌, List, None, Some, length, refl, ap, sym, ◌∙◌, map, take}
+use Rattle.std.proofs.Math.ListN.{length-set}
 use Rattle.std.proofs.lemmas.Option.{slice_get-map}
 use Rattle.std.specs.Option.{option_map}
-use Rattle.std.specs.Prelude.{Option, IfSome, if◌then◌else◌, nat_eq, bit_and, bit_or, slice_get}
-use Rattle.exectrace.specs.Sink.{Tape}
+use Rattle.std.specs.Prelude.{Option, IfSome, codes, if◌then◌else◌, nat_eq, bit_and, bit_or, slice_get}
+use Rattle.exectrace.specs.Sink.{Puts, Tape}
+use Rattle.exectrace.specs.Trace.{Done, printed_line}
 use Rattle.exectrace.specs.Trace as trace
 use Rattle.taskscript.specs.declared.command.Argument.{Argument}
 use Rattle.taskscript.specs.declared.command.Command.{Command}
 use Rattle.taskscript.specs.Commands.{ArgumentData, CommandData, argument_view, command_view}
+use Rattle.taskscript.specs.Words.{word_text}
+use Rattle.taskscript.specs.declared.variable.Variable.{Variable}
+use Rattle.taskscript.specs.declared.variable.Variable.TheVariants.{Private, Shared}
 use Rattle.taskscript.specs.declared.word.Word.TheVariants.{Plain}
 use Rattle.taskscript.specs.declared.word.plain.PlainWord.TheVariants as word
+use Rattle.scheduler.specs.Schedule.{name_of}
 use Rattle.execmodel.specs.State.{Call, Scripts, State, program_of}
-use Rattle.execmodel.specs.Calls.{argument, call_of, evaluated, goes_on, next_call, number_in, silent, stored}
-use Rattle.execmodel.specs.Plain.{does_set, does_add, does_sub, does_and, does_or, jumps, does_jump, does_jump_zero, does_jump_not_zero}
+use Rattle.execmodel.specs.Calls.{argument, call_of, done, evaluated, goes_on, next_call, number_in, silent, stored}
+use Rattle.execmodel.specs.Plain.{does_set, does_add, does_sub, does_and, does_or, jumps, does_jump, does_jump_zero, does_jump_not_zero, does_print}
 use Rattle.execmodel.specs.Step.{call_step, does, does_word, task_step}
-use Rattle.execsim.specs.Changes.{changes}
-use Rattle.execsim.specs.Agreement.{Seen, Follows}
+use Rattle.execsim.specs.Changes.{PutsPrint, changes}
+use Rattle.execsim.specs.Agreement.{Seen, Follows, line_seen}
 use Rattle.execsim.specs.declared.change.Change.{Change}
-use Rattle.execsim.proofs.Calling.{next-command}
+use Rattle.execsim.proofs.Calling.{map-map_as, next-command}
+use Rattle.execsim.proofs.Endings.{follows_done}
 use Rattle.execsim.proofs.Following.{moves_scripts, follows_as, follows_quietly}
 use Rattle.execsim.proofs.Stepping.{task_step_as}
 
@@ -103,3 +110,46 @@ follows_changes t change tape first is = follows_quietly tape
 pub changed_as : {m n : Seen} {tape : Tape} (t : ℕ) (change : Change) → ((s : State) → call_step t (next_call t m.scripts) s ≡ changes t change s)
     → Follows (changes t change) m n tape tape → Follows (task_step (Some t)) m n tape tape
 changed_as t change is follows = task_step_as t _ refl (follows_as {g = changes t change} (λ s e. is s) follows)
+
+-- a plain word leaves as many tasks
+pub tasks_after : (t : ℕ) (target : Option Variable) (value next : ℕ) (scripts : Scripts)
+    → length (goes_on t next (stored t target value scripts)).programs ≡ length scripts.programs
+tasks_after t None value next scripts = simp length-set refl
+tasks_after t (Some (Private v)) value next scripts = simp length-set refl
+tasks_after t (Some (Shared v)) value next scripts = simp length-set refl
+
+-- ---- Print
+
+-- the line of a Print, by the parts that are put
+pub print_line : (t next : ℕ) (command : Command) (m : Seen) {name : List ℕ} {shown : List trace.Argument} → name ≡ name_of m.schedule t
+    → command.word ≡ Plain word.Print
+    → shown ≡ map (λ a. evaluated t m.scripts (argument_view command.name.bytes a)) (take command.count command.arguments)
+    → trace.Call name (codes "Print") shown Done ≡ line_seen t (call_of t next (command_view command) m.scripts) Done m
+unfolding call_of
+print_line t next command m {shown = shown} named prints values =
+    ap (λ x. trace.Call x (codes "Print") shown Done) named
+    ∙ ap (λ w. trace.Call (name_of m.schedule t) (word_text w) shown Done) (sym prints)
+    ∙ ap (λ x. trace.Call (name_of m.schedule t) (word_text command.word) x Done)
+    (values ∙ map-map_as (evaluated t m.scripts) (argument_view command.name.bytes) (take command.count command.arguments))
+
+-- what task t does next is a Print of that command
+pub puts_next : {m : Seen} {a b : Tape} (t place : ℕ) (command : CommandData) → (program_of m.scripts t).kept ≡ None
+    → slice_get (program_of m.scripts t).code (program_of m.scripts t).place ≡ Some command → place ≡ (program_of m.scripts t).place + 1
+    → command.word ≡ Plain word.Print
+    → ((next : ℕ) → Puts a b (printed_line (line_seen t (call_of t next command m.scripts) Done m))) → PutsPrint t place m a b
+unfolding call_of
+puts_next {m} t place command kept here behind prints line = record {
+  call = call_of t place command m.scripts;
+  is = next-command t m.scripts command kept here ∙ ap (λ next. Some (call_of t next command m.scripts)) (sym behind);
+  prints = prints;
+  behind = refl;
+  line = line place;
+}
+
+-- a task that has put the line of its next call, a Print, and goes on does that call
+pub printed_as : {m n : Seen} {a b : Tape} (t next : ℕ) → PutsPrint t next m a b → n ≡ record m { scripts = goes_on t next m.scripts }
+    → Follows (task_step (Some t)) m n a b
+unfolding does does_print
+printed_as {m} t next puts is = task_step_as t (Some puts.call) puts.is
+    (follows_as {g = done t puts.call} (λ s e. ap (λ w. does_word w t puts.call s) puts.prints)
+    (follows_done t puts.call (is ∙ ap (λ (k : ℕ). record m { scripts = goes_on t k m.scripts }) (sym puts.behind)) puts.line))

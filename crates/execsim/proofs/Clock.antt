@@ -112,7 +112,7 @@ gains_then a b s r q first second =
     let both = right-distrib a b s.memory.timer.tick_micros in
     record { micros = second.micros ∙ first.micros; clock = omega (arith, more, some, both) }
 
-steps_gain : (n : ℕ) (s : State) → Gains 0 s (steps n s).state
+pub steps_gain : (n : ℕ) (s : State) → Gains 0 s (steps n s).state
 steps_gain n s = gains_none s _ (of_steps Stands each_stands n s)
 
 request_gains : (asks : Source) (s : State) → Gains 0 s (request asks s).state

@@ -1,5 +1,5 @@
 -- How the machine follows the words of lists and nodes.
-use Rattle.std.proofs.Common.{◌≡◌, ℕ, [], Bool, false, true, Option, None, Some, List, refl, ap, sym}
+use Rattle.std.proofs.Common.{◌≡◌, ℕ, [], Bool, false, true, Option, None, Some, List, refl, ap, sym, ◌∙◌}
 use Rattle.std.specs.Prelude.{Result, Ok, Err, IfOk, OnOk, OnErr, codes}
 use Rattle.std.specs.Int.{cast_signed, w32}
 use Rattle.std.specs.Option.{unwrap_or}
@@ -9,8 +9,11 @@ use Rattle.execmodel.specs.Calls.{Caller, ByTask, unless, unless_by, argument, n
 use Rattle.execmodel.specs.Memory.{allocates, makes_object, placed}
 use Rattle.execmodel.specs.GivingWay.{after_asking_for_object}
 use Rattle.execmodel.specs.Objects.{place_for_object}
-use Rattle.execmodel.specs.Lists.{does_new_list, does_new_node, is_list, is_node, list_size, node_size}
+use Rattle.taskscript.specs.declared.word.lists.ListWord.TheVariants as lists
+use Rattle.execmodel.specs.Deeds.{makes}
+use Rattle.execmodel.specs.Lists.{does_lists, is_list, is_node, list_deed, list_size, new_node_alert, node_size}
 use Rattle.execmodel.specs.Tasks.{is_priority}
+use Rattle.execmodel.proofs.Deeds.{making}
 use Rattle.execheap.specs.declared.refusal.Refusal.{Refusal}
 use Rattle.execheap.specs.Refusals.{alert_of, code_of}
 use Rattle.execsim.specs.Agreement.{Seen, Follows, queues_in_order}
@@ -110,11 +113,6 @@ pub room-in_order : (kind : Object → Bool) (size : ℕ) (y : Memory) → place
 unfolding place_for_object
 room-in_order kind size y = refl
 
-pub node_refused : {m n : Seen} {a b : Tape} (t : ℕ) (call : Call) → is_priority (cast_signed w32 (argument 0 call)) ≡ false
-    → Follows (alerted (codes "VALUE") t call) m n a b → Follows (does_new_node t call) m n a b
-unfolding does_new_node
-node_refused t call outside follows = follows_as (λ s e. rw outside refl) follows
-
 module _ {m n o : Seen} {a b : Tape} (t : ℕ) (call : Call) where
   -- an object is made if it fits, and the call answers the address that it got
   object_made : (kind : Object → Bool) (size : ℕ) (object : Object) (place : Option ℕ) → place ≡ place_for_object kind size m.memory
@@ -141,21 +139,35 @@ module _ {m n o : Seen} {a b : Tape} (t : ℕ) (call : Call) where
 
   pub list_made : (place : Option ℕ) → place ≡ place_for_object is_list list_size (after_asking_for_object is_list list_size m.memory)
       → n ≡ record m { memory = placed list_size (ListHead []) place (after_asking_for_object is_list list_size m.memory) }
-      → Follows (answered t call (unwrap_or place 0)) n o a b → Follows (does_new_list t call) m o a b
-  unfolding does_new_list
-  list_made place = follows_made is_list list_size (ListHead []) place
+      → Follows (answered t call (unwrap_or place 0)) n o a b → Follows (does_lists lists.NewList t call) m o a b
+  unfolding list_deed
+  list_made place fits is follows = follows_as
+      {g = λ s. makes_object t call is_list list_size (ListHead []) (on_memory (after_asking_for_object is_list list_size) s)}
+      (λ s e. making None is_list list_size (ListHead []) t call s)
+      (follows_made is_list list_size (ListHead []) place fits is follows)
 
+-- a node with the priority that the word is, read as a signed one, and with that name or none
+abbrev node_asked : Call → Object
+node_asked call = Node (record { pri = cast_signed w32 (argument 0 call); name = name_argument 1 call })
+
+-- NewNode is that deed
+new_node_is : (t : ℕ) (call : Call) (s : State) → does_lists lists.NewNode t call s
+    ≡ unless (new_node_alert (cast_signed w32 (argument 0 call))) t call
+    (λ s. makes_object t call is_node node_size (node_asked call) (on_memory (after_asking_for_object is_node node_size) s)) s
+unfolding list_deed
+new_node_is t call s = making (new_node_alert (cast_signed w32 (argument 0 call))) is_node node_size (node_asked call) t call s
+
+module _ {m o : Seen} {a b : Tape} (t : ℕ) (call : Call) where
+  pub node_refused : is_priority (cast_signed w32 (argument 0 call)) ≡ false
+      → Follows (alerted (codes "VALUE") t call) m o a b → Follows (does_lists lists.NewNode t call) m o a b
+  node_refused outside follows = follows_as (λ s e. new_node_is t call s ∙ rw outside refl) follows
+
+module _ {m n o : Seen} {a b : Tape} (t : ℕ) (call : Call) where
   pub node_made : (place : Option ℕ) → is_priority (cast_signed w32 (argument 0 call)) ≡ true
       → place ≡ place_for_object is_node node_size (after_asking_for_object is_node node_size m.memory)
-      → n ≡ record m {
-        memory = placed node_size (Node (record { pri = cast_signed w32 (argument 0 call); name = name_argument 1 call })) place
-            (after_asking_for_object is_node node_size m.memory);
-      }
-      → Follows (answered t call (unwrap_or place 0)) n o a b → Follows (does_new_node t call) m o a b
-  unfolding does_new_node
-  node_made place inside fits is follows =
-      let node = Node (record { pri = cast_signed w32 (argument 0 call); name = name_argument 1 call }) in
-      follows_as
-      {g = λ s. makes_object t call is_node node_size node (on_memory (after_asking_for_object is_node node_size) s)}
-      (λ s e. rw inside refl)
-      (follows_made is_node node_size node place fits is follows)
+      → n ≡ record m { memory = placed node_size (node_asked call) place (after_asking_for_object is_node node_size m.memory) }
+      → Follows (answered t call (unwrap_or place 0)) n o a b → Follows (does_lists lists.NewNode t call) m o a b
+  node_made place inside fits is follows = follows_as
+      {g = λ s. makes_object t call is_node node_size (node_asked call) (on_memory (after_asking_for_object is_node node_size) s)}
+      (λ s e. new_node_is t call s ∙ rw inside refl)
+      (follows_made t call is_node node_size (node_asked call) place fits is follows)

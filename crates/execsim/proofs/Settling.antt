@@ -1,10 +1,7 @@
 -- What a settled machine does, and what leaves a machine settled.
-use Rattle.std.proofs.Common.{◌≡◌, ℕ, zero, suc, ◌+◌, ◌<◌, length, Bool, true, false, cond, ◌&&◌, ◌||◌, Option, None, Some, refl, ap, sym, ◌∙◌, subst, add-one, arith}
-use Rattle.std.proofs.Math.ListN.{length-set}
+use Rattle.std.proofs.Common.{◌≡◌, ℕ, zero, suc, ◌+◌, Bool, true, false, cond, ◌&&◌, ◌||◌, Option, None, Some, refl, ap, sym, ◌∙◌, subst, add-one, arith}
 use Rattle.std.specs.Prelude.{if◌then◌else◌, is_some, nat_eq, int_lt, int_le, List, ◌++◌}
 use Rattle.exectrace.specs.Sink.{Tape}
-use Rattle.taskscript.specs.declared.variable.Variable.{Variable}
-use Rattle.taskscript.specs.declared.variable.Variable.TheVariants.{Private, Shared}
 use Rattle.execlist.specs.Order.{first}
 use Rattle.execlist.specs.Disciplines.{by_priority, pri_at}
 use Rattle.scheduler.specs.Schedule.{Schedule, is_quantum_over, is_switching_allowed, priority_of, renewed, switch_for}
@@ -13,7 +10,6 @@ use Rattle.scheduler.specs.declared.Switch.TheVariants.{To}
 use Rattle.scheduler.specs.Dispatch.{after_switch, rescheduled, switch_of}
 use Rattle.softint.specs.Sources.{highest}
 use Rattle.execmodel.specs.State.{Outcome, Scripts, State, andthen, quiet}
-use Rattle.execmodel.specs.Calls.{goes_on, stored}
 use Rattle.execmodel.specs.Pending.{allows_interrupts}
 use Rattle.execmodel.specs.Step.{announced, settle, step, steps, task_step}
 use Rattle.execsim.specs.Actions.{softint_seen}
@@ -108,22 +104,15 @@ module _ {m : Seen} (settled : IsSettled m) where
       (record { going = settled.going; unasked = settled.unasked; unswitched = settled.unswitched; stays = settled.stays })
 
   -- the machine is idle
-  idle_step : (tape : Tape) → softint_seen m ≡ None → m.schedule.running ≡ None → Follows step m m tape tape
+  pub idle_step : (tape : Tape) → softint_seen m ≡ None → m.schedule.running ≡ None → Follows step m m tape tape
   idle_step tape uncaused none =
       step_as (acts_going settled.going (acting_task (sym uncaused) refl (running_none tape none))) (settle_settled tape)
 
 -- the running task does a plain word
-pub word_step : {m n : Seen} {tape : Tape} (t : ℕ) → IsSettled m → softint_seen m ≡ None → m.schedule.running ≡ Some t
-    → Follows (task_step (Some t)) m n tape tape → IsSettled n → Follows step m n tape tape
-word_step {tape = tape} t settled uncaused runs follows after =
-    step_as (acts_going settled.going (acting_task (sym uncaused) refl (running_as (Some t) runs follows))) (settle_settled after tape)
-
--- a plain word leaves as many tasks
-pub known_after : (k t : ℕ) (target : Option Variable) (value next : ℕ) (scripts : Scripts) → k < length scripts.programs
-    → k < length (goes_on t next (stored t target value scripts)).programs
-known_after k t None value next scripts known = simp length-set known
-known_after k t (Some (Private v)) value next scripts known = simp length-set known
-known_after k t (Some (Shared v)) value next scripts known = simp length-set known
+pub word_step : {m n : Seen} {a b : Tape} (t : ℕ) → IsSettled m → softint_seen m ≡ None → m.schedule.running ≡ Some t
+    → Follows (task_step (Some t)) m n a b → IsSettled n → Follows step m n a b
+word_step {b = b} t settled uncaused runs follows after =
+    step_as (acts_going settled.going (acting_task (sym uncaused) refl (running_as (Some t) runs follows))) (settle_settled after b)
 
 -- no software interrupt is caused
 pub none_caused : (m : Seen) → is_some (first m.pending.caused) ≡ false → softint_seen m ≡ None
@@ -175,6 +164,10 @@ same_end f s = ap (λ (o : Outcome). record { state = o.state; lines = (f s).lin
 pub then_step : {m n o : Seen} {a b c : Tape} (k : ℕ) → Follows (steps k) m n a b → Follows step n o b c → Follows (steps (k + 1)) m o a c
 then_step k before last = follows_as {g = andthen (steps k) step}
     (λ s e. steps_then k 1 s ∙ same_end (steps k) s) (follows_then before last)
+
+-- some steps after some
+pub follows_steps : {m n o : Seen} {a b c : Tape} (i k : ℕ) → Follows (steps i) m n a b → Follows (steps k) n o b c → Follows (steps (i + k)) m o a c
+follows_steps i k before last = follows_as {g = andthen (steps i) (steps k)} (λ s e. steps_then i k s) (follows_then before last)
 
 pub no_step : (m : Seen) (tape : Tape) → Follows (steps 0) m m tape tape
 unfolding steps

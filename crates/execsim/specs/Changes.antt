@@ -1,10 +1,29 @@
--- What a plain word that prints nothing changes.
-use Rattle.std.specs.Prelude.{ℕ}
-use Rattle.execmodel.specs.State.{State, Outcome, quiet, on_scripts}
-use Rattle.execmodel.specs.Calls.{goes_on, stored}
+-- What a plain word changes, and what Print puts.
+use Rattle.std.specs.Prelude.{◌≡◌, ℕ, Some, length}
+use Rattle.exectrace.specs.Sink.{Puts, Tape}
+use Rattle.exectrace.specs.Trace.{Done, printed_line}
+use Rattle.taskscript.specs.declared.word.Word.TheVariants.{Plain}
+use Rattle.taskscript.specs.declared.word.plain.PlainWord.TheVariants.{Print}
+use Rattle.execmodel.specs.State.{Call, Scripts, State, Outcome, quiet, on_scripts}
+use Rattle.execmodel.specs.Calls.{goes_on, next_call, stored}
 use Rattle.execsim.specs.declared.change.Change.{Change}
+use Rattle.execsim.specs.Agreement.{Seen, line_seen}
 
 -- a variable of task t, or none, is given a value, and the task goes on at the place of the change
 abbrev pub changes : ℕ → Change → State → Outcome
 changes t change s =
     quiet (on_scripts (λ scripts. goes_on t change.next (stored t change.target change.value scripts)) s)
+
+-- the next call of task t is a Print, whose line is put, and after it the task is to go on at that place
+pub record PutsPrint (t next : ℕ) (seen : Seen) (before after : Tape) : Type 0 where
+  pub call : Call
+  pub is : next_call t seen.scripts ≡ Some call
+  pub prints : call.word ≡ Plain Print
+  pub behind : call.next ≡ next
+  pub line : Puts before after (printed_line (line_seen t call Done seen))
+
+-- what the tasks execute changes, of as many tasks, and nothing else
+pub record ChangesScripts (old new : Seen) : Type 0 where
+  pub scripts : Scripts
+  pub is : new ≡ record old { scripts = scripts }
+  pub tasks : length scripts.programs ≡ length old.scripts.programs

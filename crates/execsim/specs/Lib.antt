@@ -1,4 +1,5 @@
 pub mod Actions
+pub mod Advancing
 pub mod Agreement
 pub mod Callers
 pub mod Changes

@@ -1,5 +1,5 @@
 //! What the software interrupts and the servers execute. Nothing changes it once the machine is made, until it is reset.
-ghost use Rattle.std.specs.Prelude.{◌≡◌, ◌≢◌, All, IfOk, length, map, slice_index_or, true};
+ghost use Rattle.std.specs.Prelude.{◌≡◌, ◌≢◌, ◌<◌, All, IfOk, length, map, slice_index_or, true};
 ghost use Rattle.std.specs.List.{AllPairs};
 ghost use Rattle.taskscript.specs.Commands.{command_view};
 ghost use Rattle.taskscript.specs.Machines.{softint_names};
@@ -15,6 +15,9 @@ use indexmap::IndexSet;
 use std::alloc::{AllocError, Global};
 use std::marker::Model;
 use taskscript::{Command, ServerRecord, SoftintRecord, Source};
+
+/// How many marks of names there are.
+const HINTS: usize = 256;
 
 /// A software interrupt.
 #[derive(Drop)]
@@ -50,10 +53,13 @@ pub struct Bodies {
     servers: Vec<Server>,
     // the names of the software interrupts, in the same order
     names: IndexSet<Name>,
+    // for the names with one mark each, the number of a software interrupt that may have such a name
+    hints: [usize; HINTS],
 }
 
 impl Model for Bodies {
-    ghost use Rattle.std.specs.Prelude.{◌≡◌, map};
+    ghost use Rattle.std.specs.Prelude.{◌≡◌, ◌≢◌, map};
+    ghost use Rattle.std.specs.List.{AllPairs};
     ghost use Rattle.taskscript.specs.Machines.{softint_names};
     ghost use Rattle.taskscript.specs.Numbering.{texts};
     ghost use Rattle.execmodel.specs.State as model;
@@ -63,7 +69,28 @@ impl Model for Bodies {
 
     ghost view = { λ b. record { softints = map softint_view b.softints.items; servers = map server_view b.servers.items } };
 
-    ghost invariant = { λ b. texts b.names.keys ≡ softint_names (map softint_view b.softints.items) };
+    ghost invariant = { λ b. (texts b.names.keys ≡ softint_names (map softint_view b.softints.items))
+        × AllPairs (λ s t. s ≢ t) (softint_names (map softint_view b.softints.items)) };
+}
+
+/// A mark of a name, by its last two bytes and its length.
+fn mark_of(name: &Name) -> usize
+    ensures { result < 256 }
+{
+    let bytes = name.as_str().as_bytes();
+    let len = bytes.len();
+    let last = usize::from(bytes.get(len.wrapping_sub(1)).copied().unwrap_or(0));
+    let before = usize::from(bytes.get(len.wrapping_sub(2)).copied().unwrap_or(0));
+    (last + before * 16 + len * 64) % HINTS
+}
+
+/// For each mark the number of the last software interrupt whose name has it, and else 0.
+fn hints_of(softints: &[Softint]) -> [usize; HINTS] {
+    let mut hints = [0; HINTS];
+    for (i, softint) in softints.iter().enumerate() {
+        hints[mark_of(&softint.name)] = i;
+    }
+    hints
 }
 
 /// A software interrupt of a file.
@@ -127,14 +154,14 @@ fn names_of(alloc: Global, softints: &[SoftintRecord]) -> Result<IndexSet<Name>,
 }
 
 /// Gives a software interrupt the commands of one of a file, if it has its name, its priority and as many commands, and answers whether it has.
-fn reset_softint(softint: &mut Softint, record: &SoftintRecord) -> bool
-    ensures same { result ≡ true → softint_view softint.new ≡ records.softint_view record.now }
+fn reset_softint(softint: &mut Softint, file: &SoftintRecord) -> bool
+    ensures same { result ≡ true → softint_view softint.new ≡ records.softint_view file.now }
     ensures name { softint.new.name ≡ softint.old.name }
     ensures pri { softint.new.pri ≡ softint.old.pri }
 {
-    softint.name.as_str() == record.name.as_str()
-        && softint.pri == record.pri
-        && copy_code(&record.code, &mut softint.code)
+    softint.name.as_str() == file.name.as_str()
+        && softint.pri == file.pri
+        && copy_code(&file.code, &mut softint.code)
 }
 
 /// Gives the software interrupts the commands of those of a file, if all else is the same, and answers whether it is.
@@ -155,16 +182,16 @@ fn reset_softints(softints: &mut Vec<Softint>, file: &[SoftintRecord]) -> bool
 }
 
 /// Gives a server the commands of one of a file, if all else is the same and it has as many commands, and answers whether it is.
-fn reset_server(server: &mut Server, record: &ServerRecord) -> bool
-    ensures same { result ≡ true → server_view server.new ≡ records.server_view record.now }
+fn reset_server(server: &mut Server, file: &ServerRecord) -> bool
+    ensures same { result ≡ true → server_view server.new ≡ records.server_view file.now }
     ensures source { server.new.source ≡ server.old.source }
     ensures pri { server.new.pri ≡ server.old.pri }
 {
-    server.name.as_str() == record.name.as_str()
-        && server.source == record.source
-        && server.pri == record.pri
-        && server.claim == record.claim
-        && copy_code(&record.code, &mut server.code)
+    server.name.as_str() == file.name.as_str()
+        && server.source == file.source
+        && server.pri == file.pri
+        && server.claim == file.claim
+        && copy_code(&file.code, &mut server.code)
 }
 
 /// Gives the servers the commands of those of a file, if all else is the same, and answers whether it is.
@@ -183,6 +210,25 @@ fn reset_servers(servers: &mut Vec<Server>, file: &[ServerRecord]) -> bool
     true
 }
 
+/// Whether a software interrupt has this name.
+fn is_called(softint: &Softint, name: &Name) -> bool
+    ensures { result ≡ true → softint.now.name.bytes ≡ name.now.bytes }
+{
+    softint.name.as_str() == name.as_str()
+}
+
+/// Whether software interrupt i has this name.
+fn has_name(softints: &[Softint], i: usize, name: &Name) -> bool
+    ensures inside { result ≡ true → i < length softints.now }
+    ensures same { result ≡ true → (slice_index_or (map softint_view softints.now) i no_softint).name ≡ name.now.bytes }
+{
+    match softints.get(i) {
+        Some(softint) => is_called(softint, name),
+        None => false,
+    }
+}
+
+#[inline(always)]
 fn softint_name(softints: &[Softint], i: usize) -> Name
     ensures { result.bytes ≡ (slice_index_or (map softint_view softints.now) i no_softint).name }
 {
@@ -192,6 +238,7 @@ fn softint_name(softints: &[Softint], i: usize) -> Name
     }
 }
 
+#[inline(always)]
 fn softint_code(softints: &[Softint], i: usize) -> &[Command]
     ensures { map command_view result.now ≡ (slice_index_or (map softint_view softints.now) i no_softint).code }
 {
@@ -201,6 +248,7 @@ fn softint_code(softints: &[Softint], i: usize) -> &[Command]
     }
 }
 
+#[inline(always)]
 fn server_name(servers: &[Server], k: usize) -> Name
     ensures { result.bytes ≡ (slice_index_or (map server_view servers.now) k no_server).name }
 {
@@ -210,6 +258,7 @@ fn server_name(servers: &[Server], k: usize) -> Name
     }
 }
 
+#[inline(always)]
 fn server_code(servers: &[Server], k: usize) -> &[Command]
     ensures { map command_view result.now ≡ (slice_index_or (map server_view servers.now) k no_server).code }
 {
@@ -244,10 +293,12 @@ impl Bodies {
         let names = names_of(alloc, softints)?;
         let softints = softints_of(alloc, softints)?;
         let servers = servers_of(alloc, servers)?;
+        let hints = hints_of(&softints);
         Ok(Bodies {
             softints,
             servers,
             names,
+            hints,
         })
     }
 
@@ -266,13 +317,27 @@ impl Bodies {
         reset_softints(&mut self.softints, softints) && reset_servers(&mut self.servers, servers)
     }
 
-    /// The number of the software interrupt of a name; if none has it, the number of all of them.
-    pub fn softint_named(&self, name: Name) -> usize
-        ensures { result ≡ softint_named name.bytes self.now.softints }
+    /// The number of the software interrupt of a name, as it was looked up; if none has it, the number of all of them.
+    #[cold]
+    #[inline(never)]
+    fn softint_found(&self, name: &Name) -> usize
+        ensures { result ≡ softint_named name.now.bytes self.now.softints }
     {
-        match self.names.get_index_of(&name) {
+        match self.names.get_index_of(name) {
             Some(index) => index,
             None => self.names.len(),
+        }
+    }
+
+    /// The number of the software interrupt of a name; if none has it, the number of all of them. Mostly the hint for the name is right.
+    pub fn softint_named(&self, name: &Name) -> usize
+        ensures { result ≡ softint_named name.now.bytes self.now.softints }
+    {
+        let hint = self.hints[mark_of(name)];
+        if has_name(&self.softints, hint, name) {
+            hint
+        } else {
+            self.softint_found(name)
         }
     }
 
@@ -300,6 +365,7 @@ impl Bodies {
     }
 
     /// The name of a body; an empty one if there is none of that number.
+    #[inline(always)]
     pub fn name(&self, body: Body) -> Name
         ensures { result.bytes ≡ name_of_body body self.now }
     {
@@ -310,6 +376,7 @@ impl Bodies {
     }
 
     /// The commands of a body; none if there is none of that number.
+    #[inline(always)]
     pub fn code(&self, body: Body) -> &[Command]
         ensures { map command_view result.now ≡ code_of_body body self.now }
     {

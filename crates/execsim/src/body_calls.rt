@@ -1,6 +1,6 @@
 //! The calls that a body makes, how they end, and a whole body. A body has the shared variables alone, prints under its own name, and runs to
 //! its end at once, or to an alert.
-ghost use Rattle.std.specs.Prelude.{◌≡◌, ◌≤◌, ℕ, List, IfSome, Some, length, map, slice_get, take};
+ghost use Rattle.std.specs.Prelude.{◌≡◌, ◌≤◌, ℕ, List, IfSome, Some, true, codes, map, slice_get, take};
 ghost use Rattle.exectrace.specs.Short.{short_argument};
 ghost use Rattle.exectrace.specs.Sink.{Puts, Tape};
 ghost use Rattle.exectrace.specs.Shown.{shown_outcome};
@@ -15,7 +15,7 @@ ghost use Rattle.execmodel.specs.Calls as calls;
 ghost use Rattle.execsim.specs.Actions.{does_at_place};
 ghost use Rattle.execsim.specs.Agreement.{Follows};
 ghost use Rattle.taskscript.specs.Commands.{argument_view, command_view};
-ghost use Rattle.execsim.specs.Views.{call_view, code_of_body, name_of_body};
+ghost use Rattle.execsim.specs.Views.{call_view, code_of_body};
 
 use crate::bodies::Body;
 use crate::call::{Call, Caller};
@@ -31,10 +31,21 @@ use taskscript::{
     Argument, Command, InterruptWord, PlainWord, PortWord, SignalWord, Variable, Word,
 };
 
+/// Whether it is the word Print.
+fn is_print(word: Word) -> bool
+    ensures { result ≡ true → word ≡ Word.Plain PlainWord.Print }
+{
+    match word {
+        Word::Plain(PlainWord::Print) => true,
+        _ => false,
+    }
+}
+
 impl<S: ListSpace> Kernel<S> {
     // ---- the values of arguments
 
     /// The value of an argument in a body.
+    #[inline(always)]
     fn evaluate_in_body(&self, argument: Argument) -> ShortArg
         ensures { (name : List ℕ) → short_argument name result ≡ evaluated_in_body self.now.scripts (argument_view name argument) }
     {
@@ -69,6 +80,7 @@ impl<S: ListSpace> Kernel<S> {
     // ---- a plain word that prints nothing
 
     /// The number that an argument is in a body; 0 for a name.
+    #[inline(always)]
     fn number_in_body(&self, argument: Argument) -> u32
         ensures { (name : List ℕ) → result ≡ number_in (Some (evaluated_in_body self.now.scripts (argument_view name argument))) }
     {
@@ -79,6 +91,7 @@ impl<S: ListSpace> Kernel<S> {
     }
 
     /// The number at an argument of a command of a body, counted from 0; 0 if there is none.
+    #[inline(always)]
     fn number_at_in_body(&self, command: &Command, k: usize) -> u32
         ensures { result ≡ argument k (call_in_body (command_view command.now) self.now.scripts) }
     {
@@ -89,6 +102,7 @@ impl<S: ListSpace> Kernel<S> {
     }
 
     /// The value that a plain word stores in a body; none for one that prints or jumps.
+    #[inline(always)]
     fn plain_value_in_body(&self, word: PlainWord, command: &Command) -> Option<u32>
         ensures { IfSome result (λ value. (by : calls.Caller) (s : State)
             → does_plain_by word by (call_in_body (command_view command.now) self.now.scripts) s
@@ -107,6 +121,7 @@ impl<S: ListSpace> Kernel<S> {
     }
 
     /// The value that a command of a body stores, if it is of a plain word that prints nothing.
+    #[inline(always)]
     fn value_in_body(&self, command: &Command) -> Option<u32>
         ensures { IfSome result (λ value. (name : List ℕ) (s : State)
             → does_in_body name (call_in_body (command_view command.now) self.now.scripts) s
@@ -131,6 +146,7 @@ impl<S: ListSpace> Kernel<S> {
     }
 
     /// A shared variable, or none, is given a value; a body has no variables of its own.
+    #[inline(always)]
     fn store_in_body(&mut self, target: Option<Variable>, value: u32)
         ensures { self.new ≡ record self.old { scripts = stored_shared target value self.old.scripts } }
     {
@@ -163,6 +179,7 @@ impl<S: ListSpace> Kernel<S> {
     }
 
     /// A word that is no call of Exec answers, into its target if it has one, and prints nothing, in the body of any name.
+    #[inline(always)]
     pub(crate) fn silent_in_body(&mut self, target: Option<Variable>, value: u32)
         ensures { (name : List ℕ) (call : model.Call) (tape : Tape) → call.target ≡ target
             → Follows (silent_by (ByBody name) call value) self.old self.new tape tape }
@@ -260,10 +277,24 @@ impl<S: ListSpace> Kernel<S> {
         }
     }
 
+    /// Prints the line of Print in the body of that name, from its command: no call is made of it.
+    #[inline(always)]
+    fn print_in_body<W: Sink>(&self, command: &Command, name: &Name, out: &mut W)
+        ensures { Puts (W.tape out.old) (W.tape out.new) (printed_line
+            (trace.Call name.now.bytes (codes "Print") (call_in_body (command_view command.now) self.now.scripts).arguments trace.Done)) }
+    {
+        let count = command.count as usize;
+        let mut values = [ShortArg::Value(0); 4];
+        self.evaluate_all_in_body(&command.arguments, count, &mut values);
+        let shown = &values[..count];
+        put_short_call(name, "Print", shown, &command.name, CallOutcome::Done, out);
+    }
+
     // ---- a whole body
 
     /// The command at a place of a body is done, unless an alert has stopped the machine. A plain word that prints nothing is done at once,
     /// and no call is made of it.
+    #[inline(always)]
     fn do_place<W: Sink>(&mut self, body: Body, place: usize, name: &Name, out: &mut W)
         ensures { Follows (does_at_place name.now.bytes (slice_get (code_of_body body self.old.bodies) place))
             self.old self.new (W.tape out.old) (W.tape out.new) }
@@ -279,6 +310,10 @@ impl<S: ListSpace> Kernel<S> {
                     self.silent_in_body(target, value);
                 }
                 None => {
+                    if is_print(command.word) {
+                        self.print_in_body(command, name, out);
+                        return;
+                    }
                     let count = command.count as usize;
                     let mut call = Call {
                         word: command.word,
@@ -296,14 +331,13 @@ impl<S: ListSpace> Kernel<S> {
         }
     }
 
-    /// A whole body: its commands one after another; after an alert there is no other.
-    pub(crate) fn run_body<W: Sink>(&mut self, body: Body, out: &mut W)
-        ensures { Follows (runs_body (name_of_body body self.old.bodies) (code_of_body body self.old.bodies))
-            self.old self.new (W.tape out.old) (W.tape out.new) }
+    /// A whole body, of that name: its commands one after another; after an alert there is no other.
+    #[inline(always)]
+    pub(crate) fn run_body<W: Sink>(&mut self, body: Body, name: &Name, out: &mut W)
+        ensures { Follows (runs_body name.now.bytes (code_of_body body self.old.bodies)) self.old self.new (W.tape out.old) (W.tape out.new) }
     {
-        let name = self.bodies.name(body);
         for place in 0..self.bodies.code(body).len() {
-            self.do_place(body, place, &name, out);
+            self.do_place(body, place, name, out);
         }
     }
 }

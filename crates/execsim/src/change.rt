@@ -1,18 +1,23 @@
-//! Plain words that print nothing: a task does them on its command itself, with no call between.
-ghost use Rattle.std.specs.Prelude.{◌≡◌, ℕ, List, IfSome, Some, option_copied, slice_get, take};
-ghost use Rattle.exectrace.specs.Sink.{Tape};
+//! Plain words: a task does them on its command itself, with no call between.
+ghost use Rattle.std.specs.Prelude.{◌≡◌, ℕ, List, IfSome, IsTrue, None, Some, false, option_copied, slice_get, take};
+ghost use Rattle.exectrace.specs.Sink.{Puts, Tape};
+ghost use Rattle.exectrace.specs.Trace.{Done, printed_line};
 ghost use Rattle.taskscript.specs.declared.word.Word.TheVariants.{Plain};
 ghost use Rattle.execmodel.specs.State.{State};
 ghost use Rattle.execmodel.specs.Calls.{argument, call_of, evaluated, goes_on, next_call, number_in, stored};
-ghost use Rattle.execmodel.specs.Step.{call_step, does};
+ghost use Rattle.execmodel.specs.Step.{call_step, does, task_step};
 ghost use Rattle.execsim.specs.Callers.{HasTask};
-ghost use Rattle.execsim.specs.Changes.{changes};
-ghost use Rattle.execsim.specs.Agreement.{Follows};
+ghost use Rattle.execsim.specs.Changes.{ChangesScripts, PutsPrint, changes};
+ghost use Rattle.execsim.specs.Agreement.{Follows, line_seen};
 ghost use Rattle.taskscript.specs.Commands.{argument_view, command_view};
 
 use crate::kernel::Kernel;
 use crate::plain::{all_bits, common_bits, difference, place_at_zero, sum};
 use execlist::space::ListSpace;
+use exectrace::lines::CallOutcome;
+use exectrace::printing::put_short_call;
+use exectrace::sinks::written;
+use exectrace::{ShortArg, Sink};
 use taskq::TaskId;
 use taskscript::{Argument, Command, PlainWord, Variable, Word};
 
@@ -26,6 +31,7 @@ pub struct Change {
 }
 
 /// The argument of a command, counted from 0, if it has that many.
+#[inline(always)]
 pub(crate) fn argument_at(command: &Command, k: usize) -> Option<&Argument>
     ensures { option_copied result ≡ slice_get (take command.now.count command.now.arguments) k }
 {
@@ -34,6 +40,7 @@ pub(crate) fn argument_at(command: &Command, k: usize) -> Option<&Argument>
 
 impl<S: ListSpace> Kernel<S> {
     /// The number that an argument is for task t; 0 for a name.
+    #[inline(always)]
     fn number(&self, t: TaskId, argument: Argument) -> u32
         requires { HasTask t self.now }
         ensures { (name : List ℕ) → result ≡ number_in (Some (evaluated t self.now.scripts (argument_view name argument))) }
@@ -47,6 +54,7 @@ impl<S: ListSpace> Kernel<S> {
     }
 
     /// The number that is at an argument of a command of task t, counted from 0; 0 if none does.
+    #[inline(always)]
     fn number_at(&self, t: TaskId, command: &Command, k: usize) -> u32
         requires { HasTask t self.now }
         ensures { (next : ℕ) → result ≡ argument k (call_of t next (command_view command.now) self.now.scripts) }
@@ -58,6 +66,7 @@ impl<S: ListSpace> Kernel<S> {
     }
 
     /// What a command of task t of that plain word changes, if the next one is at that place; none for a word that prints.
+    #[inline(always)]
     fn change_of(
         &self,
         t: TaskId,
@@ -144,6 +153,7 @@ impl<S: ListSpace> Kernel<S> {
     }
 
     /// Task t changes what its command says, and goes on.
+    #[inline(always)]
     pub(crate) fn change(&mut self, t: TaskId, change: Change)
         requires { HasTask t self.old }
         ensures follows { (tape : Tape) → Follows (changes t change) self.old self.new tape tape }
@@ -151,5 +161,81 @@ impl<S: ListSpace> Kernel<S> {
     {
         self.store(t, change.target, change.value);
         self.go_on(t, change.next);
+    }
+
+    /// Puts the line of a Print of task t.
+    fn say_print<W: Sink>(&self, t: TaskId, command: &Command, out: &mut W)
+        requires known { HasTask t self.now }
+        requires prints { command.now.word ≡ Plain PlainWord.Print }
+        ensures { (next : ℕ) → Puts (W.tape out.old) (W.tape out.new)
+            (printed_line (line_seen t (call_of t next (command_view command.now) self.now.scripts) Done self.now)) }
+    {
+        let mut values = [ShortArg::Value(0); 4];
+        let count = command.count as usize;
+        self.evaluate_all(t, &command.arguments, count, &mut values);
+        let name = self.name(t);
+        let shown = &values[..count];
+        put_short_call(name, "Print", shown, &command.name, CallOutcome::Done, out);
+    }
+
+    /// Puts the line of what task t does next, if that is Print and the sink is good. The answer is the place at which the task is to go on.
+    #[inline(always)]
+    fn put_print<W: Sink>(&self, t: TaskId, out: &mut W) -> Option<usize>
+        requires { HasTask t self.now }
+        ensures puts { IfSome result (λ next. PutsPrint t next self.now (W.tape out.old) (W.tape out.new)) }
+        ensures nothing { result ≡ None → W.tape out.new ≡ W.tape out.old }
+    {
+        let program = self.program(t);
+        match program.kept() {
+            Some(_) => None,
+            None => match program.command() {
+                None => None,
+                Some(command) => match command.word {
+                    Word::Plain(PlainWord::Print) => match written(out) {
+                        Err(_) => None,
+                        Ok(()) => {
+                            self.say_print(t, command, out);
+                            Some(program.next())
+                        }
+                    },
+                    _ => None,
+                },
+            },
+        }
+    }
+
+    /// Task t does what it does next, if that is a plain word that prints nothing. The answer is whether it did.
+    #[inline(always)]
+    pub(crate) fn silent_word(&mut self, t: TaskId) -> bool
+        requires { HasTask t self.old }
+        ensures follows { IsTrue result → (tape : Tape) → Follows (task_step (Some t)) self.old self.new tape tape }
+        ensures changes { IsTrue result → ChangesScripts self.old self.new }
+        ensures same { result ≡ false → self.new ≡ self.old }
+    {
+        match self.next_change(t) {
+            Some(change) => {
+                self.change(t, change);
+                true
+            }
+            None => false,
+        }
+    }
+
+    /// Task t does what it does next, if that is Print and the sink is good. The answer is whether it did.
+    #[inline(always)]
+    pub(crate) fn print_word<W: Sink>(&mut self, t: TaskId, out: &mut W) -> bool
+        requires { HasTask t self.old }
+        ensures follows { IsTrue result → Follows (task_step (Some t)) self.old self.new (W.tape out.old) (W.tape out.new) }
+        ensures changes { IsTrue result → ChangesScripts self.old self.new }
+        ensures same { result ≡ false → self.new ≡ self.old }
+        ensures nothing { result ≡ false → W.tape out.new ≡ W.tape out.old }
+    {
+        match self.put_print(t, out) {
+            Some(next) => {
+                self.go_on(t, next);
+                true
+            }
+            None => false,
+        }
     }
 }

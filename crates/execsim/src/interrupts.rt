@@ -56,8 +56,8 @@ impl<S: ListSpace> Kernel<S> {
     }
 
     /// The number of the software interrupt of a name; if none has it, the number of all of them.
-    pub(crate) fn softint_named(&self, name: Name) -> IntId
-        ensures { result ≡ softint_named name.bytes self.now.bodies.softints }
+    pub(crate) fn softint_named(&self, name: &Name) -> IntId
+        ensures { result ≡ softint_named name.now.bytes self.now.bodies.softints }
     {
         self.bodies.softint_named(name)
     }
@@ -89,8 +89,9 @@ impl<S: ListSpace> Kernel<S> {
         ensures { Follows (softint_body i) self.old self.new (W.tape out.old) (W.tape out.new) }
     {
         let body = Body::Softint(i);
-        put_softint(&self.bodies.name(body), out);
-        self.run_body(body, out);
+        let name = self.bodies.name(body);
+        put_softint(&name, out);
+        self.run_body(body, &name, out);
     }
 
     // ---- servers
@@ -100,8 +101,9 @@ impl<S: ListSpace> Kernel<S> {
         ensures { Follows (runs_server k) self.old self.new (W.tape out.old) (W.tape out.new) }
     {
         let body = Body::Server(k);
-        put_server(&self.bodies.name(body), out);
-        self.run_body(body, out);
+        let name = self.bodies.name(body);
+        put_server(&name, out);
+        self.run_body(body, &name, out);
     }
 
     /// The server at a place of the chain of a source, from 0, or none if the chain is shorter.

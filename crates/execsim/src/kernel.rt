@@ -115,6 +115,7 @@ impl<S: ListSpace> Kernel<S> {
     }
 
     /// The program of task t.
+    #[inline(always)]
     pub(crate) fn program(&self, t: TaskId) -> &Program
         requires { HasTask t self.now }
         ensures { result.now ≡ program_of self.now.scripts t }
@@ -131,6 +132,7 @@ impl<S: ListSpace> Kernel<S> {
     }
 
     /// What a variable holds for task t; 0 if there is no such variable.
+    #[inline(always)]
     pub(crate) fn content(&self, t: TaskId, variable: Variable) -> u32
         requires { HasTask t self.now }
         ensures { result ≡ content t self.now.scripts variable }
@@ -142,6 +144,7 @@ impl<S: ListSpace> Kernel<S> {
     }
 
     /// What a shared variable holds; 0 if there is no such variable.
+    #[inline(always)]
     pub(crate) fn shared_content(&self, k: usize) -> u32
         ensures { result ≡ slice_index_or self.now.scripts.shared k 0 }
     {
@@ -149,6 +152,7 @@ impl<S: ListSpace> Kernel<S> {
     }
 
     /// The value of an argument for task t.
+    #[inline(always)]
     fn evaluate(&self, t: TaskId, argument: Argument) -> ShortArg
         requires { HasTask t self.now }
         ensures { (name : List ℕ) → short_argument name result ≡ evaluated t self.now.scripts (argument_view name argument) }
@@ -181,6 +185,7 @@ impl<S: ListSpace> Kernel<S> {
     }
 
     /// Gives a variable of task t, or none, a value.
+    #[inline(always)]
     pub(crate) fn store(&mut self, t: TaskId, target: Option<Variable>, value: u32)
         requires { HasTask t self.old }
         ensures { self.new ≡ record self.old { scripts = stored t target value self.old.scripts } }
@@ -193,6 +198,7 @@ impl<S: ListSpace> Kernel<S> {
     }
 
     /// Gives a shared variable a value; nothing changes if there is no such variable.
+    #[inline(always)]
     pub(crate) fn store_shared(&mut self, k: usize, value: u32)
         ensures { self.new ≡ record self.old { scripts = record self.old.scripts { shared = slice_set self.old.scripts.shared k value } } }
     {
@@ -202,6 +208,7 @@ impl<S: ListSpace> Kernel<S> {
     }
 
     /// Task t goes on at the command of that place.
+    #[inline(always)]
     pub(crate) fn go_on(&mut self, t: TaskId, next: usize)
         requires { HasTask t self.old }
         ensures { self.new ≡ record self.old { scripts = goes_on t next self.old.scripts } }

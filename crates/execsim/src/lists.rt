@@ -3,14 +3,13 @@
 ghost use Rattle.std.specs.Prelude.{◌≡◌, [], IfOk, IsTrue};
 ghost use Rattle.std.specs.Int.{cast_signed, w32};
 ghost use Rattle.std.specs.Option.{option_map, unwrap_or};
+ghost use Rattle.taskscript.specs.declared.word.lists.ListWord.TheVariants as lists;
 ghost use Rattle.execmodel.specs.State.{ListHead, Node};
 ghost use Rattle.execmodel.specs.Memory.{placed};
 ghost use Rattle.execmodel.specs.GivingWay.{after_asking_for_object};
 ghost use Rattle.execmodel.specs.Objects.{place_for_object};
 ghost use Rattle.execmodel.specs.Tasks.{is_priority};
 ghost use Rattle.execmodel.specs.Lists.{find_alert, found_node, is_list, is_node, list_size, node_size, does_lists};
-ghost use Rattle.execmodel.specs.Lists.{does_new_list, does_free_list, does_new_node, does_free_node, does_add_head, does_add_tail, does_enqueue, does_insert};
-ghost use Rattle.execmodel.specs.Lists.{does_remove, does_rem_head, does_rem_tail, does_first, does_last, does_succ, does_pred, does_find_name};
 ghost use Rattle.execheap.specs.Refusals.{alert_of};
 ghost use Rattle.execsim.specs.Callers.{HasTask};
 ghost use Rattle.execsim.specs.Agreement.{Follows};
@@ -54,7 +53,7 @@ impl<S: ListSpace> Kernel<S> {
     /// NewList: answers the address of a new empty list, or 0 (autodoc amiga.lib/NewList; that it takes the memory: project rule).
     fn new_list<W: Sink>(&mut self, t: TaskId, call: &Call, out: &mut W)
         requires { HasTask t self.old }
-        ensures { Follows (does_new_list t (call_view call.now)) self.old self.new (W.tape out.old) (W.tape out.new) }
+        ensures { Follows (does_lists lists.NewList t (call_view call.now)) self.old self.new (W.tape out.old) (W.tape out.new) }
     {
         let list = self.make_list();
         self.answered(t, call, list.unwrap_or(0), out);
@@ -63,7 +62,7 @@ impl<S: ListSpace> Kernel<S> {
     /// FreeList list: frees an empty list. HANDLE if no list begins there, LINK if it has nodes (project rule).
     fn free_list<W: Sink>(&mut self, t: TaskId, call: &Call, out: &mut W)
         requires { HasTask t self.old }
-        ensures { Follows (does_free_list t (call_view call.now)) self.old self.new (W.tape out.old) (W.tape out.new) }
+        ensures { Follows (does_lists lists.FreeList t (call_view call.now)) self.old self.new (W.tape out.old) (W.tape out.new) }
     {
         let list = call.number(0);
         let tried = self.memory.free_list(list);
@@ -74,7 +73,7 @@ impl<S: ListSpace> Kernel<S> {
     /// not in -128 to 127 (project rule).
     fn new_node<W: Sink>(&mut self, t: TaskId, call: &Call, out: &mut W)
         requires { HasTask t self.old }
-        ensures { Follows (does_new_node t (call_view call.now)) self.old self.new (W.tape out.old) (W.tape out.new) }
+        ensures { Follows (does_lists lists.NewNode t (call_view call.now)) self.old self.new (W.tape out.old) (W.tape out.new) }
     {
         let pri = call.number(0);
         if !is_priority(pri) {
@@ -88,7 +87,7 @@ impl<S: ListSpace> Kernel<S> {
     /// FreeNode node: frees a node. HANDLE if none begins there, LINK if it is linked (project rule).
     fn free_node<W: Sink>(&mut self, t: TaskId, call: &Call, out: &mut W)
         requires { HasTask t self.old }
-        ensures { Follows (does_free_node t (call_view call.now)) self.old self.new (W.tape out.old) (W.tape out.new) }
+        ensures { Follows (does_lists lists.FreeNode t (call_view call.now)) self.old self.new (W.tape out.old) (W.tape out.new) }
     {
         let node = call.number(0);
         let tried = self.memory.free_node(node);
@@ -101,7 +100,7 @@ impl<S: ListSpace> Kernel<S> {
     /// exec.library/AddHead; the alerts: project rule).
     fn add_head<W: Sink>(&mut self, t: TaskId, call: &Call, out: &mut W)
         requires { HasTask t self.old }
-        ensures { Follows (does_add_head t (call_view call.now)) self.old self.new (W.tape out.old) (W.tape out.new) }
+        ensures { Follows (does_lists lists.AddHead t (call_view call.now)) self.old self.new (W.tape out.old) (W.tape out.new) }
     {
         let list = call.number(0);
         let node = call.number(1);
@@ -112,7 +111,7 @@ impl<S: ListSpace> Kernel<S> {
     /// AddTail list node: puts the node last. The alerts are those of AddHead (autodoc exec.library/AddTail).
     fn add_tail<W: Sink>(&mut self, t: TaskId, call: &Call, out: &mut W)
         requires { HasTask t self.old }
-        ensures { Follows (does_add_tail t (call_view call.now)) self.old self.new (W.tape out.old) (W.tape out.new) }
+        ensures { Follows (does_lists lists.AddTail t (call_view call.now)) self.old self.new (W.tape out.old) (W.tape out.new) }
     {
         let list = call.number(0);
         let node = call.number(1);
@@ -124,7 +123,7 @@ impl<S: ListSpace> Kernel<S> {
     /// exec.library/Enqueue).
     fn enqueue<W: Sink>(&mut self, t: TaskId, call: &Call, out: &mut W)
         requires { HasTask t self.old }
-        ensures { Follows (does_enqueue t (call_view call.now)) self.old self.new (W.tape out.old) (W.tape out.new) }
+        ensures { Follows (does_lists lists.Enqueue t (call_view call.now)) self.old self.new (W.tape out.old) (W.tape out.new) }
     {
         let list = call.number(0);
         let node = call.number(1);
@@ -136,7 +135,7 @@ impl<S: ListSpace> Kernel<S> {
     /// linked or pred is not in the list (autodoc exec.library/Insert; the alerts: project rule).
     fn insert<W: Sink>(&mut self, t: TaskId, call: &Call, out: &mut W)
         requires { HasTask t self.old }
-        ensures { Follows (does_insert t (call_view call.now)) self.old self.new (W.tape out.old) (W.tape out.new) }
+        ensures { Follows (does_lists lists.Insert t (call_view call.now)) self.old self.new (W.tape out.old) (W.tape out.new) }
     {
         let list = call.number(0);
         let node = call.number(1);
@@ -151,7 +150,7 @@ impl<S: ListSpace> Kernel<S> {
     /// exec.library/Remove; the alerts: project rule).
     fn remove<W: Sink>(&mut self, t: TaskId, call: &Call, out: &mut W)
         requires { HasTask t self.old }
-        ensures { Follows (does_remove t (call_view call.now)) self.old self.new (W.tape out.old) (W.tape out.new) }
+        ensures { Follows (does_lists lists.Remove t (call_view call.now)) self.old self.new (W.tape out.old) (W.tape out.new) }
     {
         let node = call.number(0);
         let tried = self.memory.remove(node);
@@ -162,7 +161,7 @@ impl<S: ListSpace> Kernel<S> {
     /// exec.library/RemHead; the alert: project rule).
     fn rem_head<W: Sink>(&mut self, t: TaskId, call: &Call, out: &mut W)
         requires { HasTask t self.old }
-        ensures { Follows (does_rem_head t (call_view call.now)) self.old self.new (W.tape out.old) (W.tape out.new) }
+        ensures { Follows (does_lists lists.RemHead t (call_view call.now)) self.old self.new (W.tape out.old) (W.tape out.new) }
     {
         let list = call.number(0);
         let tried = self.memory.rem_head(list);
@@ -173,7 +172,7 @@ impl<S: ListSpace> Kernel<S> {
     /// exec.library/RemTail; the alert: project rule).
     fn rem_tail<W: Sink>(&mut self, t: TaskId, call: &Call, out: &mut W)
         requires { HasTask t self.old }
-        ensures { Follows (does_rem_tail t (call_view call.now)) self.old self.new (W.tape out.old) (W.tape out.new) }
+        ensures { Follows (does_lists lists.RemTail t (call_view call.now)) self.old self.new (W.tape out.old) (W.tape out.new) }
     {
         let list = call.number(0);
         let tried = self.memory.rem_tail(list);
@@ -186,7 +185,7 @@ impl<S: ListSpace> Kernel<S> {
     /// Queues: scanning a list; the alert: project rule).
     fn first<W: Sink>(&mut self, t: TaskId, call: &Call, out: &mut W)
         requires { HasTask t self.old }
-        ensures { Follows (does_first t (call_view call.now)) self.old self.new (W.tape out.old) (W.tape out.new) }
+        ensures { Follows (does_lists lists.First t (call_view call.now)) self.old self.new (W.tape out.old) (W.tape out.new) }
     {
         let list = call.number(0);
         let tried = self.memory.first(list);
@@ -197,7 +196,7 @@ impl<S: ListSpace> Kernel<S> {
     /// Queues: scanning a list; the alert: project rule).
     fn last<W: Sink>(&mut self, t: TaskId, call: &Call, out: &mut W)
         requires { HasTask t self.old }
-        ensures { Follows (does_last t (call_view call.now)) self.old self.new (W.tape out.old) (W.tape out.new) }
+        ensures { Follows (does_lists lists.Last t (call_view call.now)) self.old self.new (W.tape out.old) (W.tape out.new) }
     {
         let list = call.number(0);
         let tried = self.memory.last(list);
@@ -208,7 +207,7 @@ impl<S: ListSpace> Kernel<S> {
     /// Exec Lists and Queues: `ln_Succ`; the alerts: project rule).
     fn succ<W: Sink>(&mut self, t: TaskId, call: &Call, out: &mut W)
         requires { HasTask t self.old }
-        ensures { Follows (does_succ t (call_view call.now)) self.old self.new (W.tape out.old) (W.tape out.new) }
+        ensures { Follows (does_lists lists.Succ t (call_view call.now)) self.old self.new (W.tape out.old) (W.tape out.new) }
     {
         let node = call.number(0);
         let tried = self.memory.succ(node);
@@ -219,7 +218,7 @@ impl<S: ListSpace> Kernel<S> {
     /// Exec Lists and Queues: `ln_Pred`; the alerts: project rule).
     fn pred<W: Sink>(&mut self, t: TaskId, call: &Call, out: &mut W)
         requires { HasTask t self.old }
-        ensures { Follows (does_pred t (call_view call.now)) self.old self.new (W.tape out.old) (W.tape out.new) }
+        ensures { Follows (does_lists lists.Pred t (call_view call.now)) self.old self.new (W.tape out.old) (W.tape out.new) }
     {
         let node = call.number(0);
         let tried = self.memory.pred(node);
@@ -241,7 +240,7 @@ impl<S: ListSpace> Kernel<S> {
     /// the start, LINK if the node is not linked (autodoc exec.library/FindName; the alerts: project rule).
     fn find_name<W: Sink>(&mut self, t: TaskId, call: &Call, out: &mut W)
         requires { HasTask t self.old }
-        ensures { Follows (does_find_name t (call_view call.now)) self.old self.new (W.tape out.old) (W.tape out.new) }
+        ensures { Follows (does_lists lists.FindName t (call_view call.now)) self.old self.new (W.tape out.old) (W.tape out.new) }
     {
         let start = call.number(0);
         let tried = self.find(start, call.name(1));

@@ -6,6 +6,7 @@ ghost use Rattle.exectrace.specs.declared.sinks.SinkState.{SinkState};
 ghost use Rattle.taskscript.specs.Events.{ticks as ticks_of};
 ghost use Rattle.execmodel.specs.State.{State, booted, andthen};
 ghost use Rattle.execmodel.specs.Step.{starts, event, events};
+ghost use Rattle.execsim.specs.Advancing.{Advances, Ends};
 ghost use Rattle.execsim.specs.Agreement.{Agrees};
 ghost use Rattle.execsim.specs.Headline.{Acts, StaysFailed, Finishes, flow_of};
 ghost use Rattle.execsim.specs.Reached.{QueuesAgree};
@@ -70,6 +71,20 @@ fn finish<W: Sink>(stopped: bool, failed: &mut bool, out: &W) -> Result<Flow, Wr
 {
     match written(out) {
         Ok(()) => Ok(flow_for(stopped)),
+        Err(fault) => {
+            *failed = true;
+            Err(fault)
+        }
+    }
+}
+
+/// Answers how many steps were done, or notes that a machine has failed if the sink has failed.
+fn end<W: Sink>(steps: u32, failed: &mut bool, out: &W) -> Result<u32, WriteFault>
+    requires { failed.old ≡ false }
+    ensures { Ends steps failed.new (W.tape out.now) result }
+{
+    match written(out) {
+        Ok(()) => Ok(steps),
         Err(fault) => {
             *failed = true;
             Err(fault)
@@ -168,6 +183,25 @@ impl<S: ListSpace> Machine<S> {
         self.kernel.event(one, out);
         let stopped = self.kernel.is_stopped();
         finish(stopped, &mut self.failed, out)
+    }
+
+    /// Does a step, and after it steps that print nothing: plain words of the running task, or those of an idle machine; at most `more` of
+    /// these. The answer is how many these were, so one step more was done. It may be 0 though the next step would print nothing.
+    ///
+    /// # Errors
+    ///
+    /// As those of `event`.
+    ///
+    /// Source: project rule.
+    pub fn advance<W: Sink>(&mut self, more: u32, out: &mut W) -> Result<u32, WriteFault>
+        requires going { self.old.failed ≡ false }
+        requires good { (W.tape out.old).state ≡ SinkState.Good }
+        ensures advances { Advances more self.old self.new (W.tape out.old) (W.tape out.new) result }
+        ensures time_left { IsOk result → (ticks : ℕ) → HasTimeFor ticks self.old.seen → HasTimeFor ticks self.new.seen }
+        ensures good { IsOk result → (W.tape out.new).state ≡ SinkState.Good }
+    {
+        let silent = self.kernel.advance(more, out);
+        end(silent, &mut self.failed, out)
     }
 
     /// Does nothing: its clause is what always holds of a machine that has not failed. Just the running task has the state of one, and it

@@ -1,9 +1,10 @@
 //! Memory: blocks that AllocMem gives and FreeMem takes back.
 ghost use Rattle.std.specs.Prelude.{◌≡◌, true, false};
 ghost use Rattle.memlist.specs.Fit.{avail};
+ghost use Rattle.taskscript.specs.declared.word.memory.MemoryWord.TheVariants as words;
 ghost use Rattle.execmodel.specs.State.{Plain};
 ghost use Rattle.execmodel.specs.GivingWay.{after_asking};
-ghost use Rattle.execmodel.specs.Memory.{block_at, can_be_asked, does_alloc_mem, does_avail_mem, does_free_mem, extents, freed, has_only, is_named, place_for, placed, does_memory};
+ghost use Rattle.execmodel.specs.Memory.{block_at, can_be_asked, extents, freed, has_only, is_named, place_for, placed, does_memory};
 ghost use Rattle.execsim.specs.Callers.{HasTask};
 ghost use Rattle.execsim.specs.Agreement.{Follows};
 ghost use Rattle.execsim.specs.Views.{call_view};
@@ -67,7 +68,7 @@ impl<S: ListSpace> Kernel<S> {
     /// exec.library/AllocMem; size 0, and the alert: project rule).
     fn alloc_mem<W: Sink>(&mut self, t: TaskId, call: &Call, out: &mut W)
         requires { HasTask t self.old }
-        ensures { Follows (does_alloc_mem t (call_view call.now)) self.old self.new (W.tape out.old) (W.tape out.new) }
+        ensures { Follows (does_memory words.AllocMem t (call_view call.now)) self.old self.new (W.tape out.old) (W.tape out.new) }
     {
         let size = call.number(0);
         let reqs = call.number(1);
@@ -82,7 +83,7 @@ impl<S: ListSpace> Kernel<S> {
     /// FreeMem addr size (autodoc exec.library/FreeMem).
     fn free_mem<W: Sink>(&mut self, t: TaskId, call: &Call, out: &mut W)
         requires { HasTask t self.old }
-        ensures { Follows (does_free_mem t (call_view call.now)) self.old self.new (W.tape out.old) (W.tape out.new) }
+        ensures { Follows (does_memory words.FreeMem t (call_view call.now)) self.old self.new (W.tape out.old) (W.tape out.new) }
     {
         let address = call.number(0);
         let size = call.number(1);
@@ -96,7 +97,7 @@ impl<S: ListSpace> Kernel<S> {
     /// AvailMem reqs (autodoc exec.library/AvailMem).
     fn avail_mem<W: Sink>(&mut self, t: TaskId, call: &Call, out: &mut W)
         requires { HasTask t self.old }
-        ensures { Follows (does_avail_mem t (call_view call.now)) self.old self.new (W.tape out.old) (W.tape out.new) }
+        ensures { Follows (does_memory words.AvailMem t (call_view call.now)) self.old self.new (W.tape out.old) (W.tape out.new) }
     {
         let reqs = call.number(0);
         if !can_be_asked(reqs) {

@@ -222,7 +222,7 @@ impl<S: ListSpace> Kernel<S> {
         ensures { Follows (does_port_cause t (call_view call.now)) self.old self.new (W.tape out.old) (W.tape out.new) }
     {
         let port = call.number(0);
-        let i = self.softint_named(name_or_empty(call.name(1)));
+        let i = self.softint_named(&name_or_empty(call.name(1)));
         let tried = self.memory.set_action(port, PortAction::Cause(i));
         self.concluded(tried, t, call, out);
     }

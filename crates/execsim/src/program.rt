@@ -55,6 +55,7 @@ impl Call {
 }
 
 /// The command of that place, if there is one.
+#[inline(always)]
 pub fn command_at(code: &[Command], place: usize) -> Option<&Command>
     ensures { option_copied result ≡ slice_get code.now place }
 {
@@ -142,6 +143,7 @@ impl Program {
     }
 
     /// The call that the task waits in, if any.
+    #[inline(always)]
     pub fn kept(&self) -> Option<&Call>
         ensures { option_map call_view (option_copied result) ≡ self.now.kept }
     {
@@ -149,6 +151,7 @@ impl Program {
     }
 
     /// The next command, if any is left.
+    #[inline(always)]
     pub fn command(&self) -> Option<&Command>
         ensures { option_map command_view (option_copied result) ≡ slice_get self.now.code self.now.place }
     {
@@ -156,6 +159,7 @@ impl Program {
     }
 
     /// The place of the command after the next one.
+    #[inline(always)]
     pub fn next(&self) -> usize
         requires { self.now.place < length self.now.code }
         ensures { result ≡ self.now.place + 1 }
@@ -182,6 +186,7 @@ impl Program {
     }
 
     /// What a variable of the task holds; 0 if it has no such variable.
+    #[inline(always)]
     pub fn variable(&self, k: usize) -> u32
         ensures { result ≡ slice_index_or self.now.variables k 0 }
     {
@@ -189,6 +194,7 @@ impl Program {
     }
 
     /// Gives a variable of the task a value; nothing changes if it has no such variable.
+    #[inline(always)]
     pub fn store(&mut self, k: usize, value: u32)
         ensures { self.new ≡ record self.old { variables = slice_set self.old.variables k value } }
     {
@@ -198,6 +204,7 @@ impl Program {
     }
 
     /// The task goes on at the command of that place.
+    #[inline(always)]
     pub fn go_on(&mut self, next: usize)
         ensures { self.new ≡ record self.old { place = next; kept = None } }
     {

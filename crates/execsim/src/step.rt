@@ -274,7 +274,7 @@ impl<S: ListSpace> Kernel<S> {
     }
 
     /// One step. The answer is whether nothing was due after it, so that the machine is settled.
-    fn step<W: Sink>(&mut self, out: &mut W) -> bool
+    pub(crate) fn step<W: Sink>(&mut self, out: &mut W) -> bool
         requires { IsInOrder self.old }
         ensures follows { Follows step self.old self.new (W.tape out.old) (W.tape out.new) }
         ensures settled { IsTrue result → IsSettled self.new }
@@ -292,7 +292,7 @@ impl<S: ListSpace> Kernel<S> {
         ensures follows { Follows (steps result) self.old self.new (W.tape out.old) (W.tape out.new) }
     {
         if self.step(out) {
-            self.quiet_steps(most - 1) + 1
+            self.quiet_steps(most - 1, out) + 1
         } else {
             1
         }

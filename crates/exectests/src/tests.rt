@@ -2,8 +2,7 @@
 //! call answers, not how.
 mod chunks;
 mod comparing;
-mod event_texts;
-mod libraries;
+mod faults;
 mod link_lists;
 mod listings;
 mod lists;
@@ -12,9 +11,4 @@ mod memory;
 mod parts;
 mod places;
 mod pools;
-mod ports;
-mod requests;
-mod resets;
-mod scheduling;
-mod semaphores;
 mod traces;

@@ -2,3 +2,4 @@
 pub mod Pieces
 pub mod Digits
 pub mod Examples
+pub mod Drafts

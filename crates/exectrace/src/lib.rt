@@ -6,6 +6,7 @@
 //! writes in a row that took no byte, are this project's project rule.
 #![tactic(auto)]
 
+mod draft;
 pub mod laws;
 pub mod lines;
 pub mod printing;

@@ -10,9 +10,9 @@ ghost use Rattle.exectrace.specs.Shown.{shown, shown_argument, shown_outcome, sh
 ghost use Rattle.exectrace.specs.Short.{short_argument};
 ghost use Rattle.exectrace.specs.declared.sinks.SinkState.{SinkState};
 
+use crate::draft::Draft;
 use crate::lines::{Arg, CallLine, CallOutcome, Line, Name, ShortArg};
 use crate::sinks::{Sink, WriteFault, put, written};
-use arrayvec::ArrayVec;
 
 /// The two digits of each number below 256.
 const PAIRS: &[u8; 512] =
@@ -65,15 +65,23 @@ fn spaced_digits(n: u32) -> [u8; 10]
     [b' ', dollar, a, b, c, d, e, f, g, h]
 }
 
-/// What is built of a line and is not yet handed over: the room of the longest line of which one argument is quoted.
-type Draft = ArrayVec<u8, 160>;
-
-/// Adds a text to the line. What does not fit its room is handed over at once.
+/// Adds a part of fixed length to the line. What does not fit its room is handed over at once.
 #[inline(always)]
-fn add<W: Sink>(line: &mut Draft, text: &[u8], out: &mut W)
+fn add<W: Sink>(line: &mut Draft, part: &[u8], out: &mut W)
+    ensures { Adds (W.tape out.old) (W.tape out.new) line.old.items line.new.items part.now }
+{
+    match line.try_part(part) {
+        Ok(()) => {}
+        Err(_) => add_beyond(line, part, out),
+    }
+}
+
+/// Adds a text of any length to the line, as `add` does.
+#[inline(always)]
+fn add_bytes<W: Sink>(line: &mut Draft, text: &[u8], out: &mut W)
     ensures { Adds (W.tape out.old) (W.tape out.new) line.old.items line.new.items text.now }
 {
-    match line.try_extend_from_slice(text) {
+    match line.try_text(text) {
         Ok(()) => {}
         Err(_) => add_beyond(line, text, out),
     }
@@ -94,14 +102,14 @@ fn add_beyond<W: Sink>(line: &mut Draft, text: &[u8], out: &mut W)
 fn add_text<W: Sink>(line: &mut Draft, text: &str, out: &mut W)
     ensures { Adds (W.tape out.old) (W.tape out.new) line.old.items line.new.items text.now }
 {
-    add(line, text.as_bytes(), out);
+    add_bytes(line, text.as_bytes(), out);
 }
 
 #[inline(always)]
 fn add_name<W: Sink>(line: &mut Draft, name: &Name, out: &mut W)
     ensures { Adds (W.tape out.old) (W.tape out.new) line.old.items line.new.items name.now.bytes }
 {
-    add(line, name.as_str().as_bytes(), out);
+    add_bytes(line, name.as_str().as_bytes(), out);
 }
 
 /// Puts what was built of the line.
@@ -111,14 +119,14 @@ fn hand_over<W: Sink>(line: &Draft, out: &mut W)
     put(line.as_slice(), out);
 }
 
-/// Puts a text between two others.
-#[inline(never)]
+/// Puts a text between two others, of fixed length.
+#[inline(always)]
 fn put_between<W: Sink>(before: &[u8], text: &[u8], after: &[u8], out: &mut W)
     ensures { Puts (W.tape out.old) (W.tape out.new) (before.now ++ text.now ++ after.now) }
 {
     let mut line = Draft::new();
     add(&mut line, before, out);
-    add(&mut line, text, out);
+    add_bytes(&mut line, text, out);
     add(&mut line, after, out);
     hand_over(&line, out);
 }
@@ -128,7 +136,7 @@ fn put_between<W: Sink>(before: &[u8], text: &[u8], after: &[u8], out: &mut W)
 fn add_value<W: Sink>(line: &mut Draft, n: u32, out: &mut W)
     ensures { Adds (W.tape out.old) (W.tape out.new) line.old.items line.new.items (argument_text (Value n)) }
 {
-    match line.try_extend_from_slice(&spaced_digits(n)) {
+    match line.try_part(&spaced_digits(n)) {
         Ok(()) => {}
         Err(_) => add_value_beyond(line, n, out),
     }
@@ -210,7 +218,7 @@ fn answer_end(n: u32) -> [u8; 14]
 fn add_answer<W: Sink>(line: &mut Draft, n: u32, out: &mut W)
     ensures { Adds (W.tape out.old) (W.tape out.new) line.old.items line.new.items (codes " -> " ++ value_text n ++ codes "\n") }
 {
-    match line.try_extend_from_slice(&answer_end(n)) {
+    match line.try_part(&answer_end(n)) {
         Ok(()) => {}
         Err(_) => add_answer_beyond(line, n, out),
     }
@@ -238,6 +246,7 @@ fn add_end<W: Sink>(line: &mut Draft, outcome: CallOutcome, out: &mut W)
 }
 
 /// Puts `switch NAME`: the task of this name begins to run.
+#[inline(never)]
 pub fn put_switch<W: Sink>(name: &Name, out: &mut W)
     ensures { Puts (W.tape out.old) (W.tape out.new) (printed_line (Switch name.now.bytes)) }
 {
@@ -297,6 +306,7 @@ pub fn put_short_call<W: Sink>(
 }
 
 /// Puts `serve SOURCE`: the latch of this interrupt source is served.
+#[inline(never)]
 pub fn put_serve<W: Sink>(source: &str, out: &mut W)
     ensures { Puts (W.tape out.old) (W.tape out.new) (printed_line (Serve source.now)) }
 {
@@ -304,6 +314,7 @@ pub fn put_serve<W: Sink>(source: &str, out: &mut W)
 }
 
 /// Puts `timer VALUE`: the queued request at this address finishes at a tick, or as system time is set.
+#[inline(never)]
 pub fn put_timer<W: Sink>(value: u32, out: &mut W)
     ensures { Puts (W.tape out.old) (W.tape out.new) (printed_line (Timer value)) }
 {
@@ -312,6 +323,7 @@ pub fn put_timer<W: Sink>(value: u32, out: &mut W)
 }
 
 /// Puts `server NAME`: the body of the interrupt server of this name begins.
+#[inline(never)]
 pub fn put_server<W: Sink>(name: &Name, out: &mut W)
     ensures { Puts (W.tape out.old) (W.tape out.new) (printed_line (Server name.now.bytes)) }
 {
@@ -319,6 +331,7 @@ pub fn put_server<W: Sink>(name: &Name, out: &mut W)
 }
 
 /// Puts `softint NAME`: the body of the software interrupt of this name begins.
+#[inline(never)]
 pub fn put_softint<W: Sink>(name: &Name, out: &mut W)
     ensures { Puts (W.tape out.old) (W.tape out.new) (printed_line (Softint name.now.bytes)) }
 {

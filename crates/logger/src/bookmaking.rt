@@ -76,12 +76,14 @@ impl Owners<'_> {
             tables: self.items.len(),
             strings: strings.len(),
         };
-        Ok(Place {
-            line: self.lines.line_of(shown, string),
-            source: source_of(alloc, string_at(strings, string))?,
-            is_silent: is_silent(command.word),
-            command: *command,
-        })
+        let source = source_of(alloc, string_at(strings, string))?;
+        Place::new(
+            alloc,
+            self.lines.line_of(shown, string),
+            source,
+            is_silent(command.word),
+            *command,
+        )
     }
 
     /// The body of a table.
@@ -155,19 +157,17 @@ fn push_tasks(
 ///
 /// Source: project rule.
 pub fn book_of(alloc: Global, bytes: &[u8], listed: &Listed) -> Result<Book, AllocError> {
-    let mut book = Book {
-        tasks: Vec::new(alloc),
-        interrupts: Vec::new(alloc),
-    };
+    let mut tasks = Vec::new(alloc);
+    let mut interrupts = Vec::new(alloc);
     let Ok(table) = toml::table_from_slice(alloc, bytes) else {
         return Err(AllocError);
     };
     let text = from_utf8(bytes).unwrap_or("");
     let softints = owners_of(alloc, text, &table, "softint")?;
-    push_softints(alloc, &softints, listed, &mut book.interrupts)?;
+    push_softints(alloc, &softints, listed, &mut interrupts)?;
     let servers = owners_of(alloc, text, &table, "server")?;
-    push_servers(alloc, &servers, listed, &mut book.interrupts)?;
-    let tasks = owners_of(alloc, text, &table, "task")?;
-    push_tasks(alloc, &tasks, listed, &mut book.tasks)?;
-    Ok(book)
+    push_servers(alloc, &servers, listed, &mut interrupts)?;
+    let owners = owners_of(alloc, text, &table, "task")?;
+    push_tasks(alloc, &owners, listed, &mut tasks)?;
+    Ok(Book::new(tasks, interrupts))
 }

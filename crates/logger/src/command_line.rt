@@ -77,7 +77,7 @@ fn bare_command<'a>(alloc: Global) -> Result<Command<'a>, AllocError> {
         )
         .override_usage("execlog [OPTIONS] MACHINE EVENTS")
         .after_help(
-            "Example: `execlog --task daemon --from 30 daemon.toml daemon.events` shows what daemon does from step 30 on, and\n`execlog --state 30 daemon.toml daemon.events` all that the machine shows after step 30.",
+            "Example: `execlog --task daemon --from 30 daemon.toml daemon.events` shows what daemon does from step 30 on, and\n`execlog --state 30 daemon.toml daemon.events` all that the machine shows after step 30.\n\nexeclog --version, with nothing else, prints the version.",
         )
         .no_binary_name(true)
         .arg(machine)?

@@ -1,7 +1,7 @@
 //! The log as JSON: one object a line, for each line of the trace, and for each word that prints nothing, if that is asked for.
 
 use crate::events::event_of;
-use crate::rows::{Row, Written, rows_of};
+use crate::rows::{Row, Written, rows_shown};
 use crate::words::note_variables;
 use execlist::space::ListSpace;
 use execlog::{Actor, Before, Filter, Form, Moment, Spot, line_of, source_at};
@@ -78,20 +78,6 @@ impl Json<'_> {
         put_text(object, self.alloc, "source", source)
     }
 
-    /// The rows of an entry, or none if it is of a step before the first one that is shown.
-    fn rows_shown(
-        &self,
-        before: &Before,
-        moment: &Moment,
-        text: &[u8],
-    ) -> Result<Vec<Row>, AllocError> {
-        if moment.number < self.filter.from {
-            Ok(Vec::new(self.alloc))
-        } else {
-            rows_of(self.alloc, self.written, before, moment, text)
-        }
-    }
-
     /// Adds a row, if it is shown.
     fn push(&self, moment: &Moment, row: &Row, page: &mut Vec<u8>) -> Result<(), AllocError> {
         let line = line_of(self.written.book, row.spot);
@@ -117,10 +103,20 @@ impl Form for Json<'_> {
 
     ghost shows = { λ f e bytes. ⊤ };
 
-    fn note<S: ListSpace>(&self, machine: &Machine<S>, actor: Option<Actor>, before: &mut Before) {
-        if self.written.plain_words {
+    fn note<S: ListSpace>(
+        &self,
+        machine: &Machine<S>,
+        number: u64,
+        actor: Option<Actor>,
+        before: &mut Before,
+    ) {
+        if self.written.plain_words && number >= self.filter.from {
             note_variables(machine, actor, before);
         }
+    }
+
+    fn shows_silent(&self) -> bool {
+        self.written.plain_words
     }
 
     fn push_entry(
@@ -130,7 +126,7 @@ impl Form for Json<'_> {
         text: &[u8],
         page: &mut Vec<u8>,
     ) -> Result<(), AllocError> {
-        let rows = self.rows_shown(before, moment, text)?;
+        let rows = rows_shown(self.alloc, self.written, self.filter, before, moment, text)?;
         let mut shown = Vec::new(self.alloc);
         for row in &rows {
             self.push(moment, row, &mut shown)?;

@@ -11,6 +11,7 @@ mod json;
 mod lines;
 mod making;
 mod options;
+mod page;
 mod pictures;
 mod plain_words;
 mod reading;

@@ -1,6 +1,7 @@
 //! The words that print nothing in a trace, as lines: `NAME x = Add $00000001 $00000002 -> $00000003`, and of a jump the line of the file to which it
 //! goes.
 
+use crate::page::Page;
 use crate::replay::Replay;
 use crate::values::{push_number, push_word};
 use execlog::{Body, Place};
@@ -18,25 +19,17 @@ pub struct Names<'a> {
 
 /// Adds the name of a variable.
 ///
-/// # Errors
-///
-/// When memory is refused.
-///
 /// Source: project rule.
-pub fn push_name(
-    line: &mut String,
-    names: Names<'_>,
-    variable: Variable,
-) -> Result<(), AllocError> {
+pub fn push_name(line: &mut Page, names: Names<'_>, variable: Variable) {
     match variable {
         Variable::Private(n) => match names.body.private_name(n) {
-            None => Ok(()),
+            None => {}
             Some(name) => line.push_str(name.as_str()),
         },
         Variable::Shared(n) => {
-            line.push('@')?;
+            line.push_str("@");
             match names.listing.shared_name(n) {
-                None => Ok(()),
+                None => {}
                 Some(name) => line.push_str(name.as_str()),
             }
         }
@@ -44,7 +37,7 @@ pub fn push_name(
 }
 
 /// Adds the values of the arguments.
-fn push_arguments(line: &mut String, replay: &Replay, command: &Command) -> Result<(), AllocError> {
+fn push_arguments(line: &mut Page, replay: &Replay, command: &Command) {
     for (i, argument) in command
         .arguments
         .iter()
@@ -52,11 +45,10 @@ fn push_arguments(line: &mut String, replay: &Replay, command: &Command) -> Resu
         .take(command.count as usize)
     {
         if let Argument::Number(_) | Argument::Variable(_) = argument {
-            line.push(' ')?;
-            push_word(line, replay.argument(command, i))?;
+            line.push_str(" ");
+            push_word(line, replay.argument(command, i));
         }
     }
-    Ok(())
 }
 
 /// Whether a jump is made.
@@ -80,18 +72,18 @@ fn target_of(command: &Command) -> Option<usize> {
 }
 
 /// Adds the line of the file at which a body goes on, or `end`.
-fn push_target(line: &mut String, body: &Body, command: &Command) -> Result<(), AllocError> {
+fn push_target(line: &mut Page, body: &Body, command: &Command) {
     let Some(place) = target_of(command) else {
-        return Ok(());
+        return;
     };
-    line.push_str(" -> ")?;
+    line.push_str(" -> ");
     match body.places.get(place) {
         None => line.push_str("end"),
         Some(place) => match place.line {
             None => line.push_str("its label"),
             Some(number) => {
-                line.push(':')?;
-                push_number(line, u64::from(number))
+                line.push_str(":");
+                push_number(line, u64::from(number));
             }
         },
     }
@@ -99,24 +91,24 @@ fn push_target(line: &mut String, body: &Body, command: &Command) -> Result<(), 
 
 /// Adds what a word does, and does it.
 fn push_effect(
-    line: &mut String,
+    line: &mut Page,
     body: &Body,
     replay: &mut Replay,
     word: PlainWord,
     command: &Command,
-) -> Result<(), AllocError> {
+) {
     if target_of(command).is_some() {
         if jumps(word, replay, command) {
-            return push_target(line, body, command);
+            push_target(line, body, command);
         }
-        return Ok(());
+        return;
     }
     let value = replay.result(word, command);
     if let Some(target) = command.target {
         replay.set(target, value);
     }
-    line.push_str(" -> ")?;
-    push_word(line, value)
+    line.push_str(" -> ");
+    push_word(line, value);
 }
 
 /// The line of a command that prints nothing, and does it.
@@ -134,17 +126,17 @@ pub fn line_of(
     place: &Place,
 ) -> Result<String, AllocError> {
     let command = place.command;
-    let mut line = String::new(alloc);
-    line.push_str(body.name.as_str())?;
-    line.push(' ')?;
+    let mut line = Page::new(alloc);
+    line.push_str(body.name.as_str());
+    line.push_str(" ");
     if let Some(target) = command.target {
-        push_name(&mut line, names, target)?;
-        line.push_str(" = ")?;
+        push_name(&mut line, names, target);
+        line.push_str(" = ");
     }
-    line.push_str(command.word.text())?;
-    push_arguments(&mut line, replay, &command)?;
+    line.push_str(command.word.text());
+    push_arguments(&mut line, replay, &command);
     if let Word::Plain(word) = command.word {
-        push_effect(&mut line, body, replay, word, &command)?;
+        push_effect(&mut line, body, replay, word, &command);
     }
-    Ok(line)
+    line.finish()
 }

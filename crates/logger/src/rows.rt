@@ -3,7 +3,7 @@
 use crate::plain_words::{Names, line_of};
 use crate::replay::Replay;
 use crate::values::answer_in;
-use execlog::{Actor, Before, Book, Cursor, Moment, Spot, cut_line, place_at};
+use execlog::{Actor, Before, Book, Cursor, Filter, Moment, Spot, cut_line, place_at};
 use std::alloc::{AllocError, Global};
 use taskscript::Listing;
 
@@ -172,13 +172,7 @@ impl<'a> Walk<'a> {
 }
 
 /// The rows of an entry.
-///
-/// # Errors
-///
-/// When memory is refused.
-///
-/// Source: project rule.
-pub fn rows_of(
+fn rows_of(
     alloc: Global,
     written: Written<'_>,
     before: &Before,
@@ -202,4 +196,25 @@ pub fn rows_of(
         rest = after;
     }
     Ok(walk.rows)
+}
+
+/// The rows of an entry; none if it comes before the first step, tick or request that is shown.
+///
+/// # Errors
+///
+/// When memory is refused.
+///
+/// Source: project rule.
+pub fn rows_shown(
+    alloc: Global,
+    written: Written<'_>,
+    filter: Filter,
+    before: &Before,
+    moment: &Moment,
+    text: &[u8],
+) -> Result<Vec<Row>, AllocError> {
+    if moment.number < filter.from {
+        return Ok(Vec::new(alloc));
+    }
+    rows_of(alloc, written, before, moment, text)
 }

@@ -11,7 +11,9 @@ mod tasks;
 
 use crate::failure::Failure;
 use crate::making::run_events;
+use crate::page::Page;
 use crate::reading::Run;
+use crate::values::push_number;
 use execlist::link::LinkSpace;
 use execlist::space::ListSpace;
 use execlog::{Actor, Before, Form, Moment};
@@ -48,9 +50,14 @@ impl Form for Silent {
     fn note<S: ListSpace>(
         &self,
         _machine: &Machine<S>,
+        _number: u64,
         _actor: Option<Actor>,
         _before: &mut Before,
     ) {}
+
+    fn shows_silent(&self) -> bool {
+        false
+    }
 
     fn push_entry(
         &self,
@@ -63,6 +70,16 @@ impl Form for Silent {
     }
 }
 
+/// Adds the title of a page.
+fn push_title(page: &mut Page, path: &str, number: u64, last: u64) {
+    page.push_str(path);
+    page.push_str(" after step ");
+    push_number(page, number);
+    page.push_str(" of ");
+    push_number(page, last);
+    page.push_str("\n\n");
+}
+
 /// The page of what a machine shows.
 fn page_of<S: ListSpace>(
     alloc: Global,
@@ -72,11 +89,12 @@ fn page_of<S: ListSpace>(
     number: u64,
     last: u64,
 ) -> Result<String, AllocError> {
-    let mut page = format!(in alloc; "{path} after step {number} of {last}\n\n")?;
-    machine::push_machine(&mut page, machine, run)?;
-    tasks::push_tasks(&mut page, machine, run)?;
-    memory::push_memory(&mut page, machine, run)?;
-    Ok(page)
+    let mut page = Page::new(alloc);
+    push_title(&mut page, path, number, last);
+    machine::push_machine(&mut page, machine, run);
+    tasks::push_tasks(&mut page, machine, run);
+    memory::push_memory(&mut page, machine, run);
+    page.finish()
 }
 
 /// The page of what a machine shows after the step of a number, which is the last of these events, and whether an alert has stopped it.

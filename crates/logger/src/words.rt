@@ -1,6 +1,6 @@
 //! The plain form of a log with the words that print nothing in the trace, each after a tilde.
 
-use crate::rows::{Row, Written, rows_of};
+use crate::rows::{Row, Written, rows_shown};
 use execlist::space::ListSpace;
 use execlog::{Actor, Before, Filter, Form, Moment, line_of, push_row, source_at};
 use execsim::Machine;
@@ -67,8 +67,20 @@ impl Form for Words<'_> {
 
     ghost shows = { λ f e bytes. ⊤ };
 
-    fn note<S: ListSpace>(&self, machine: &Machine<S>, actor: Option<Actor>, before: &mut Before) {
-        note_variables(machine, actor, before);
+    fn note<S: ListSpace>(
+        &self,
+        machine: &Machine<S>,
+        number: u64,
+        actor: Option<Actor>,
+        before: &mut Before,
+    ) {
+        if number >= self.filter.from {
+            note_variables(machine, actor, before);
+        }
+    }
+
+    fn shows_silent(&self) -> bool {
+        true
     }
 
     fn push_entry(
@@ -78,7 +90,7 @@ impl Form for Words<'_> {
         text: &[u8],
         page: &mut Vec<u8>,
     ) -> Result<(), AllocError> {
-        let rows = rows_of(self.alloc, self.written, before, moment, text)?;
+        let rows = rows_shown(self.alloc, self.written, self.filter, before, moment, text)?;
         let mut shown = Vec::new(self.alloc);
         for row in &rows {
             self.push(moment, row, &mut shown)?;

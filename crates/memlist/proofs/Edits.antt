@@ -1,5 +1,5 @@
 -- The gaps round a block that is freed.
-use Rattle.std.proofs.Common.{◌≡◌, ℕ, ◌+◌, ◌<◌, ◌≤◌, List, [], ◌∷◌, ◌++◌, sym, ◌∙◌, arith, append_assoc}
+use Rattle.std.proofs.Common.{◌≡◌, ℕ, ◌+◌, ◌-◌, ◌<◌, ◌≤◌, List, [], ◌∷◌, ◌++◌, sym, ◌∙◌, arith, append_assoc}
 use Rattle.std.specs.List.{AllByRecursion}
 use Rattle.memlist.specs.declared.gap.Gap.{Gap}
 use Rattle.memlist.specs.Blocks.{stretch}
@@ -24,6 +24,10 @@ front {address = address} around = around.below ++ stretch around.start address
 
 abbrev pub back : {free : List Gap} {address n : ℕ} → Around free address n → List Gap
 back {address = address} {n = n} around = stretch (address + n) around.end ++ around.above
+
+-- the gaps once it is freed: one from start to end in place of what it touches
+abbrev pub joined : {free : List Gap} {address n : ℕ} → Around free address n → List Gap
+joined around = around.below ++ record { address = around.start; size = around.end - around.start } ∷ around.above
 
 pub front_back : {free : List Gap} {address n : ℕ} (around : Around free address n) → free ≡ front around ++ back around
 front_back {address = address} {n = n} around = around.is ∙ sym (append_assoc around.below (stretch around.start address) (stretch (address + n) around.end ++ around.above))

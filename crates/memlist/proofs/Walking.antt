@@ -5,10 +5,10 @@ use Rattle.std.specs.List.{AllByRecursion, sum_by}
 use Rattle.std.proofs.lemmas.List.Sums.{sum_by-append}
 use Rattle.memlist.specs.declared.gap.Gap.{Gap}
 use Rattle.memlist.specs.Fit.{greatest, lowest_gap}
-use Rattle.memlist.specs.Chain.{IsPassed, IsSpot, IsWalked, first_or, last_or, upper_next, upper_size}
+use Rattle.memlist.specs.Chain.{IsLastBelow, IsPassed, IsSpot, IsWalked, first_or, last_or, upper_next, upper_size}
 use Rattle.memlist.specs.Joins.{Around}
 use Rattle.memlist.proofs.Answered.{nat_eq-same, nat_eq-other}
-use Rattle.memlist.proofs.Edits.{back, front, front_back}
+use Rattle.memlist.proofs.Edits.{back, back_above, front, front_back, front_below}
 use Rattle.memlist.proofs.Choices.{lowest_after, lowest_nowhere}
 use Rattle.memlist.proofs.Writing.{last_append}
 
@@ -188,5 +188,10 @@ abbrev pub seen_spot : {size : ℕ} {gaps gaps' : List Gap} {before : ℕ} → g
 seen_spot {size} e spot = record { below = spot.below; gap = spot.gap; above = spot.above; is = e ∙ spot.is; last = spot.last; lowest = ap (lowest_gap size) e ∙ spot.lowest; fits = spot.fits }
 
 -- the walk up to a block that is not free
-abbrev pub up_to_block : {gaps : List Gap} {address n before : ℕ} → (around : Around gaps address n) → before ≡ last_or 0 (front around) → IsWalked gaps before
-up_to_block around last = record { below = front around; above = back around; is = front_back around; last = last }
+abbrev pub up_to_block : {gaps : List Gap} {address n before : ℕ} → Around gaps address n → IsLastBelow address gaps before → IsWalked gaps before
+up_to_block around last = record {
+  below = front around;
+  above = back around;
+  is = front_back around;
+  last = last (front around) (back around) (front_back around) (front_below around) (back_above around);
+}

@@ -7,7 +7,7 @@ use Rattle.memlist.specs.Blocks.{stretch}
 use Rattle.memlist.specs.Chain.{AreApart, IsChained, IsLinked, IsSpot, Space, chain, cut_rest, cut_words, ends_at, first_or, last_or, linked_head, linked_words, upper_next, upper_size, word_place, written}
 use Rattle.memlist.specs.Joins.{AllEndBefore, Around, IsSpread}
 use Rattle.memlist.proofs.Answered.{nat_eq-same, nat_eq-other, nat_lt-true, nat_lt-false}
-use Rattle.memlist.proofs.Edits.{back, front}
+use Rattle.memlist.proofs.Edits.{back, front, joined}
 use Rattle.memlist.proofs.Gaps.{stretch_cases, stretch_none, stretch_some}
 use Rattle.memlist.proofs.Chains.{apart_at, apart_back, apart_front, apart_lower, apart_whole, first_append, last_within, link_last, linked_back, linked_both, IsShown, linked_front, set_above, shown, written_above, written_below, written_here}
 
@@ -263,6 +263,10 @@ joined_apart low high start end [] above le some within first last ended a b =
 joined_apart low high start end (x ∷ xs) above le some within first last ended a b =
     (a.0, a.1, a.2, a.3, omega (arith, ended.0), joined_apart (x.address + x.size + 1) high start end xs above (omega (arith, ended.0)) some within first last ended.1 a.5 b)
 
+-- the words with the chunk that a freed block and the gaps that touch it become
+abbrev joined_words : ℕ → List ℕ → {gaps : List Gap} {address n : ℕ} → Around gaps address n → List ℕ
+joined_words base words around = written words (word_place base around.start) (first_or 0 around.above) (around.end - around.start)
+
 module _ (base : ℕ) (words : List ℕ) (head : ℕ) (gaps : List Gap) (c : IsChained base words head gaps) (address n : ℕ) (around : Around gaps address n)
     (low : base ≤ address) (within : address + n ≤ base + 4 * length words) (place : address % 8 ≡ 0) (some : 0 < n) (whole : n % 8 ≡ 0) where
   around_round : IsRound base (base + 4 * length words) address n around.start around.end around.below around.above
@@ -271,7 +275,7 @@ module _ (base : ℕ) (words : List ℕ) (head : ℕ) (gaps : List Gap) (c : IsC
   long : 8 ≤ around.end - around.start
   long = omega (arith, around.low, around.high, some, whole)
 
-  new_apart : AreApart base (around.below ++ record { address = around.start; size = around.end - around.start } ∷ around.above) (base + 4 * length words)
+  new_apart : AreApart base (joined around) (base + 4 * length words)
   new_apart =
       let r = around_round in
       joined_apart base (base + 4 * length words) around.start around.end around.below around.above r.begins (omega (arith, around.low, around.high, some)) r.ends r.first r.last around.ended r.under r.over
@@ -292,25 +296,25 @@ module _ (base : ℕ) (words : List ℕ) (head : ℕ) (gaps : List Gap) (c : IsC
       c.first ∙ ap (first_or 0) around.is ∙ first_append 0 around.below (stretch around.start address ++ (stretch (address + n) around.end ++ around.above))
       ∙ ap (λ k. first_or k around.below) (sym is)
 
-  back_linked : IsLinked base (written words (word_place base around.start) (first_or 0 around.above) (around.end - around.start)) (record { address = around.start; size = around.end - around.start } ∷ around.above) 0
+  back_linked : IsLinked base (joined_words base words around) (record { address = around.start; size = around.end - around.start } ∷ around.above) 0
   back_linked =
       let r = around_round in
-      linked_both base (written words (word_place base around.start) (first_or 0 around.above) (around.end - around.start)) (record { address = around.start; size = around.end - around.start } ∷ []) around.above 0
+      linked_both base (joined_words base words around) (record { address = around.start; size = around.end - around.start } ∷ []) around.above 0
       (written_here base words around.start (first_or 0 around.above) (around.end - around.start) (omega (arith, r.begins, r.ends, long)))
       (written_above base words around.start around.above (base + 4 * length words) 0 (first_or 0 around.above) (around.end - around.start) r.begins
       (apart_lower (around.end + 1) (around.start + 8) around.above (base + 4 * length words) (omega (arith, long)) r.over) above_linked)
 
   -- a block that touches the chunk below it becomes part of that chunk
   pub joined_lower : around.start < address
-      → IsChained base (written words (word_place base around.start) (first_or 0 around.above) (around.end - around.start)) head (around.below ++ record { address = around.start; size = around.end - around.start } ∷ around.above)
+      → IsChained base (joined_words base words around) head (joined around)
   joined_lower lt =
       let r = around_round in
       let next : around.start ≡ first_or 0 (stretch around.start address ++ (stretch (address + n) around.end ++ around.above)) =
       sym (ap (λ gs. first_or 0 (gs ++ (stretch (address + n) around.end ++ around.above))) (stretch_some around.start address lt)) in
-      chained_by base words (written words (word_place base around.start) (first_or 0 around.above) (around.end - around.start)) head head gaps
-      (around.below ++ record { address = around.start; size = around.end - around.start } ∷ around.above) c new_apart
+      chained_by base words (joined_words base words around) head head gaps
+      (joined around) c new_apart
       record {
-        linked = linked_both base (written words (word_place base around.start) (first_or 0 around.above) (around.end - around.start)) around.below (record { address = around.start; size = around.end - around.start } ∷ around.above) 0
+        linked = linked_both base (joined_words base words around) around.below (record { address = around.start; size = around.end - around.start } ∷ around.above) 0
             (written_below base words base around.below around.start around.start (first_or 0 around.above) (around.end - around.start) (omega arith) r.under (below_linked around.start next)) back_linked;
         first = head_front around.start next ∙ sym (first_append 0 around.below (record { address = around.start; size = around.end - around.start } ∷ around.above));
         len = length-written words (word_place base around.start) (first_or 0 around.above) (around.end - around.start);
@@ -318,11 +322,11 @@ module _ (base : ℕ) (words : List ℕ) (head : ℕ) (gaps : List Gap) (c : IsC
 
   -- one that does not becomes a chunk of its own, after what is before it
   pub joined_own : (before : ℕ) → around.start ≡ address → before ≡ last_or 0 around.below
-      → IsChained base (linked_words base (written words (word_place base around.start) (first_or 0 around.above) (around.end - around.start)) before around.start) (linked_head head before around.start)
-      (around.below ++ record { address = around.start; size = around.end - around.start } ∷ around.above)
+      → IsChained base (linked_words base (joined_words base words around) before around.start) (linked_head head before around.start)
+      (joined around)
   joined_own before same last =
       let r = around_round in
-      let words1 = written words (word_place base around.start) (first_or 0 around.above) (around.end - around.start) in
+      let words1 = joined_words base words around in
       let zs : List Gap = record { address = around.start; size = around.end - around.start } ∷ around.above in
       let next = first_or 0 (stretch around.start address ++ (stretch (address + n) around.end ++ around.above)) in
       let len = length-written words (word_place base around.start) (first_or 0 around.above) (around.end - around.start) in
@@ -349,13 +353,6 @@ new_chain base size words place low some whole reach len =
       linked = subst (λ k. IsLinked base (written words k 0 size) (record { address = base; size = size } ∷ []) 0) here
           (written_here base words base 0 size (omega (arith, len)));
     }
-
--- The value of a space that was written
-
-pub same_space : (base words_len words_len' : ℕ) (gaps gaps' : List Gap) (space : Space) → record { base = base; end = base + 4 * words_len; gaps = gaps } ≡ space → words_len' ≡ words_len
-    → record { base = base; end = base + 4 * words_len'; gaps = gaps' } ≡ record space { gaps = gaps' }
-same_space base words_len words_len' gaps gaps' space is len =
-    ap (λ n. let s : Space = record { base = base; end = base + 4 * n; gaps = gaps' } in s) len ∙ ap (λ (s : Space). let t : Space = record { base = s.base; end = s.end; gaps = gaps' } in t) is
 
 -- if a spot's gap lies
 pub record IsSpotIn (base count n : ℕ) (gap : Gap) : Type 0 where
@@ -389,6 +386,13 @@ link_len base words before next =
 abbrev pub space_of : ℕ → List ℕ → ℕ → Space
 space_of base words head = record { base = base; end = base + 4 * length words; gaps = chain (length words) base words head }
 
+-- what the space is after its words were written
+pub space_written : (base : ℕ) (words words' : List ℕ) (head head' : ℕ) (gaps : List Gap) (space : Space) → IsShown base words' head' gaps → space_of base words head ≡ space
+    → length words' ≡ length words → space_of base words' head' ≡ record space { gaps = gaps }
+space_written base words words' head head' gaps space shown is len =
+    (λ i. let s : Space = record { base = base; end = base + 4 * len i; gaps = shown.is i } in s)
+    ∙ ap (λ (s : Space). let t : Space = record { base = s.base; end = s.end; gaps = gaps } in t) is
+
 abbrev pub one_gap : ℕ → ℕ → Space
 one_gap base size = record { base = base; end = base + size; gaps = stretch base (base + size) }
 
@@ -417,6 +421,13 @@ pub record IsLower (base count address before size : ℕ) : Type 0 where
   pub low : base ≤ before
   pub room : word_place base before + 1 < count
 
+-- what becomes of the words if the block touches the chunk before it, and if it does not
+pub record IsJoining (base : ℕ) (words : List ℕ) (head address : ℕ) (front joined : List Gap) (before next size : ℕ) : Type 0 where
+  pub lower : true ≡ ends_at address front → IsLower base (length words) address before size
+  pub into : (words' : List ℕ) → true ≡ ends_at address front → words' ≡ written words (word_place base before) next (address - before + size) → IsShown base words' head joined
+  pub own : (words1 words' : List ℕ) (head' : ℕ) → false ≡ ends_at address front → words1 ≡ written words (word_place base address) next size
+      → words' ≡ linked_words base words1 before address → head' ≡ linked_head head before address → IsShown base words' head' joined
+
 abbrev pub seen_around : {gaps gaps' : List Gap} {address n : ℕ} → gaps ≡ gaps' → Around gaps' address n → Around gaps address n
 seen_around e around = record {
   below = around.below;
@@ -439,21 +450,21 @@ module _ (base : ℕ) (words : List ℕ) (head : ℕ) (gaps : List Gap) (c : IsC
   found_size : size ≡ n + (around.end - (address + n))
   found_size = size_is ∙ upper_size_is (address + n) around.end n around.above around.high around.begun
 
-  pub joins_lower : (words' : List ℕ) → true ≡ ends_at address (front around) → words' ≡ written words (word_place base before) next (address - before + size)
-      → IsShown base words' head (around.below ++ record { address = around.start; size = around.end - around.start } ∷ around.above)
+  joins_lower : (words' : List ℕ) → true ≡ ends_at address (front around) → words' ≡ written words (word_place base before) next (address - before + size)
+      → IsShown base words' head (joined around)
   joins_lower words' ends is =
       let touches : nat_lt around.start address ≡ true = sym (ends_front around.below around.start address around.low around.ended) ∙ sym ends in
       let lt : around.start < address = grind (arith, nat_tests, touches) in
       let at : before ≡ around.start = last ∙ ap (λ gs. last_or 0 (around.below ++ gs)) (stretch_some around.start address lt) ∙ last_append 0 around.below (record { address = around.start; size = address - around.start }) in
       let all : address - before + size ≡ around.end - around.start = omega (arith, at, found_size, around.high, around.low) in
-      let to : words' ≡ written words (word_place base around.start) (first_or 0 around.above) (around.end - around.start) =
+      let to : words' ≡ joined_words base words around =
       is ∙ ap (λ a. written words (word_place base a) next (address - before + size)) at ∙ ap (λ m. written words (word_place base around.start) m (address - before + size)) found_next
       ∙ ap (λ m. written words (word_place base around.start) (first_or 0 around.above) m) all in
-      let joined = joined_lower base words head gaps c address n around low within place some whole lt in
-      shown base words' head (around.below ++ record { address = around.start; size = around.end - around.start } ∷ around.above)
-      (subst (λ ws. IsChained base ws head (around.below ++ record { address = around.start; size = around.end - around.start } ∷ around.above)) (sym to) joined)
+      let chained = joined_lower base words head gaps c address n around low within place some whole lt in
+      shown base words' head (joined around)
+      (subst (λ ws. IsChained base ws head (joined around)) (sym to) chained)
 
-  pub lower_bounds : true ≡ ends_at address (front around) → IsLower base (length words) address before size
+  lower_bounds : true ≡ ends_at address (front around) → IsLower base (length words) address before size
   lower_bounds ends =
       let touches : nat_lt around.start address ≡ true = sym (ends_front around.below around.start address around.low around.ended) ∙ sym ends in
       let lt : around.start < address = grind (arith, nat_tests, touches) in
@@ -468,22 +479,25 @@ module _ (base : ℕ) (words : List ℕ) (head : ℕ) (gaps : List Gap) (c : IsC
         room = omega (arith, r.begins);
       }
 
-  pub joins_own : (words1 words' : List ℕ) (head' : ℕ) → false ≡ ends_at address (front around) → words1 ≡ written words (word_place base address) next size
+  joins_own : (words1 words' : List ℕ) (head' : ℕ) → false ≡ ends_at address (front around) → words1 ≡ written words (word_place base address) next size
       → words' ≡ linked_words base words1 before address → head' ≡ linked_head head before address
-      → IsShown base words' head' (around.below ++ record { address = around.start; size = around.end - around.start } ∷ around.above)
+      → IsShown base words' head' (joined around)
   joins_own words1 words' head' ends is1 is2 is3 =
       let apart : nat_lt around.start address ≡ false = sym (ends_front around.below around.start address around.low around.ended) ∙ sym ends in
       let ge : address ≤ around.start = grind (arith, nat_tests, apart) in
       let same : around.start ≡ address = omega (arith, around.low) in
       let alone : before ≡ last_or 0 around.below = last ∙ ap (λ gs. last_or 0 (around.below ++ gs)) (stretch_none around.start address ge) ∙ ap (last_or 0) (append-nil around.below) in
       let all : size ≡ around.end - around.start = omega (arith, same, found_size, around.high) in
-      let one : words1 ≡ written words (word_place base around.start) (first_or 0 around.above) (around.end - around.start) =
+      let one : words1 ≡ joined_words base words around =
       is1 ∙ ap (λ a. written words (word_place base a) next size) (sym same) ∙ ap (λ m. written words (word_place base around.start) m size) found_next
       ∙ ap (λ m. written words (word_place base around.start) (first_or 0 around.above) m) all in
-      let two : words' ≡ linked_words base (written words (word_place base around.start) (first_or 0 around.above) (around.end - around.start)) before around.start =
-      is2 ∙ ap (λ ws. linked_words base ws before address) one ∙ ap (λ a. linked_words base (written words (word_place base around.start) (first_or 0 around.above) (around.end - around.start)) before a) (sym same) in
+      let two : words' ≡ linked_words base (joined_words base words around) before around.start =
+      is2 ∙ ap (λ ws. linked_words base ws before address) one ∙ ap (λ a. linked_words base (joined_words base words around) before a) (sym same) in
       let three : head' ≡ linked_head head before around.start = is3 ∙ ap (linked_head head before) (sym same) in
-      let joined = joined_own base words head gaps c address n around low within place some whole before same alone in
-      shown base words' head' (around.below ++ record { address = around.start; size = around.end - around.start } ∷ around.above)
-      (subst (λ h. IsChained base words' h (around.below ++ record { address = around.start; size = around.end - around.start } ∷ around.above)) (sym three)
-      (subst (λ ws. IsChained base ws (linked_head head before around.start) (around.below ++ record { address = around.start; size = around.end - around.start } ∷ around.above)) (sym two) joined))
+      let chained = joined_own base words head gaps c address n around low within place some whole before same alone in
+      shown base words' head' (joined around)
+      (subst (λ h. IsChained base words' h (joined around)) (sym three)
+      (subst (λ ws. IsChained base ws (linked_head head before around.start) (joined around)) (sym two) chained))
+
+  pub joining : IsJoining base words head address (front around) (joined around) before next size
+  joining = record { lower = lower_bounds; into = joins_lower; own = joins_own }

@@ -1,2 +1,3 @@
 -- The lemma files of `runadvice`.
+pub mod Alerts
 pub mod Follows

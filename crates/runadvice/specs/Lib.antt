@@ -1,2 +1,3 @@
+pub mod Alerts
 pub mod Ends
 pub mod Going

@@ -1,24 +1,30 @@
 //! The alert that has stopped a machine: whose call it refused, which line that is, and the values of its arguments.
-ghost use Rattle.std.specs.Prelude.{◌≡◌, IfSome, Some};
+ghost use Rattle.std.specs.Prelude.{◌≡◌, ◌++◌, IfSome, Some};
 ghost use Rattle.std.specs.Option.{option_map};
+ghost use Rattle.exectrace.specs.Trace.{Alert, printed_line};
 ghost use Rattle.taskscript.specs.declared.place.Owner.{Owner};
 ghost use Rattle.execsim.specs.Readers.{task_seen};
+ghost use Rattle.runadvice.specs.Alerts.{Tells, TellsOf};
+ghost use Rattle.runadvice.specs.Going.{EndsWith};
 
-use crate::bodies::{Begun, last_begun};
-use crate::course::Course;
+use crate::bodies::{command_at, last_begun};
 use crate::page::{Spot, name_of};
 use crate::room::Room;
 use crate::scene::Linked;
-use crate::step::Turn;
 use crate::value::value_of;
 use std::str::from_utf8;
-use taskscript::{Command, Owner};
+use taskscript::{Command, MachineFile, Owner};
+
+/// The codes of the alerts.
+const CODES: [&str; 10] = [
+    "HANDLE", "MASK", "VALUE", "MEM", "NEST", "LINK", "PORT", "SEM", "LIB", "IO",
+];
 
 /// A call that an alert has refused.
 #[derive(Clone, Copy)]
 pub struct Refused<'a> {
     /// The code of the alert.
-    pub code: &'a str,
+    pub code: &'static str,
     /// Which command it is.
     pub spot: Spot,
     pub command: &'a Command,
@@ -51,6 +57,14 @@ fn values_of(machine: &Linked, task: Option<usize>, command: &Command) -> [u32; 
     ]
 }
 
+/// The values of the arguments of a call of what is there.
+fn values_at(machine: &Linked, spot: Spot, command: &Command) -> [u32; 4] {
+    match spot.owner {
+        Owner::Task => values_of_task(machine, spot.item, command),
+        Owner::Softint | Owner::Server => values_of(machine, None, command),
+    }
+}
+
 /// The values of the arguments of the call that a task makes: those that it kept, if it has waited.
 fn values_of_task(machine: &Linked, task: usize, command: &Command) -> [u32; 4] {
     match machine.call(task) {
@@ -64,89 +78,100 @@ fn values_of_task(machine: &Linked, task: usize, command: &Command) -> [u32; 4] 
     }
 }
 
-/// The refused call of a task.
-fn of_task<'a>(
-    machine: &Linked,
-    course: &Course<'a>,
-    code: &'a str,
-    task: usize,
-) -> Option<Refused<'a>>
-    ensures owner { IfSome result (λ refused. refused.spot.owner ≡ Owner.Task) }
-    ensures item { IfSome result (λ refused. refused.spot.item ≡ task) }
-    ensures place { IfSome result (λ refused. option_map (λ view. view.place) (task_seen task machine.now.seen) ≡ Some refused.spot.place) }
+/// What is before the end of a text, if it ends so.
+fn before<'a>(text: &'a [u8], end: &[u8]) -> Option<&'a [u8]>
+    ensures { IfSome result (λ front. text.now ≡ front.now ++ end.now) }
 {
+    text.strip_suffix(end)
+}
+
+/// The same of an end that is text.
+fn before_text<'a>(text: &'a [u8], end: &str) -> Option<&'a [u8]>
+    ensures { IfSome result (λ front. text.now ≡ front.now ++ end.now) }
+{
+    before(text, end.as_bytes())
+}
+
+/// What is before the line of an alert, if a text ends with it.
+fn before_alert<'a>(text: &'a [u8], code: &str, name: &str, word: &str) -> Option<&'a [u8]>
+    ensures { IfSome result (λ front. text.now ≡ front.now ++ printed_line (Alert code.now name.now word.now)) }
+{
+    let unended = before(text, b"\n")?;
+    let unworded = before_text(unended, word)?;
+    let second = before(unworded, b" ")?;
+    let unnamed = before_text(second, name)?;
+    let first = before(unnamed, b" ")?;
+    let uncoded = before_text(first, code)?;
+    before(uncoded, b"alert ")
+}
+
+/// The code of the alert whose line a text ends with, if it refused a call of that word of what has that name.
+fn code_of_alert(text: &[u8], name: &str, word: &str) -> Option<&'static str>
+    ensures { IfSome result (λ code. EndsWith text.now (printed_line (Alert code.now name.now word.now))) }
+{
+    for code in CODES {
+        if before_alert(text, code, name, word).is_some() {
+            return Some(code);
+        }
+    }
+    None
+}
+
+/// The refused call of a command, if the alert whose line a text ends with is for it.
+fn refused_at<'a>(
+    machine: &Linked,
+    file: &'a MachineFile,
+    text: &[u8],
+    spot: Spot,
+) -> Option<Refused<'a>>
+    ensures tells { IfSome result (TellsOf file.now text.now) }
+    ensures spot { IfSome result (λ refused. refused.spot ≡ spot) }
+{
+    let name = name_of(file, spot.owner, spot.item)?;
+    let command = command_at(file, spot)?;
+    let code = code_of_alert(text, name, command.word.text())?;
+    Some(Refused {
+        code,
+        spot,
+        command,
+        values: values_at(machine, spot, command),
+    })
+}
+
+/// The refused call of the task that runs.
+fn of_task<'a>(machine: &Linked, file: &'a MachineFile, text: &[u8]) -> Option<Refused<'a>>
+    ensures { IfSome result (Tells file.now machine.now.seen text.now) }
+{
+    let task = machine.view().running?;
     let place = machine.task(task)?.place;
-    let command = course.command(Turn { task, place })?;
-    Some(Refused {
-        code,
-        spot: Spot {
-            owner: Owner::Task,
-            item: task,
-            place,
-        },
-        command,
-        values: values_of_task(machine, task, command),
-    })
+    refused_at(machine, file, text, Spot::of_task(task, place))
 }
 
-/// The refused call of the body of an interrupt.
-fn of_body<'a>(machine: &Linked, code: &'a str, body: Begun<'a>) -> Option<Refused<'a>> {
-    let place = body.alerted_place();
-    let command = body.code.get(place)?;
-    Some(Refused {
-        code,
-        spot: Spot {
-            owner: body.owner,
-            item: body.item,
-            place,
-        },
-        command,
-        values: values_of(machine, None, command),
-    })
-}
-
-/// The refused call of what has that name. The names of a file are distinct.
-fn of_name<'a>(
-    machine: &Linked,
-    course: &Course<'a>,
-    text: &str,
-    code: &'a str,
-    name: &str,
-) -> Option<Refused<'a>> {
-    let file = course.file;
-    if let Some(task) = file
-        .tasks()
-        .iter()
-        .position(|task| name == task.name.as_str())
-    {
-        return of_task(machine, course, code, task);
-    }
-    let body = last_begun(file, text)?;
-    if name == name_of(file, body.owner, body.item).unwrap_or("") {
-        of_body(machine, code, body)
-    } else {
-        None
-    }
-}
-
-/// The call that the alert has refused whose line is the last that the machine has printed, `alert CODE NAME WORD`; none if no alert has
-/// stopped it.
-pub fn refused_call<'a>(
-    machine: &Linked,
-    course: &Course<'a>,
-    room: &'a Room,
-) -> Option<Refused<'a>> {
-    let Ok(text) = from_utf8(&room.bytes) else {
+/// The refused call of the body of an interrupt that was the last to begin.
+fn of_body<'a>(machine: &Linked, file: &'a MachineFile, text: &[u8]) -> Option<Refused<'a>>
+    ensures { IfSome result (Tells file.now machine.now.seen text.now) }
+{
+    let Ok(lines) = from_utf8(text) else {
         return None
     };
-    let line = text.lines().last()?;
-    let (begin, rest) = line.split_once(" ")?;
-    let (code, rest) = rest.split_once(" ")?;
-    let (name, word) = rest.split_once(" ")?;
-    let refused = of_name(machine, course, text, code, name)?;
-    if begin == "alert" && refused.command.word.text() == word {
-        Some(refused)
-    } else {
-        None
+    let body = last_begun(file, lines)?;
+    let spot = Spot {
+        owner: body.owner,
+        item: body.item,
+        place: body.alerted_place(),
+    };
+    match spot.owner {
+        Owner::Task => None,
+        Owner::Softint | Owner::Server => refused_at(machine, file, text, spot),
+    }
+}
+
+/// The call that the alert has refused whose line is the last that the machine has printed; none if no alert has stopped it.
+pub fn refused_call<'a>(machine: &Linked, file: &'a MachineFile, room: &Room) -> Option<Refused<'a>>
+    ensures { IfSome result (Tells file.now machine.now.seen room.now.bytes.items) }
+{
+    match of_task(machine, file, &room.bytes) {
+        Some(refused) => Some(refused),
+        None => of_body(machine, file, &room.bytes),
     }
 }

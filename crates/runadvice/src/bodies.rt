@@ -1,5 +1,10 @@
 //! Which bodies of interrupts have run, by the lines that they printed. A body runs straight to its end, so each of its commands that print has
 //! a line, in their order, up to an alert.
+ghost use Rattle.std.specs.Prelude.{◌≡◌, map, option_copied, slice_get};
+ghost use Rattle.std.specs.Option.{option_map};
+ghost use Rattle.taskscript.specs.Commands.{command_view};
+ghost use Rattle.runadvice.specs.Alerts.{code_in, command_in};
+
 use crate::page::Spot;
 use crate::step::prints;
 use taskscript::{Command, MachineFile, Owner};
@@ -31,7 +36,9 @@ impl<'a> Begun<'a> {
 }
 
 /// The code of what has a body.
-fn code_of<'a>(file: &'a MachineFile, owner: Owner, item: usize) -> Option<&'a [Command]> {
+fn code_of<'a>(file: &'a MachineFile, owner: Owner, item: usize) -> Option<&'a [Command]>
+    ensures { option_map (λ code. map command_view code.now) result ≡ code_in file.now owner item }
+{
     Some(match owner {
         Owner::Task => &file.tasks().get(item)?.code,
         Owner::Server => &file.servers().get(item)?.code,
@@ -39,9 +46,19 @@ fn code_of<'a>(file: &'a MachineFile, owner: Owner, item: usize) -> Option<&'a [
     })
 }
 
+/// A command of some code.
+fn at_place(code: &[Command], place: usize) -> Option<&Command>
+    ensures { option_copied result ≡ slice_get code.now place }
+{
+    code.get(place)
+}
+
 /// A command of a file.
-pub fn command_at<'a>(file: &'a MachineFile, spot: Spot) -> Option<&'a Command> {
-    code_of(file, spot.owner, spot.item)?.get(spot.place)
+pub fn command_at<'a>(file: &'a MachineFile, spot: Spot) -> Option<&'a Command>
+    ensures { option_map command_view (option_copied result) ≡ command_in file.now spot.owner spot.item spot.place }
+{
+    let code = code_of(file, spot.owner, spot.item)?;
+    at_place(code, spot.place)
 }
 
 /// The place of the command of some code that prints its line after that many others; the number of commands if there is none.

@@ -1,72 +1,56 @@
-//! What is noted of each step of a run: which lines were done, what set each variable, what was freed, and what the last steps were.
-ghost use Rattle.std.specs.Prelude.{◌≡◌};
+//! What is noted of each step of a run: when each command was done last, when the bodies of interrupts were run last, and what was freed.
+ghost use Rattle.std.specs.Prelude.{◌≡◌, ◌<◌, ◌≤◌, ◌⊎◌, []};
 
 use crate::bodies::{Begun, after_line, begun_by, command_at};
+use crate::next::{Next, Part};
 use crate::page::Spot;
+use crate::past::{BodyPast, Latest, TaskPast, is_reached, rank_of};
 use crate::room::Room;
 use crate::scene::Linked;
 use crate::step::{Setting, Site, Turn, When, prints};
-use crate::value::{held_by, value_of};
+use crate::value::value_of;
 use execsim::Flow;
 use std::alloc::{AllocError, Global};
 use std::collections::HashMap;
 use std::str::from_utf8;
 use taskscript::{
     Command, Event, LibraryWord, ListWord, MachineFile, MemoryWord, Owner, PortWord, RequestWord,
-    SemaphoreWord, Variable, Word,
+    SemaphoreWord, Source, Variable, Word,
 };
 
-/// How many of the last steps are kept.
-pub const RECENT: usize = 1000;
+/// How many of the last steps are looked at.
+pub const RECENT: u64 = 1000;
 
-/// How many variables a body may have, and how many are shared.
+/// How many of the steps of a task that runs without end are noted: the last ones of an event.
+const LONG: u32 = 1000;
+
+/// How many variables are shared.
 const VARIABLES: usize = 64;
-
-/// What is noted of a task.
-#[derive(Drop)]
-pub struct TaskPast {
-    /// Whether each of its commands was done once.
-    done: Vec<bool>,
-    /// What has set each of its variables.
-    settings: Vec<Option<Setting>>,
-    /// Whether it has done a step.
-    pub has_run: bool,
-}
-
-/// A step that a task has done, or in which it went on to wait.
-#[derive(Clone, Copy, Debug)]
-pub struct Visit {
-    pub turn: Turn,
-    /// The number of the step, from 1; 0 for none.
-    pub step: u64,
-}
-
-impl Visit {
-    /// No step.
-    const NONE: Visit = Visit {
-        turn: Turn { task: 0, place: 0 },
-        step: 0,
-    };
-}
 
 /// What is noted of a run.
 #[derive(Drop)]
 pub struct Course<'a> {
     pub file: &'a MachineFile,
     pub tasks: Vec<TaskPast>,
-    /// What has set each shared variable.
-    shared: Vec<Option<Setting>>,
+    /// When each software interrupt was run last.
+    softints: Vec<BodyPast>,
+    /// When the servers of each source were run last.
+    sources: [BodyPast; 3],
+    /// Which sources have asked and were not served yet.
+    asking: [bool; 3],
+    /// How many bodies of interrupts were run, at most.
+    bodies: u64,
+    /// What the bodies of interrupts have set in the event in which an alert stopped the machine: each shared variable.
+    late: Vec<Option<Setting>>,
     /// What has freed the object or the block at an address.
     pub freed: HashMap<u32, (Site, Word)>,
-    /// The last steps of tasks; that of step `n` is at `n` modulo their number.
-    recent: Vec<Visit>,
     /// How many steps and ticks were done.
     pub steps: u64,
     pub ticks: u64,
-    /// The last step that did a command for the first time, that ended a task, or that did nothing.
-    pub fresh: u64,
-    /// Whether a body of an interrupt may set a shared variable.
-    has_setters: bool,
+    /// The last step that ended a task or did nothing.
+    fresh: u64,
+    /// The last step that did no command of a task.
+    other: u64,
     /// The event in which an alert stopped the machine.
     pub stopped_in: Option<Event>,
     /// Whether nothing was lost when memory was refused.
@@ -76,27 +60,26 @@ pub struct Course<'a> {
 fn no_past(alloc: Global, file: &MachineFile) -> Result<Vec<TaskPast>, AllocError> {
     let mut tasks = Vec::new(alloc);
     for task in file.tasks() {
-        tasks.push(TaskPast {
-            done: vec![in alloc; false; task.code.len()]?,
-            settings: vec![in alloc; None; VARIABLES]?,
-            has_run: false,
-        })?;
+        tasks.push(TaskPast::new(alloc, task.code.len())?)?;
     }
     Ok(tasks)
 }
 
-/// Whether a command of some code sets a variable.
-fn any_target(code: &[Command]) -> bool {
-    code.iter().any(|command| command.target.is_some())
+/// The place of a source in the order in which they are served.
+fn place_of(source: Source) -> usize
+    ensures { result < 3 }
+{
+    match source {
+        Source::Exter => 0,
+        Source::Vertb => 1,
+        Source::Ports => 2,
+    }
 }
 
-/// Whether a body of an interrupt of a file sets a variable.
-fn any_setter(file: &MachineFile) -> bool {
-    file.servers().iter().any(|server| any_target(&server.code))
-        || file
-            .softints()
-            .iter()
-            .any(|softint| any_target(&softint.code))
+/// Which sources of a machine ask to be served.
+fn asking_in(machine: &Linked) -> [bool; 3] {
+    let latches = machine.view().latches;
+    [latches.exter, latches.vertb, latches.ports]
 }
 
 /// Whether a word ends the object or the block that its first argument names.
@@ -114,26 +97,22 @@ fn frees(word: Word) -> bool {
     }
 }
 
-/// Notes what has set the variable of a number.
-fn set_at(settings: &mut Vec<Option<Setting>>, number: usize, setting: Setting) {
-    if let Some(place) = settings.get_mut(number) {
-        *place = Some(setting);
-    }
-}
-
 impl<'a> Course<'a> {
     /// Nothing is noted of the run of a machine yet.
     pub fn new(alloc: Global, file: &'a MachineFile) -> Result<Course<'a>, AllocError> {
         Ok(Course {
             file,
             tasks: no_past(alloc, file)?,
-            shared: vec![in alloc; None; VARIABLES]?,
+            softints: vec![in alloc; BodyPast::NONE; file.softints().len()]?,
+            sources: [BodyPast::NONE; 3],
+            asking: [false; 3],
+            bodies: 0,
+            late: vec![in alloc; None; VARIABLES]?,
             freed: HashMap::new(alloc),
-            recent: vec![in alloc; Visit::NONE; RECENT]?,
             steps: 0,
             ticks: 0,
             fresh: 0,
-            has_setters: any_setter(file),
+            other: 0,
             stopped_in: None,
             is_whole: true,
         })
@@ -144,66 +123,57 @@ impl<'a> Course<'a> {
         command_at(self.file, Spot::of_task(turn.task, turn.place))
     }
 
-    /// What the next step is to do, if it is a command of a task.
-    pub fn turn(&self, machine: &Linked) -> Option<Turn> {
-        let task = machine.next_actor()?;
-        let place = machine.task(task)?.place;
-        Some(Turn { task, place })
+    /// Whether a source has asked and was not served yet.
+    fn any_asks(&self) -> bool {
+        self.asking[0] || self.asking[1] || self.asking[2]
     }
 
-    /// Notes what has set a variable.
-    fn note_setting(&mut self, task: usize, variable: Variable, setting: Setting) {
-        match variable {
-            Variable::Shared(number) => set_at(&mut self.shared, number as usize, setting),
-            Variable::Private(number) => {
-                if let Some(past) = self.tasks.get_mut(task) {
-                    set_at(&mut past.settings, number as usize, setting);
+    /// The steps of a task that can be done at once, at most that many. Plain words are noted; of those that go on without end only the last ones.
+    fn part_of_task(&mut self, turn: Turn, most: u32) -> Part
+        requires { 0 < most }
+        ensures some { 0 < result.steps }
+        ensures within { result.steps ≤ most }
+    {
+        match (
+            self.file.tasks().get(turn.task),
+            self.tasks.get_mut(turn.task),
+        ) {
+            (Some(task), Some(past)) => {
+                let steps = self.steps;
+                if most > LONG && past.is_endless(&task.code, turn.place, steps, RECENT) {
+                    return Part {
+                        steps: most - LONG,
+                        next: Next::Noted,
+                    };
                 }
+                past.part(&task.code, turn, most, steps)
             }
+            _ => Part {
+                steps: 1,
+                next: Next::Task(turn),
+            },
         }
     }
 
-    /// Notes that a command of a task was done.
-    fn note_done(&mut self, turn: Turn) {
-        let steps = self.steps;
-        if let Some(past) = self.tasks.get_mut(turn.task) {
-            if let Some(done) = past.done.get_mut(turn.place) {
-                if !*done {
-                    *done = true;
-                    past.has_run = true;
-                    self.fresh = steps;
-                }
+    /// The next steps that can be done at once, at most that many: plain words, up to a call; or all, if none does anything. Where a source asks, its
+    /// servers may run after any step.
+    pub fn part(&mut self, next: Next, most: u32) -> Part
+        requires { 0 < most }
+        ensures some { 0 < result.steps }
+        ensures within { result.steps ≤ most }
+    {
+        if self.stopped_in.is_some() {
+            return Part { steps: most, next };
+        }
+        match next {
+            Next::Task(turn) if self.any_asks() => {
+                let steps = self.part_of_task(turn, 1).steps;
+                Part { steps, next }
             }
+            Next::Task(turn) => self.part_of_task(turn, most),
+            Next::Softint(_) => Part { steps: 1, next },
+            _ => Part { steps: most, next },
         }
-    }
-
-    /// Notes that a task went on to wait in its call.
-    fn note_waiting(&mut self, turn: Turn) {
-        if let Some(past) = self.tasks.get_mut(turn.task) {
-            past.has_run = true;
-        }
-    }
-
-    /// Notes which task did the last step, or went on to wait in it.
-    fn note_visit(&mut self, turn: Turn) {
-        let at = (self.steps % 1000) as usize;
-        if let Some(place) = self.recent.get_mut(at) {
-            *place = Visit {
-                turn,
-                step: self.steps,
-            };
-        }
-    }
-
-    /// Notes what a command of a task has set.
-    fn note_target(&mut self, machine: &Linked, turn: Turn, command: &Command) {
-        let Some(target) = command.target else { return };
-        let setting = Setting {
-            site: self.site(turn),
-            word: command.word,
-            value: held_by(machine, Some(turn.task), target),
-        };
-        self.note_setting(turn.task, target, setting);
     }
 
     /// The command of a task that the last step did.
@@ -226,63 +196,96 @@ impl<'a> Course<'a> {
         }
     }
 
-    /// Notes the command of a task that a step has done.
-    fn note_step(&mut self, machine: &Linked, turn: Option<Turn>) {
-        let Some(turn) = turn else {
-            if machine.view().running.is_none() {
-                self.fresh = self.steps;
-            }
-            return;
-        };
+    /// Notes the step of a task, unless it was of plain words, which are noted before.
+    fn note_task(&mut self, machine: &Linked, turn: Turn) {
         let Some(command) = self.command(turn) else {
             self.fresh = self.steps;
+            self.other = self.steps;
             return;
         };
-        self.note_visit(turn);
-        if prints(command.word) {
-            if machine.call(turn.task).is_some() {
-                self.note_waiting(turn);
+        if !prints(command.word) {
+            return;
+        }
+        let is_waiting = machine.call(turn.task).is_some();
+        let steps = self.steps;
+        if let Some(past) = self.tasks.get_mut(turn.task) {
+            if is_waiting {
+                past.note_waiting(turn.place, steps);
                 return;
             }
-            self.note_freed(machine, turn, command);
+            past.note_done(turn.place, steps);
         }
-        self.note_done(turn);
-        self.note_target(machine, turn, command);
+        self.note_freed(machine, turn, command);
     }
 
-    /// Notes what a body of an interrupt has set; one that an alert has ended has done the commands before that of the alert.
-    fn note_body(&mut self, machine: &Linked, body: Begun<'a>, when: When, is_stopped: bool) {
-        let end = if is_stopped {
-            body.alerted_place()
-        } else {
-            body.code.len()
+    /// Notes that some bodies of interrupts were run together, at most that many, and answers that.
+    fn next_bodies(&mut self, when: When, most: usize) -> BodyPast {
+        let past = BodyPast {
+            steps: self.steps,
+            turn: self.bodies.saturating_add(1),
+            when,
         };
+        self.bodies = self.bodies.saturating_add(most as u64);
+        past
+    }
+
+    /// Notes a step, or some that did nothing.
+    fn note_step(&mut self, machine: &Linked, next: Next, when: When) {
+        match next {
+            Next::Task(turn) => return self.note_task(machine, turn),
+            Next::Softint(number) => {
+                let run = self.next_bodies(when, 1);
+                if let Some(past) = self.softints.get_mut(number) {
+                    *past = run;
+                }
+            }
+            _ => {}
+        }
+        self.other = self.steps;
+        if machine.view().running.is_none() {
+            self.fresh = self.steps;
+        }
+    }
+
+    /// Notes which sources were served: those that asked and do not ask any more.
+    fn note_served(&mut self, machine: &Linked, when: When) {
+        let asked = self.asking;
+        if !self.any_asks() {
+            return;
+        }
+        let asking = asking_in(machine);
+        self.asking = asking;
+        for k in 0..3 {
+            if asked[k] && !asking[k] {
+                let past = self.next_bodies(when, self.file.servers().len());
+                self.sources[k] = past;
+            }
+        }
+    }
+
+    /// Notes what a body of an interrupt has set in the event of the alert, up to a place.
+    fn note_late(&mut self, body: Begun<'a>, when: When, end: usize) {
         for (place, command) in body.code.iter().enumerate().take(end) {
-            if let Some(target) = command.target {
+            if let Some(Variable::Shared(number)) = command.target {
                 let spot = Spot {
                     owner: body.owner,
                     item: body.item,
                     place,
                 };
-                let setting = Setting {
-                    site: Site { spot, when },
-                    word: command.word,
-                    value: held_by(machine, None, target),
-                };
-                self.note_setting(0, target, setting);
+                let site = Site { spot, when };
+                if let Some(late) = self.late.get_mut(number as usize) {
+                    *late = Some(Setting {
+                        site,
+                        word: command.word,
+                    });
+                }
             }
         }
     }
 
-    /// Notes what bodies of interrupts have set in an event, by its lines after the first few.
-    fn note_bodies(
-        &mut self,
-        machine: &Linked,
-        room: &Room,
-        when: When,
-        skipped: usize,
-        is_stopped: bool,
-    ) {
+    /// Notes what bodies of interrupts have set in the event of the alert, by its lines after the first few. The last of them is that of the alert, if
+    /// one has begun.
+    fn note_alerted(&mut self, room: &Room, when: When, skipped: usize) {
         let Ok(text) = from_utf8(&room.bytes) else {
             return
         };
@@ -290,85 +293,74 @@ impl<'a> Course<'a> {
         for line in text.lines().skip(skipped) {
             let next = begun_by(self.file, line);
             if let (Some(body), Some(_)) = (last, next) {
-                self.note_body(machine, body, when, false);
+                self.note_late(body, when, body.code.len());
             }
             last = after_line(last, next);
         }
         if let Some(body) = last {
-            self.note_body(machine, body, when, is_stopped);
+            self.note_late(body, when, body.alerted_place());
         }
     }
 
     /// Counts an event, and answers when it was.
     fn count(&mut self, one: Event) -> When {
         match one {
-            Event::Run(_) => {
-                self.steps = self.steps.saturating_add(1);
+            Event::Run(steps) => {
+                self.steps = self.steps.saturating_add(u64::from(steps));
                 When::Step(self.steps)
             }
             Event::Tick(_) => {
                 self.ticks = self.ticks.saturating_add(1);
+                self.asking[place_of(Source::Vertb)] = true;
                 When::Tick(self.ticks)
             }
-            Event::Irq(_) => When::Request(self.steps),
+            Event::Irq(source) => {
+                self.asking[place_of(source)] = true;
+                When::Request(self.steps)
+            }
         }
     }
 
-    /// Notes what bodies of interrupts have set in an event, if any may have.
-    fn note_interrupts(
-        &mut self,
-        machine: &Linked,
-        turn: Option<Turn>,
-        when: When,
-        is_stopped: bool,
-        room: &Room,
-    ) {
-        if !self.has_setters || room.bytes.is_empty() {
+    /// Notes the event in which an alert has stopped the machine.
+    fn note_stop(&mut self, machine: &Linked, one: Event, next: Next, when: When, room: &Room) {
+        self.stopped_in = Some(one);
+        // The line of the alert of the task's own call comes first, and alone.
+        if room.bytes.starts_with(b"alert ") {
             return;
         }
-        // The line of a task's command or of its end comes first.
-        let skipped = match turn {
-            None => 0,
-            Some(turn) => match self.command(turn) {
-                None => 1,
-                Some(command) => prints(command.word) as usize,
-            },
+        let skipped = match (one, next) {
+            (Event::Run(_), Next::Task(turn)) => {
+                self.note_task(machine, turn);
+                self.command(turn)
+                    .is_none_or(|command| prints(command.word)) as usize
+            }
+            _ => 0,
         };
-        self.note_bodies(machine, room, when, skipped, is_stopped);
+        self.note_alerted(room, when, skipped);
     }
 
-    /// Notes a step, a tick or a request that is over, whose lines are in the room. Nothing is noted after an alert.
-    pub fn note(
-        &mut self,
-        machine: &Linked,
-        one: Event,
-        turn: Option<Turn>,
-        flow: Flow,
-        room: &Room,
-    ) {
+    /// Notes some steps, a tick or a request that are over, whose lines are in the room. Nothing is noted after an alert.
+    pub fn note(&mut self, machine: &Linked, one: Event, next: Next, flow: Flow, room: &Room) {
         if self.stopped_in.is_some() {
             return;
         }
         let when = self.count(one);
-        let is_stopped = flow == Flow::Alerted;
-        if is_stopped {
-            self.stopped_in = Some(one);
-            // The line of the alert of the task's own call comes first, and alone.
-            if room.bytes.starts_with(b"alert ") {
-                return;
-            }
+        if matches!(next, Next::Noted) {
+            return;
+        }
+        if flow == Flow::Alerted {
+            return self.note_stop(machine, one, next, when, room);
         }
         if matches!(one, Event::Run(_)) {
-            self.note_step(machine, turn);
-            self.note_interrupts(machine, turn, when, is_stopped, room);
-        } else {
-            self.note_interrupts(machine, None, when, is_stopped, room);
+            self.note_step(machine, next, when);
         }
+        self.note_served(machine, when);
     }
 
     /// Empties the room before the next event; after an alert it is as the alert left it.
     pub fn clear(&self, room: &mut Room)
-        ensures { room.new.state ≡ room.old.state }
+        ensures state { room.new.state ≡ room.old.state }
+        ensures bytes { (room.new.bytes.items ≡ []) ⊎ (room.new.bytes.items ≡ room.old.bytes.items) }
     {
         if self.stopped_in.is_none() {
             room.bytes.clear();
@@ -379,29 +371,81 @@ impl<'a> Course<'a> {
     pub fn has_done(&self, turn: Turn) -> bool {
         match self.tasks.get(turn.task) {
             None => false,
-            Some(past) => past.done.get(turn.place).copied().unwrap_or(false),
+            Some(past) => match past.commands.get(turn.place) {
+                None => false,
+                Some(past) => past.done > 0,
+            },
         }
     }
 
-    /// What a task did in a step, if it is one of the last steps and was a task's.
-    pub fn visit_at(&self, step: u64) -> Option<Turn> {
-        let visit = self.recent.get((step % 1000) as usize)?;
-        if visit.step == step && step > 0 {
-            Some(visit.turn)
-        } else {
-            None
+    /// How many of the last steps did a command that was done before, or a software interrupt that woke a task.
+    pub fn stale_steps(&self) -> u64 {
+        let mut fresh = self.fresh;
+        for past in self.tasks.iter() {
+            fresh = fresh.max(past.fresh);
+        }
+        self.steps.saturating_sub(fresh)
+    }
+
+    /// The commands of tasks that were done, or in which a task went on to wait, after that many steps.
+    pub fn visited_after(&self, alloc: Global, steps: u64) -> Result<Vec<Turn>, AllocError> {
+        let mut turns = Vec::new(alloc);
+        for (task, past) in self.tasks.iter().enumerate() {
+            for (place, command) in past.commands.iter().enumerate() {
+                if command.visited > steps {
+                    turns.push(Turn { task, place })?;
+                }
+            }
+        }
+        Ok(turns)
+    }
+
+    /// The last step in which a command of a task was done, or in which it went on to wait; 0 if there is none.
+    pub fn last_visit(&self, turn: Turn) -> u64 {
+        match self.tasks.get(turn.task) {
+            None => 0,
+            Some(past) => past.visited(turn.place),
+        }
+    }
+
+    /// The last step that did no command of a task; 0 if there is none.
+    pub fn last_other(&self) -> u64 {
+        self.other
+    }
+
+    /// What the bodies of interrupts have set a shared variable to last, if that is later.
+    fn offer_bodies(&self, latest: &mut Latest, variable: Variable) {
+        for (item, softint) in self.file.softints().iter().enumerate() {
+            let past = self.softints.get(item).copied().unwrap_or(BodyPast::NONE);
+            latest.offer_body(Owner::Softint, item, &softint.code, past, variable);
+        }
+        for (item, server) in self.file.servers().iter().enumerate() {
+            let past = self.sources[place_of(server.source)];
+            if past.turn > 0 && is_reached(self.file, item) {
+                let turn = past.turn.saturating_add(rank_of(self.file, item));
+                let past = BodyPast { turn, ..past };
+                latest.offer_body(Owner::Server, item, &server.code, past, variable);
+            }
         }
     }
 
     /// What has set a variable last, as a task sees it.
     pub fn setting_of(&self, task: Option<usize>, variable: Variable) -> Option<Setting> {
-        let settings = match variable {
-            Variable::Shared(_) => &self.shared,
-            Variable::Private(_) => &self.tasks.get(task?)?.settings,
-        };
-        let number = match variable {
-            Variable::Shared(number) | Variable::Private(number) => number,
-        };
-        settings.get(number as usize).copied().unwrap_or(None)
+        let mut latest = Latest::new();
+        let is_shared = matches!(variable, Variable::Shared(_));
+        if let Variable::Shared(number) = variable {
+            if let Some(late) = self.late.get(number as usize).copied().unwrap_or(None) {
+                return Some(late);
+            }
+            self.offer_bodies(&mut latest, variable);
+        }
+        for (item, record) in self.file.tasks().iter().enumerate() {
+            if is_shared || task == Some(item) {
+                if let Some(past) = self.tasks.get(item) {
+                    latest.offer_task(item, &record.code, past, variable);
+                }
+            }
+        }
+        latest.setting
     }
 }

@@ -4,6 +4,7 @@ ghost use Rattle.exectrace.specs.declared.sinks.SinkState.{SinkState};
 ghost use Rattle.execsim.specs.Time.{HasTimeFor};
 
 use crate::course::{Course, RECENT};
+use crate::next::{Next, next_of};
 use crate::room::Room;
 use crate::scene::Linked;
 use crate::snapshot::{memory_shown, tasks_shown};
@@ -111,15 +112,14 @@ pub fn turn_of(machine: &Linked) -> Option<Turn> {
 }
 
 /// Adds what the next step is to do: the command of a task, or a software interrupt; whether it is one of them.
-fn add_next(
-    lap: &mut Lap,
-    machine: &Linked,
-    course: &Course<'_>,
-    turn: Option<Turn>,
-) -> Result<bool, AllocError> {
-    let Some(turn) = turn else {
-        lap.has_softint = true;
-        return Ok(machine.caused_after(None).is_some());
+fn add_next(lap: &mut Lap, course: &Course<'_>, next: Next) -> Result<bool, AllocError> {
+    let turn = match next {
+        Next::Task(turn) => turn,
+        Next::Softint(_) => {
+            lap.has_softint = true;
+            return Ok(true);
+        }
+        _ => return Ok(false),
     };
     match course.command(turn) {
         None => Ok(false),
@@ -130,11 +130,11 @@ fn add_next(
     }
 }
 
-/// Whether a task waits in its call.
-fn is_waiting(machine: &Linked, turn: Option<Turn>) -> bool {
-    match turn {
-        None => false,
-        Some(turn) => machine.call(turn.task).is_some(),
+/// Whether the task of a step waits in its call.
+fn is_waiting(machine: &Linked, next: Next) -> bool {
+    match next {
+        Next::Task(turn) => machine.call(turn.task).is_some(),
+        _ => false,
     }
 }
 
@@ -169,14 +169,14 @@ pub fn lap_of(
     let mut lap = Lap::new(alloc);
     let mut compared = 0usize;
     for _step in 0..RECENT {
-        let turn = course.turn(machine);
-        if !add_next(&mut lap, machine, course, turn)? {
+        let next = next_of(machine);
+        if !add_next(&mut lap, course, next)? {
             return Ok(None);
         }
         if !go_on(machine, room)? {
             return Ok(None);
         }
-        lap.waits = lap.waits || is_waiting(machine, turn);
+        lap.waits = lap.waits || is_waiting(machine, next);
         if shows_again(alloc, machine, running, tasks.as_str())? {
             if memory_shown(alloc, machine)?.as_str() == memory.as_str() {
                 return Ok(Some(lap));

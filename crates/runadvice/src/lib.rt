@@ -13,8 +13,10 @@ mod following;
 mod handles;
 mod lap;
 mod memory;
+mod next;
 mod origin;
 mod page;
+mod past;
 mod ready;
 mod room;
 mod rules;
@@ -27,4 +29,5 @@ mod wait;
 mod waiting;
 mod wakers;
 
-pub use check::{Report, check_run};
+pub use check::{Alert, Report, check_run};
+pub use page::Spot;

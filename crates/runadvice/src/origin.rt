@@ -3,6 +3,7 @@ use crate::bodies::command_at;
 use crate::handles::Asking;
 use crate::page::name_of;
 use crate::step::{Setting, Site, when_text};
+use crate::value::held_by;
 use std::alloc::{AllocError, Global};
 use taskscript::{Argument, Command, Owner, Variable, Word};
 
@@ -79,8 +80,8 @@ impl Asking<'_, '_> {
         format!(in self.alloc; "in line {line} of {kind} \"{name}\"")
     }
 
-    /// What has set a variable to its value.
-    fn setting_text(&self, setting: Setting) -> Result<String, AllocError> {
+    /// What has set a variable to this value.
+    fn setting_text(&self, setting: Setting, value: u32) -> Result<String, AllocError> {
         let spot = setting.site.spot;
         let place = self.site_text(setting.site)?;
         let time = when_text(self.alloc, setting.site.when)?;
@@ -90,7 +91,7 @@ impl Asking<'_, '_> {
             Word::Plain(_) => "gave",
             _ => "returned",
         };
-        if setting.value == 0 {
+        if value == 0 {
             let reason = match setting.word.text() {
                 "NewList" | "NewNode" | "NewMsg" | "NewSem" | "CreateMsgPort" | "AllocMem"
                     if self.machine.region(0).is_none() => NO_REGION,
@@ -103,8 +104,11 @@ impl Asking<'_, '_> {
 
     /// Where the value of a variable comes from, as the end of a sentence; nothing if that is not known.
     pub fn origin(&self, variable: Variable, value: u32) -> Result<String, AllocError> {
-        match self.course.setting_of(self.refused.task(), variable) {
-            Some(setting) if setting.value == value => self.setting_text(setting),
+        let task = self.refused.task();
+        match self.course.setting_of(task, variable) {
+            Some(setting) if held_by(self.machine, task, variable) == value => {
+                self.setting_text(setting, value)
+            }
             None if value == 0 => format!(in self.alloc; ": nothing has set it"),
             _ => Ok(String::new(self.alloc)),
         }

@@ -1,4 +1,9 @@
 //! The text that is made of what was found: each finding with its place in the file, the line and marks.
+ghost use Rattle.std.specs.Prelude.{◌≡◌};
+ghost use Rattle.std.specs.Option.{option_map};
+ghost use Rattle.taskscript.specs.declared.place.Owner.{Owner};
+ghost use Rattle.runadvice.specs.Alerts.{line_in, name_in};
+
 use execadvice::{Advice, Span, Written, field_span, line_at, line_text, said_by, shown};
 use std::alloc::{AllocError, Global};
 use taskscript::{Array, LinePlace, Listed, Listing, MachineFile, Owner};
@@ -25,7 +30,9 @@ pub struct Spot {
 
 impl Spot {
     /// The command of a task at a place of its code.
-    pub fn of_task(task: usize, place: usize) -> Spot {
+    pub fn of_task(task: usize, place: usize) -> Spot
+        ensures { result ≡ record { owner = Owner.Task; item = task; place = place } }
+    {
         Spot {
             owner: Owner::Task,
             item: task,
@@ -34,7 +41,9 @@ impl Spot {
     }
 
     /// The line of its code in which it is written, from 0, if it has one: the end of the code has none.
-    pub fn line_in(self, listing: &Listing) -> Option<usize> {
+    pub fn line_in(self, listing: &Listing) -> Option<usize>
+        ensures { result ≡ line_in listing.now self.owner self.item self.place }
+    {
         let body = match self.owner {
             Owner::Task => listing.tasks().get(self.item)?,
             Owner::Server => listing.servers().get(self.item)?,
@@ -68,7 +77,9 @@ pub struct Page<'a> {
 }
 
 /// The name of what has a body.
-pub fn name_of<'a>(file: &'a MachineFile, owner: Owner, item: usize) -> Option<&'a str> {
+pub fn name_of<'a>(file: &'a MachineFile, owner: Owner, item: usize) -> Option<&'a str>
+    ensures { option_map (λ name. name.now) result ≡ name_in file.now owner item }
+{
     Some(match owner {
         Owner::Task => file.tasks().get(item)?.name.as_str(),
         Owner::Server => file.servers().get(item)?.name.as_str(),

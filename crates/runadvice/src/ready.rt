@@ -26,7 +26,7 @@ impl Scene<'_, '_> {
     fn has_run(&self, task: usize) -> bool {
         match self.course.tasks.get(task) {
             None => true,
-            Some(past) => past.has_run,
+            Some(past) => past.has_run(),
         }
     }
 

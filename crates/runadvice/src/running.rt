@@ -88,36 +88,30 @@ impl Scene<'_, '_> {
     }
 
     /// How many of the last steps were in a part of the code.
-    fn steps_in(&self, lap: &Lap) -> u64 {
-        let mut steps = 0u64;
-        for back in 0..RECENT {
-            let step = self.course.steps.saturating_sub(back as u64);
-            let is_in = match self.course.visit_at(step) {
-                None => lap.has_softint && step > 0,
-                Some(turn) => lap.has(turn),
-            };
-            if !is_in {
-                return steps;
+    fn steps_in(&self, lap: &Lap) -> Result<u64, AllocError> {
+        let course = self.course;
+        let mut before = if lap.has_softint {
+            0
+        } else {
+            course.last_other()
+        };
+        for turn in course.visited_after(self.alloc, 0)?.iter() {
+            if !lap.has(*turn) {
+                before = before.max(course.last_visit(*turn));
             }
-            steps = steps.saturating_add(1);
         }
-        steps
+        Ok(course.steps.saturating_sub(before).min(RECENT))
     }
 
     /// What the last steps did, each of which was one of a task or a software interrupt.
     fn recent_lap(&self) -> Result<Lap, AllocError> {
+        let course = self.course;
+        let before = course.steps.saturating_sub(RECENT);
         let mut lap = Lap::new(self.alloc);
-        for back in 0..RECENT {
-            match self
-                .course
-                .visit_at(self.course.steps.saturating_sub(back as u64))
-            {
-                None => lap.has_softint = true,
-                Some(turn) => {
-                    if let Some(command) = self.course.command(turn) {
-                        lap.add(turn, command.word)?;
-                    }
-                }
+        lap.has_softint = course.last_other() > before;
+        for turn in course.visited_after(self.alloc, before)?.iter() {
+            if let Some(command) = course.command(*turn) {
+                lap.add(*turn, command.word)?;
             }
         }
         Ok(lap)
@@ -177,7 +171,7 @@ impl Scene<'_, '_> {
             None => "",
             Some(_) => effect_of(lap),
         };
-        let steps = grouped(alloc, sure.unwrap_or(RECENT as u64))?;
+        let steps = grouped(alloc, sure.unwrap_or(RECENT))?;
         let parts = self.stretches_text(page, lap)?;
         let (parts, ready) = (parts.as_str(), running.ready.as_str());
         let changers = running.changers.as_str();
@@ -230,12 +224,12 @@ impl Scene<'_, '_> {
         lap: Option<Lap>,
     ) -> Result<(), AllocError> {
         if let Some(lap) = lap {
-            let steps = self.steps_in(&lap);
+            let steps = self.steps_in(&lap)?;
             if steps > 0 {
                 return self.add_loop(page, running, &lap, Some(steps));
             }
         }
-        if self.course.steps.saturating_sub(self.course.fresh) >= RECENT as u64 {
+        if self.course.stale_steps() >= RECENT {
             let lap = self.recent_lap()?;
             return self.add_loop(page, running, &lap, None);
         }

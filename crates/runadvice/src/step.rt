@@ -21,12 +21,11 @@ pub struct Site {
     pub when: When,
 }
 
-/// What a command has set a variable to.
+/// What has set a variable.
 #[derive(Clone, Copy, Debug, PartialEq, Eq)]
 pub struct Setting {
     pub site: Site,
     pub word: Word,
-    pub value: u32,
 }
 
 /// What is about to be done: the next command of a task.

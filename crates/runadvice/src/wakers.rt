@@ -156,22 +156,23 @@ impl Scene<'_, '_> {
         Ok(())
     }
 
+    /// A request in progress and when it is done, in words.
+    fn request_text(&self, address: u32) -> Result<String, AllocError> {
+        let alloc = self.alloc;
+        let shown = hex(alloc, address)?;
+        let Some(ticks) = self.ticks_left(address) else {
+            return format!(in alloc; "request {shown} (done by a tick)");
+        };
+        let ticks = ticks_text(alloc, ticks)?;
+        format!(in alloc; "request {shown} (done in {ticks})")
+    }
+
     /// Adds the requests in progress.
     fn push_requests(&self, names: &mut Vec<String>) -> Result<(), AllocError> {
-        let alloc = self.alloc;
-        for block in blocks_of(alloc, self.machine)?.iter() {
-            if names.len() >= MOST_NAMED || block.request_in_progress().is_none() {
-                continue;
+        for block in blocks_of(self.alloc, self.machine)?.iter() {
+            if names.len() < MOST_NAMED && block.request_in_progress().is_some() {
+                names.push(self.request_text(block.address)?)?;
             }
-            let shown = hex(alloc, block.address)?;
-            let ticks = match self.ticks_left(block.address) {
-                None => format!(in alloc; "by a tick")?,
-                Some(ticks) => {
-                    let ticks = ticks_text(alloc, ticks)?;
-                    format!(in alloc; "in {ticks}")?
-                }
-            };
-            names.push(format!(in alloc; "request {shown} (done {ticks})")?)?;
         }
         Ok(())
     }

@@ -1,12 +1,12 @@
 -- What the code keeps of the requests that wait, if one more comes or one goes.
-use Rattle.std.proofs.Common.{◌≡◌, ℕ, ◌+◌, ◌<◌, ◌≤◌, cond, not, eqb, List, [], ◌∷◌, ◌++◌, length, refl, sym, ap, ◌∙◌, subst, arith, inl, inr, Option, Some, None, IfSome, is_some, slice_set, slice_index_or}
+use Rattle.std.proofs.Common.{◌≡◌, ℕ, Bool, ◌+◌, ◌<◌, ◌≤◌, cond, not, eqb, List, [], ◌∷◌, ◌++◌, length, refl, sym, ap, ◌∙◌, subst, arith, inl, inr, Option, Some, None, IfSome, is_some, slice_set, slice_index_or}
 use Rattle.std.specs.Prelude.{◌⊎◌, ℤ, IsSome, filter, replicate}
 use Rattle.std.proofs.lemmas.Bool.{cond-true, cond-false, eq-eqb, ne_eqb, cases_eq, cases_lt}
 use Rattle.std.proofs.lemmas.List.{get_or-set_other, get_or-set_same, get_or-replicate, length-set, length-replicate, append-nil}
 use Rattle.execlist.specs.Order.{enqueue, order, without}
 use Rattle.execlist.specs.Lists.{home, sequence, times, is_at}
 use Rattle.execlist.proofs.OrderLaws.{order_takes, order_leaves_out}
-use Rattle.timerdev.specs.Timing.{AtClock, AtSystem, Due, Waiting}
+use Rattle.timerdev.specs.Timing.{AtClock, AtSystem, Due, Timer, Waiting}
 use Rattle.timerdev.specs.Held.{Held, IsHeld, Rises, begun_in, due_at, due_for, due_in, on_timer, sooner_of, waiting_for}
 use Rattle.timerdev.proofs.Times.{times-joins, without_absent, without_same, without_other}
 use Rattle.timerdev.proofs.Filters.{filter_joined, filter_left, waiting_joined, waiting_left}
@@ -16,6 +16,21 @@ use Rattle.timerdev.proofs.Queue.{order_redue, rises_order}
 -- the timer with other requests that wait
 abbrev pub with_waiting : Held → List Waiting → Held
 with_waiting held waiting = on_timer (λ timer. record timer { waiting = waiting }) held
+
+-- the timer that clock, system time, homes, due times and the order in which requests were begun show
+abbrev pub timer_of : (clock system tick_micros : ℕ) (is_set : Bool) (homes : List (Option ℕ)) (dues : List ℕ) (all : List (List ℕ)) → Timer
+timer_of clock system tick_micros is_set homes dues all = record {
+  clock = clock;
+  system = system;
+  tick_micros = tick_micros;
+  is_set = is_set;
+  waiting = waiting_for (due_in homes dues) (sequence all 0);
+}
+
+-- what the code keeps then, and which requests wait
+pub record IsKept (queues : List (List ℕ)) (homes : List (Option ℕ)) (all : List (List ℕ)) (begun : List (Option ℕ)) (dues : List ℕ) (waiting : List Waiting) : Type 0 where
+  pub held : IsHeld queues homes all begun dues
+  pub waits : waiting_for (due_in homes dues) (sequence all 0) ≡ waiting
 
 -- ---- one header written
 
@@ -164,7 +179,7 @@ module _ (queues all : List (List ℕ)) (homes begun : List (Option ℕ)) (dues 
         (λ o. cond {A = ℕ} (is_some o) 1 0) (home_old t other) in
         omega (arith, none, there, held.waits t)
 
-  pub held_joined : IsHeld queues' homes' all' begun' (slice_set dues r time)
+  held_joined : IsHeld queues' homes' all' begun' (slice_set dues r time)
   held_joined = record {
     two_headers = ap length queued ∙ length-set queues h _ ∙ held.two_headers;
     one_header = ap length begins ∙ length-set all 0 _ ∙ held.one_header;
@@ -174,12 +189,15 @@ module _ (queues all : List (List ℕ)) (homes begun : List (Option ℕ)) (dues 
     waits = waits_joined;
   }
 
-  pub waiting_more : waiting_for (due_in homes' (slice_set dues r time)) (sequence all' 0)
+  waiting_more : waiting_for (due_in homes' (slice_set dues r time)) (sequence all' 0)
       ≡ waiting_for (due_in homes dues) (sequence all 0) ++ record { request = r; due = due_for h time } ∷ []
   waiting_more =
       ap (waiting_for (due_in homes' (slice_set dues r time))) last_now
       ∙ waiting_joined (due_in homes dues) (due_in homes' (slice_set dues r time)) r (sequence all 0) loose due_old
       ∙ ap (λ (o : Due). waiting_for (due_in homes dues) (sequence all 0) ++ record { request = r; due = o } ∷ []) due_new
+
+  pub one_comes : IsKept queues' homes' all' begun' (slice_set dues r time) (waiting_for (due_in homes dues) (sequence all 0) ++ record { request = r; due = due_for h time } ∷ [])
+  one_comes = record { held = held_joined; waits = waiting_more }
 
 -- ---- one goes
 
@@ -208,7 +226,7 @@ module _ (queues all : List (List ℕ)) (homes begun : List (Option ℕ)) (dues 
     by_case (inr other) =
         without_other r t (sequence all 0) other ∙ held.waits t ∙ sym (ap (λ o. cond {A = ℕ} (is_some o) 1 0) (home_kept t other))
 
-  pub held_left : IsHeld queues' homes' all' begun' dues
+  held_left : IsHeld queues' homes' all' begun' dues
   held_left = record {
     two_headers = two ∙ held.two_headers;
     one_header = one ∙ held.one_header;
@@ -220,9 +238,12 @@ module _ (queues all : List (List ℕ)) (homes begun : List (Option ℕ)) (dues 
     waits = waits_left;
   }
 
-  pub waiting_less : waiting_for (due_in homes' dues) (sequence all' 0)
+  waiting_less : waiting_for (due_in homes' dues) (sequence all' 0)
       ≡ filter (λ (w : Waiting). not (eqb w.request r)) (waiting_for (due_in homes dues) (sequence all 0))
   waiting_less =
       ap (waiting_for (due_in homes' dues)) ends
       ∙ waiting_left (due_in homes dues) (due_in homes' dues) r (sequence all 0)
       (λ t other. ap (λ o. cond (is_at o 1) (AtSystem (due_at dues t)) (AtClock (due_at dues t))) (home_kept t other))
+
+  pub one_goes : IsKept queues' homes' all' begun' dues (filter (λ (w : Waiting). not (eqb w.request r)) (waiting_for (due_in homes dues) (sequence all 0)))
+  one_goes = record { held = held_left; waits = waiting_less }

@@ -14,6 +14,11 @@ use Rattle.timerdev.proofs.Choice.{better, better_of_two, chosen_by_other, is_be
 use Rattle.timerdev.proofs.Filters.{filter_agrees, waits_where_it_stands}
 use Rattle.timerdev.proofs.Homes.{Stands, home_known, home_there, has_home}
 
+-- what is found is found by the same times
+pub found_by : {first : Option ℕ} {held dues : List ℕ} (time : ℕ) (queue : List ℕ) → first ≡ find (λ r. nat_le (due_at held r) time) queue → held ≡ dues
+    → first ≡ find (λ r. nat_le (due_at dues r) time) queue
+found_by time queue is same = is ∙ ap (λ d. find (λ r. nat_le (due_at d r) time) queue) same
+
 -- ---- records and their numbers
 
 filter_map_same : {A : Type 0} (p : A → Bool) (f : ℕ → A) (xs : List ℕ) → filter p (map f xs) ≡ map f (filter (λ x. p (f x)) xs)

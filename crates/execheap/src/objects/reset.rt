@@ -1,5 +1,5 @@
 //! How the objects of a memory that was used are put back to their first state.
-ghost use Rattle.std.specs.Prelude.{◌≡◌, [], map, true};
+ghost use Rattle.std.specs.Prelude.{◌≡◌, ◌↔◌, [], map, true};
 ghost use Rattle.taskscript.specs.Records.{library_view};
 ghost use Rattle.timerdev.specs.Timing.{new_timer};
 ghost use Rattle.execheap.specs.Numbered.{shown_library, shown_memory};
@@ -21,7 +21,7 @@ impl<S: ListSpace> Objects<S> {
         tasks: usize,
         libraries: &[LibraryRecord],
     ) -> bool
-        ensures { result ≡ true → IsAsLarge regions.now pool tasks (map library_view libraries.now) self.now }
+        ensures { (result ≡ true) ↔ IsAsLarge regions.now pool tasks (map library_view libraries.now) (shown_memory self.now) }
     {
         self.table.pool() == pool as usize
             && self.tasks == tasks

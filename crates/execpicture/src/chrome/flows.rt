@@ -1,7 +1,7 @@
 //! The flows: from who does something to the task that it reaches.
 use super::records::Process;
 use crate::deeds::{Aim, Deed, Doer, Means};
-use std::alloc::AllocError;
+use crate::page::Page;
 use taskscript::Source;
 
 /// The track of the software interrupts.
@@ -42,13 +42,7 @@ fn flow_name(means: Means) -> &'static str {
 }
 
 /// Writes a flow to a task: from the middle of step `number` on the track of who does something to what the task is after it.
-fn write_flow(
-    deed: &Deed,
-    t: usize,
-    number: u64,
-    id: u64,
-    page: &mut String,
-) -> Result<(), AllocError> {
+fn write_flow(deed: &Deed, t: usize, number: u64, id: u64, page: &mut Page) {
     let before = number.saturating_sub(1);
     let name = flow_name(deed.means);
     let (process, track) = track_of_doer(deed.doer);
@@ -56,34 +50,29 @@ fn write_flow(
     write!(
         page,
         "{{\"ph\":\"s\",\"id\":{id},\"cat\":\"{name}\",\"name\":\"{name}\",\"pid\":{process}"
-    )?;
-    write!(page, ",\"tid\":{track},\"ts\":{before}.5}},\n")?;
+    );
+    write!(page, ",\"tid\":{track},\"ts\":{before}.5}},\n");
     let aim = Process::Tasks.number();
     let track = t.saturating_add(1);
     write!(
         page,
         "{{\"ph\":\"f\",\"bp\":\"e\",\"id\":{id},\"cat\":\"{name}\",\"name\":\"{name}\",\"pid\":{aim}"
-    )?;
+    );
     let wakes = deed.wakes;
     write!(
         page,
         ",\"tid\":{track},\"ts\":{number}.5,\"args\":{{\"wakes\":{wakes}}}}},\n"
-    )
+    );
 }
 
 /// Writes the flows of a step; `done` were written before it. Answers how many were written by then.
-pub(super) fn write_flows(
-    deeds: &[Deed],
-    number: u64,
-    done: u64,
-    page: &mut String,
-) -> Result<u64, AllocError> {
+pub(super) fn write_flows(deeds: &[Deed], number: u64, done: u64, page: &mut Page) -> u64 {
     let mut id = done;
     for deed in deeds {
         if let Aim::Task(t) = deed.aim {
             id = id.saturating_add(1);
-            write_flow(deed, t, number, id, page)?;
+            write_flow(deed, t, number, id, page);
         }
     }
-    Ok(id)
+    id
 }

@@ -3,9 +3,9 @@ use super::flows::{SOFTINT_TRACK, TIMER_TRACK, source_track};
 use super::records::{Process, Slice, write_slice};
 use crate::deeds::{Doer, doer_named};
 use crate::film::Point;
+use crate::forms::{Json, Millis};
 use crate::lines::{TraceLine, read_line};
-use crate::page::{Json, Millis};
-use std::alloc::AllocError;
+use crate::page::Page;
 use taskscript::{MachineFile, Source};
 
 /// Writes an instant of a track, in the middle of a step.
@@ -15,16 +15,16 @@ fn write_instant(
     number: u64,
     scope: &str,
     name: &str,
-    page: &mut String,
-) -> Result<(), AllocError> {
+    page: &mut Page,
+) {
     let process = process.number();
     let before = number.saturating_sub(1);
     let name = Json(name);
     write!(
         page,
         "{{\"ph\":\"i\",\"s\":\"{scope}\",\"pid\":{process},\"tid\":{track},\"ts\":{before}.5"
-    )?;
-    write!(page, ",\"name\":{name}}},\n")
+    );
+    write!(page, ",\"name\":{name}}},\n");
 }
 
 /// The track of the call of a doer.
@@ -37,36 +37,24 @@ fn track_of(doer: Doer) -> (Process, usize) {
 }
 
 /// Writes the instant of a line, if it is a call or an alert.
-fn write_line(
-    file: &MachineFile,
-    number: u64,
-    line: &str,
-    page: &mut String,
-) -> Result<(), AllocError> {
+fn write_line(file: &MachineFile, number: u64, line: &str, page: &mut Page) {
     match read_line(line) {
-        TraceLine::Call(call) => match doer_named(file, call.who) {
-            Some(doer) => {
+        TraceLine::Call(call) => {
+            if let Some(doer) = doer_named(file, call.who) {
                 let (process, track) = track_of(doer);
-                write_instant(process, track, number, "t", call.said, page)
+                write_instant(process, track, number, "t", call.said, page);
             }
-            None => Ok(()),
-        },
+        }
         TraceLine::Alert(_) => write_instant(Process::Tasks, 0, number, "g", line, page),
-        _ => Ok(()),
+        _ => {}
     }
 }
 
 /// Writes the calls of a step, and its alert.
-pub(super) fn write_calls(
-    file: &MachineFile,
-    point: &Point,
-    text: &str,
-    page: &mut String,
-) -> Result<(), AllocError> {
+pub(super) fn write_calls(file: &MachineFile, point: &Point, text: &str, page: &mut Page) {
     for line in text.lines() {
-        write_line(file, point.number, line, page)?;
+        write_line(file, point.number, line, page);
     }
-    Ok(())
 }
 
 /// The track and the name of what a line says is served.
@@ -80,7 +68,7 @@ fn served_of(line: &str) -> Option<(usize, &str)> {
 }
 
 /// Writes what was served in a step: sources, software interrupts, and requests of the timer.
-pub(super) fn write_served(point: &Point, text: &str, page: &mut String) -> Result<(), AllocError> {
+pub(super) fn write_served(point: &Point, text: &str, page: &mut Page) {
     for line in text.lines() {
         if let Some((track, name)) = served_of(line) {
             let slice = Slice {
@@ -90,20 +78,19 @@ pub(super) fn write_served(point: &Point, text: &str, page: &mut String) -> Resu
                 to: point.number,
                 name,
             };
-            write_slice(&slice, page)?;
+            write_slice(&slice, page);
         }
     }
-    Ok(())
 }
 
 /// Writes what the clock shows at a point, in milliseconds.
-pub(super) fn write_clock(point: &Point, page: &mut String) -> Result<(), AllocError> {
+pub(super) fn write_clock(point: &Point, page: &mut Page) {
     let number = point.number;
     let clock = Millis(point.clock);
     let process = Process::Ports.number();
     write!(
         page,
         "{{\"ph\":\"C\",\"pid\":{process},\"ts\":{number},\"name\":\"clock\""
-    )?;
-    write!(page, ",\"args\":{{\"ms\":{clock}}}}},\n")
+    );
+    write!(page, ",\"args\":{{\"ms\":{clock}}}}},\n");
 }

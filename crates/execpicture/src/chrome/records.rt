@@ -1,6 +1,6 @@
 //! The records of the format that name processes and threads, and the beginnings of the others.
-use crate::page::Json;
-use std::alloc::AllocError;
+use crate::forms::Json;
+use crate::page::Page;
 
 /// A group of tracks, which the format calls a process.
 #[derive(Clone, Copy)]
@@ -34,36 +34,31 @@ impl Process {
 }
 
 /// Writes the name of a group of tracks.
-pub(super) fn write_process(process: Process, page: &mut String) -> Result<(), AllocError> {
+pub(super) fn write_process(process: Process, page: &mut Page) {
     let number = process.number();
     let name = process.name();
     write!(
         page,
         "{{\"ph\":\"M\",\"pid\":{number},\"name\":\"process_name\",\"args\":{{\"name\":\"{name}\"}}}},\n"
-    )?;
+    );
     write!(
         page,
         "{{\"ph\":\"M\",\"pid\":{number},\"name\":\"process_sort_index\",\"args\":{{\"sort_index\":{number}}}}},\n"
-    )
+    );
 }
 
 /// Writes the name of a track.
-pub(super) fn write_thread(
-    process: Process,
-    track: usize,
-    name: &str,
-    page: &mut String,
-) -> Result<(), AllocError> {
+pub(super) fn write_thread(process: Process, track: usize, name: &str, page: &mut Page) {
     let number = process.number();
     let name = Json(name);
     write!(
         page,
         "{{\"ph\":\"M\",\"pid\":{number},\"tid\":{track},\"name\":\"thread_name\",\"args\":{{\"name\":{name}}}}},\n"
-    )?;
+    );
     write!(
         page,
         "{{\"ph\":\"M\",\"pid\":{number},\"tid\":{track},\"name\":\"thread_sort_index\",\"args\":{{\"sort_index\":{track}}}}},\n"
-    )
+    );
 }
 
 /// A slice of a track.
@@ -78,7 +73,7 @@ pub(super) struct Slice<'a> {
 }
 
 /// Writes a slice.
-pub(super) fn write_slice(slice: &Slice<'_>, page: &mut String) -> Result<(), AllocError> {
+pub(super) fn write_slice(slice: &Slice<'_>, page: &mut Page) {
     let process = slice.process.number();
     let track = slice.track;
     let from = slice.from;
@@ -87,13 +82,13 @@ pub(super) fn write_slice(slice: &Slice<'_>, page: &mut String) -> Result<(), Al
     write!(
         page,
         "{{\"ph\":\"X\",\"pid\":{process},\"tid\":{track},\"ts\":{from},\"dur\":{lasts},\"name\":{name}}},\n"
-    )
+    );
 }
 
 /// Writes the last record of a document, after which none comes.
-pub(super) fn write_name(name: &str, at: u64, page: &mut String) -> Result<(), AllocError> {
+pub(super) fn write_name(name: &str, at: u64, page: &mut Page) {
     write!(
         page,
         "{{\"ph\":\"i\",\"s\":\"g\",\"pid\":1,\"tid\":0,\"ts\":{at},\"name\":\"{name}\"}}\n"
-    )
+    );
 }

@@ -2,10 +2,11 @@
 use super::flows::{SOFTINT_TRACK, TIMER_TRACK, source_track};
 use super::records::{Process, Slice, write_slice, write_thread};
 use crate::film::Shown;
+use crate::forms::{Json, Millis};
 use crate::objects::{Object, Objects};
-use crate::page::{Json, Millis};
+use crate::page::Page;
 use crate::seen::{Kind, ObjectSeen, TaskSeen, object_seen, task_seen};
-use crate::words::write_state;
+use crate::words::state_text;
 use std::alloc::{AllocError, Global};
 use taskq::TaskState;
 use taskscript::{Listed, Source};
@@ -27,14 +28,14 @@ pub(super) struct Slices {
 }
 
 /// Writes the names of the tracks that a file states.
-pub(super) fn write_threads(file: &Listed, page: &mut String) -> Result<(), AllocError> {
+pub(super) fn write_threads(file: &Listed, page: &mut Page) {
     for (t, task) in file.machine.tasks().iter().enumerate() {
         write_thread(
             Process::Tasks,
             t.saturating_add(1),
             task.name.as_str(),
             page,
-        )?;
+        );
     }
     for source in [Source::Exter, Source::Vertb, Source::Ports] {
         write_thread(
@@ -42,15 +43,15 @@ pub(super) fn write_threads(file: &Listed, page: &mut String) -> Result<(), Allo
             source_track(source),
             source.text(),
             page,
-        )?;
+        );
     }
     write_thread(
         Process::Interrupts,
         SOFTINT_TRACK,
         "software interrupts",
         page,
-    )?;
-    write_thread(Process::Interrupts, TIMER_TRACK, "timer", page)
+    );
+    write_thread(Process::Interrupts, TIMER_TRACK, "timer", page);
 }
 
 /// Writes the slice of a task that was so from a number up to another; one that was never added, and one that was removed, has none.
@@ -60,13 +61,14 @@ fn write_task(
     t: usize,
     open: &Open<TaskSeen>,
     to: u64,
-    page: &mut String,
-) -> Result<(), AllocError> {
+    page: &mut Page,
+) {
     if matches!(open.shown.state, TaskState::Absent | TaskState::Removed) {
-        return Ok(());
+        return;
     }
-    let mut name = String::new(alloc);
-    write_state(objects, &open.shown, &mut name)?;
+    let Some(name) = page.made(state_text(alloc, objects, &open.shown)) else {
+        return;
+    };
     let slice = Slice {
         process: Process::Tasks,
         track: t.saturating_add(1),
@@ -74,7 +76,28 @@ fn write_task(
         to,
         name: &name,
     };
-    write_slice(&slice, page)
+    write_slice(&slice, page);
+}
+
+/// What the slice of an object is named: the owner of a semaphore, or the time of a request in progress; nothing else has one.
+fn object_text(
+    alloc: Global,
+    objects: &Objects<'_>,
+    shown: ObjectSeen,
+) -> Result<Option<String>, AllocError> {
+    let text = match shown {
+        ObjectSeen::Semaphore(Some(t)) => String::from_str(alloc, objects.task_name(t))?,
+        ObjectSeen::Busy(micros) => {
+            let time = Millis(micros);
+            format!(in alloc; "{time} ms")?
+        }
+        ObjectSeen::BusyUntil(micros) => {
+            let time = Millis(micros);
+            format!(in alloc; "until {time} ms")?
+        }
+        _ => return Ok(None),
+    };
+    Ok(Some(text))
 }
 
 /// Writes the slice of an object that was so from a number up to another: an owner of a semaphore, or a request in progress.
@@ -84,21 +107,11 @@ fn write_object(
     track: usize,
     open: &Open<ObjectSeen>,
     to: u64,
-    page: &mut String,
-) -> Result<(), AllocError> {
-    let mut name = String::new(alloc);
-    match open.shown {
-        ObjectSeen::Semaphore(Some(t)) => name.push_str(objects.task_name(t))?,
-        ObjectSeen::Busy(micros) => {
-            let time = Millis(micros);
-            write!(name, "{time} ms")?;
-        }
-        ObjectSeen::BusyUntil(micros) => {
-            let time = Millis(micros);
-            write!(name, "until {time} ms")?;
-        }
-        _ => return Ok(()),
-    }
+    page: &mut Page,
+) {
+    let Some(Some(name)) = page.made(object_text(alloc, objects, open.shown)) else {
+        return;
+    };
     let slice = Slice {
         process: Process::Objects,
         track: track.saturating_add(1),
@@ -106,31 +119,26 @@ fn write_object(
         to,
         name: &name,
     };
-    write_slice(&slice, page)
+    write_slice(&slice, page);
 }
 
 /// Writes how many messages a port has from a number on.
-fn write_messages(
-    object: &Object,
-    seen: ObjectSeen,
-    number: u64,
-    page: &mut String,
-) -> Result<(), AllocError> {
+fn write_messages(object: &Object, seen: ObjectSeen, number: u64, page: &mut Page) {
     let many = match seen {
         ObjectSeen::Port(many) => many,
         ObjectSeen::Absent => 0,
-        _ => return Ok(()),
+        _ => return,
     };
     if object.kind != Kind::Port {
-        return Ok(());
+        return;
     }
     let process = Process::Ports.number();
     let name = Json(&object.label);
     write!(
         page,
         "{{\"ph\":\"C\",\"pid\":{process},\"ts\":{number},\"name\":{name}"
-    )?;
-    write!(page, ",\"args\":{{\"messages\":{many}}}}},\n")
+    );
+    write!(page, ",\"args\":{{\"messages\":{many}}}}},\n");
 }
 
 impl Slices {
@@ -148,22 +156,16 @@ impl Slices {
     }
 
     /// Notes what a machine shows of its tasks at a number, and writes what ended there.
-    fn note_tasks(
-        &mut self,
-        machine: &Shown,
-        objects: &Objects<'_>,
-        number: u64,
-        page: &mut String,
-    ) -> Result<(), AllocError> {
+    fn note_tasks(&mut self, machine: &Shown, objects: &Objects<'_>, number: u64, page: &mut Page) {
         for (t, open) in self.tasks.iter_mut().enumerate() {
             let Some(shown) = task_seen(machine, t) else {
-                return Ok(());
+                return;
             };
             match open {
                 Some(before) if before.shown == shown => {}
                 _ => {
                     if let Some(before) = open {
-                        write_task(self.alloc, objects, t, before, number, page)?;
+                        write_task(self.alloc, objects, t, before, number, page);
                     }
                     *open = Some(Open {
                         from: number,
@@ -172,7 +174,6 @@ impl Slices {
                 }
             }
         }
-        Ok(())
     }
 
     /// Opens the tracks of the objects that are new.
@@ -180,7 +181,7 @@ impl Slices {
         &mut self,
         objects: &Objects<'_>,
         number: u64,
-        page: &mut String,
+        page: &mut Page,
     ) -> Result<(), AllocError> {
         for object in objects.list().iter().skip(self.objects.len()) {
             self.objects.push(Open {
@@ -188,7 +189,7 @@ impl Slices {
                 shown: ObjectSeen::Absent,
             })?;
             if object.kind != Kind::Port {
-                write_thread(Process::Objects, self.objects.len(), &object.label, page)?;
+                write_thread(Process::Objects, self.objects.len(), &object.label, page);
             }
         }
         Ok(())
@@ -200,7 +201,7 @@ impl Slices {
         machine: &Shown,
         objects: &Objects<'_>,
         number: u64,
-        page: &mut String,
+        page: &mut Page,
     ) -> Result<(), AllocError> {
         self.open_objects(objects, number, page)?;
         for (k, open) in self.objects.iter_mut().enumerate() {
@@ -209,8 +210,8 @@ impl Slices {
             };
             let shown = object_seen(machine, object.kind, object.address);
             if open.shown != shown {
-                write_object(self.alloc, objects, k, open, number, page)?;
-                write_messages(object, shown, number, page)?;
+                write_object(self.alloc, objects, k, open, number, page);
+                write_messages(object, shown, number, page);
                 *open = Open {
                     from: number,
                     shown,
@@ -226,27 +227,21 @@ impl Slices {
         machine: &Shown,
         objects: &Objects<'_>,
         number: u64,
-        page: &mut String,
+        page: &mut Page,
     ) -> Result<(), AllocError> {
-        self.note_tasks(machine, objects, number, page)?;
+        self.note_tasks(machine, objects, number, page);
         self.note_objects(machine, objects, number, page)
     }
 
     /// Writes what is still open, up to a number.
-    pub fn close(
-        &self,
-        objects: &Objects<'_>,
-        to: u64,
-        page: &mut String,
-    ) -> Result<(), AllocError> {
+    pub fn close(&self, objects: &Objects<'_>, to: u64, page: &mut Page) {
         for (t, open) in self.tasks.iter().enumerate() {
             if let Some(open) = open {
-                write_task(self.alloc, objects, t, open, to, page)?;
+                write_task(self.alloc, objects, t, open, to, page);
             }
         }
         for (k, open) in self.objects.iter().enumerate() {
-            write_object(self.alloc, objects, k, open, to, page)?;
+            write_object(self.alloc, objects, k, open, to, page);
         }
-        Ok(())
     }
 }

@@ -1,11 +1,12 @@
 //! The arrows: who does something, and whom it reaches.
-use super::names::write_deed;
+use super::names::deed_text;
 use super::plan::Plan;
 use crate::deeds::{Aim, Deed, Doer, Means};
-use crate::page::{Px, Xml};
+use crate::forms::{Px, Xml};
+use crate::page::Page;
 use crate::scene::Scene;
 use crate::seen::Kind;
-use std::alloc::{AllocError, Global};
+use std::alloc::Global;
 
 /// An arrow down or up.
 #[derive(Clone, Copy)]
@@ -48,7 +49,7 @@ fn end_of(plan: &Plan, aim: Aim, from: Px) -> Option<Px> {
 }
 
 /// Draws the sign of what an arrow carries, between the first two rows: an envelope or a lock.
-fn draw_sign(arrow: &Arrow, page: &mut String) -> Result<(), AllocError> {
+fn draw_sign(arrow: &Arrow, page: &mut Page) {
     let x = arrow.x;
     let y = if arrow.to.is_above(arrow.from) {
         arrow.from + arrow.sign
@@ -68,12 +69,12 @@ fn draw_sign(arrow: &Arrow, page: &mut String) -> Result<(), AllocError> {
                 "<path d=\"M{x},{y} m-6,-3 h12 v9 h-12 z m2.6,0 v-2.4 a3.4,3.4 0 0 1 6.8,0 v2.4\" class=\"ground line\"/>\n"
             )
         }
-        _ => Ok(()),
+        _ => {}
     }
 }
 
 /// Draws an arrow, whole if it wakes and dashed if not.
-fn draw_arrow(arrow: &Arrow, said: &str, page: &mut String) -> Result<(), AllocError> {
+fn draw_arrow(arrow: &Arrow, said: &str, page: &mut Page) {
     let x = arrow.x;
     let from = arrow.from;
     let to = arrow.to;
@@ -90,40 +91,34 @@ fn draw_arrow(arrow: &Arrow, said: &str, page: &mut String) -> Result<(), AllocE
     write!(
         page,
         "<path d=\"M{x},{from} V{to}\" class=\"halo none\" stroke-width=\"4\"/>\n"
-    )?;
+    );
     write!(
         page,
         "<path d=\"M{x},{from} V{to}\" class=\"{class} none\" stroke-width=\"1.5\""
-    )?;
+    );
     let said = Xml(said);
     write!(
         page,
         "{dashes} marker-end=\"url(#{tip})\"><title>{said}</title></path>\n"
-    )?;
+    );
     write!(
         page,
         "<circle cx=\"{x}\" cy=\"{from}\" r=\"3\" class=\"ink halo\"/>\n"
-    )?;
-    draw_sign(arrow, page)
+    );
+    draw_sign(arrow, page);
 }
 
 /// Writes the arrow of a deed.
-fn write_arrow(
-    alloc: Global,
-    scene: &Scene<'_>,
-    plan: &Plan,
-    deed: &Deed,
-    x: Px,
-    page: &mut String,
-) -> Result<(), AllocError> {
+fn write_arrow(alloc: Global, scene: &Scene<'_>, plan: &Plan, deed: &Deed, x: Px, page: &mut Page) {
     let Some(from) = row_of(scene, plan, deed) else {
-        return Ok(());
+        return;
     };
     let Some(to) = end_of(plan, deed.aim, from) else {
-        return Ok(());
+        return;
     };
-    let mut said = String::new(alloc);
-    write_deed(scene, deed, &mut said)?;
+    let Some(said) = page.made(deed_text(alloc, scene, deed)) else {
+        return;
+    };
     let arrow = Arrow {
         x,
         from,
@@ -133,7 +128,7 @@ fn write_arrow(
         is_time: deed.doer == Doer::Timer,
         sign: if plan.dense { Px(14) } else { Px(25) },
     };
-    draw_arrow(&arrow, &said, page)
+    draw_arrow(&arrow, &said, page);
 }
 
 /// Writes the arrows of a column, side by side.
@@ -143,29 +138,22 @@ fn write_column(
     plan: &Plan,
     number: u32,
     deeds: &[Deed],
-    page: &mut String,
-) -> Result<(), AllocError> {
+    page: &mut Page,
+) {
     let mut x = plan.x(number) - Px(5);
     for deed in deeds {
-        write_arrow(alloc, scene, plan, deed, x, page)?;
+        write_arrow(alloc, scene, plan, deed, x, page);
         x = (x - Px(6)).max(plan.start(number));
     }
-    Ok(())
 }
 
 /// Writes all arrows.
-pub(super) fn write_arrows(
-    alloc: Global,
-    scene: &Scene<'_>,
-    plan: &Plan,
-    page: &mut String,
-) -> Result<(), AllocError> {
+pub(super) fn write_arrows(alloc: Global, scene: &Scene<'_>, plan: &Plan, page: &mut Page) {
     let mut number = 0u32;
     for column in scene.columns.iter() {
         if number > 0 {
-            write_column(alloc, scene, plan, number, &column.deeds, page)?;
+            write_column(alloc, scene, plan, number, &column.deeds, page);
         }
         number = number.saturating_add(1);
     }
-    Ok(())
 }

@@ -4,8 +4,9 @@ use super::names::{colour_of, task_name};
 use super::plan::{MARGIN, Plan};
 use super::shapes::{dot, line, text};
 use crate::film::Turn;
+use crate::forms::{Hex, Px, Xml};
 use crate::lines::{TraceLine, read_line};
-use crate::page::{Hex, Px, Xml};
+use crate::page::Page;
 use crate::scene::{Column, Scene};
 use std::alloc::{AllocError, Global};
 use std::fmt;
@@ -161,13 +162,7 @@ pub(super) fn longest(alloc: Global, scene: &Scene<'_>) -> Result<usize, AllocEr
 }
 
 /// Writes the text of a column, turned by a quarter.
-fn write_turned(
-    plan: &Plan,
-    number: u32,
-    entry: &Entry<'_>,
-    all: &str,
-    page: &mut String,
-) -> Result<(), AllocError> {
+fn write_turned(plan: &Plan, number: u32, entry: &Entry<'_>, all: &str, page: &mut Page) {
     let x = plan.mid(number) - Px(3);
     let y = plan.calls_top + Px(22);
     let class = entry.class;
@@ -176,33 +171,28 @@ fn write_turned(
     write!(
         page,
         "<text transform=\"translate({x},{y}) rotate(90)\" font-size=\"10\""
-    )?;
+    );
     write!(
         page,
         " class=\"{class}\">{said}<title>{all}</title></text>\n"
-    )
+    );
 }
 
 /// Writes the number of the task over a call: a second sign beside its colour.
-fn write_number(
-    plan: &Plan,
-    number: u32,
-    task: usize,
-    page: &mut String,
-) -> Result<(), AllocError> {
+fn write_number(plan: &Plan, number: u32, task: usize, page: &mut Page) {
     if task == 0 {
-        return Ok(());
+        return;
     }
     let x = plan.mid(number);
     let y = plan.calls_top + Px(15);
     write!(
         page,
         "<text x=\"{x}\" y=\"{y}\" font-size=\"9\" class=\"faint middle\">{task}</text>\n"
-    )
+    );
 }
 
 /// Writes a line at the end of a column whose alert stops the machine.
-fn write_stop(plan: &Plan, number: u32, page: &mut String) -> Result<(), AllocError> {
+fn write_stop(plan: &Plan, number: u32, page: &mut Page) {
     let x = plan.x(number);
     let from = (x, plan.tasks_top);
     line(
@@ -211,17 +201,11 @@ fn write_stop(plan: &Plan, number: u32, page: &mut String) -> Result<(), AllocEr
         (x, plan.calls_top),
         "stops",
         " stroke-width=\"3\"",
-    )
+    );
 }
 
 /// Writes what happened in a column.
-fn write_column(
-    scene: &Scene<'_>,
-    plan: &Plan,
-    number: u32,
-    column: &Column,
-    page: &mut String,
-) -> Result<(), AllocError> {
+fn write_column(scene: &Scene<'_>, plan: &Plan, number: u32, column: &Column, page: &mut Page) {
     let entry = entry_of(scene, column);
     if entry.said.is_empty() {
         return dot(
@@ -234,21 +218,17 @@ fn write_column(
         );
     }
     if entry.said.starts_with("alert ") {
-        write_stop(plan, number, page)?;
+        write_stop(plan, number, page);
     }
-    write_number(plan, number, entry.task, page)?;
-    write_turned(plan, number, &entry, &column.text, page)
+    write_number(plan, number, entry.task, page);
+    write_turned(plan, number, &entry, &column.text, page);
 }
 
 /// Writes the calls.
-pub(super) fn write_calls(
-    scene: &Scene<'_>,
-    plan: &Plan,
-    page: &mut String,
-) -> Result<(), AllocError> {
+pub(super) fn write_calls(scene: &Scene<'_>, plan: &Plan, page: &mut Page) {
     let top = plan.calls_top;
-    line(page, (MARGIN, top), (plan.end(), top), "grid", "")?;
-    write_heading(top + Px(15), "CALLS", page)?;
+    line(page, (MARGIN, top), (plan.end(), top), "grid", "");
+    write_heading(top + Px(15), "CALLS", page);
     text(
         page,
         MARGIN,
@@ -256,7 +236,7 @@ pub(super) fn write_calls(
         10,
         "faint",
         "number of the task,",
-    )?;
+    );
     text(
         page,
         MARGIN,
@@ -264,7 +244,7 @@ pub(super) fn write_calls(
         10,
         "faint",
         "and its call; slanted:",
-    )?;
+    );
     text(
         page,
         MARGIN,
@@ -272,13 +252,12 @@ pub(super) fn write_calls(
         10,
         "faint",
         "a word that prints nothing",
-    )?;
+    );
     let mut number = 0u32;
     for column in scene.columns.iter() {
         if number > 0 {
-            write_column(scene, plan, number, column, page)?;
+            write_column(scene, plan, number, column, page);
         }
         number = number.saturating_add(1);
     }
-    Ok(())
 }

@@ -1,7 +1,7 @@
 //! How tasks, bodies and objects are named in a picture.
 use crate::deeds::{Aim, Deed, Doer, Means};
 use crate::scene::Scene;
-use std::alloc::AllocError;
+use std::alloc::{AllocError, Global};
 use taskq::TaskId;
 
 /// The classes of a colour: of a shape, of a line, and of a shape that is pale.
@@ -70,15 +70,19 @@ fn means_text(means: Means) -> &'static str {
     }
 }
 
-/// Writes a deed in words.
-pub(super) fn write_deed(
+/// A deed in words.
+///
+/// # Errors
+///
+/// Memory was refused.
+pub(super) fn deed_text(
+    alloc: Global,
     scene: &Scene<'_>,
     deed: &Deed,
-    page: &mut String,
-) -> Result<(), AllocError> {
+) -> Result<String, AllocError> {
     let doer = doer_text(scene, deed.doer);
     let aim = aim_text(scene, deed.aim);
     let means = means_text(deed.means);
-    write!(page, "{doer} {means} {aim}")?;
-    page.push_str(if deed.wakes { ", which wakes" } else { "" })
+    let more = if deed.wakes { ", which wakes" } else { "" };
+    format!(in alloc; "{doer} {means} {aim}{more}")
 }

@@ -3,10 +3,11 @@ use super::frame::write_heading;
 use super::names::{colour_of, task_name};
 use super::plan::{MARGIN, ObjectRow, Plan};
 use super::shapes::{Area, line, open_rect, text};
-use crate::page::{Hex, Millis, Px, Xml, width_of};
+use crate::forms::{Hex, Millis, Px, Xml, width_of};
+use crate::page::Page;
 use crate::scene::Scene;
 use crate::seen::{Awaits, Kind, ObjectSeen, TaskSeen};
-use std::alloc::{AllocError, Global};
+use std::alloc::Global;
 
 /// From where to where something is shown in a row.
 #[derive(Clone, Copy)]
@@ -18,19 +19,14 @@ struct Reach {
 }
 
 /// Draws that a task owns a semaphore.
-fn draw_owner(
-    scene: &Scene<'_>,
-    reach: Reach,
-    t: usize,
-    page: &mut String,
-) -> Result<(), AllocError> {
+fn draw_owner(scene: &Scene<'_>, reach: Reach, t: usize, page: &mut Page) {
     let name = task_name(scene, t);
     let area = Area::around(reach.from, reach.to, reach.y, Px(16));
-    open_rect(page, area, 3, colour_of(t).fill)?;
+    open_rect(page, area, 3, colour_of(t).fill);
     let shown = Xml(name);
-    write!(page, "><title>{shown} owns it</title></rect>\n")?;
+    write!(page, "><title>{shown} owns it</title></rect>\n");
     if !(reach.to - reach.from).is_above(width_of(name.len(), 10) + Px(8)) {
-        return Ok(());
+        return;
     }
     text(
         page,
@@ -39,11 +35,11 @@ fn draw_owner(
         10,
         "on strong",
         name,
-    )
+    );
 }
 
 /// Draws the messages of a port: a bar that is higher if there are more, and their number.
-fn draw_messages(reach: Reach, many: u32, page: &mut String) -> Result<(), AllocError> {
+fn draw_messages(reach: Reach, many: u32, page: &mut Page) {
     let height = Px(5).times(many.min(3));
     let area = Area {
         x: reach.from,
@@ -51,8 +47,8 @@ fn draw_messages(reach: Reach, many: u32, page: &mut String) -> Result<(), Alloc
         width: reach.to - reach.from,
         height,
     };
-    open_rect(page, area, 1, "mail thin")?;
-    write!(page, "><title>messages: {many}</title></rect>\n")?;
+    open_rect(page, area, 1, "mail thin");
+    write!(page, "><title>messages: {many}</title></rect>\n");
     let x = reach.from + Px(3);
     let y = area.y - Px(2);
     let wide = (reach.to - reach.from).is_above(Px(64));
@@ -64,31 +60,25 @@ fn draw_messages(reach: Reach, many: u32, page: &mut String) -> Result<(), Alloc
     write!(
         page,
         "<text x=\"{x}\" y=\"{y}\" font-size=\"9\" class=\"post\">{many}{unit}</text>\n"
-    )
+    );
 }
 
 /// Draws a request that is in progress, and its time.
-fn draw_request(reach: Reach, said: &str, page: &mut String) -> Result<(), AllocError> {
+fn draw_request(reach: Reach, said: &str, page: &mut Page) {
     let area = Area::around(reach.from, reach.to, reach.y, Px(14));
-    open_rect(page, area, 3, "wait times")?;
-    write!(page, "><title>in progress: {said}</title></rect>\n")?;
+    open_rect(page, area, 3, "wait times");
+    write!(page, "><title>in progress: {said}</title></rect>\n");
     if !(reach.to - reach.from).is_above(width_of(said.len(), 10) + Px(4)) {
-        return Ok(());
+        return;
     }
-    text(page, reach.from + Px(5), reach.y + Px(4), 10, "time", said)
+    text(page, reach.from + Px(5), reach.y + Px(4), 10, "time", said);
 }
 
 /// Draws what is seen of an object.
-fn draw_seen(
-    alloc: Global,
-    scene: &Scene<'_>,
-    reach: Reach,
-    seen: ObjectSeen,
-    page: &mut String,
-) -> Result<(), AllocError> {
+fn draw_seen(alloc: Global, scene: &Scene<'_>, reach: Reach, seen: ObjectSeen, page: &mut Page) {
     let Reach { from, to, y } = reach;
     match seen {
-        ObjectSeen::Absent => Ok(()),
+        ObjectSeen::Absent => {}
         ObjectSeen::Semaphore(None) | ObjectSeen::Idle => {
             line(page, (from, y), (to, y), "rest", " stroke-width=\"1.4\"")
         }
@@ -101,21 +91,23 @@ fn draw_seen(
                 (to, base),
                 "rest",
                 " stroke-width=\"1.4\"",
-            )?;
+            );
             if many == 0 {
-                return Ok(());
+                return;
             }
             draw_messages(reach, many, page)
         }
         ObjectSeen::Busy(micros) => {
             let time = Millis(micros);
-            let said = format!(in alloc; "{time} ms")?;
-            draw_request(reach, &said, page)
+            if let Some(said) = page.made(format!(in alloc; "{time} ms")) {
+                draw_request(reach, &said, page);
+            }
         }
         ObjectSeen::BusyUntil(micros) => {
             let time = Millis(micros);
-            let said = format!(in alloc; "until {time} ms")?;
-            draw_request(reach, &said, page)
+            if let Some(said) = page.made(format!(in alloc; "until {time} ms")) {
+                draw_request(reach, &said, page);
+            }
         }
     }
 }
@@ -132,10 +124,10 @@ fn draw_waits(
     t: usize,
     address: u32,
     y: Px,
-    page: &mut String,
-) -> Result<bool, AllocError> {
+    page: &mut Page,
+) -> bool {
     let Some(track) = scene.tasks.get(t) else {
-        return Ok(false);
+        return false;
     };
     let mut any = false;
     let mut column = 0u32;
@@ -151,37 +143,30 @@ fn draw_waits(
                 width: to - from,
                 height: Px(3),
             };
-            open_rect(page, area, 0, colour_of(t).fill)?;
+            open_rect(page, area, 0, colour_of(t).fill);
             let name = Xml(task_name(scene, t));
-            write!(page, "><title>{name} waits for it</title></rect>\n")?;
+            write!(page, "><title>{name} waits for it</title></rect>\n");
         }
         column = end;
     }
-    Ok(any)
+    any
 }
 
 /// Draws who waits for a semaphore: a strip for each task, one below another.
-fn draw_waiters(
-    scene: &Scene<'_>,
-    plan: &Plan,
-    address: u32,
-    y: Px,
-    page: &mut String,
-) -> Result<(), AllocError> {
+fn draw_waiters(scene: &Scene<'_>, plan: &Plan, address: u32, y: Px, page: &mut Page) {
     let mut below = y + Px(9);
     for t in 0..scene.tasks.len() {
-        if draw_waits(scene, plan, t, address, below, page)? && (y + Px(12)).is_above(below) {
+        if draw_waits(scene, plan, t, address, below, page) && (y + Px(12)).is_above(below) {
             below = below + Px(4);
         }
     }
-    Ok(())
 }
 
 /// Writes what a program needs to know of a span: a semaphore's owner, counted from 1 and 0 for none; how many messages a port has; or whether a
 /// request is in progress.
-fn write_facts(seen: ObjectSeen, page: &mut String) -> Result<(), AllocError> {
+fn write_facts(seen: ObjectSeen, page: &mut Page) {
     match seen {
-        ObjectSeen::Absent => Ok(()),
+        ObjectSeen::Absent => {}
         ObjectSeen::Semaphore(None) => page.push_str(" data-owner=\"0\""),
         ObjectSeen::Semaphore(Some(t)) => {
             let task = t.saturating_add(1);
@@ -199,17 +184,17 @@ fn open_span(
     address: u32,
     columns: (u32, u32),
     seen: ObjectSeen,
-    page: &mut String,
-) -> Result<(), AllocError> {
+    page: &mut Page,
+) {
     let address = Hex(address);
     let from = scene.number_of(columns.0);
     let to = scene.number_of(columns.1);
     write!(
         page,
         "<g data-object=\"{address}\" data-from=\"{from}\" data-to=\"{to}\""
-    )?;
-    write_facts(seen, page)?;
-    page.push_str(">")
+    );
+    write_facts(seen, page);
+    page.push_str(">");
 }
 
 /// Draws the spans of an object at an address.
@@ -219,10 +204,10 @@ fn draw_spans(
     plan: &Plan,
     row: &ObjectRow,
     address: u32,
-    page: &mut String,
-) -> Result<(), AllocError> {
+    page: &mut Page,
+) {
     let Some(track) = scene.object_tracks.get(row.object) else {
-        return Ok(());
+        return;
     };
     let mut column = track.first;
     for span in track.seen.spans() {
@@ -232,49 +217,35 @@ fn draw_spans(
             to: plan.x(end),
             y: row.y,
         };
-        open_span(scene, address, (column, end), span.shown, page)?;
-        draw_seen(alloc, scene, reach, span.shown, page)?;
-        page.push_str("</g>\n")?;
+        open_span(scene, address, (column, end), span.shown, page);
+        draw_seen(alloc, scene, reach, span.shown, page);
+        page.push_str("</g>\n");
         column = end;
     }
-    Ok(())
 }
 
 /// Writes the row of an object.
-fn write_row(
-    alloc: Global,
-    scene: &Scene<'_>,
-    plan: &Plan,
-    row: &ObjectRow,
-    page: &mut String,
-) -> Result<(), AllocError> {
+fn write_row(alloc: Global, scene: &Scene<'_>, plan: &Plan, row: &ObjectRow, page: &mut Page) {
     let Some(object) = scene.objects.list().get(row.object) else {
-        return Ok(());
+        return;
     };
-    text(page, MARGIN, row.y + Px(4), 11, "ink", &object.label)?;
-    line(page, (plan.left, row.y), (plan.end(), row.y), "grid", "")?;
-    draw_spans(alloc, scene, plan, row, object.address, page)?;
-    match object.kind {
-        Kind::Semaphore => draw_waiters(scene, plan, object.address, row.y, page),
-        _ => Ok(()),
+    text(page, MARGIN, row.y + Px(4), 11, "ink", &object.label);
+    line(page, (plan.left, row.y), (plan.end(), row.y), "grid", "");
+    draw_spans(alloc, scene, plan, row, object.address, page);
+    if object.kind == Kind::Semaphore {
+        draw_waiters(scene, plan, object.address, row.y, page);
     }
 }
 
 /// Writes the rows of the objects.
-pub(super) fn write_objects(
-    alloc: Global,
-    scene: &Scene<'_>,
-    plan: &Plan,
-    page: &mut String,
-) -> Result<(), AllocError> {
+pub(super) fn write_objects(alloc: Global, scene: &Scene<'_>, plan: &Plan, page: &mut Page) {
     if plan.objects.is_empty() {
-        return Ok(());
+        return;
     }
     let top = plan.objects_top;
-    line(page, (MARGIN, top), (plan.end(), top), "grid", "")?;
-    write_heading(top + Px(14), "OBJECTS", page)?;
+    line(page, (MARGIN, top), (plan.end(), top), "grid", "");
+    write_heading(top + Px(14), "OBJECTS", page);
     for row in plan.objects.iter() {
-        write_row(alloc, scene, plan, row, page)?;
+        write_row(alloc, scene, plan, row, page);
     }
-    Ok(())
 }

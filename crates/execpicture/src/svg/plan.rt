@@ -1,8 +1,8 @@
 //! Where each part of a picture is.
 use super::calls::longest;
 use crate::film::Turn;
+use crate::forms::{Px, width_of};
 use crate::objects::{Object, Objects};
-use crate::page::{Px, width_of};
 use crate::scene::Scene;
 use crate::seen::Kind;
 use std::alloc::{AllocError, Global};

@@ -2,7 +2,8 @@
 use super::plan::{MARGIN, Plan, RULER};
 use super::shapes::{Area, line, open_rect, text};
 use crate::film::Turn;
-use crate::page::{Millis, Px, width_of};
+use crate::forms::{Millis, Px, width_of};
+use crate::page::Page;
 use crate::scene::{Column, Scene};
 use std::alloc::{AllocError, Global};
 use taskscript::Event;
@@ -82,13 +83,7 @@ impl Lanes {
 }
 
 /// Writes the label of an event: over its columns if they are wide enough, else from the first of them on.
-fn write_label(
-    plan: &Plan,
-    group: &Group,
-    said: &str,
-    lanes: &mut Lanes,
-    page: &mut String,
-) -> Result<(), AllocError> {
+fn write_label(plan: &Plan, group: &Group, said: &str, lanes: &mut Lanes, page: &mut Page) {
     let from = plan.start(group.first);
     let to = plan.x(group.last);
     let wide = width_of(said.len(), 11);
@@ -98,19 +93,13 @@ fn write_label(
     } else {
         from
     };
-    match lanes.put(start, start + wide + Px(3)) {
-        Some(up) => text(page, start, RULER - up - Px(4), 11, "soft", said),
-        None => Ok(()),
+    if let Some(up) = lanes.put(start, start + wide + Px(3)) {
+        text(page, start, RULER - up - Px(4), 11, "soft", said);
     }
 }
 
 /// Writes the line of an event under its label, and tints its columns if it is no run.
-fn write_group(
-    plan: &Plan,
-    group: &Group,
-    event: Event,
-    page: &mut String,
-) -> Result<(), AllocError> {
+fn write_group(plan: &Plan, group: &Group, event: Event, page: &mut Page) {
     let from = plan.start(group.first);
     let to = plan.x(group.last);
     let class = match event {
@@ -125,8 +114,8 @@ fn write_group(
             width: to - from,
             height: plan.calls_top - RULER - Px(8),
         };
-        open_rect(page, area, 0, class)?;
-        page.push_str("/>\n")?;
+        open_rect(page, area, 0, class);
+        page.push_str("/>\n");
     }
     line(
         page,
@@ -134,48 +123,44 @@ fn write_group(
         (to - Px(2), RULER),
         "rest",
         " stroke-width=\"1.4\"",
-    )
+    );
 }
 
 /// Writes the events.
-fn write_events(
-    alloc: Global,
-    scene: &Scene<'_>,
-    plan: &Plan,
-    list: &[Event],
-    page: &mut String,
-) -> Result<(), AllocError> {
+fn write_events(alloc: Global, scene: &Scene<'_>, plan: &Plan, list: &[Event], page: &mut Page) {
     let mut lanes = Lanes {
         first: Px(0),
         second: Px(0),
         third: Px(0),
     };
-    for group in groups_of(alloc, &scene.columns)?.iter() {
+    let Some(groups) = page.made(groups_of(alloc, &scene.columns)) else {
+        return;
+    };
+    for group in groups.iter() {
         if let Some(event) = list.get(group.event) {
-            let said = event_text(alloc, *event)?;
-            write_group(plan, group, *event, page)?;
-            write_label(plan, group, &said, &mut lanes, page)?;
+            write_group(plan, group, *event, page);
+            if let Some(said) = page.made(event_text(alloc, *event)) {
+                write_label(plan, group, &said, &mut lanes, page);
+            }
         }
     }
-    Ok(())
 }
 
 /// Writes the number of each tenth point, with a line down to the calls.
-fn write_numbers(scene: &Scene<'_>, plan: &Plan, page: &mut String) -> Result<(), AllocError> {
+fn write_numbers(scene: &Scene<'_>, plan: &Plan, page: &mut Page) {
     let foot = plan.calls_top - Px(4);
     for column in 0..plan.last.saturating_add(1) {
         let number = scene.number_of(column);
         if number % 10 == 0 || column == 0 {
             let x = plan.x(column);
-            line(page, (x, RULER + Px(22)), (x, foot), "grid", "")?;
+            line(page, (x, RULER + Px(22)), (x, foot), "grid", "");
             let y = RULER + Px(17);
             write!(
                 page,
                 "<text x=\"{x}\" y=\"{y}\" font-size=\"10\" class=\"faint middle\">{number}</text>\n"
-            )?;
+            );
         }
     }
-    Ok(())
 }
 
 /// Whether the column after that of a number is a tick.
@@ -187,7 +172,7 @@ fn goes_on(scene: &Scene<'_>, number: usize) -> bool {
 }
 
 /// Writes what the clock shows after a tick, and after the last of several, if there is room for it.
-fn write_clock(scene: &Scene<'_>, plan: &Plan, page: &mut String) -> Result<(), AllocError> {
+fn write_clock(scene: &Scene<'_>, plan: &Plan, page: &mut Page) {
     let mut free = Px(0);
     let y = RULER + Px(30);
     let mut end = 0u32;
@@ -200,11 +185,10 @@ fn write_clock(scene: &Scene<'_>, plan: &Plan, page: &mut String) -> Result<(), 
             write!(
                 page,
                 "<text x=\"{x}\" y=\"{y}\" font-size=\"10\" class=\"time strong\">{clock} ms</text>\n"
-            )?;
+            );
             free = x + Px(52);
         }
     }
-    Ok(())
 }
 
 /// Writes the ruler.
@@ -213,12 +197,12 @@ pub(super) fn write_ruler(
     scene: &Scene<'_>,
     plan: &Plan,
     list: &[Event],
-    page: &mut String,
-) -> Result<(), AllocError> {
-    text(page, MARGIN, RULER - Px(4), 11, "faint", "events")?;
-    text(page, MARGIN, RULER + Px(17), 10, "faint", "number")?;
-    text(page, MARGIN, RULER + Px(30), 10, "faint", "clock")?;
-    write_events(alloc, scene, plan, list, page)?;
-    write_numbers(scene, plan, page)?;
-    write_clock(scene, plan, page)
+    page: &mut Page,
+) {
+    text(page, MARGIN, RULER - Px(4), 11, "faint", "events");
+    text(page, MARGIN, RULER + Px(17), 10, "faint", "number");
+    text(page, MARGIN, RULER + Px(30), 10, "faint", "clock");
+    write_events(alloc, scene, plan, list, page);
+    write_numbers(scene, plan, page);
+    write_clock(scene, plan, page);
 }

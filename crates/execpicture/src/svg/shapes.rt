@@ -1,7 +1,6 @@
 //! The shapes that a picture is made of.
-use crate::page::{Px, Xml};
-use std::alloc::AllocError;
-use std::fmt::Display;
+use crate::forms::{Px, Xml};
+use crate::page::Page;
 
 /// A rectangle.
 #[derive(Clone, Copy)]
@@ -25,45 +24,27 @@ impl Area {
 }
 
 /// Writes a text.
-pub(super) fn text(
-    page: &mut String,
-    x: Px,
-    y: Px,
-    size: u32,
-    class: &str,
-    said: &str,
-) -> Result<(), AllocError> {
+pub(super) fn text(page: &mut Page, x: Px, y: Px, size: u32, class: &str, said: &str) {
     let said = Xml(said);
     write!(
         page,
         "<text x=\"{x}\" y=\"{y}\" font-size=\"{size}\" class=\"{class}\">{said}</text>\n"
-    )
+    );
 }
 
 /// Writes a line across, from left to right, or down.
-pub(super) fn line(
-    page: &mut String,
-    from: (Px, Px),
-    to: (Px, Px),
-    class: &str,
-    more: &str,
-) -> Result<(), AllocError> {
+pub(super) fn line(page: &mut Page, from: (Px, Px), to: (Px, Px), class: &str, more: &str) {
     let (x, y) = from;
     let (right, bottom) = to;
     write!(
         page,
         "<line x1=\"{x}\" y1=\"{y}\" x2=\"{right}\" y2=\"{bottom}\" class=\"{class}\""
-    )?;
-    write!(page, "{more}/>\n")
+    );
+    write!(page, "{more}/>\n");
 }
 
 /// Writes a rectangle with rounded corners, without what it is closed with.
-pub(super) fn open_rect(
-    page: &mut String,
-    area: Area,
-    round: u32,
-    class: &str,
-) -> Result<(), AllocError> {
+pub(super) fn open_rect(page: &mut Page, area: Area, round: u32, class: &str) {
     let Area {
         x,
         y,
@@ -73,34 +54,22 @@ pub(super) fn open_rect(
     write!(
         page,
         "<rect x=\"{x}\" y=\"{y}\" width=\"{width}\" height=\"{height}\""
-    )?;
-    write!(page, " rx=\"{round}\" class=\"{class}\"")
+    );
+    write!(page, " rx=\"{round}\" class=\"{class}\"");
 }
 
 /// Writes a rectangle with rounded corners, of which nothing is to be said.
-pub(super) fn rect(
-    page: &mut String,
-    area: Area,
-    round: u32,
-    class: &str,
-) -> Result<(), AllocError> {
-    open_rect(page, area, round, class)?;
-    page.push_str("/>\n")
+pub(super) fn rect(page: &mut Page, area: Area, round: u32, class: &str) {
+    open_rect(page, area, round, class);
+    page.push_str("/>\n");
 }
 
 /// Writes a dot.
-pub(super) fn dot(
-    page: &mut String,
-    x: Px,
-    y: Px,
-    radius: u32,
-    class: &str,
-    title: &str,
-) -> Result<(), AllocError> {
+pub(super) fn dot(page: &mut Page, x: Px, y: Px, radius: u32, class: &str, title: &str) {
     let title = Xml(title);
     write!(
         page,
         "<circle cx=\"{x}\" cy=\"{y}\" r=\"{radius}\" class=\"{class}\">"
-    )?;
-    write!(page, "<title>{title}</title></circle>\n")
+    );
+    write!(page, "<title>{title}</title></circle>\n");
 }

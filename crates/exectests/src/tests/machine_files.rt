@@ -1,4 +1,4 @@
-//! Machine files: what an accepted one holds, and the numbers of the faults. Files of text that are refused are whole runs.
+//! Machine files: what an accepted one holds. Files of text that are refused are whole runs.
 use super::comparing::same;
 use memlist::Region;
 use std::test::*;
@@ -27,34 +27,6 @@ static REGIONS: [Region; 2] = [
         pri: 0,
     },
 ];
-
-/// The faults, with their numbers.
-static NUMBERS: [(FileFault, u8); 11] = [
-    (FileFault::NotToml, 1),
-    (FileFault::UnknownKey, 2),
-    (FileFault::MissingKey, 3),
-    (FileFault::BadValue, 4),
-    (FileFault::NameTwice, 5),
-    (FileFault::BadRegions, 6),
-    (FileFault::BadCommand, 7),
-    (FileFault::BadLabel, 8),
-    (FileFault::NotInInterrupt, 9),
-    (FileFault::TooMany, 10),
-    (FileFault::OutOfMemory, 11),
-];
-
-#[test]
-fn faults_are_numbered_from_1(rt: HostRuntime) {
-    for (fault, number) in &NUMBERS {
-        same(
-            &rt,
-            "faults are numbered from 1",
-            "a fault",
-            fault.number(),
-            *number,
-        );
-    }
-}
 
 #[test]
 fn a_fault_has_a_name(rt: HostRuntime) {

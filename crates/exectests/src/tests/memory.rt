@@ -215,16 +215,3 @@ fn a_memory_is_made_of_regions_that_have_no_fault(rt: HostRuntime) {
         same(&rt, "a memory", number, made, *wanted);
     }
 }
-
-#[test]
-fn faults_are_numbered_from_1(rt: HostRuntime) {
-    static FAULTS: [(MemFault, u8); 4] = [
-        (MemFault::Misaligned, 1),
-        (MemFault::Overlap, 2),
-        (MemFault::TooLarge, 3),
-        (MemFault::OutOfMemory, 4),
-    ];
-    for (number, (fault, wanted)) in FAULTS.iter().enumerate() {
-        same(&rt, "faults", number, fault.number(), *wanted);
-    }
-}

@@ -5,5 +5,5 @@ use Rattle.exectrace.proofs.printing.put_between.Goals as goal
 
 pub returns : goal.returns
 returns g c =
-    let text = adds_then _ (adds_then _ c.add.ensures c.add-2.ensures refl) c.add-3.ensures refl in
+    let text = adds_then _ (adds_then _ c.add.ensures c.add_bytes.ensures refl) c.add-2.ensures refl in
     adds_all c.new-line.ensures text c.hand_over.ensures

@@ -1,4 +1,4 @@
--- The proof of `advance_all`: does some events, one step and one tick at a time.
+-- The proof of `advance_all`: does some events.
 use Rattle.std.proofs.Common.{ℕ, subst}
 use Rattle.std.proofs.lemmas.List.Sums.{sum_by-drop_more}
 use Rattle.taskscript.specs.Events.{ticks as ticks_of}
@@ -8,7 +8,7 @@ use Rattle.runadvice.proofs.following.advance_all.Goals as goal
 
 pub loop-one-init : goal.loop-one-init
 loop-one-init c = record {
-  goes = goes_none _;
+  goes = goes_none _ _;
   going = c.requires.going;
   good = c.requires.good;
   time = c.requires.time;

@@ -4,13 +4,12 @@ use Rattle.std.specs.Prelude.{sum_by}
 use Rattle.exectrace.specs.declared.sinks.SinkState.TheVariants.{Good}
 use Rattle.taskscript.specs.Events.{ticks as ticks_of}
 use Rattle.execsim.specs.Time.{HasTimeFor}
-use Rattle.execlog.specs.Log.{units}
 use Rattle.runadvice.specs.Going.{Goes}
 use Rattle.runadvice.proofs.following.advance_all.Given as goal
 
 abbrev pub invariant-loop-one : goal.invariant-loop-one
 invariant-loop-one l = record {
-  goes : Goes (units (take l.one-index l.list)) l.initial.machine.seen l.machine.seen;
+  goes : Goes (take l.one-index l.list) l.initial.machine.seen l.machine.seen l.initial.room.bytes.items l.room.bytes.items;
   going : l.machine.failed ≡ false;
   good : l.room.state ≡ Good;
   time : HasTimeFor (sum_by ticks_of (drop l.one-index l.list)) l.machine.seen;

@@ -8,6 +8,7 @@ use Rattle.execmodel.specs.Memory.{freed}
 use Rattle.execheap.specs.declared.tag.Kind.TheVariants as variant
 use Rattle.execheap.specs.Numbered.{IsKnown, Numbered, message_of_request, places, shown_memory}
 use Rattle.execheap.proofs.KeptRequests.{live_request}
+use Rattle.execheap.proofs.Made.{freed_at}
 use Rattle.execheap.proofs.RequestCalls.{not_refused}
 use Rattle.execheap.proofs.RequestsMade.{request_freed_kept, request_freed_shown}
 use Rattle.execheap.proofs.objects.Objects.free_request.Goals as goal
@@ -19,21 +20,15 @@ delete-requires g c =
 pub invariant_of-self : goal.invariant_of-self
 invariant_of-self g c =
     let free = c.free.ensures in
-    request_freed_kept c.self.invariant free.sound free.memory c.args.r c.args.address
-    (ap (λ s. slot (places variant.Request s) c.args.r) c.self.view_is ∙ c.requires.live)
-    (ap (λ (s : Numbered). is_under_way (request_at c.args.r s.requests)) c.self.view_is ∙ c.requires.rests)
-    (ap (λ (s : Numbered). home s.ports.places (message_of_request c.args.r s)) c.self.view_is ∙ c.requires.loose)
-    c.free.new.self c.delete.new.self free.next
-    (not_refused _ _ _ _ _ _ _ c.delete.ensures.answer c.unwrap.ensures c.delete.ensures.next)
+    let gone = freed_at c.self.view_is c.self.invariant free.sound free.memory variant.Request c.args.r c.args.address c.free.new.self c.requires.live free.next in
+    request_freed_kept c.delete.new.self gone (ap (λ (s : Numbered). is_under_way (request_at c.args.r s.requests)) c.self.view_is ∙ c.requires.rests)
+    (ap (λ (s : Numbered). home s.ports.places (message_of_request c.args.r s)) c.self.view_is ∙ c.requires.loose) (not_refused _ _ _ _ _ _ _ c.delete.ensures.answer c.unwrap.ensures c.delete.ensures.next)
 
 pub returns : goal.returns
 returns g c =
-    let known = subst IsKnown (sym c.self.view_is) c.facts.ensures in
     let free = c.free.ensures in
-    request_freed_shown c.self.invariant free.sound free.memory c.args.r c.args.address
-    (ap (λ s. slot (places variant.Request s) c.args.r) c.self.view_is ∙ c.requires.live)
-    (ap (λ (s : Numbered). is_under_way (request_at c.args.r s.requests)) c.self.view_is ∙ c.requires.rests)
-    (ap (λ (s : Numbered). home s.ports.places (message_of_request c.args.r s)) c.self.view_is ∙ c.requires.loose)
-    c.free.new.self c.delete.new.self free.next
-    (not_refused _ _ _ _ _ _ _ c.delete.ensures.answer c.unwrap.ensures c.delete.ensures.next) known.ports
+    let gone = freed_at c.self.view_is c.self.invariant free.sound free.memory variant.Request c.args.r c.args.address c.free.new.self c.requires.live free.next in
+    request_freed_shown c.delete.new.self gone (ap (λ (s : Numbered). is_under_way (request_at c.args.r s.requests)) c.self.view_is ∙ c.requires.rests)
+    (ap (λ (s : Numbered). home s.ports.places (message_of_request c.args.r s)) c.self.view_is ∙ c.requires.loose) (not_refused _ _ _ _ _ _ _ c.delete.ensures.answer c.unwrap.ensures c.delete.ensures.next)
+    (subst IsKnown (sym c.self.view_is) c.facts.ensures).ports
     ∙ ap (λ s. freed c.args.address (shown_memory s)) c.self.view_is

@@ -1,19 +1,16 @@
--- The place of a name among the names is the number of its software interrupt.
-use Rattle.std.proofs.Common.{sym, ap, ◌∙◌}
-use Rattle.std.specs.Prelude.{bytes_eq}
-use Rattle.std.specs.List.{position_or_len}
-use Rattle.arrayvec.specs.ArrayString.{ArrayString}
+-- The proof of `Bodies::softint_named`: the number of the software interrupt of a name; if none has it, the number of all of them.
+use Rattle.std.proofs.Common.{ap, ◌∙◌, map, refl}
+use Rattle.std.proofs.lemmas.List.{length-map}
 use Rattle.execmodel.specs.State.{Bodies}
 use Rattle.execmodel.specs.Pending.{softint_named}
-use Rattle.execsim.proofs.BodyNames.{found_at, found_nowhere}
+use Rattle.execsim.specs.Views.{softint_view}
+use Rattle.execsim.proofs.BodyNames.{softint_placed}
 use Rattle.execsim.proofs.bodies.Bodies.softint_named.Goals as goal
 
-pub returns-in-Some : goal.returns-in-Some
-returns-in-Some c =
-    found_at (λ (n : ArrayString). n.bytes) c.args.name.bytes c.self.inside.names.keys c.in-Some.index (sym c.in-Some.is ∙ c.get_index_of.ensures.index)
-    ∙ ap (position_or_len (bytes_eq c.args.name.bytes)) c.self.invariant ∙ ap (λ (b : Bodies). softint_named c.args.name.bytes b.softints) c.self.view_is
-
-pub returns-in-None : goal.returns-in-None
-returns-in-None c =
-    c.len.ensures.len ∙ found_nowhere (λ (n : ArrayString). n.bytes) c.args.name.bytes c.self.inside.names.keys (sym c.in-None.is ∙ c.get_index_of.ensures.index)
-    ∙ ap (position_or_len (bytes_eq c.args.name.bytes)) c.self.invariant ∙ ap (λ (b : Bodies). softint_named c.args.name.bytes b.softints) c.self.view_is
+pub returns-then-has_name : goal.returns-then-has_name
+returns-then-has_name c =
+    let softints = map softint_view c.self.inside.softints.items in
+    let within = rw c.deref.ensures.value at (c.if-has_name.ensures.inside refl) in
+    let called = rw c.deref.ensures.value at (c.if-has_name.ensures.same refl) in
+    softint_placed softints _ c.args.name.now.bytes c.self.invariant.1 (rw length-map within) called
+    ∙ ap (λ (b : Bodies). softint_named c.args.name.now.bytes b.softints) c.self.view_is

@@ -1,12 +1,13 @@
 -- The proof of `Kernel::add_head`: AddHead list node: puts the node first.
 use Rattle.std.proofs.Common.{refl}
 use Rattle.execmodel.specs.State.{on_heap}
-use Rattle.execmodel.specs.Lists.{added_head, does_add_head, link_alert}
+use Rattle.execmodel.specs.Deeds.{performs}
+use Rattle.execmodel.specs.Lists.{added_head, link_alert, list_deed}
 use Rattle.execsim.proofs.Listing.{heap_changed}
 use Rattle.execsim.proofs.kernel.Kernel.add_head.Goals as goal
 
 pub returns : goal.returns
-unfolding does_add_head
+unfolding performs list_deed
 returns g c = rw (← c.self.view_is) (heap_changed _ _ (link_alert _ _) (on_heap (added_head _ _)) (λ y. refl) _ _
     (rw (c.number-list.ensures, c.number-node.ensures) at c.add_head-tried.ensures.alert)
     (rw (c.number-list.ensures, c.number-node.ensures) at c.add_head-tried.ensures.next) c.add_head-tried.ensures.kept c.concluded.ensures)

@@ -4,7 +4,7 @@ use Rattle.taskscript.specs.Commands.{argument_view, command_view}
 use Rattle.execmodel.specs.Calls.{call_in_body, evaluated_in_body}
 use Rattle.execsim.specs.Agreement.{Seen}
 use Rattle.execsim.specs.Views.{code_of_body}
-use Rattle.execsim.proofs.BodyCalls.{command_there, place_done, place_empty, step_as, stored_as}
+use Rattle.execsim.proofs.BodyCalls.{command_there, place_done, place_empty, printed_as, step_as, stored_as}
 use Rattle.execsim.proofs.Calling.{map-map_as}
 use Rattle.execsim.proofs.kernel.Kernel.do_place.Goals as goal
 
@@ -21,8 +21,14 @@ returns-in-Some-value_in_body g c =
     place_done _ _ command (ap (λ (m : Seen). m.stopped) (sym c.self.view_is) ∙ c.if-self.false) (rw c.in-Some.is at here)
     (stored_as c.args.name.now.bytes command call _ refl (rw c.in-Some-value_in_body.is at c.value_in_body.ensures) (c.silent_in_body.ensures c.args.name.now.bytes call (g.W.Sink.tape c.args.out.now) refl))
 
-pub returns-in-None-value_in_body : goal.returns-in-None-value_in_body
-returns-in-None-value_in_body g c =
+pub returns-then-is_print : goal.returns-then-is_print
+returns-then-is_print g c =
+    let here = command_there _ _ _ _ c.command_at.ensures (c.code.ensures ∙ ap (λ (m : Seen). code_of_body c.args.body m.bodies) c.self.view_is) in
+    place_done _ _ (command_view c.in-Some.command.now) (ap (λ (m : Seen). m.stopped) (sym c.self.view_is) ∙ c.if-self.false) (rw c.in-Some.is at here)
+    (printed_as c.args.name.now.bytes (command_view c.in-Some.command.now) (c.if-is_print.ensures refl) c.print_in_body.ensures)
+
+pub returns-else-is_print : goal.returns-else-is_print
+returns-else-is_print g c =
     let here = command_there _ _ _ _ c.command_at.ensures (c.code.ensures ∙ ap (λ (m : Seen). code_of_body c.args.body m.bodies) c.self.view_is) in
     let command = c.in-Some.command.now in
     let name = command.name.bytes in

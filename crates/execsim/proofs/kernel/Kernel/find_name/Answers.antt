@@ -1,13 +1,14 @@
 -- The proof of `Kernel::find_name`: FindName start name: answers the first node of that name in a list, or after a linked node, or 0.
 use Rattle.std.specs.Prelude.{[], unwrap_or}
 use Rattle.execmodel.specs.Calls.{name_argument}
-use Rattle.execmodel.specs.Lists.{does_find_name, find_alert, found_node}
+use Rattle.execmodel.specs.Deeds.{performs}
+use Rattle.execmodel.specs.Lists.{find_alert, found_node, list_deed}
 use Rattle.execsim.specs.Views.{call_view}
 use Rattle.execsim.proofs.Listing.{heap_read}
 use Rattle.execsim.proofs.kernel.Kernel.find_name.Goals as goal
 
 pub returns : goal.returns
-unfolding does_find_name
+unfolding performs list_deed
 returns g c = heap_read _ _ (find_alert _)
     (found_node _ (unwrap_or (name_argument 1 (call_view c.args.call.now)) [])) _
     (rw c.number-start.ensures at c.find-tried.ensures.alert) (rw (c.number-start.ensures, c.name.ensures) at c.find-tried.ensures.answer)

@@ -1,12 +1,13 @@
 -- The proof of `Kernel::insert`: insert list node pred: puts the node after pred, or first if pred is 0.
 use Rattle.std.proofs.Common.{refl}
 use Rattle.execmodel.specs.State.{on_heap}
-use Rattle.execmodel.specs.Lists.{does_insert, insert_alert, inserted}
+use Rattle.execmodel.specs.Deeds.{performs}
+use Rattle.execmodel.specs.Lists.{insert_alert, inserted, list_deed}
 use Rattle.execsim.proofs.Listing.{heap_changed}
 use Rattle.execsim.proofs.kernel.Kernel.insert.Goals as goal
 
 pub returns : goal.returns
-unfolding does_insert
+unfolding performs list_deed
 returns g c = rw (← c.self.view_is) (heap_changed _ _ (insert_alert _ _ _) (on_heap (inserted _ _ _)) (λ y. refl) _ _
     (rw (c.number-list.ensures, c.number-node.ensures, c.number-pred.ensures) at c.insert-tried.ensures.alert)
     (rw (c.number-list.ensures, c.number-node.ensures, c.number-pred.ensures) at c.insert-tried.ensures.next) c.insert-tried.ensures.kept c.concluded.ensures)

@@ -1,10 +1,11 @@
 -- The proof of `Kernel::last`: last list: answers the last node, or 0 for an empty list.
-use Rattle.execmodel.specs.Lists.{does_last, last_of, list_alert}
+use Rattle.execmodel.specs.Deeds.{performs}
+use Rattle.execmodel.specs.Lists.{last_of, list_alert, list_deed}
 use Rattle.execsim.proofs.Listing.{heap_read}
 use Rattle.execsim.proofs.kernel.Kernel.last.Goals as goal
 
 pub returns : goal.returns
-unfolding does_last
+unfolding performs list_deed
 returns g c = rw (← c.self.view_is) (heap_read _ _ (list_alert _) (last_of _) _
     (rw c.number-list.ensures at c.last-tried.ensures.alert) (rw c.number-list.ensures at c.last-tried.ensures.answer)
     (rw (← c.self.view_is) at c.concluded_with.ensures))

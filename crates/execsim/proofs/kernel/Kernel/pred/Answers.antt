@@ -1,10 +1,11 @@
 -- The proof of `Kernel::pred`: pred node: answers the node before a linked one, or 0.
-use Rattle.execmodel.specs.Lists.{does_pred, linked_alert, pred_of}
+use Rattle.execmodel.specs.Deeds.{performs}
+use Rattle.execmodel.specs.Lists.{linked_alert, list_deed, pred_of}
 use Rattle.execsim.proofs.Listing.{heap_read}
 use Rattle.execsim.proofs.kernel.Kernel.pred.Goals as goal
 
 pub returns : goal.returns
-unfolding does_pred
+unfolding performs list_deed
 returns g c = rw (← c.self.view_is) (heap_read _ _ (linked_alert _) (pred_of _) _
     (rw c.number-node.ensures at c.pred-tried.ensures.alert) (rw c.number-node.ensures at c.pred-tried.ensures.answer)
     (rw (← c.self.view_is) at c.concluded_with.ensures))

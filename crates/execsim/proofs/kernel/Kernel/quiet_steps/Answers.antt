@@ -7,10 +7,10 @@ use Rattle.execsim.proofs.Settling.{idle_steps, no_step, none_caused}
 use Rattle.execsim.proofs.kernel.Kernel.quiet_steps.Goals as goal
 
 pub returns-then-any_caused-clause-follows : goal.returns-then-any_caused-clause-follows
-returns-then-any_caused-clause-follows g c = no_step c.args.self.now
+returns-then-any_caused-clause-follows g c = no_step c.args.self.now (g.W.Sink.tape c.args.out.now)
 
 pub returns-in-None-clause-follows : goal.returns-in-None-clause-follows
-returns-in-None-clause-follows g c = λ tape. idle_steps c.args.most tape c.requires
+returns-in-None-clause-follows g c = idle_steps c.args.most (g.W.Sink.tape c.args.out.now) c.requires
     (none_caused c.args.self.now (ap (λ (m : Seen). is_some (first m.pending.caused)) (sym c.self.view_is) ∙ sym c.any_caused.ensures ∙ c.if-any_caused.false))
     (sym c.running.ensures.value ∙ c.in-None.is)
 

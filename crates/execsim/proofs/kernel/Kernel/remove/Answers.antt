@@ -1,12 +1,13 @@
 -- The proof of `Kernel::remove`: remove node: takes the node out of its list.
 use Rattle.std.proofs.Common.{refl}
 use Rattle.execmodel.specs.State.{on_heap}
-use Rattle.execmodel.specs.Lists.{does_remove, linked_alert, unlinked}
+use Rattle.execmodel.specs.Deeds.{performs}
+use Rattle.execmodel.specs.Lists.{linked_alert, list_deed, unlinked}
 use Rattle.execsim.proofs.Listing.{heap_changed}
 use Rattle.execsim.proofs.kernel.Kernel.remove.Goals as goal
 
 pub returns : goal.returns
-unfolding does_remove
+unfolding performs list_deed
 returns g c = rw (← c.self.view_is) (heap_changed _ _ (linked_alert _) (on_heap (unlinked _)) (λ y. refl) _ _
     (rw c.number-node.ensures at c.remove-tried.ensures.alert)
     (rw c.number-node.ensures at c.remove-tried.ensures.next) c.remove-tried.ensures.kept c.concluded.ensures)

@@ -1,165 +1,75 @@
 -- The proof of `FreeSpace::join`: frees a block, which joins the gaps that touch it.
-use Rattle.std.proofs.Common.{◌+◌, ◌-◌, ◌*◌, ◌≤◌, arith, ap, sym, length, ◌∙◌}
+use Rattle.std.proofs.Common.{◌+◌, ◌-◌, arith, ap, sym, length, ◌∙◌}
 use Rattle.memlist.specs.Chain.{Space, written}
+use Rattle.memlist.specs.Joins.{Around}
 use Rattle.memlist.proofs.Chains.{before_within, seen}
-use Rattle.memlist.proofs.Edits.{back, back_above, front, front_back, front_below}
+use Rattle.memlist.proofs.Edits.{front, joined}
 use Rattle.memlist.proofs.Walking.{up_to_block}
-use Rattle.memlist.proofs.Writing.{joins_lower, joins_own, length-written, link_len, lower_bounds, same_space, seen_around}
+use Rattle.memlist.proofs.Writing.{IsJoining, joining, length-written, link_len, seen_around, space_written}
 use Rattle.memlist.proofs.space.FreeSpace.join.Goals as goal
+use Rattle.memlist.proofs.space.FreeSpace.join.Goals.{After-upper-upper}
+
+module _ (c : After-upper-upper) (around : Around c.args.self.now.gaps c.args.address c.args.size) where
+  joins : IsJoining c.self.inside.base c.self.inside.words.items c.self.inside.head c.args.address (front around) (joined around) c.args.before c.upper-upper.result.next c.upper-upper.result.size
+  joins =
+      let base_is = ap (λ (s : Space). s.base) c.self.view_is in
+      let end_is = ap (λ (s : Space). s.end) c.self.view_is in
+      let walk = up_to_block around c.requires.before in
+      joining c.self.inside.base c.self.inside.words.items c.self.inside.head _ c.self.invariant c.args.address c.args.size (seen_around (ap (λ (s : Space). s.gaps) c.self.view_is) around)
+      (omega (arith, base_is, c.requires.low)) (omega (arith, end_is, c.requires.high)) c.requires.place c.requires.some c.requires.whole
+      c.args.before c.upper-upper.result.next c.upper-upper.result.size walk.last (c.upper-upper.ensures.next walk) (c.upper-upper.ensures.size walk)
 
 pub upper-upper-requires-clause-walk : goal.upper-upper-requires-clause-walk
-upper-upper-requires-clause-walk c =
-    let around = c.requires.around in
-    let at = c.requires.before (front around) (back around) (front_back around) (front_below around) (back_above around) in
-    let walk = up_to_block around at in
-    walk
+upper-upper-requires-clause-walk c = up_to_block c.requires.around c.requires.before
 
 pub ends_at-requires : goal.ends_at-requires
-ends_at-requires c =
-    let around = c.requires.around in
-    let at = c.requires.before (front around) (back around) (front_back around) (front_below around) (back_above around) in
-    let walk = up_to_block around at in
-    walk
+ends_at-requires c = up_to_block c.requires.around c.requires.before
 
 pub overflow_sub-chunk : goal.overflow_sub-chunk
-overflow_sub-chunk c =
-    let around = c.requires.around in
-    let at = c.requires.before (front around) (back around) (front_back around) (front_below around) (back_above around) in
-    let walk = up_to_block around at in
-    let mine = seen_around (ap (λ (s : Space). s.gaps) c.self.view_is) around in
-    let base_is = ap (λ (s : Space). s.base) c.self.view_is in
-    let end_is = ap (λ (s : Space). s.end) c.self.view_is in
-    let low : c.self.inside.base ≤ c.args.address = omega (arith, base_is, c.requires.low) in
-    let high : c.args.address + c.args.size ≤ c.self.inside.base + 4 * length c.self.inside.words.items = omega (arith, end_is, c.requires.high) in
-    let ends = sym c.if-ends_at.true ∙ c.ends_at.ensures walk in
-    let l = lower_bounds c.self.inside.base c.self.inside.words.items c.self.inside.head _ c.self.invariant c.args.address c.args.size mine low high c.requires.place c.requires.some c.requires.whole
-    c.args.before c.upper-upper.result.next c.upper-upper.result.size at (c.upper-upper.ensures.next walk) (c.upper-upper.ensures.size walk) ends in
-    l.above
+overflow_sub-chunk c = ((joins (goal.at.overflow_sub-chunk c).After-upper-upper c.requires.around).lower (sym c.if-ends_at.true ∙ c.ends_at.ensures (up_to_block c.requires.around c.requires.before))).above
 
 pub overflow_add-chunk : goal.overflow_add-chunk
-overflow_add-chunk c =
-    let around = c.requires.around in
-    let at = c.requires.before (front around) (back around) (front_back around) (front_below around) (back_above around) in
-    let walk = up_to_block around at in
-    let mine = seen_around (ap (λ (s : Space). s.gaps) c.self.view_is) around in
-    let base_is = ap (λ (s : Space). s.base) c.self.view_is in
-    let end_is = ap (λ (s : Space). s.end) c.self.view_is in
-    let low : c.self.inside.base ≤ c.args.address = omega (arith, base_is, c.requires.low) in
-    let high : c.args.address + c.args.size ≤ c.self.inside.base + 4 * length c.self.inside.words.items = omega (arith, end_is, c.requires.high) in
-    let ends = sym c.if-ends_at.true ∙ c.ends_at.ensures walk in
-    let l = lower_bounds c.self.inside.base c.self.inside.words.items c.self.inside.head _ c.self.invariant c.args.address c.args.size mine low high c.requires.place c.requires.some c.requires.whole
-    c.args.before c.upper-upper.result.next c.upper-upper.result.size at (c.upper-upper.ensures.next walk) (c.upper-upper.ensures.size walk) ends in
-    omega (arith, l.fits)
+overflow_add-chunk c = omega (arith, ((joins (goal.at.overflow_add-chunk c).After-upper-upper c.requires.around).lower (sym c.if-ends_at.true ∙ c.ends_at.ensures (up_to_block c.requires.around c.requires.before))).fits)
 
 pub word_place-requires : goal.word_place-requires
-word_place-requires c =
-    let around = c.requires.around in
-    let at = c.requires.before (front around) (back around) (front_back around) (front_below around) (back_above around) in
-    let walk = up_to_block around at in
-    let mine = seen_around (ap (λ (s : Space). s.gaps) c.self.view_is) around in
-    let base_is = ap (λ (s : Space). s.base) c.self.view_is in
-    let end_is = ap (λ (s : Space). s.end) c.self.view_is in
-    let low : c.self.inside.base ≤ c.args.address = omega (arith, base_is, c.requires.low) in
-    let high : c.args.address + c.args.size ≤ c.self.inside.base + 4 * length c.self.inside.words.items = omega (arith, end_is, c.requires.high) in
-    let ends = sym c.if-ends_at.true ∙ c.ends_at.ensures walk in
-    let l = lower_bounds c.self.inside.base c.self.inside.words.items c.self.inside.head _ c.self.invariant c.args.address c.args.size mine low high c.requires.place c.requires.some c.requires.whole
-    c.args.before c.upper-upper.result.next c.upper-upper.result.size at (c.upper-upper.ensures.next walk) (c.upper-upper.ensures.size walk) ends in
-    l.low
+word_place-requires c = ((joins (goal.at.word_place-requires c).After-upper-upper c.requires.around).lower (sym c.if-ends_at.true ∙ c.ends_at.ensures (up_to_block c.requires.around c.requires.before))).low
 
 pub write-requires : goal.write-requires
-write-requires c =
-    let around = c.requires.around in
-    let at = c.requires.before (front around) (back around) (front_back around) (front_below around) (back_above around) in
-    let walk = up_to_block around at in
-    let mine = seen_around (ap (λ (s : Space). s.gaps) c.self.view_is) around in
-    let base_is = ap (λ (s : Space). s.base) c.self.view_is in
-    let end_is = ap (λ (s : Space). s.end) c.self.view_is in
-    let low : c.self.inside.base ≤ c.args.address = omega (arith, base_is, c.requires.low) in
-    let high : c.args.address + c.args.size ≤ c.self.inside.base + 4 * length c.self.inside.words.items = omega (arith, end_is, c.requires.high) in
-    let ends = sym c.if-ends_at.true ∙ c.ends_at.ensures walk in
-    let l = lower_bounds c.self.inside.base c.self.inside.words.items c.self.inside.head _ c.self.invariant c.args.address c.args.size mine low high c.requires.place c.requires.some c.requires.whole
-    c.args.before c.upper-upper.result.next c.upper-upper.result.size at (c.upper-upper.ensures.next walk) (c.upper-upper.ensures.size walk) ends in
-    omega (arith, l.room, c.word_place.ensures)
+write-requires c = omega (arith, ((joins (goal.at.write-requires c).After-upper-upper c.requires.around).lower (sym c.if-ends_at.true ∙ c.ends_at.ensures (up_to_block c.requires.around c.requires.before))).room, c.word_place.ensures)
 
 pub invariant_of-self : goal.invariant_of-self
 invariant_of-self c =
-    let around = c.requires.around in
-    let at = c.requires.before (front around) (back around) (front_back around) (front_below around) (back_above around) in
-    let walk = up_to_block around at in
-    let mine = seen_around (ap (λ (s : Space). s.gaps) c.self.view_is) around in
-    let base_is = ap (λ (s : Space). s.base) c.self.view_is in
-    let end_is = ap (λ (s : Space). s.end) c.self.view_is in
-    let low : c.self.inside.base ≤ c.args.address = omega (arith, base_is, c.requires.low) in
-    let high : c.args.address + c.args.size ≤ c.self.inside.base + 4 * length c.self.inside.words.items = omega (arith, end_is, c.requires.high) in
-    let ends = sym c.if-ends_at.true ∙ c.ends_at.ensures walk in
-    let s = joins_lower c.self.inside.base c.self.inside.words.items c.self.inside.head _ c.self.invariant c.args.address c.args.size mine low high c.requires.place c.requires.some c.requires.whole
-    c.args.before c.upper-upper.result.next c.upper-upper.result.size at (c.upper-upper.ensures.next walk) (c.upper-upper.ensures.size walk) c.write.new.words.items ends
-    (c.write.ensures ∙ ap (λ k. written c.self.inside.words.items k c.upper-upper.result.next (c.args.address - c.args.before + c.upper-upper.result.size)) c.word_place.ensures) in
-    s.kept
+    ((joins (goal.at.invariant_of-self c).After-upper-upper c.requires.around).into c.write.new.words.items (sym c.if-ends_at.true ∙ c.ends_at.ensures (up_to_block c.requires.around c.requires.before))
+    (c.write.ensures ∙ ap (λ k. written c.self.inside.words.items k c.upper-upper.result.next (c.args.address - c.args.before + c.upper-upper.result.size)) c.word_place.ensures)).kept
 
 pub link-requires-clause-low : goal.link-requires-clause-low
 link-requires-clause-low c some =
-    let around = c.requires.around in
-    let at = c.requires.before (front around) (back around) (front_back around) (front_below around) (back_above around) in
-    let walk = up_to_block around at in
-    (before_within c.self.inside.base c.self.inside.words.items c.self.inside.head _ c.self.invariant c.args.before some (seen (ap (λ (s : Space). s.gaps) c.self.view_is) walk)).begins
+    (before_within c.self.inside.base c.self.inside.words.items c.self.inside.head _ c.self.invariant c.args.before some
+    (seen (ap (λ (s : Space). s.gaps) c.self.view_is) (up_to_block c.requires.around c.requires.before))).begins
 
 pub link-requires-clause-within : goal.link-requires-clause-within
 link-requires-clause-within c some =
-    let around = c.requires.around in
-    let at = c.requires.before (front around) (back around) (front_back around) (front_below around) (back_above around) in
-    let walk = up_to_block around at in
-    let w = before_within c.self.inside.base c.self.inside.words.items c.self.inside.head _ c.self.invariant c.args.before some (seen (ap (λ (s : Space). s.gaps) c.self.view_is) walk) in
+    let w = before_within c.self.inside.base c.self.inside.words.items c.self.inside.head _ c.self.invariant c.args.before some
+    (seen (ap (λ (s : Space). s.gaps) c.self.view_is) (up_to_block c.requires.around c.requires.before)) in
     let len = ap length c.write-else-ends_at.ensures ∙ length-written c.self.inside.words.items c.word_place-else-ends_at.result c.upper-upper.result.next c.upper-upper.result.size in
     omega (arith, w.begins, w.ends, len)
 
 pub invariant_of-self-else-ends_at : goal.invariant_of-self-else-ends_at
 invariant_of-self-else-ends_at c =
-    let around = c.requires.around in
-    let at = c.requires.before (front around) (back around) (front_back around) (front_below around) (back_above around) in
-    let walk = up_to_block around at in
-    let mine = seen_around (ap (λ (s : Space). s.gaps) c.self.view_is) around in
-    let base_is = ap (λ (s : Space). s.base) c.self.view_is in
-    let end_is = ap (λ (s : Space). s.end) c.self.view_is in
-    let low : c.self.inside.base ≤ c.args.address = omega (arith, base_is, c.requires.low) in
-    let high : c.args.address + c.args.size ≤ c.self.inside.base + 4 * length c.self.inside.words.items = omega (arith, end_is, c.requires.high) in
-    let ends = sym c.if-ends_at.false ∙ c.ends_at.ensures walk in
-    let s = joins_own c.self.inside.base c.self.inside.words.items c.self.inside.head _ c.self.invariant c.args.address c.args.size mine low high c.requires.place c.requires.some c.requires.whole
-    c.args.before c.upper-upper.result.next c.upper-upper.result.size at (c.upper-upper.ensures.next walk) (c.upper-upper.ensures.size walk) c.write-else-ends_at.new.words.items c.link.new.words.items c.link.new.head ends
-    (c.write-else-ends_at.ensures ∙ ap (λ k. written c.self.inside.words.items k c.upper-upper.result.next c.upper-upper.result.size) c.word_place-else-ends_at.ensures) c.link.ensures.words c.link.ensures.head in
-    s.kept
+    ((joins (goal.at.invariant_of-self-else-ends_at c).After-upper-upper c.requires.around).own c.write-else-ends_at.new.words.items c.link.new.words.items c.link.new.head (sym c.if-ends_at.false ∙ c.ends_at.ensures (up_to_block c.requires.around c.requires.before))
+    (c.write-else-ends_at.ensures ∙ ap (λ k. written c.self.inside.words.items k c.upper-upper.result.next c.upper-upper.result.size) c.word_place-else-ends_at.ensures)
+    c.link.ensures.words c.link.ensures.head).kept
 
 pub returns-then-ends_at : goal.returns-then-ends_at
 returns-then-ends_at c around =
-    let at = c.requires.before (front around) (back around) (front_back around) (front_below around) (back_above around) in
-    let walk = up_to_block around at in
-    let mine = seen_around (ap (λ (s : Space). s.gaps) c.self.view_is) around in
-    let base_is = ap (λ (s : Space). s.base) c.self.view_is in
-    let end_is = ap (λ (s : Space). s.end) c.self.view_is in
-    let low : c.self.inside.base ≤ c.args.address = omega (arith, base_is, c.requires.low) in
-    let high : c.args.address + c.args.size ≤ c.self.inside.base + 4 * length c.self.inside.words.items = omega (arith, end_is, c.requires.high) in
-    let ends = sym c.if-ends_at.true ∙ c.ends_at.ensures walk in
-    let s = joins_lower c.self.inside.base c.self.inside.words.items c.self.inside.head _ c.self.invariant c.args.address c.args.size mine low high c.requires.place c.requires.some c.requires.whole
-    c.args.before c.upper-upper.result.next c.upper-upper.result.size at (c.upper-upper.ensures.next walk) (c.upper-upper.ensures.size walk) c.write.new.words.items ends
-    (c.write.ensures ∙ ap (λ k. written c.self.inside.words.items k c.upper-upper.result.next (c.args.address - c.args.before + c.upper-upper.result.size)) c.word_place.ensures) in
-    let len = ap length c.write.ensures ∙ length-written c.self.inside.words.items c.word_place.result c.upper-upper.result.next (c.args.address - c.args.before + c.upper-upper.result.size) in
-    ap (λ gs. let t : Space = record { base = c.self.inside.base; end = c.self.inside.base + 4 * length c.write.new.words.items; gaps = gs } in t) s.is
-    ∙ same_space c.self.inside.base (length c.self.inside.words.items) (length c.write.new.words.items) _ _ c.args.self.now c.self.view_is len
+    space_written c.self.inside.base c.self.inside.words.items c.write.new.words.items c.self.inside.head c.self.inside.head (joined around) c.args.self.now ((joins (goal.at.returns-then-ends_at c).After-upper-upper around).into c.write.new.words.items (sym c.if-ends_at.true ∙ c.ends_at.ensures (up_to_block around c.requires.before))
+    (c.write.ensures ∙ ap (λ k. written c.self.inside.words.items k c.upper-upper.result.next (c.args.address - c.args.before + c.upper-upper.result.size)) c.word_place.ensures)) c.self.view_is
+    (ap length c.write.ensures ∙ length-written c.self.inside.words.items c.word_place.result c.upper-upper.result.next (c.args.address - c.args.before + c.upper-upper.result.size))
 
 pub returns-else-ends_at : goal.returns-else-ends_at
 returns-else-ends_at c around =
-    let at = c.requires.before (front around) (back around) (front_back around) (front_below around) (back_above around) in
-    let walk = up_to_block around at in
-    let mine = seen_around (ap (λ (s : Space). s.gaps) c.self.view_is) around in
-    let base_is = ap (λ (s : Space). s.base) c.self.view_is in
-    let end_is = ap (λ (s : Space). s.end) c.self.view_is in
-    let low : c.self.inside.base ≤ c.args.address = omega (arith, base_is, c.requires.low) in
-    let high : c.args.address + c.args.size ≤ c.self.inside.base + 4 * length c.self.inside.words.items = omega (arith, end_is, c.requires.high) in
-    let ends = sym c.if-ends_at.false ∙ c.ends_at.ensures walk in
-    let s = joins_own c.self.inside.base c.self.inside.words.items c.self.inside.head _ c.self.invariant c.args.address c.args.size mine low high c.requires.place c.requires.some c.requires.whole
-    c.args.before c.upper-upper.result.next c.upper-upper.result.size at (c.upper-upper.ensures.next walk) (c.upper-upper.ensures.size walk) c.write-else-ends_at.new.words.items c.link.new.words.items c.link.new.head ends
-    (c.write-else-ends_at.ensures ∙ ap (λ k. written c.self.inside.words.items k c.upper-upper.result.next c.upper-upper.result.size) c.word_place-else-ends_at.ensures) c.link.ensures.words c.link.ensures.head in
-    let len = ap length c.link.ensures.words ∙ link_len c.self.inside.base c.write-else-ends_at.new.words.items c.args.before c.args.address ∙ ap length c.write-else-ends_at.ensures
-    ∙ length-written c.self.inside.words.items c.word_place-else-ends_at.result c.upper-upper.result.next c.upper-upper.result.size in
-    ap (λ gs. let t : Space = record { base = c.self.inside.base; end = c.self.inside.base + 4 * length c.link.new.words.items; gaps = gs } in t) s.is
-    ∙ same_space c.self.inside.base (length c.self.inside.words.items) (length c.link.new.words.items) _ _ c.args.self.now c.self.view_is len
+    space_written c.self.inside.base c.self.inside.words.items c.link.new.words.items c.self.inside.head c.link.new.head (joined around) c.args.self.now ((joins (goal.at.returns-else-ends_at c).After-upper-upper around).own c.write-else-ends_at.new.words.items c.link.new.words.items c.link.new.head (sym c.if-ends_at.false ∙ c.ends_at.ensures (up_to_block around c.requires.before))
+    (c.write-else-ends_at.ensures ∙ ap (λ k. written c.self.inside.words.items k c.upper-upper.result.next c.upper-upper.result.size) c.word_place-else-ends_at.ensures)
+    c.link.ensures.words c.link.ensures.head) c.self.view_is
+    (ap length c.link.ensures.words ∙ link_len c.self.inside.base c.write-else-ends_at.new.words.items c.args.before c.args.address ∙ ap length c.write-else-ends_at.ensures
+    ∙ length-written c.self.inside.words.items c.word_place-else-ends_at.result c.upper-upper.result.next c.upper-upper.result.size)

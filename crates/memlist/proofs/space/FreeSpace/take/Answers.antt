@@ -1,13 +1,37 @@
 -- The proof of `FreeSpace::take`: takes that many bytes off the front of the lowest gap that has them, which is the one after the chunk at
 -- an address, and answers where they begin.
-use Rattle.std.proofs.Common.{◌+◌, ◌*◌, refl, arith, ap, sym, ◌∙◌, subst, length}
+use Rattle.std.proofs.Common.{◌≡◌, ◌+◌, ◌++◌, refl, arith, ap, sym, ◌∙◌, subst, length}
 use Rattle.std.specs.Prelude.{IsSome}
 use Rattle.memlist.specs.declared.gap.Gap.{Gap}
-use Rattle.memlist.specs.Chain.{Space, cut_rest, cut_words}
-use Rattle.memlist.proofs.Chains.{before_within, seen, shown}
+use Rattle.memlist.specs.Blocks.{stretch}
+use Rattle.memlist.specs.Chain.{IsSpot, Space, cut_rest, cut_words}
+use Rattle.memlist.proofs.Chains.{IsShown, before_within, seen, shown}
 use Rattle.memlist.proofs.Walking.{past, same_gap, seen_spot, up_to}
-use Rattle.memlist.proofs.Writing.{cut_len, link_len, same_space, spot_in, taken_chain}
+use Rattle.memlist.proofs.Writing.{IsSpotIn, cut_len, link_len, space_written, spot_in, taken_chain}
 use Rattle.memlist.proofs.space.FreeSpace.take.Goals as goal
+use Rattle.memlist.proofs.space.FreeSpace.take.Goals.{After-link, After-unwrap-gap}
+
+module _ (c : After-unwrap-gap) (spot : IsSpot c.args.size c.args.self.now.gaps c.args.before) where
+  same : c.unwrap-gap.result ≡ spot.gap
+  same = same_gap c.after.result c.unwrap-gap.result spot.gap c.unwrap-gap.ensures (c.after.ensures.is (up_to spot))
+
+  -- if the gap lies
+  lies : IsSpotIn c.self.inside.base (length c.self.inside.words.items) c.args.size c.unwrap-gap.result
+  lies =
+      spot_in c.self.inside.base c.self.inside.words.items c.self.inside.head _ c.self.invariant c.args.size c.args.before c.requires.whole
+      (seen_spot (ap (λ (s : Space). s.gaps) c.self.view_is) spot) c.unwrap-gap.result same
+
+module _ (c : After-link) (spot : IsSpot c.args.size c.args.self.now.gaps c.args.before) (is : c.unwrap-gap.result ≡ spot.gap) where
+  taken : IsShown c.self.inside.base c.link.new.words.items c.link.new.head
+      (spot.below ++ (stretch (spot.gap.address + c.args.size) (spot.gap.address + spot.gap.size) ++ spot.above))
+  taken =
+      shown c.self.inside.base c.link.new.words.items c.link.new.head _
+      (taken_chain c.self.inside.base c.self.inside.words.items c.self.inside.head _ c.self.invariant c.args.size c.args.before c.next-next.result c.cut-rest.result
+      (seen_spot (ap (λ (s : Space). s.gaps) c.self.view_is) spot) c.cut-rest.new.words.items c.link.new.words.items c.link.new.head c.requires.whole
+      (c.next-next.ensures.is (past spot c.unwrap-gap.result is))
+      (c.cut-rest.ensures.rest ∙ ap (λ (g : Gap). cut_rest g c.args.size c.next-next.result) is)
+      (c.cut-rest.ensures.words ∙ ap (λ (g : Gap). cut_words c.self.inside.base c.self.inside.words.items g c.args.size c.next-next.result) is)
+      c.link.ensures.words c.link.ensures.head)
 
 pub after-requires : goal.after-requires
 after-requires c = up_to c.requires.spot
@@ -16,37 +40,19 @@ pub unwrap-gap-requires : goal.unwrap-gap-requires
 unwrap-gap-requires c = subst (λ o. IsSome o) (sym (c.after.ensures.is (up_to c.requires.spot))) refl
 
 pub next-next-requires : goal.next-next-requires
-next-next-requires c =
-    let spot = c.requires.spot in
-    let same = same_gap c.after.result c.unwrap-gap.result spot.gap c.unwrap-gap.ensures (c.after.ensures.is (up_to spot)) in
-    past spot c.unwrap-gap.result same
+next-next-requires c = past c.requires.spot c.unwrap-gap.result (same (goal.at.next-next-requires c).After-unwrap-gap c.requires.spot)
 
 pub cut-rest-requires-clause-low : goal.cut-rest-requires-clause-low
-cut-rest-requires-clause-low c =
-    let spot = c.requires.spot in
-    let same = same_gap c.after.result c.unwrap-gap.result spot.gap c.unwrap-gap.ensures (c.after.ensures.is (up_to spot)) in
-    let mine = seen_spot (ap (λ (s : Space). s.gaps) c.self.view_is) spot in
-    (spot_in c.self.inside.base c.self.inside.words.items c.self.inside.head _ c.self.invariant c.args.size c.args.before c.requires.whole mine c.unwrap-gap.result same).low
+cut-rest-requires-clause-low c = (lies (goal.at.cut-rest-requires-clause-low c).After-unwrap-gap c.requires.spot).low
 
 pub cut-rest-requires-clause-fits : goal.cut-rest-requires-clause-fits
-cut-rest-requires-clause-fits c =
-    let spot = c.requires.spot in
-    let same = same_gap c.after.result c.unwrap-gap.result spot.gap c.unwrap-gap.ensures (c.after.ensures.is (up_to spot)) in
-    omega (arith, spot.fits, ap (λ (g : Gap). g.size) same)
+cut-rest-requires-clause-fits c = omega (arith, c.requires.spot.fits, ap (λ (g : Gap). g.size) (same (goal.at.cut-rest-requires-clause-fits c).After-unwrap-gap c.requires.spot))
 
 pub cut-rest-requires-clause-reach : goal.cut-rest-requires-clause-reach
-cut-rest-requires-clause-reach c =
-    let spot = c.requires.spot in
-    let same = same_gap c.after.result c.unwrap-gap.result spot.gap c.unwrap-gap.ensures (c.after.ensures.is (up_to spot)) in
-    let mine = seen_spot (ap (λ (s : Space). s.gaps) c.self.view_is) spot in
-    (spot_in c.self.inside.base c.self.inside.words.items c.self.inside.head _ c.self.invariant c.args.size c.args.before c.requires.whole mine c.unwrap-gap.result same).reach
+cut-rest-requires-clause-reach c = (lies (goal.at.cut-rest-requires-clause-reach c).After-unwrap-gap c.requires.spot).reach
 
 pub cut-rest-requires-clause-room : goal.cut-rest-requires-clause-room
-cut-rest-requires-clause-room c =
-    let spot = c.requires.spot in
-    let same = same_gap c.after.result c.unwrap-gap.result spot.gap c.unwrap-gap.ensures (c.after.ensures.is (up_to spot)) in
-    let mine = seen_spot (ap (λ (s : Space). s.gaps) c.self.view_is) spot in
-    (spot_in c.self.inside.base c.self.inside.words.items c.self.inside.head _ c.self.invariant c.args.size c.args.before c.requires.whole mine c.unwrap-gap.result same).room
+cut-rest-requires-clause-room c = (lies (goal.at.cut-rest-requires-clause-room c).After-unwrap-gap c.requires.spot).room
 
 pub link-requires-clause-low : goal.link-requires-clause-low
 link-requires-clause-low c some =
@@ -59,28 +65,12 @@ link-requires-clause-within c some =
     omega (arith, w.begins, w.ends, len)
 
 pub invariant_of-self : goal.invariant_of-self
-invariant_of-self c =
-    let spot = c.requires.spot in
-    let same = same_gap c.after.result c.unwrap-gap.result spot.gap c.unwrap-gap.ensures (c.after.ensures.is (up_to spot)) in
-    let mine = seen_spot (ap (λ (s : Space). s.gaps) c.self.view_is) spot in
-    let next_is = c.next-next.ensures.is (past spot c.unwrap-gap.result same) in
-    let chained = taken_chain c.self.inside.base c.self.inside.words.items c.self.inside.head _ c.self.invariant c.args.size c.args.before c.next-next.result c.cut-rest.result mine c.cut-rest.new.words.items c.link.new.words.items c.link.new.head c.requires.whole next_is
-    (c.cut-rest.ensures.rest ∙ ap (λ (g : Gap). cut_rest g c.args.size c.next-next.result) same)
-    (c.cut-rest.ensures.words ∙ ap (λ (g : Gap). cut_words c.self.inside.base c.self.inside.words.items g c.args.size c.next-next.result) same)
-    c.link.ensures.words c.link.ensures.head in
-    let s = shown c.self.inside.base c.link.new.words.items c.link.new.head _ chained in
-    s.kept
+invariant_of-self c = (taken (goal.at.invariant_of-self c).After-link c.requires.spot (same (goal.at.invariant_of-self c).After-unwrap-gap c.requires.spot)).kept
 
 pub returns : goal.returns
-returns c spot =
-    let same = same_gap c.after.result c.unwrap-gap.result spot.gap c.unwrap-gap.ensures (c.after.ensures.is (up_to spot)) in
-    let mine = seen_spot (ap (λ (s : Space). s.gaps) c.self.view_is) spot in
-    let next_is = c.next-next.ensures.is (past spot c.unwrap-gap.result same) in
-    let chained = taken_chain c.self.inside.base c.self.inside.words.items c.self.inside.head _ c.self.invariant c.args.size c.args.before c.next-next.result c.cut-rest.result mine c.cut-rest.new.words.items c.link.new.words.items c.link.new.head c.requires.whole next_is
-    (c.cut-rest.ensures.rest ∙ ap (λ (g : Gap). cut_rest g c.args.size c.next-next.result) same)
-    (c.cut-rest.ensures.words ∙ ap (λ (g : Gap). cut_words c.self.inside.base c.self.inside.words.items g c.args.size c.next-next.result) same)
-    c.link.ensures.words c.link.ensures.head in
-    let s = shown c.self.inside.base c.link.new.words.items c.link.new.head _ chained in
-    let len = ap length c.link.ensures.words ∙ link_len c.self.inside.base c.cut-rest.new.words.items c.args.before c.cut-rest.result ∙ ap length c.cut-rest.ensures.words
-    ∙ cut_len c.self.inside.base c.self.inside.words.items c.unwrap-gap.result c.args.size c.next-next.result in
-    (ap (λ (g : Gap). g.address) same, ap (λ gs. let t : Space = record { base = c.self.inside.base; end = c.self.inside.base + 4 * length c.link.new.words.items; gaps = gs } in t) s.is ∙ same_space c.self.inside.base (length c.self.inside.words.items) (length c.link.new.words.items) _ _ c.args.self.now c.self.view_is len)
+returns c spot = (
+  ap (λ (g : Gap). g.address) (same (goal.at.returns c).After-unwrap-gap spot),
+  space_written c.self.inside.base c.self.inside.words.items c.link.new.words.items c.self.inside.head c.link.new.head _ c.args.self.now (taken (goal.at.returns c).After-link spot (same (goal.at.returns c).After-unwrap-gap spot)) c.self.view_is
+      (ap length c.link.ensures.words ∙ link_len c.self.inside.base c.cut-rest.new.words.items c.args.before c.cut-rest.result ∙ ap length c.cut-rest.ensures.words
+      ∙ cut_len c.self.inside.base c.self.inside.words.items c.unwrap-gap.result c.args.size c.next-next.result),
+)

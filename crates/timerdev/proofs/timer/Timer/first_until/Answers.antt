@@ -3,9 +3,9 @@ use Rattle.std.proofs.Common.{arith, refl, sym, ap, ◌∙◌, subst}
 use Rattle.std.specs.Prelude.{IsTrue, find, nat_le}
 use Rattle.std.proofs.lemmas.Option.{IfSome_then}
 use Rattle.execlist.specs.Lists.{sequence}
-use Rattle.timerdev.specs.Timing.{Timer, is_waiting, until_next}
-use Rattle.timerdev.specs.Held.{Held, Rises, due_at, due_in, waiting_for}
-use Rattle.timerdev.proofs.Keeping.{rises_now}
+use Rattle.timerdev.specs.Timing.{is_waiting, until_next}
+use Rattle.timerdev.specs.Held.{Held, Rises, due_at}
+use Rattle.timerdev.proofs.Keeping.{rises_now, timer_of}
 use Rattle.timerdev.proofs.Next.{home_waits, until_is_first}
 use Rattle.timerdev.proofs.timer.Timer.first_until.Goals as goal
 
@@ -24,16 +24,9 @@ returns-clause-value g c =
     let homes = g.S.ListSpace.homes inside.queues in
     let all = g.S.ListSpace.sequences inside.begun in
     let dues = inside.dues.items in
-    let now : Timer = record {
-      clock = inside.clock;
-      system = inside.system;
-      tick_micros = inside.tick_micros;
-      is_set = inside.is_set;
-      waiting = waiting_for (due_in homes dues) (sequence all 0);
-    } in
     c.first_come.ensures.value ∙ ap (λ d. find (λ r. nat_le (due_at d r) inside.system) (sequence queues 1)) c.deref.ensures.value
     ∙ sym (until_is_first queues all homes (g.S.ListSpace.homes inside.begun) dues c.self.invariant (g.met.S.ListSpace.stands inside.queues)
-    now refl)
+    (timer_of inside.clock inside.system inside.tick_micros inside.is_set homes dues all) refl)
     ∙ ap (λ (held : Held). until_next held.timer) c.self.view_is
 
 pub returns-clause-waits : goal.returns-clause-waits

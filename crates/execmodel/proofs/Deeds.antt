@@ -1,0 +1,44 @@
+-- Facts about every call that is a value of what refuses it, what it makes of the blocks, and what it answers.
+use Rattle.std.proofs.Common.{◌≡◌, ℕ, Bool, Option, None, Some, refl, sym, ap, ◌∙◌}
+use Rattle.std.specs.Prelude.{List}
+use Rattle.std.specs.Option.{unwrap_or}
+use Rattle.execmodel.specs.State.{Call, Object, Memory, State, Outcome, on_memory}
+use Rattle.execmodel.specs.Calls.{answered, unless}
+use Rattle.execmodel.specs.Deeds.{allots, makes, performs}
+use Rattle.execmodel.specs.GivingWay.{after_asking_for_object}
+use Rattle.execmodel.specs.Keeping.{without_blocks}
+use Rattle.execmodel.specs.Memory.{allocates, makes_object}
+use Rattle.execmodel.specs.Objects.{place_for_object}
+use Rattle.execmodel.specs.Places.{placed}
+use Rattle.execmodel.proofs.GivingWay.{asking_for_object_keeps}
+
+-- a memory that differs in its blocks alone
+all_but_blocks : (m n : Memory) → without_blocks n ≡ without_blocks m → n ≡ record m { heap = n.heap }
+all_but_blocks m n same = ap (λ (x : Memory). record x { heap = n.heap }) same
+
+placed_same : (size : ℕ) (object : Object) (place : Option ℕ) (m : Memory) → without_blocks (placed size object place m) ≡ without_blocks m
+placed_same size object None m = refl
+placed_same size object (Some address) m = refl
+
+unless_same : (alert : Option (List ℕ)) (t : ℕ) (call : Call) (f g : State → Outcome) (s : State) → f s ≡ g s
+    → unless alert t call f s ≡ unless alert t call g s
+unless_same None t call f g s e = e
+unless_same (Some code) t call f g s e = refl
+
+-- to take memory for an object is such a value: it is taken once libraries were asked, which changes the blocks alone
+pub allotting : (alert : Option (List ℕ)) (asked : Memory → Memory) (place : Memory → Option ℕ) (size : ℕ) (object : Object) (t : ℕ) (call : Call) (s : State)
+    → without_blocks (asked s.memory) ≡ without_blocks s.memory
+    → performs (allots alert asked place size object) t call s
+    ≡ unless alert t call (λ s. allocates t call size object (place (asked s.memory)) (on_memory asked s)) s
+unfolding performs
+allotting alert asked place size object t call s keeps =
+    let found = place (asked s.memory) in
+    unless_same alert t call _ _ s
+    (sym (ap (λ (m : Memory). answered t call (unwrap_or found 0) (record s { memory = m }))
+    (all_but_blocks s.memory (placed size object found (asked s.memory)) (placed_same size object found (asked s.memory) ∙ keeps))))
+
+pub making : (alert : Option (List ℕ)) (kind : Object → Bool) (size : ℕ) (object : Object) (t : ℕ) (call : Call) (s : State)
+    → performs (makes alert kind size object) t call s
+    ≡ unless alert t call (λ s. makes_object t call kind size object (on_memory (after_asking_for_object kind size) s)) s
+making alert kind size object t call s =
+    allotting alert (after_asking_for_object kind size) (place_for_object kind size) size object t call s (asking_for_object_keeps kind size s.memory)

@@ -1,0 +1,24 @@
+-- The proof of `Machine::advance`: does a step, and after it steps that print nothing.
+use Rattle.std.proofs.Common.{ap, sym, ◌∙◌, subst}
+use Rattle.execsim.specs.Headline.{Shown}
+use Rattle.execsim.specs.Time.{HasTimeFor}
+use Rattle.execsim.proofs.Advancing.{advances_by, known_after_steps, time_stays}
+use Rattle.execsim.proofs.Reached.{in_order_there}
+use Rattle.execsim.proofs.machine.Machine.advance.Goals as goal
+
+pub advance-silent-requires : goal.advance-silent-requires
+advance-silent-requires g c = in_order_there _ (c.self.invariant (ap (λ (x : Shown). x.failed) c.self.view_is ∙ c.requires.going))
+
+-- (until it has failed it shows a state after some steps)
+pub invariant_of-self : goal.invariant_of-self
+invariant_of-self g c = λ going. known_after_steps c.advance-silent.ensures.steps
+    (c.self.invariant (ap (λ (x : Shown). x.failed) c.self.view_is ∙ c.requires.going))
+
+pub returns-clause-advances : goal.returns-clause-advances
+returns-clause-advances g c =
+    rw (← c.self.view_is) (advances_by c.advance-silent.ensures.steps c.advance-silent.ensures.within c.requires.good c.end.ensures)
+
+pub returns-clause-time_left : goal.returns-clause-time_left
+returns-clause-time_left g c = λ whole ticks enough.
+    time_stays c.advance-silent.ensures.steps (c.self.invariant (ap (λ (x : Shown). x.failed) c.self.view_is ∙ c.requires.going)) c.requires.good
+    (c.end.ensures.written.0 whole) ticks (subst (λ (x : Shown). HasTimeFor ticks x.seen) (sym c.self.view_is) enough)

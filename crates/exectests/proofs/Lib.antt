@@ -1,2 +1,0 @@
--- The lemma files of `exectests`.
-pub mod Lent

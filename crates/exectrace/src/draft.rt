@@ -1,0 +1,129 @@
+//! A line that is being built, in fixed room. Short texts are copied in two moves of one width, which may overlap, so that no loop runs.
+ghost use Rattle.std.specs.Prelude.{◌≡◌, ◌+◌, ◌*◌, ◌≤◌, ◌↔◌, [], ◌++◌, length, take, IsOk, OnOk, OnErr};
+
+use std::marker::Model;
+
+/// How many bytes the longest line has of which one argument is quoted.
+const ROOM: usize = 160;
+
+/// A text has no room in a line that is being built.
+#[derive(Clone, Copy)]
+pub(crate) struct NoRoom;
+
+/// What is built of a line and is not yet handed over.
+#[derive(Drop)]
+pub(crate) struct Draft {
+    cells: [u8; ROOM],
+    len: usize,
+}
+
+impl Model for Draft {
+    ghost use Rattle.std.specs.Prelude.{◌≡◌, ℕ, ◌≤◌, length, take};
+    ghost use Rattle.arrayvec.specs.ArrayVec.{ArrayVec as Items};
+
+    ghost Value = { Items ℕ };
+
+    ghost view = { λ d. record { items = take d.len d.cells } };
+
+    ghost invariant = { λ d. d.len ≤ 160 };
+}
+
+/// Writes a text over the cells from a place on.
+#[inline(always)]
+fn write_at(cells: &mut [u8; ROOM], at: usize, text: &[u8])
+    requires { at + length text.now ≤ ROOM }
+    ensures { take (at + length text.now) cells.new ≡ take at cells.old ++ text.now }
+{
+    cells[at..at + text.len()].copy_from_slice(text);
+}
+
+/// Writes a text over the cells from a place on, by its first bytes and by its last ones, of that width.
+#[inline(always)]
+fn write_ends(cells: &mut [u8; ROOM], at: usize, text: &[u8], width: usize)
+    requires room { at + length text.now ≤ ROOM }
+    requires wide { width ≤ length text.now }
+    requires narrow { length text.now ≤ width + width }
+    ensures { take (at + length text.now) cells.new ≡ take at cells.old ++ text.now }
+{
+    let rest = text.len() - width;
+    write_at(cells, at, &text[..width]);
+    write_at(cells, at + rest, &text[rest..]);
+}
+
+/// Writes a text over the cells from a place on. Most are short: a name, or a word.
+#[inline(always)]
+fn write_text(cells: &mut [u8; ROOM], at: usize, text: &[u8])
+    requires { at + length text.now ≤ ROOM }
+    ensures { take (at + length text.now) cells.new ≡ take at cells.old ++ text.now }
+{
+    let len = text.len();
+    if len >= 4 {
+        if len <= 8 {
+            write_ends(cells, at, text, 4);
+        } else if len <= 16 {
+            write_ends(cells, at, text, 8);
+        } else {
+            write_at(cells, at, text);
+        }
+    } else if len >= 2 {
+        write_ends(cells, at, text, 2);
+    } else if len == 1 {
+        write_at(cells, at, text);
+    }
+}
+
+impl Draft {
+    /// A line of which nothing is built.
+    #[inline(always)]
+    pub(crate) fn new() -> Self
+        ensures { result.items ≡ [] }
+    {
+        Draft {
+            cells: [0; ROOM],
+            len: 0,
+        }
+    }
+
+    /// What is built.
+    #[inline(always)]
+    pub(crate) fn as_slice(&self) -> &[u8]
+        ensures { result.now ≡ self.now.items }
+    {
+        &self.cells[..self.len]
+    }
+
+    /// Begins the line anew.
+    pub(crate) fn clear(&mut self)
+        ensures { self.new.items ≡ [] }
+    {
+        self.len = 0;
+    }
+
+    /// Adds a part whose length is fixed, or nothing if it has no room.
+    #[inline(always)]
+    pub(crate) fn try_part(&mut self, part: &[u8]) -> Result<(), NoRoom>
+        ensures ok { OnOk result (self.new.items ≡ self.old.items ++ part.now) }
+        ensures err { OnErr result (self.new ≡ self.old) }
+    {
+        if ROOM - self.len < part.len() {
+            return Err(NoRoom);
+        }
+        write_at(&mut self.cells, self.len, part);
+        self.len += part.len();
+        Ok(())
+    }
+
+    /// Adds a text, or nothing if it has no room.
+    #[inline(always)]
+    pub(crate) fn try_text(&mut self, text: &[u8]) -> Result<(), NoRoom>
+        ensures ok { OnOk result (self.new.items ≡ self.old.items ++ text.now) }
+        ensures err { OnErr result (self.new ≡ self.old) }
+    {
+        if ROOM - self.len < text.len() {
+            return Err(NoRoom);
+        }
+        write_text(&mut self.cells, self.len, text);
+        self.len += text.len();
+        Ok(())
+    }
+}

@@ -1,0 +1,36 @@
+-- The proof of `advance_steps`: does that many steps.
+use Rattle.std.proofs.Common.{◌≡◌, ◌+◌, ◌∷◌, [], ℕ, subst, arith}
+use Rattle.taskscript.specs.declared.event.Event.TheVariants.{Run}
+use Rattle.execsim.specs.Time.{HasTimeFor}
+use Rattle.runadvice.specs.Going.{Goes}
+use Rattle.runadvice.proofs.Follows.{goes_no_steps, goes_steps}
+use Rattle.runadvice.proofs.following.advance_steps.Goals as goal
+
+pub loop-done-init : goal.loop-done-init
+loop-done-init c = record {
+  within = omega arith;
+  goes = goes_no_steps _ _;
+  going = c.requires.going;
+  good = c.requires.good;
+  time = λ ticks enough. enough;
+}
+
+pub advance-requires-clause-time : goal.advance-requires-clause-time
+advance-requires-clause-time c = c.loop-done.invariant.time 0 c.requires.time
+
+pub loop-done-preserved : goal.loop-done-preserved
+loop-done-preserved c = record {
+  within = omega (arith, c.part-part.ensures.within, c.loop-done-test.true);
+  goes = goes_steps _ _ c.loop-done.invariant.goes c.in_ok-advance.ensures.goes;
+  going = c.in_ok-advance.ensures.going;
+  good = c.in_ok-advance.ensures.good;
+  time = λ ticks enough.
+      let none : ticks ≡ 0 + ticks = omega arith in
+      c.in_ok-advance.ensures.time ticks (subst (λ (n : ℕ). HasTimeFor n c.loop-done.machine.seen) none (c.loop-done.invariant.time ticks enough));
+}
+
+pub returns-clause-goes : goal.returns-clause-goes
+returns-clause-goes c =
+    let all : c.loop-done.done ≡ c.args.count = omega (arith, c.loop-done-test.false, c.loop-done.invariant.within) in
+    subst (λ (n : ℕ). Goes (Run n ∷ []) c.args.machine.now.seen c.loop-done.machine.seen c.args.room.now.bytes.items c.loop-done.room.bytes.items) all
+    c.loop-done.invariant.goes

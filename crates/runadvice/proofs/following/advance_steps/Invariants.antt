@@ -1,0 +1,20 @@
+-- The machine has gone on over that many steps.
+use Rattle.std.proofs.Common.{◌≡◌, ◌∷◌, ◌-◌, ◌≤◌, ℕ, [], false}
+use Rattle.exectrace.specs.declared.sinks.SinkState.TheVariants.{Good}
+use Rattle.taskscript.specs.declared.event.Event.TheVariants.{Run}
+use Rattle.execsim.specs.Time.{HasTimeFor}
+use Rattle.runadvice.specs.Going.{Goes}
+use Rattle.runadvice.proofs.following.advance_steps.Given as goal
+
+abbrev pub invariant-loop-done : goal.invariant-loop-done
+invariant-loop-done l = record {
+  within : l.done ≤ l.count;
+  goes : Goes (Run l.done ∷ []) l.initial.machine.seen l.machine.seen l.initial.room.bytes.items l.room.bytes.items;
+  going : l.machine.failed ≡ false;
+  good : l.room.state ≡ Good;
+  time : (ticks : ℕ) → HasTimeFor ticks l.initial.machine.seen → HasTimeFor ticks l.machine.seen;
+}
+
+-- each turn does a step
+abbrev pub decreases-loop-done : goal.decreases-loop-done
+decreases-loop-done l = l.count - l.done

@@ -1,0 +1,15 @@
+-- The machine has gone on over that many ticks.
+use Rattle.std.proofs.Common.{◌≡◌, ◌+◌, ◌∷◌, ℕ, [], false}
+use Rattle.exectrace.specs.declared.sinks.SinkState.TheVariants.{Good}
+use Rattle.taskscript.specs.declared.event.Event.TheVariants.{Tick}
+use Rattle.execsim.specs.Time.{HasTimeFor}
+use Rattle.runadvice.specs.Going.{Goes}
+use Rattle.runadvice.proofs.following.advance_ticks.Given as goal
+
+abbrev pub invariant-loop-tick : goal.invariant-loop-tick
+invariant-loop-tick l = record {
+  goes : Goes (Tick l._tick ∷ []) l.initial.machine.seen l.machine.seen l.initial.room.bytes.items l.room.bytes.items;
+  going : l.machine.failed ≡ false;
+  good : l.room.state ≡ Good;
+  time : (ticks : ℕ) → HasTimeFor (l._tick + ticks) l.initial.machine.seen → HasTimeFor ticks l.machine.seen;
+}

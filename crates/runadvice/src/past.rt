@@ -1,0 +1,307 @@
+//! What is noted of the commands of a task and of the bodies of interrupts: when each was done last.
+ghost use Rattle.std.specs.Prelude.{◌<◌, ◌≤◌};
+
+use crate::next::{Next, Part, Way, way_after};
+use crate::page::Spot;
+use crate::step::{Setting, Site, Turn, When};
+use std::alloc::{AllocError, Global};
+use taskscript::{Command, MachineFile, Owner, Variable};
+
+/// The most steps that are done at once of which some may print.
+const LONGEST: u32 = 1000;
+
+/// The last steps of a command, by their numbers from 1; 0 for none.
+#[derive(Clone, Copy, Debug)]
+pub struct Past {
+    /// In which it was done, or its task went on to wait in it.
+    pub visited: u64,
+    /// In which it was done.
+    pub done: u64,
+}
+
+impl Past {
+    /// No step.
+    const NONE: Past = Past {
+        visited: 0,
+        done: 0,
+    };
+}
+
+/// What is noted of a task.
+#[derive(Drop)]
+pub struct TaskPast {
+    /// What is noted of each of its commands.
+    pub commands: Vec<Past>,
+    /// The last step that did a command for the first time.
+    pub fresh: u64,
+    /// After how many steps it is asked again whether the task runs without end.
+    asks_at: u64,
+}
+
+impl TaskPast {
+    /// Nothing is noted of a task with that many commands.
+    pub fn new(alloc: Global, count: usize) -> Result<TaskPast, AllocError> {
+        Ok(TaskPast {
+            commands: vec![in alloc; Past::NONE; count]?,
+            fresh: 0,
+            asks_at: 0,
+        })
+    }
+
+    /// Notes that a command was done in a step.
+    pub fn note_done(&mut self, place: usize, step: u64) {
+        if let Some(past) = self.commands.get_mut(place) {
+            if past.done == 0 {
+                self.fresh = step;
+            }
+            *past = Past {
+                visited: step,
+                done: step,
+            };
+        }
+    }
+
+    /// Notes that the task went on to wait in a call.
+    pub fn note_waiting(&mut self, place: usize, step: u64) {
+        if let Some(past) = self.commands.get_mut(place) {
+            past.visited = step;
+        }
+    }
+
+    /// The last step in which a command was done, or the task went on to wait in it.
+    pub fn visited(&self, place: usize) -> u64 {
+        match self.commands.get(place) {
+            None => 0,
+            Some(past) => past.visited,
+        }
+    }
+
+    /// Notes the plain words that the task does after some steps, whatever its variables hold, and answers the steps up to the last of them or to the
+    /// call after them, at most that many.
+    pub fn part(&mut self, code: &[Command], turn: Turn, most: u32, steps: u64) -> Part
+        requires { 0 < most }
+        ensures some { 0 < result.steps }
+        ensures within { result.steps ≤ most }
+    {
+        let most = most.min(LONGEST);
+        let mut place = turn.place;
+        let mut step = steps;
+        let mut has_line = false;
+        for done in 0..most {
+            step = step.saturating_add(1);
+            let way = match code.get(place) {
+                None => Way::Call,
+                Some(command) => way_after(command, place),
+            };
+            match way {
+                Way::To(next) => {
+                    self.note_done(place, step);
+                    place = next;
+                }
+                Way::Line(next) => {
+                    self.note_done(place, step);
+                    place = next;
+                    has_line = true;
+                }
+                Way::Either(_, _) => {
+                    self.note_done(place, step);
+                    return Part {
+                        steps: done + 1,
+                        next: Next::Noted,
+                    };
+                }
+                // The line of a call is the first of a part.
+                Way::Call if has_line && done > 0 => {
+                    return Part {
+                        steps: done,
+                        next: Next::Noted,
+                    };
+                }
+                Way::Call => {
+                    let task = turn.task;
+                    return Part {
+                        steps: done + 1,
+                        next: Next::Task(Turn { task, place }),
+                    };
+                }
+            }
+        }
+        Part {
+            steps: most,
+            next: Next::Noted,
+        }
+    }
+
+    /// Whether the task goes on without end from a place on, whatever its variables hold, by commands that print nothing, set no shared variable and
+    /// were each done since its last call. It is asked once in that many steps.
+    pub fn is_endless(&mut self, code: &[Command], place: usize, steps: u64, pause: u64) -> bool {
+        if steps < self.asks_at {
+            return false;
+        }
+        self.asks_at = steps.saturating_add(pause);
+        let call = self.last_call(code);
+        self.visited(place) > call && self.is_closed(code, call)
+    }
+
+    /// The last step in which the task made a call.
+    fn last_call(&self, code: &[Command]) -> u64 {
+        let mut call = 0u64;
+        for (place, command) in code.iter().enumerate() {
+            if matches!(way_after(command, place), Way::Call) {
+                call = call.max(self.visited(place));
+            }
+        }
+        call
+    }
+
+    /// Whether after each command that was done after a step there is one that was too, and none of them sets a shared variable.
+    fn is_closed(&self, code: &[Command], step: u64) -> bool {
+        for (place, command) in code.iter().enumerate() {
+            if self.visited(place) > step {
+                let (next, other) = match way_after(command, place) {
+                    Way::To(next) => (next, next),
+                    Way::Either(next, other) => (next, other),
+                    Way::Line(_) | Way::Call => return false,
+                };
+                let is_shared = matches!(command.target, Some(Variable::Shared(_)));
+                if is_shared || self.visited(next) <= step || self.visited(other) <= step {
+                    return false;
+                }
+            }
+        }
+        true
+    }
+
+    /// Whether the task has done a step, or went on to wait in one.
+    pub fn has_run(&self) -> bool {
+        self.commands.iter().any(|past| past.visited > 0)
+    }
+}
+
+/// When the bodies of interrupts were run last that are run together: one of a software interrupt, or those of the servers of a source.
+#[derive(Clone, Copy, Debug)]
+pub struct BodyPast {
+    /// After how many steps, that of a software interrupt included.
+    pub steps: u64,
+    /// The number of this time among all of them, from 1; 0 if they were never run.
+    pub turn: u64,
+    pub when: When,
+}
+
+impl BodyPast {
+    /// Never.
+    pub const NONE: BodyPast = BodyPast {
+        steps: 0,
+        turn: 0,
+        when: When::Step(0),
+    };
+}
+
+/// The latest of some settings of a variable.
+#[derive(Clone, Copy)]
+pub struct Latest {
+    steps: u64,
+    turn: u64,
+    pub setting: Option<Setting>,
+}
+
+impl Latest {
+    /// No setting.
+    pub fn new() -> Latest {
+        Latest {
+            steps: 0,
+            turn: 0,
+            setting: None,
+        }
+    }
+
+    /// Takes a setting if it is as late or later.
+    fn offer(&mut self, steps: u64, turn: u64, setting: Setting) {
+        if steps > self.steps || steps == self.steps && turn >= self.turn {
+            *self = Latest {
+                steps,
+                turn,
+                setting: Some(setting),
+            };
+        }
+    }
+
+    /// Takes the latest setting by a task, if it is later.
+    pub fn offer_task(
+        &mut self,
+        task: usize,
+        code: &[Command],
+        past: &TaskPast,
+        variable: Variable,
+    ) {
+        for (place, command) in code.iter().enumerate() {
+            let done = match past.commands.get(place) {
+                None => 0,
+                Some(past) => past.done,
+            };
+            if done > 0 && command.target == Some(variable) {
+                let site = Site {
+                    spot: Spot::of_task(task, place),
+                    when: When::Step(done),
+                };
+                let word = command.word;
+                self.offer(done, 0, Setting { site, word });
+            }
+        }
+    }
+
+    /// Takes the setting by a body of an interrupt, if it was run and sets the variable, and if that is as late or later.
+    pub fn offer_body(
+        &mut self,
+        owner: Owner,
+        item: usize,
+        code: &[Command],
+        past: BodyPast,
+        variable: Variable,
+    ) {
+        if past.turn == 0 {
+            return;
+        }
+        for (place, command) in code.iter().enumerate() {
+            if command.target == Some(variable) {
+                let spot = Spot { owner, item, place };
+                let site = Site {
+                    spot,
+                    when: past.when,
+                };
+                let word = command.word;
+                self.offer(past.steps, past.turn, Setting { site, word });
+            }
+        }
+    }
+}
+
+/// Whether a server runs before another one of its source, or is that: by priority, and those of one priority in the order of the file.
+fn is_before(file: &MachineFile, one: usize, other: usize) -> bool {
+    let (Some(first), Some(second)) = (file.servers().get(one), file.servers().get(other)) else {
+        return false;
+    };
+    first.source == second.source
+        && (first.pri > second.pri || first.pri == second.pri && one <= other)
+}
+
+/// The servers that run before a server of its source, and the server itself: how many.
+pub fn rank_of(file: &MachineFile, server: usize) -> u64 {
+    let mut rank = 0u64;
+    for other in 0..file.servers().len() {
+        if is_before(file, other, server) {
+            rank = rank.saturating_add(1);
+        }
+    }
+    rank
+}
+
+/// Whether a server runs if its source is served: no server before it claims the interrupt.
+pub fn is_reached(file: &MachineFile, server: usize) -> bool {
+    for (other, record) in file.servers().iter().enumerate() {
+        if record.claim && other != server && is_before(file, other, server) {
+            return false;
+        }
+    }
+    true
+}
